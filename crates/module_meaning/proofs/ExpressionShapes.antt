@@ -1,5 +1,5 @@
--- The shapes of all expressions: their kinds and operands are those of the expressions, and those that
--- are written so far have the shapes that they have in the program.
+-- The shapes of all expressions: their kinds and operands are those of the expressions, but where an
+-- atomic is loaded or an offset is a constant.
 --
 -- Throughout, a is what stands around expressions, d what the module declares too, es are the
 -- expressions of a function, e is one and h its handle, op is an operator over operands xs, and s is
@@ -10,7 +10,7 @@ use Rattle.std.specs.Prelude.{IsTrue, if◌then◌else◌}
 use Rattle.std.specs.Option.{option_map_or, option_and_then, is_some, is_none}
 use Rattle.naga_ir.specs.Kinds.{kind_of}
 use Rattle.naga_ir.specs.Operands.{expression_operands}
-use Rattle.naga_ir.specs.StatementTree.{SimpleStatement, emit, store, return, simple}
+use Rattle.naga_ir.specs.StatementTree.{store}
 use Rattle.naga_ir.specs.declared.expression.Expression as ir
 use Rattle.naga_ir.specs.declared.expression.Expression.TheVariants as expression
 use Rattle.naga_ir.specs.declared.expression.ImageQuery.{ImageQuery}
@@ -36,13 +36,12 @@ use Rattle.module_meaning.specs.OperatorTable.{Operator as TableOperator, Binary
 use Rattle.module_meaning.specs.OperatorTable.{AtomicLoad}
 use Rattle.module_meaning.specs.OperatorTable.{CooperativeLoad, WithoutForm, ValueOf, Cast}
 use Rattle.module_meaning.specs.OperatorTable.{MatrixLoad, asks, run_word}
-use Rattle.module_meaning.specs.Part.{expression_is_written, statement_is_written}
 use Rattle.module_meaning.specs.ShapeKinds.{shape_kind}
-use Rattle.module_meaning.specs.Shapes as so_far
+use Rattle.module_meaning.specs.Shapes.{operator_shape}
 use Rattle.module_meaning.specs.StatementShapes.{simple_shape, store_shape}
 use Rattle.module_meaning.proofs.ShapeKinds.{operator_kind}
 use Rattle.module_meaning.proofs.Shapes.{operator_operands}
-use Rattle.shader_runs.specs.Program.{Load, Request, operands_of, no_constant}
+use Rattle.shader_runs.specs.Program.{Load, Request, Store, operands_of, no_constant}
 use Rattle.shader_runs.specs.Value.{Selector}
 
 -- ---- which operators ask
@@ -80,7 +79,7 @@ pure_kind : (op : TableOperator) (xs : List ℕ) → asks op ≡ false →
 pure_kind op xs none =
     ap
     (λ b. shape_kind (Some (if b then Request (asking op) (run_word op) xs no_constant
-    else so_far.operator_shape op xs))) none
+    else operator_shape op xs))) none
     ∙ operator_kind op xs
 
 request_kind : (op : TableOperator) (xs : List ℕ) → asks op ≡ true →
@@ -88,7 +87,7 @@ request_kind : (op : TableOperator) (xs : List ℕ) → asks op ≡ true →
 request_kind op xs it =
     ap
     (λ b. shape_kind (Some (if b then Request (asking op) (run_word op) xs no_constant
-    else so_far.operator_shape op xs))) it
+    else operator_shape op xs))) it
 
 -- a load of an atomic asks for an event of its own
 abbrev pub kind_shaped : Surroundings → ir.Expression → ExpressionKind
@@ -134,7 +133,7 @@ applied_operands op xs = by (asks op)
         operands_of
         (Some
         (if b then Request (asking op) (run_word op) xs no_constant
-        else so_far.operator_shape op xs)) ≡
+        else operator_shape op xs)) ≡
         xs
     by true = refl
     by false = operator_operands op xs
@@ -227,44 +226,15 @@ parts_agree d base index =
     turned true = refl
     turned false = refl
 
--- ---- what is written so far
--- a load is no load of an atomic
-abbrev pub loads_plainly : Surroundings → ir.Expression → Bool
-loads_plainly a (expression.Load pointer) = if points_to_atomic a pointer then false else true
-loads_plainly a e = true
+-- ---- memory
+-- what points to no atomic is loaded plainly
+pub plain_load : (d : Declared) (es : List ir.Expression) (h pointer : ℕ) →
+    points_to_atomic d.around pointer ≡ false →
+    shape_of d es h (expression.Load pointer) ≡ Load pointer
+plain_load d es h pointer plain =
+    ap (λ b. applied_or (Load pointer) (pointer ∷ []) (if b then Some AtomicLoad else None)) plain
 
-pub same_shape : (d : Declared) (es : List ir.Expression) (h : ℕ) (e : ir.Expression) →
-    IsTrue (expression_is_written e) → IsTrue (loads_plainly d.around e) →
-    shape_of d es h e ≡ so_far.expression_shape e
-same_shape d es h (expression.Literal value) written plain = refl
-same_shape d es h (expression.FunctionArgument number) written plain = refl
-same_shape d es h (expression.LocalVariable handle) written plain = refl
-same_shape d es h (expression.Load pointer) written plain =
-    by (points_to_atomic d.around pointer) plain
-  where
-    by : (b : Bool) → IsTrue (if b then false else true) →
-        applied_or (Load pointer) (pointer ∷ []) (if b then Some AtomicLoad else None) ≡ Load pointer
-    by true plain = absurd cc
-    by false plain = refl
-same_shape d es h (expression.Unary op expr) written plain = refl
-same_shape d es h (expression.Binary op left right) written plain = refl
-same_shape d es h (expression.Select condition accept reject) written plain = refl
-same_shape d es h _ written plain = absurd cc
-
--- a store is no store to an atomic
-abbrev pub stores_plainly : Surroundings → SimpleStatement → Bool
-stores_plainly a (store pointer value) = if points_to_atomic a pointer then false else true
-stores_plainly a s = true
-
-pub same_statement : (a : Surroundings) (s : SimpleStatement) →
-    IsTrue (statement_is_written (simple s)) → IsTrue (stores_plainly a s) →
-    simple_shape a s ≡ so_far.simple_shape s
-same_statement a (emit first last) written plain = refl
-same_statement a (return value) written plain = refl
-same_statement a (store pointer value) written plain = by (points_to_atomic a pointer) plain
-  where
-    by : (b : Bool) → IsTrue (if b then false else true) →
-        store_shape b pointer value ≡ so_far.simple_shape (store pointer value)
-    by true plain = absurd cc
-    by false plain = refl
-same_statement a _ written plain = absurd cc
+-- and stored to plainly
+pub plain_store : (a : Surroundings) (pointer value : ℕ) → points_to_atomic a pointer ≡ false →
+    simple_shape a (store pointer value) ≡ Store pointer value
+plain_store a pointer value plain = ap (λ b. store_shape b pointer value) plain

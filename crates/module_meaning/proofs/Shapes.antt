@@ -1,11 +1,10 @@
 -- The shapes of what expressions apply: what holds of them all.
-use Rattle.std.proofs.Common.{◌≡◌, ℕ, true, false, List, [], ◌∷◌, Option, Some, None, refl}
+use Rattle.std.proofs.Common.{◌≡◌, ℕ, true, false, List, [], ◌∷◌, Some, refl}
 use Rattle.naga_ir.specs.declared.operators.BinaryOperator.TheVariants.{LogicalAnd, LogicalOr}
-use Rattle.module_meaning.specs.Applications.{Application}
 use Rattle.module_meaning.specs.OperatorTable.{Operator as TableOperator, BinarySign, run_word}
-use Rattle.module_meaning.specs.Shapes.{operator_shape, application_shape}
+use Rattle.module_meaning.specs.Shapes.{operator_shape}
 use Rattle.shader_runs.specs.Value.{ShortCircuit}
-use Rattle.shader_runs.specs.Program.{Expression, Operator, Logical, Result, Function, operands_of}
+use Rattle.shader_runs.specs.Program.{Expression, Operator, Logical, Function, operands_of}
 use Rattle.shader_runs.specs.Program.{is_counted, binds_as}
 use Rattle.shader_runs.specs.Scope.{Standing, is_present, usable_as, is_pure, is_constant_leaf}
 use Rattle.shader_runs.specs.Scope.{is_emittable}
@@ -49,10 +48,3 @@ pub operator_usable : (f : Function) (op : TableOperator) (xs : List ℕ) (s : S
     usable_as f (Some (operator_shape op xs)) s ≡ is_present s
 operator_usable f op xs s =
     operator_any (λ e. usable_as f (Some e) s ≡ is_present s) op xs (λ j l r. refl) refl
-
--- what holds of a result and of each operator that is applied holds of what an expression applies
-pub application_any : (P : Expression → Type 0) → P Result → (o : Option Application) →
-    ((a : Application) → o ≡ Some a → P (operator_shape a.operator a.operands)) →
-    P (application_shape o)
-application_any P none None some = none
-application_any P none (Some a) some = some a refl

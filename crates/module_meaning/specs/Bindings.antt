@@ -10,7 +10,8 @@ use Rattle.wgsl_text.specs.Functions.{Function}
 use Rattle.wgsl_text.specs.Declarations.{Program}
 use Rattle.module_meaning.specs.Names.{module_names}
 use Rattle.module_meaning.specs.Types.{told_spelling, type_names}
-use Rattle.module_meaning.specs.Shapes.{function_shapes, namings_from, namings}
+use Rattle.module_meaning.specs.FunctionShapes.{function_shapes}
+use Rattle.module_meaning.specs.Namings.{namings_from, namings}
 use Rattle.text_meaning.specs.Abstraction.{program_read}
 use Rattle.text_meaning.specs.Bindings.{statements_annotations}
 
@@ -26,7 +27,7 @@ module_annotations explicit t _ _ = []
 -- the module's functions with their names, in their order
 abbrev pub functions_named : Module → ModuleInfo → List Naming
 functions_named m info =
-    namings_from (module_names m) 0 (function_shapes m m.functions info.functions.items)
+    namings_from (module_names m) 0 (function_shapes m info m.functions info.functions.items)
 
 -- the `let`s of a program: the names of those of each function, the last one first, and the types
 -- that those of each function tell, in the functions' order

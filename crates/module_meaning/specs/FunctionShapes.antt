@@ -1,8 +1,8 @@
 -- Functions as shapes, of all modules, with every expression and statement.
 --
--- Throughout, m is a module, info what is known of it, f a function, es is what is known of its
--- expressions, a what stands around them, d what the module declares too, h a handle and e an
--- expression (xs are several).
+-- Throughout, m is a module, info what is known of it, f a function (fs are several), es is what is
+-- known of its expressions (ess are those of several functions), a what stands around them, d what
+-- the module declares too, h a handle and e an expression (xs are several).
 use Rattle.std.specs.Prelude.{ℕ, ◌+◌, List, [], ◌∷◌, map}
 use Rattle.std.specs.Option.{option_map}
 use Rattle.indexmap.specs.IndexMap.{keys}
@@ -66,3 +66,11 @@ function_shape m info f es =
       given_names = given_from (keys f.named_expressions) 0 f.expressions;
       body = statements_shape d.around f.body;
     }
+
+-- the functions, each with what is known of it
+abbrev pub function_shapes :
+    ir_module.Module → ModuleInfo → List ir_function.Function → List (List ExpressionInfo) →
+    List Function
+function_shapes m info (f ∷ fs) (es ∷ ess) =
+    function_shape m info f es ∷ function_shapes m info fs ess
+function_shapes m info _ _ = []

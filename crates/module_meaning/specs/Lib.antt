@@ -1,7 +1,6 @@
 pub mod Accepted
 pub mod AgreeingOperators
 pub mod AlikeTypes
-pub mod Applications
 pub mod Bindings
 pub mod Conversions
 pub mod ExpressionOperators
@@ -16,6 +15,7 @@ pub mod Literals
 pub mod Meanings
 pub mod ModuleShapes
 pub mod Names
+pub mod Namings
 pub mod Numbers
 pub mod OperandDemands
 pub mod Operations

@@ -6,13 +6,15 @@
 use Rattle.std.specs.Prelude.{ℕ, Bool, true, false, ◌&&◌, ◌||◌, List, length, ◌==◌, Option, Some}
 use Rattle.std.specs.Prelude.{slice_get}
 use Rattle.std.specs.List.{list_all}
-use Rattle.std.specs.Option.{option_map_or, is_some, is_none}
+use Rattle.std.specs.Option.{option_map_or, is_none, is_some}
 use Rattle.indexmap.specs.IndexMap.{keys}
 use Rattle.naga_ir.specs.StatementTree.{emit, store, return, StatementTree, simple, BlockTree}
 use Rattle.naga_ir.specs.StatementTree.{no_statements, statement}
 use Rattle.naga_ir.specs.declared.expression.Expression.{Expression}
 use Rattle.naga_ir.specs.declared.expression.Expression.TheVariants.{Literal, FunctionArgument}
-use Rattle.naga_ir.specs.declared.expression.Expression.TheVariants.{LocalVariable, Load}
+use Rattle.naga_ir.specs.declared.expression.Expression.TheVariants.{LocalVariable, Load, Unary}
+use Rattle.naga_ir.specs.declared.expression.Expression.TheVariants.{Binary, Select, Math}
+use Rattle.naga_ir.specs.declared.expression.Expression.TheVariants.{Relational}
 use Rattle.naga_ir.specs.declared.expression.Literal.{Literal as LiteralValue}
 use Rattle.naga_ir.specs.declared.expression.Literal.TheVariants as literal
 use Rattle.naga_ir.specs.declared.module.Function.{Function}
@@ -28,7 +30,8 @@ use Rattle.naga_ir.specs.declared.types.TypeInner.TheVariants as inner
 use Rattle.naga_info.specs.Resolution.{inner_of}
 use Rattle.naga_info.specs.declared.info.ModuleInfo.{ModuleInfo}
 use Rattle.naga_info.specs.declared.info.TypeResolution.{TypeResolution}
-use Rattle.module_meaning.specs.Applications.{application_of, written_word}
+use Rattle.module_meaning.specs.OperatorTable.{relational_word}
+use Rattle.wgsl_words.specs.Words.{math_word}
 
 -- nothing is declared but types and functions
 abbrev pub declares_functions : Module → Bool
@@ -80,15 +83,19 @@ is_written_literal (literal.I64 value) = true
 is_written_literal (literal.U64 value) = true
 is_written_literal _ = false
 
--- a literal of one of the scalar types, an argument, a local, a load, or an operator that is written
--- so far
+-- a literal of one of the scalar types, an argument, a local, a load, an operator with a sign, the
+-- choice of one of two values, or a function of mathematics or a relation that has a word
 abbrev pub expression_is_written : Expression → Bool
 expression_is_written (Literal value) = is_written_literal value
 expression_is_written (FunctionArgument number) = true
 expression_is_written (LocalVariable handle) = true
 expression_is_written (Load pointer) = true
-expression_is_written e =
-    option_map_or (λ applied. is_some (written_word applied.operator)) (application_of e) false
+expression_is_written (Unary op expr) = true
+expression_is_written (Binary op left right) = true
+expression_is_written (Select condition accept reject) = true
+expression_is_written (Math fun arg arg1 arg2 arg3) = is_some (math_word fun)
+expression_is_written (Relational fun argument) = is_some (relational_word fun)
+expression_is_written _ = false
 
 -- a literal, where there is an expression
 abbrev pub is_literal : Option Expression → Bool

@@ -7,7 +7,7 @@ use Rattle.shader_runs.specs.Resolution.{text_targets, module_targets}
 use Rattle.wgsl_text.specs.Declarations.{Program}
 use Rattle.module_meaning.specs.Names.{module_names}
 use Rattle.module_meaning.specs.ModuleShapes.{module_shape}
-use Rattle.module_meaning.specs.Shapes.{namings}
+use Rattle.module_meaning.specs.Namings.{namings}
 use Rattle.text_meaning.specs.Abstraction.{program_read}
 
 -- Each identifier of each function, in their order, stands for the function, argument, local or

@@ -1,6 +1,5 @@
 -- What each statement without blocks does, of all such statements: those that ask for an event name
 -- the operator by its word, its operands in the order in which they are written, and their result.
--- (`Shapes` has those that are written so far.)
 --
 -- Throughout, a is what stands around a function's expressions.
 use Rattle.std.specs.Prelude.{ℕ, Bool, ◌-◌, ◌==◌, Option, Some, None, if◌then◌else◌}

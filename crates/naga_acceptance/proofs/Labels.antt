@@ -1,10 +1,10 @@
 -- Labels that ascend differ.
 use Rattle.std.proofs.Common.{◌≡◌, ℕ, ℤ, pos, negsuc, Bool, true, false, ◌&&◌, refl, sym, ap, ◌∙◌}
-use Rattle.std.proofs.Common.{Some, None, arith, subst, true≢false}
+use Rattle.std.proofs.Common.{Some, None, arith}
 use Rattle.std.specs.Prelude.{not, nat_lt, ◌||◌, ◌==◌}
 use Rattle.std.specs.Int.Signed.{lt_z}
 use Rattle.std.specs.Ordering.{int_eq}
-use Rattle.std.proofs.lemmas.Bool.{and_parts, and_from, ltb-true, lt-ltb, eqb-true}
+use Rattle.std.proofs.lemmas.Bool.{and_parts, ltb-true, lt-ltb, eqb-true}
 use Rattle.std.proofs.lemmas.Bool.Decides.{Decides-int_eq}
 use Rattle.naga_ir.specs.StatementTree.{CaseTrees, no_cases, case}
 use Rattle.naga_ir.specs.declared.statement.SwitchValue.{SwitchValue}

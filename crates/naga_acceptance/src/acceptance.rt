@@ -59,6 +59,7 @@ pub fn unaccepted(module: &Module, info: &ModuleInfo) -> Option<Unaccepted>
 /// It takes no memory and answers whatever numbers a module holds. Time grows with the module; a
 /// switch whose labels don't ascend, the default behind all, takes the square of its cases, and an
 /// operator that shares its slot of a table with another is looked for from the start.
+#[tactic(none)]
 pub fn accepts(module: &Module, info: &ModuleInfo) -> bool
     ensures { result ≡ is_accepted «module».now info.now }
 {

@@ -2,8 +2,9 @@
 
 ghost use Rattle.std.specs.Prelude.{◌≡◌, slice_get};
 ghost use Rattle.std.specs.List.{list_all};
-ghost use Rattle.std.specs.Option.{is_none};
+ghost use Rattle.std.specs.Option.{is_none, is_some};
 ghost use Rattle.naga_ir.specs.StatementViews.{tree_of};
+ghost use Rattle.module_meaning.specs.OperatorTable.{relational_word};
 ghost use Rattle.module_meaning.specs.Part.{block_is_written, expression_is_written};
 ghost use Rattle.module_meaning.specs.Part.{function_is_written, is_literal, is_unbound};
 ghost use Rattle.module_meaning.specs.Part.{is_written_so_far, local_is_written};
@@ -17,15 +18,18 @@ use crate::parts::{inner_at, inner_of};
 use naga_info::{ExpressionInfo, FunctionInfo, ModuleInfo, TypeResolution};
 use naga_ir::{
     AddressSpace, Arena, Block, Expression, Function, FunctionArgument, Handle, Literal,
-    LocalVariable, Module, Scalar, ScalarKind, Statement, Type_, TypeInner, UniqueArena,
+    LocalVariable, Module, RelationalFunction, Scalar, ScalarKind, Statement, Type_, TypeInner,
+    UniqueArena,
 };
+use wgsl_words::TryToWgsl;
 
 /// Whether the module holds nothing but what is written so far: the types `bool`, `i32`, `u32`,
 /// `i64` and `u64`, and functions without names of their expressions, whose arguments and result
 /// are bound to nothing, whose locals have a literal as first value or none, whose expressions are
-/// arguments, locals, literals of these types, loads, operators with a sign and choices, and whose
-/// statements are `Emit`s, `Store`s and `Return`s. And whether nothing else is known of these
-/// expressions' types than such a type, or a pointer to a local of one.
+/// arguments, locals, literals of these types, loads, operators with a sign, choices and calls of
+/// functions of mathematics that have a word, of `all` and of `any`, and whose statements are
+/// `Emit`s, `Store`s and `Return`s. And whether nothing else is known of these expressions' types
+/// than such a type, or a pointer to a local of one.
 #[tactic(auto, unfolding(module_meaning::specs::Part::is_written_so_far))]
 pub fn is_written_so_far(module: &Module, info: &ModuleInfo) -> bool
     ensures { result ≡ is_written_so_far «module».now info.now }
@@ -202,8 +206,20 @@ fn expression_is_written(expression: &Expression) -> bool
         | Expression::Unary { .. }
         | Expression::Binary { .. }
         | Expression::Select { .. } => true,
+        Expression::Math { fun, .. } => fun.try_to_wgsl().is_some(),
+        Expression::Relational { fun, .. } => has_word(*fun),
         Expression::Literal(literal) => is_written_literal(*literal),
         _ => false,
+    }
+}
+
+/// Whether WGSL has a word for a relation.
+fn has_word(fun: RelationalFunction) -> bool
+    ensures { result ≡ is_some (relational_word fun) }
+{
+    match fun {
+        RelationalFunction::All | RelationalFunction::Any => true,
+        RelationalFunction::IsNan | RelationalFunction::IsInf => false,
     }
 }
 

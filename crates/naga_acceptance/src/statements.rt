@@ -221,8 +221,7 @@ fn none_is_repeated(cases: &[SwitchCase]) -> bool
     true
 }
 
-/// Whether no two cases have one label. Where the labels ascend, as those of most switches, it looks
-/// at each once.
+/// Whether no two cases have one label. Where the labels ascend, it looks at each once.
 fn labels_differ(cases: &[SwitchCase]) -> bool
     ensures { result ≡ labels_differ (cases_of cases.now) }
 {

@@ -6,13 +6,13 @@ use Rattle.std.proofs.Common.{sym, ap, ◌∙◌, arith, zero, ◌+◌, pos, neg
 use Rattle.std.proofs.Common.{add-one, add-zero, zero-add, ◌-◌}
 use Rattle.std.specs.Prelude.{codes, IsTrue, slice_get, unwrap_or}
 use Rattle.std.specs.Option.{option_map_or, option_map}
-use Rattle.std.proofs.lemmas.Bool.{and_parts, ltb-true}
+use Rattle.std.proofs.lemmas.Bool.{and_from, and_parts, ltb-true}
 use Rattle.std.proofs.Common.{nat_lt}
 use Rattle.std.proofs.lemmas.List.{map-append}
-use Rattle.std.proofs.lemmas.Option.{slice_get-map}
 use Rattle.naga_ir.specs.declared.statement.SwitchValue.{SwitchValue}
 use Rattle.naga_ir.specs.declared.statement.SwitchValue.TheVariants as label
 use Rattle.naga_ir.specs.StatementTree.{SimpleStatement, emit, store, return, StatementTree, simple}
+use Rattle.naga_ir.specs.StatementTree.{break, continue, kill}
 use Rattle.naga_ir.specs.StatementTree.{block, branch, switch, loop, BlockTree, no_statements}
 use Rattle.naga_ir.specs.StatementTree.{statement, CaseTrees, no_cases, case}
 use Rattle.naga_ir.specs.declared.expression.Expression as ir
@@ -25,14 +25,17 @@ use Rattle.naga_ir.specs.declared.types.Type_.{Type_}
 use Rattle.naga_ir.specs.declared.types.TypeInner.TheVariants as inner
 use Rattle.naga_info.specs.declared.info.TypeResolution.TheVariants.{Value}
 use Rattle.naga_info.specs.declared.info.ExpressionInfo.{ExpressionInfo}
+use Rattle.naga_info.specs.declared.info.ModuleInfo.{ModuleInfo}
 use Rattle.std.specs.List.{list_all}
-use Rattle.module_meaning.specs.Part.{is_scalar_type}
+use Rattle.module_meaning.specs.Part.{block_is_written, expression_is_written}
+use Rattle.module_meaning.specs.Part.{function_is_written, is_scalar_type, statement_is_written}
 use Rattle.module_meaning.proofs.Lists.{list_all_at}
 use Rattle.naga_names.specs.Keys.{NameMap}
 use Rattle.wgsl_text.specs.Reading.{type_layout}
 use Rattle.wgsl_text.specs.Types.{TypeSpecifier, Named, pointer_tree}
 use Rattle.wgsl_text.proofs.Text.{text-append}
 use Rattle.shader_runs.specs.Value.{ValueType}
+use Rattle.shader_runs.specs.Program as shapes
 use Rattle.shader_runs.specs.Program.{binds, from, handle_type, expression_of}
 use Rattle.shader_runs.specs.Scope.{Standing, Named, Handles, Naming, bound_name, at_start}
 use Rattle.shader_runs.specs.Scope.{given_after, given_by, given_by_all, after_one, after}
@@ -43,13 +46,14 @@ use Rattle.shader_runs.specs.Form.{written_below, names_from, variables_from, fo
 use Rattle.shader_runs.specs.Form.{AsValue, AsPlace, let_if}
 use Rattle.shader_runs.specs.Form as runs
 use Rattle.naga_form.specs.Expressions.{PlainForm, ValueForm, ReferenceForm, as_value, as_reference}
-use Rattle.naga_form.specs.Expressions.{application_plain, own_plain, own_if, standing_plain}
-use Rattle.naga_form.specs.Expressions.{plain_below, plain_form, value_form}
+use Rattle.naga_form.specs.Expressions.{applied_plain, no_form, own_plain, own_if, standing_plain}
+use Rattle.naga_form.specs.Expressions.{plain_below, plain_form, value_form, Source}
+use Rattle.naga_form.specs.Expressions.{function_source, unnamed_form}
 use Rattle.naga_form.specs.Functions.{locals_form, parameters_form, function_form}
 use Rattle.naga_form.specs.Statements.{let_form, then_if, lets_form, return_line, simple_form}
 use Rattle.naga_form.specs.Statements.{loop_form, label_form, labels_form, line_form, lines_form}
-use Rattle.naga_form.specs.Statements.{cases_form}
-use Rattle.naga_words.specs.Contexts.{names_of}
+use Rattle.naga_form.specs.Statements.{cases_form, has_form, have_forms, have_forms_in}
+use Rattle.naga_form.specs.Statements.{cases_have_forms}
 use Rattle.module_meaning.specs.Names.{function_name, argument_name, module_names}
 use Rattle.naga_form.specs.Types.{type_form, told_type, LocalsHaveForms}
 use Rattle.naga_form.specs.TypeTrees.{type_tree}
@@ -57,16 +61,25 @@ use Rattle.naga_form.proofs.TypeTrees.{inner_tree_row}
 use Rattle.naga_form.proofs.WrittenTypes.{scalars_at, type_has_form}
 use Rattle.module_meaning.specs.Types.{local_pointer, declared_type, type_names}
 use Rattle.module_meaning.specs.TypeIdentity.{identity, word_of_unspelled_type}
-use Rattle.naga_form.specs.Literals.{literal_is_written, LiteralsAreWritten}
-use Rattle.module_meaning.specs.Shapes.{statement_shape, statements_shape, function_naming}
-use Rattle.module_meaning.specs.Shapes.{application_shape, expression_shape, label_shape}
-use Rattle.module_meaning.specs.Shapes.{simple_shape, cases_shape, function_shape}
+use Rattle.module_meaning.specs.ExpressionOperators.{load_operator}
+use Rattle.module_meaning.specs.ExpressionOperators.{applied_operator}
+use Rattle.module_meaning.specs.ExpressionShapes.{Declared, shape_of, applied_or}
+use Rattle.module_meaning.specs.FunctionShapes.{statement_shape, statements_shape, cases_shape}
+use Rattle.module_meaning.specs.FunctionShapes.{function_shape}
+use Rattle.module_meaning.specs.Namings.{function_naming}
+use Rattle.module_meaning.specs.OperatorTable.{Operator}
+use Rattle.module_meaning.specs.Shapes.{label_shape}
+use Rattle.module_meaning.specs.StatementShapes.{simple_shape}
+use Rattle.module_meaning.proofs.ExpressionShapes.{plain_store}
+use Rattle.module_meaning.proofs.ModuleShapes.{points_plainly}
+use Rattle.naga_form.proofs.ModulePlaces.{expression_is, shapes_length}
+use Rattle.naga_form.proofs.PartFits.{function_parts}
+use Rattle.naga_ir.specs.Operands.{expression_operands}
 use Rattle.text_meaning.specs.Abstraction.{expression_read, label_read, labels_read}
 use Rattle.text_meaning.specs.Abstraction.{statements_read, cases_read, function_read}
 use Rattle.text_meaning.specs.Abstraction.{statement_read, local_pointer_read, variable_read}
 use Rattle.naga_ir.specs.declared.expression.Expression.TheVariants as expression
-use Rattle.module_meaning.specs.Applications.{Application, application_of}
-use Rattle.naga_form.proofs.Operators.{operator_read}
+use Rattle.naga_form.proofs.Operators.{applied_read}
 use Rattle.naga_form.proofs.Fits.{mapped_at, mapped_length}
 use Rattle.naga_form.proofs.Literals.{literal_read}
 use Rattle.wgsl_text.specs.Statements as tree
@@ -112,49 +125,102 @@ loop_reads body continuing None = refl
 loop_reads body continuing (Some e) = refl
 
 -- ---- expressions
-module _ (n : Naming) where
-  application_reads : (operand : ℕ → PlainForm) (like : ℕ → Plain) →
-      ((x : ℕ) → plain_read (operand x) ≡ like x) → (k : ValueType) (o : Option Application) →
-      plain_read (application_plain operand o) ≡ runs.own_form n like k (Some (application_shape o))
-  application_reads operand like same k None = refl
-  application_reads operand like same k (Some applied) =
-      operator_read operand like
-      (λ h. value_is (operand h)
-      ∙ ap runs.value_form (same h)) n k applied.operator applied.operands
+module _ (n : Naming) (d : Declared) (all : List ir.Expression) where
+  -- an operator where one is applied, and what stands there where none is
+  applied_reads : (operand : ℕ → PlainForm) (like : ℕ → Plain) →
+      ((x : ℕ) → plain_read (operand x) ≡ like x) → (k : ValueType) (otherwise : PlainForm) →
+      (other : shapes.Expression) → plain_read otherwise ≡ runs.own_form n like k (Some other) →
+      (hs : List ℕ) (o : Option Operator) →
+      plain_read (applied_plain otherwise operand hs o) ≡
+      runs.own_form n like k (Some (applied_or other hs o))
+  applied_reads operand like same k otherwise other none hs None = none
+  applied_reads operand like same k otherwise other none hs (Some op) =
+      applied_read operand like (λ h. value_is (operand h) ∙ ap runs.value_form (same h)) n k op hs
 
-  own_reads : (operand : ℕ → PlainForm) (like : ℕ → Plain) → ((x : ℕ) → plain_read (operand x) ≡ like x) → (k : ValueType) (e : ir.Expression) → literal_is_written e ≡ true → plain_read (own_plain n operand e) ≡ runs.own_form n like k (Some (expression_shape e))
-  own_reads operand like same k (expression.Literal value) w = ap (λ v. AsValue (LiteralOf v)) (literal_read value w)
-  own_reads operand like same k (expression.Load pointer) w = ap AsValue (place_is (operand pointer) ∙ ap runs.place_form (same pointer))
-  own_reads operand like same k (expression.FunctionArgument number) w = refl
-  own_reads operand like same k (expression.LocalVariable handle) w = refl
-  own_reads operand like same k e w = application_reads operand like same k (application_of e)
+  applies : (operand : ℕ → PlainForm) (like : ℕ → Plain) →
+      ((x : ℕ) → plain_read (operand x) ≡ like x) → (k : ValueType) (e : ir.Expression) →
+      plain_read
+      (applied_plain no_form operand (expression_operands e) (applied_operator d.around e)) ≡
+      runs.own_form n like k
+      (Some (applied_or shapes.Result (expression_operands e) (applied_operator d.around e)))
+  applies operand like same k e =
+      applied_reads operand like same k no_form shapes.Result refl (expression_operands e)
+      (applied_operator d.around e)
 
-  own_if_reads : (operand : ℕ → PlainForm) (like : ℕ → Plain) → ((x : ℕ) → plain_read (operand x) ≡ like x) → (k : ValueType) (e : Option ir.Expression) → option_map_or literal_is_written e true ≡ true → plain_read (own_if n operand e) ≡ runs.own_form n like k (option_map expression_shape e)
-  own_if_reads operand like same k (Some e) w = own_reads operand like same k e w
-  own_if_reads operand like same k None w = refl
+  own_reads : (operand : ℕ → PlainForm) (like : ℕ → Plain) →
+      ((x : ℕ) → plain_read (operand x) ≡ like x) → (k : ValueType) (h : ℕ) (e : ir.Expression) →
+      expression_is_written e ≡ true →
+      plain_read (own_plain n d operand e) ≡ runs.own_form n like k (Some (shape_of d all h e))
+  own_reads operand like same k h (expression.Literal value) w =
+      ap (λ v. AsValue (LiteralOf v)) (literal_read value w)
+  own_reads operand like same k h (expression.Load pointer) w =
+      applied_reads operand like same k (ValueForm (as_reference (operand pointer)))
+      (shapes.Load pointer)
+      (ap AsValue (place_is (operand pointer) ∙ ap runs.place_form (same pointer)))
+      (pointer ∷ []) (load_operator d.around pointer)
+  own_reads operand like same k h (expression.FunctionArgument number) w = refl
+  own_reads operand like same k h (expression.LocalVariable handle) w = refl
+  own_reads operand like same k h (expression.Unary op expr) w =
+      applies operand like same k (expression.Unary op expr)
+  own_reads operand like same k h (expression.Binary op left right) w =
+      applies operand like same k (expression.Binary op left right)
+  own_reads operand like same k h (expression.Select condition accept reject) w =
+      applies operand like same k (expression.Select condition accept reject)
+  own_reads operand like same k h (expression.Math fun arg arg1 arg2 arg3) w =
+      applies operand like same k (expression.Math fun arg arg1 arg2 arg3)
+  own_reads operand like same k h (expression.Relational fun argument) w =
+      applies operand like same k (expression.Relational fun argument)
+  own_reads operand like same k h _ w = absurd cc
+
+  own_if_reads : (operand : ℕ → PlainForm) (like : ℕ → Plain) →
+      ((x : ℕ) → plain_read (operand x) ≡ like x) → (k : ValueType) (h : ℕ) →
+      (e : Option ir.Expression) → option_map_or expression_is_written e true ≡ true →
+      plain_read (own_if n d operand e) ≡
+      runs.own_form n like k (option_map (shape_of d all h) e)
+  own_if_reads operand like same k h (Some e) w = own_reads operand like same k h e w
+  own_if_reads operand like same k h None w = refl
 
   standing_reads : (s : Standing) (p : PlainForm) (q : Plain) → plain_read p ≡ q → plain_read (standing_plain s p) ≡ runs.standing_form s q
   standing_reads (Named x) p q e = refl
   standing_reads _ p q e = e
 
-module _ (names : NameMap) (m : Module) (g : ℕ) (f : ir_function.Function) (es : List ExpressionInfo) (literals : LiteralsAreWritten f.expressions) where
+module _ (names : NameMap) (m : Module) (info : ModuleInfo) (g : ℕ) (f : ir_function.Function) (es : List ExpressionInfo) (scalars : IsTrue (list_all is_scalar_type m.types)) (written : IsTrue (list_all expression_is_written f.expressions)) where
   abbrev own : Naming
-  own = function_naming names m g f es
+  own = function_naming names m info g f es
 
-  below_reads : (s : Handles) (k h : ℕ) → plain_read (plain_below own f.expressions s k h) ≡ written_below own s k h
+  abbrev source : Source
+  source = function_source m info f es
+
+  abbrev d : Declared
+  d = source.declared
+
+  written_at : (h : ℕ) → option_map_or expression_is_written (slice_get f.expressions h) true ≡ true
+  written_at h = by (slice_get f.expressions h) refl
+    where
+      by : (o : Option ir.Expression) → slice_get f.expressions h ≡ o → option_map_or expression_is_written o true ≡ true
+      by None at = refl
+      by (Some e) at = list_all_at expression_is_written f.expressions h e written at
+
+  -- a handle's expression, over operands that are read so
+  handle_reads : (operand : ℕ → PlainForm) (like : ℕ → Plain) → ((x : ℕ) → plain_read (operand x) ≡ like x) → (h : ℕ) →
+      plain_read (own_if own d operand (slice_get f.expressions h)) ≡ runs.own_form own like (handle_type own.function h) (expression_of own.function h)
+  handle_reads operand like same h =
+      own_if_reads own d f.expressions operand like same (handle_type own.function h) h (slice_get f.expressions h) (written_at h)
+      ∙ ap (runs.own_form own like (handle_type own.function h)) (sym (expression_is m info f es h))
+
+  below_reads : (s : Handles) (k h : ℕ) → plain_read (plain_below own source s k h) ≡ written_below own s k h
   below_reads s zero h = refl
   below_reads s (suc k) h =
-      standing_reads own (s h) (own_if own (plain_below own f.expressions s k) (slice_get f.expressions h)) (runs.own_form own (written_below own s k) (handle_type own.function h) (expression_of own.function h))
-      (own_if_reads own (plain_below own f.expressions s k) (written_below own s k) (below_reads s k) (handle_type own.function h) (slice_get f.expressions h) (literals h)
-      ∙ ap (runs.own_form own (written_below own s k) (handle_type own.function h)) (sym (slice_get-map expression_shape f.expressions h)))
+      standing_reads own d f.expressions (s h) (own_if own d (plain_below own source s k) (slice_get f.expressions h)) (runs.own_form own (written_below own s k) (handle_type own.function h) (expression_of own.function h))
+      (handle_reads (plain_below own source s k) (written_below own s k) (below_reads s k) h)
 
-  plain_reads : (s : Handles) (h : ℕ) → plain_read (plain_form own f.expressions s h) ≡ runs.written_form own s h
-  plain_reads s h = below_reads s (length f.expressions) h ∙ ap (λ k. written_below own s k h) (sym (mapped_length expression_shape f.expressions))
+  plain_reads : (s : Handles) (h : ℕ) → plain_read (plain_form own source s h) ≡ runs.written_form own s h
+  plain_reads s h = below_reads s (length f.expressions) h ∙ ap (λ k. written_below own s k h) (sym (shapes_length d f.expressions 0 f.expressions))
 
-  value_reads : (s : Handles) (h : ℕ) → expression_read (value_form own f.expressions s h) ≡ runs.value_at own s h
-  value_reads s h = value_is (plain_form own f.expressions s h) ∙ ap runs.value_form (plain_reads s h)
+  value_reads : (s : Handles) (h : ℕ) → expression_read (value_form own source s h) ≡ runs.value_at own s h
+  value_reads s h = value_is (plain_form own source s h) ∙ ap runs.value_form (plain_reads s h)
 
-  value_if_reads : (s : Handles) (v : Option ℕ) → option_map expression_read (option_map (value_form own f.expressions s) v) ≡ runs.value_if own s v
+  value_if_reads : (s : Handles) (v : Option ℕ) → option_map expression_read (option_map (value_form own source s) v) ≡ runs.value_if own s v
   value_if_reads s None = refl
   value_if_reads s (Some h) = ap Some (value_reads s h)
 
@@ -166,58 +232,80 @@ module _ (names : NameMap) (m : Module) (g : ℕ) (f : ir_function.Function) (es
   then_if_reads true told x e rest = ap (λ l. before l (statements_read rest)) (let_reads told x e)
   then_if_reads false told x e rest = refl
 
-  lets_read : (told : ℕ → Option TypeSpecifier) (k : ℕ) (hs : List ℕ) (s : Handles) (rest : tree.Statements) → statements_read (lets_form own told f.expressions k hs s rest) ≡ runs.lets own k hs s (statements_read rest)
+  lets_read : (told : ℕ → Option TypeSpecifier) (k : ℕ) (hs : List ℕ) (s : Handles) (rest : tree.Statements) → statements_read (lets_form own told source k hs s rest) ≡ runs.lets own k hs s (statements_read rest)
   lets_read told k [] s rest = refl
   lets_read told k (h ∷ hs) s rest =
-      let e = own_if own (plain_form own f.expressions s) (slice_get f.expressions h) in
-      let behind = lets_form own told f.expressions (given_after own.function h k) hs (after_one own k h s) rest in
+      let e = unnamed_form own source s h in
+      let behind = lets_form own told source (given_after own.function h k) hs (after_one own k h s) rest in
       then_if_reads (binds own.function h) (told h) (bound_name own k h) (as_value e) behind
       ∙ λ i. let_if (binds own.function h) (bound_name own k h)
-      ((value_is e ∙ ap runs.value_form (own_if_reads own (plain_form own f.expressions s) (runs.written_form own s) (plain_reads s) (handle_type own.function h) (slice_get f.expressions h) (literals h)
-      ∙ ap (runs.own_form own (runs.written_form own s) (handle_type own.function h)) (sym (slice_get-map expression_shape f.expressions h)))) i)
+      ((value_is e ∙ ap runs.value_form (handle_reads (plain_form own source s) (runs.written_form own s) (plain_reads s) h)) i)
       (lets_read told (given_after own.function h k) hs (after_one own k h s) rest i)
 
-  return_reads : (s : Handles) (v : Option ℕ) → statement_read (return_line own f.expressions s v) ≡ ReturnLine (runs.value_if own s v)
+  return_reads : (s : Handles) (v : Option ℕ) → statement_read (return_line own source s v) ≡ ReturnLine (runs.value_if own s v)
   return_reads s None = refl
   return_reads s (Some h) = ap (λ e. ReturnLine (Some e)) (value_reads s h)
 
-  simple_reads : (told : ℕ → Option TypeSpecifier) (k : ℕ) (st : SimpleStatement) (s : Handles) (rest : tree.Statements) → statements_read (simple_form own told f.expressions k st s rest) ≡ runs.form own k (simple_shape st) s (statements_read rest)
-  simple_reads told k (emit first end) s rest = lets_read told k (from first (end - first)) s rest
-  simple_reads told k (store pointer value) s rest = λ i. before (Assign ((place_is (plain_form own f.expressions s pointer) ∙ ap runs.place_form (plain_reads s pointer)) i) (value_reads s value i)) (statements_read rest)
-  simple_reads told k (return value) s rest = ap (λ l. before l (statements_read rest)) (return_reads s value)
-  simple_reads told k _ s rest = refl
+  simple_reads : (told : ℕ → Option TypeSpecifier) (k : ℕ) (st : SimpleStatement) (s : Handles) (rest : tree.Statements) → has_form st ≡ true → statements_read (simple_form own told source k st s rest) ≡ runs.form own k (simple_shape d.around st) s (statements_read rest)
+  simple_reads told k (emit first end) s rest has = lets_read told k (from first (end - first)) s rest
+  simple_reads told k (store pointer value) s rest has =
+      (λ i. before (Assign ((place_is (plain_form own source s pointer) ∙ ap runs.place_form (plain_reads s pointer)) i) (value_reads s value i)) (statements_read rest))
+      ∙ ap (λ shape. runs.form own k shape s (statements_read rest)) (sym (plain_store d.around pointer value (points_plainly d.around scalars pointer)))
+  simple_reads told k (return value) s rest has = ap (λ l. before l (statements_read rest)) (return_reads s value)
+  simple_reads told k break s rest has = refl
+  simple_reads told k continue s rest has = refl
+  simple_reads told k kill s rest has = refl
+  simple_reads told k _ s rest has = absurd cc
 
   mutual
-    line_reads : (told : ℕ → Option TypeSpecifier) (k : ℕ) (st : StatementTree) (s : Handles) (rest : tree.Statements) → statements_read (line_form own told f.expressions k st s rest) ≡ runs.form own k (statement_shape st) s (statements_read rest)
-    line_reads told k (simple st) s rest = simple_reads told k st s rest
-    line_reads told k (block b) s rest = ap (λ ls. before (Braces ls) (statements_read rest)) (lines_read told k b s)
-    line_reads told k (branch condition accept reject) s rest =
-        let behind = given_by_all own.function (statements_shape accept) k in
-        λ i. before (IfElse (value_reads s condition i) (lines_read told k accept s i) (lines_read told behind reject s i)) (statements_read rest)
-    line_reads told k (switch selector cases) s rest =
-        λ i. before (SwitchOn (value_reads s selector i) (cases_read_as told k [] cases s i)) (statements_read rest)
-    line_reads told k (loop body continuing break_if) s rest =
-        let behind = given_by_all own.function (statements_shape body) k in
-        let inside = after_all own k (statements_shape body) s in
-        let last = after_all own behind (statements_shape continuing) inside in
-        ap (λ l. before l (statements_read rest)) (loop_reads (lines_form own told f.expressions k body s) (lines_form own told f.expressions behind continuing inside) (option_map (value_form own f.expressions last) break_if))
-        ∙ λ i. before (LoopOf (lines_read told k body s i) (lines_read told behind continuing inside i) (value_if_reads last break_if i)) (statements_read rest)
+    line_reads : (told : ℕ → Option TypeSpecifier) (k : ℕ) (st : StatementTree) (s : Handles) (rest : tree.Statements) → have_forms_in st ≡ true → statements_read (line_form own told source k st s rest) ≡ runs.form own k (statement_shape d.around st) s (statements_read rest)
+    line_reads told k (simple st) s rest have = simple_reads told k st s rest have
+    line_reads told k (block b) s rest have = ap (λ ls. before (Braces ls) (statements_read rest)) (lines_read told k b s have)
+    line_reads told k (branch condition accept reject) s rest have =
+        let both = and_parts (have_forms accept) (have_forms reject) have in
+        let behind = given_by_all own.function (statements_shape d.around accept) k in
+        λ i. before (IfElse (value_reads s condition i) (lines_read told k accept s both.0 i) (lines_read told behind reject s both.1 i)) (statements_read rest)
+    line_reads told k (switch selector cases) s rest have =
+        λ i. before (SwitchOn (value_reads s selector i) (cases_read_as told k [] cases s have i)) (statements_read rest)
+    line_reads told k (loop body continuing break_if) s rest have =
+        let both = and_parts (have_forms body) (have_forms continuing) have in
+        let behind = given_by_all own.function (statements_shape d.around body) k in
+        let inside = after_all own k (statements_shape d.around body) s in
+        let last = after_all own behind (statements_shape d.around continuing) inside in
+        ap (λ l. before l (statements_read rest)) (loop_reads (lines_form own told source k body s) (lines_form own told source behind continuing inside) (option_map (value_form own source last) break_if))
+        ∙ λ i. before (LoopOf (lines_read told k body s both.0 i) (lines_read told behind continuing inside both.1 i) (value_if_reads last break_if i)) (statements_read rest)
 
-    lines_read : (told : ℕ → Option TypeSpecifier) (k : ℕ) (b : BlockTree) (s : Handles) → statements_read (lines_form own told f.expressions k b s) ≡ runs.form_all own k (statements_shape b) s
-    lines_read told k no_statements s = refl
-    lines_read told k (statement st b) s =
-        line_reads told k st s (lines_form own told f.expressions (given_by own.function (statement_shape st) k) b (after own k (statement_shape st) s))
-        ∙ ap (runs.form own k (statement_shape st) s) (lines_read told (given_by own.function (statement_shape st) k) b (after own k (statement_shape st) s))
+    lines_read : (told : ℕ → Option TypeSpecifier) (k : ℕ) (b : BlockTree) (s : Handles) → have_forms b ≡ true → statements_read (lines_form own told source k b s) ≡ runs.form_all own k (statements_shape d.around b) s
+    lines_read told k no_statements s have = refl
+    lines_read told k (statement st b) s have =
+        let both = and_parts (have_forms_in st) (have_forms b) have in
+        line_reads told k st s (lines_form own told source (given_by own.function (statement_shape d.around st) k) b (after own k (statement_shape d.around st) s)) both.0
+        ∙ ap (runs.form own k (statement_shape d.around st) s) (lines_read told (given_by own.function (statement_shape d.around st) k) b (after own k (statement_shape d.around st) s) both.1)
 
-    cases_read_as : (told : ℕ → Option TypeSpecifier) (k : ℕ) (labels : List tree.Label) (cs : CaseTrees) (s : Handles) → cases_read (cases_form own told f.expressions k labels cs s) ≡ runs.form_cases own k (map label_read labels) (cases_shape cs) s
-    cases_read_as told k labels no_cases s = refl
-    cases_read_as told k labels (case value body true cs) s =
-        let behind = given_by_all own.function (statements_shape body) k in
-        cases_read_as told behind (labels ++ label_form value ∷ []) cs s
-        ∙ ap (λ ls. runs.form_cases own behind ls (cases_shape cs) s) (labels_with labels value)
-    cases_read_as told k labels (case value body false cs) s =
-        let behind = given_by_all own.function (statements_shape body) k in
-        λ i. group (labels_read_as labels value i) (lines_read told k body s i) (cases_read_as told behind [] cs s i)
+    cases_read_as : (told : ℕ → Option TypeSpecifier) (k : ℕ) (labels : List tree.Label) (cs : CaseTrees) (s : Handles) → cases_have_forms cs ≡ true → cases_read (cases_form own told source k labels cs s) ≡ runs.form_cases own k (map label_read labels) (cases_shape d.around cs) s
+    cases_read_as told k labels no_cases s have = refl
+    cases_read_as told k labels (case value body true cs) s have =
+        let both = and_parts (have_forms body) (cases_have_forms cs) have in
+        let behind = given_by_all own.function (statements_shape d.around body) k in
+        cases_read_as told behind (labels ++ label_form value ∷ []) cs s both.1
+        ∙ ap (λ ls. runs.form_cases own behind ls (cases_shape d.around cs) s) (labels_with labels value)
+    cases_read_as told k labels (case value body false cs) s have =
+        let both = and_parts (have_forms body) (cases_have_forms cs) have in
+        let behind = given_by_all own.function (statements_shape d.around body) k in
+        λ i. group (labels_read_as labels value i) (lines_read told k body s both.0 i) (cases_read_as told behind [] cs s both.1 i)
+
+-- what is written so far has forms
+written_has_form : (st : StatementTree) → statement_is_written st ≡ true → have_forms_in st ≡ true
+written_has_form (simple (emit first last)) written = refl
+written_has_form (simple (store pointer value)) written = refl
+written_has_form (simple (return value)) written = refl
+written_has_form _ written = absurd cc
+
+pub written_have_forms : (b : BlockTree) → block_is_written b ≡ true → have_forms b ≡ true
+written_have_forms no_statements written = refl
+written_have_forms (statement st b) written =
+    let both = and_parts (statement_is_written st) (block_is_written b) written in
+    and_from (have_forms_in st) (have_forms b) (written_has_form st both.0) (written_have_forms b both.1)
 
 -- the declared type of a local tells the spelling of a pointer to it
 pointer_reads : (m : Module) (ty : ℕ) (t : TypeSpecifier) → type_tree (type_names m) ty ≡ Some t → local_pointer_read (type_form (type_names m) ty) ≡ local_pointer m ty
@@ -227,11 +315,11 @@ pointer_reads m ty t at =
     (inner_tree_row text-append (type_names m) (λ handle. true) (inner.Pointer ty space.Function)
     ∙ ap (λ o. option_map type_layout (option_map (pointer_tree (codes "function") None) o)) at))
 
-module _ (m : Module) (g : ℕ) (f : ir_function.Function) (es : List ExpressionInfo) (literals : LiteralsAreWritten f.expressions) where
+module _ (m : Module) (info : ModuleInfo) (g : ℕ) (f : ir_function.Function) (es : List ExpressionInfo) (scalars : IsTrue (list_all is_scalar_type m.types)) (written : IsTrue (list_all expression_is_written f.expressions)) where
   abbrev own_names : Naming
-  own_names = function_naming (module_names m) m g f es
+  own_names = function_naming (module_names m) m info g f es
 
-  locals_read : LocalsHaveForms (type_names m) f.local_variables → (l : ℕ) (vs : List LocalVariable) → ((k : ℕ) → slice_get vs k ≡ slice_get f.local_variables (k + l)) → map variable_read (locals_form own_names (type_names m) f.expressions l vs) ≡ variables_from own_names l (map (λ v. v.init) vs)
+  locals_read : LocalsHaveForms (type_names m) f.local_variables → (l : ℕ) (vs : List LocalVariable) → ((k : ℕ) → slice_get vs k ≡ slice_get f.local_variables (k + l)) → map variable_read (locals_form own_names (type_names m) (function_source m info f es) l vs) ≡ variables_from own_names l (map (λ v. v.init) vs)
   locals_read formed l [] at = refl
   locals_read formed l (v ∷ vs) at =
       let here : slice_get f.local_variables l ≡ Some v = ap (slice_get f.local_variables) (sym (zero-add l)) ∙ sym (at 0) in
@@ -239,7 +327,7 @@ module _ (m : Module) (g : ℕ) (f : ir_function.Function) (es : List Expression
       let pointer = pointer_reads m v.ty t.0 t.1 ∙ sym (mapped_at (λ l. local_pointer m l.ty) [] f.local_variables l v here) in
       let rest = locals_read formed (l + 1) vs later in
       λ i.
-      record { name = own_names.names.local_ l; pointer = pointer i; first_value = value_if_reads (module_names m) m g f es literals (at_start own_names.function) v.init i }
+      record { name = own_names.names.local_ l; pointer = pointer i; first_value = value_if_reads (module_names m) m info g f es scalars written (at_start own_names.function) v.init i }
       ∷ (rest ∙ ap (λ k. variables_from own_names k (map (λ v. v.init) vs)) (add-one l)) i
     where
       later : (k : ℕ) → slice_get vs k ≡ slice_get f.local_variables (k + (l + 1))
@@ -254,13 +342,14 @@ locals_have_forms m f count scalars ranges l v at =
     let form = type_has_form m.types v.ty (scalars_at m.types v.ty scalars (ltb-true v.ty (length m.types) parts.0)) in
     (form.tree, form.is (module_names m))
 
-pub function_reads : (explicit : Bool) (m : Module) (g : ℕ) (f : ir_function.Function) (es : List ExpressionInfo) → LiteralsAreWritten f.expressions → LocalsHaveForms (type_names m) f.local_variables → function_read (function_form explicit (module_names m) m g f es) ≡ form_function (function_naming (module_names m) m g f es)
-function_reads explicit m g f es literals formed =
+pub function_reads : (explicit : Bool) (m : Module) (info : ModuleInfo) (g : ℕ) (f : ir_function.Function) (es : List ExpressionInfo) → IsTrue (list_all is_scalar_type m.types) → IsTrue (function_is_written f) → LocalsHaveForms (type_names m) f.local_variables → function_read (function_form explicit (module_names m) m info g f es) ≡ form_function (function_naming (module_names m) m info g f es)
+function_reads explicit m info g f es scalars written formed =
     let names = module_names m in
-    let locals = locals_read m g f es literals formed 0 f.local_variables (λ k. ap (slice_get f.local_variables) (sym (add-zero k))) in
+    let parts = function_parts f written in
+    let locals = locals_read m info g f es scalars parts.expressions formed 0 f.local_variables (λ k. ap (slice_get f.local_variables) (sym (add-zero k))) in
     λ i. record {
       name = function_name names g;
       parameters = (names_counted names m.types g 0 f.arguments.items ∙ ap (names_from (argument_name names g) 0) (sym (mapped_length (λ a. declared_type m a.ty) f.arguments.items))) i;
       variables = locals i;
-      lines = lines_read names m g f es literals (told_type explicit (type_names m) es) 0 f.body (at_start (function_shape m f es)) i;
+      lines = lines_read names m info g f es scalars parts.expressions (told_type explicit (type_names m) es) 0 f.body (at_start (function_shape m info f es)) (written_have_forms f.body parts.body) i;
     }

@@ -3,10 +3,10 @@ use Rattle.std.proofs.Common.{◌≡◌, ℕ, ◌+◌, ◌-◌, Bool, true, fals
 use Rattle.std.proofs.Common.{Some, None, refl, sym, ap, ◌∙◌}
 use Rattle.std.specs.Prelude.{IsTrue, slice_get, cond}
 use Rattle.std.proofs.lemmas.List.{map-append}
-use Rattle.naga_ir.specs.StatementTree.{SimpleStatement, emit, return, StatementTree, simple, block}
+use Rattle.naga_ir.specs.StatementTree.{SimpleStatement, emit, store, return, StatementTree, simple}
+use Rattle.naga_ir.specs.StatementTree.{block}
 use Rattle.naga_ir.specs.StatementTree.{branch, switch, loop, BlockTree, no_statements, statement}
 use Rattle.naga_ir.specs.StatementTree.{CaseTrees, no_cases, case}
-use Rattle.naga_ir.specs.declared.expression.Expression as ir
 use Rattle.naga_ir.specs.declared.module.Function as ir_function
 use Rattle.naga_ir.specs.declared.module.Module.{Module}
 use Rattle.naga_info.specs.declared.info.ExpressionInfo.{ExpressionInfo}
@@ -22,7 +22,7 @@ use Rattle.shader_runs.specs.Bindings.{text_lets, Binding, function_bindings, em
 use Rattle.shader_runs.specs.Bindings.{statement_bindings, statements_bindings, cases_bindings}
 use Rattle.shader_runs.proofs.Bindings.{binds_as_meant}
 use Rattle.wgsl_text.specs.Types.{TypeSpecifier}
-use Rattle.naga_form.specs.Expressions.{as_value, own_if, plain_form}
+use Rattle.naga_form.specs.Expressions.{Source, as_value, function_source, unnamed_form}
 use Rattle.naga_form.specs.Statements.{let_form, then_if, lets_form, return_line, simple_form}
 use Rattle.naga_form.specs.Statements.{loop_form, label_form, line_form, lines_form, cases_form}
 use Rattle.naga_form.specs.Functions.{functions_form}
@@ -40,15 +40,26 @@ use Rattle.naga_form.specs.TypeTrees.{resolution_tree}
 use Rattle.naga_form.specs.Types.{told_type}
 use Rattle.module_meaning.specs.Types.{told_spelling, spelled_resolution}
 use Rattle.module_meaning.specs.Names.{module_names}
-use Rattle.module_meaning.specs.Shapes.{simple_shape, statement_shape, statements_shape}
-use Rattle.module_meaning.specs.Shapes.{cases_shape, function_shapes, program_shape, namings_from}
-use Rattle.module_meaning.specs.Shapes.{namings, outer_names, function_naming}
+use Rattle.module_meaning.specs.ExpressionOperators.{points_to_atomic}
+use Rattle.module_meaning.specs.FunctionShapes.{statement_shape, statements_shape, cases_shape}
+use Rattle.module_meaning.specs.FunctionShapes.{function_shapes}
+use Rattle.module_meaning.specs.ModuleShapes.{module_shape}
+use Rattle.module_meaning.specs.Namings.{namings_from, namings, outer_names, function_naming}
+use Rattle.module_meaning.specs.StatementShapes.{simple_shape, store_shape}
 use Rattle.text_meaning.specs.Bindings.{statement_annotations, statements_annotations}
 use Rattle.text_meaning.specs.Bindings.{cases_annotations}
 use Rattle.module_meaning.specs.Bindings.{module_annotations, BindsAs}
-use Rattle.naga_form.proofs.Runs.{program_reads}
+use Rattle.module_meaning.specs.Part.{function_is_written}
+use Rattle.module_meaning.proofs.Part.{functions_are_written}
+use Rattle.naga_form.proofs.Abstraction.{written_have_forms}
+use Rattle.naga_form.proofs.PartFits.{function_parts}
+use Rattle.naga_form.specs.Statements.{has_form, have_forms, have_forms_in, cases_have_forms}
+use Rattle.naga_ir.specs.StatementTree.{break, continue, kill}
+use Rattle.std.specs.List.{list_all}
+use Rattle.std.proofs.lemmas.Bool.{and_parts}
+use Rattle.naga_form.proofs.Runs.{reads_as_shapes}
 
-module _ (n : Naming) (told : ℕ → Option TypeSpecifier) (es : List ir.Expression) where
+module _ (n : Naming) (told : ℕ → Option TypeSpecifier) (source : Source) where
   -- what the `let`s of bound handles tell
   abbrev told_of : List Binding → List (Option (List ℕ))
   told_of bs = map (λ b. option_map type_layout (told b.handle)) bs
@@ -60,7 +71,7 @@ module _ (n : Naming) (told : ℕ → Option TypeSpecifier) (es : List ir.Expres
   let_tells None x e = refl
   let_tells (Some t) x e = refl
 
-  return_tells : (s : Handles) (v : Option ℕ) → statement_annotations (return_line n es s v) ≡ []
+  return_tells : (s : Handles) (v : Option ℕ) → statement_annotations (return_line n source s v) ≡ []
   return_tells s None = refl
   return_tells s (Some h) = refl
 
@@ -68,57 +79,70 @@ module _ (n : Naming) (told : ℕ → Option TypeSpecifier) (es : List ir.Expres
   loop_tells body continuing None = refl
   loop_tells body continuing (Some e) = refl
 
-  lets_tell : (k : ℕ) (hs : List ℕ) (s : Handles) (rest : tree.Statements) → statements_annotations (lets_form n told es k hs s rest) ≡ told_of (emit_bindings n k hs) ++ statements_annotations rest
+  lets_tell : (k : ℕ) (hs : List ℕ) (s : Handles) (rest : tree.Statements) → statements_annotations (lets_form n told source k hs s rest) ≡ told_of (emit_bindings n k hs) ++ statements_annotations rest
   lets_tell k [] s rest = refl
   lets_tell k (h ∷ hs) s rest = by (binds n.function h) (lets_tell (given_after n.function h k) hs (after_one n k h s) rest)
     where
       line : tree.Statement
-      line = let_form (told h) (bound_name n k h) (as_value (own_if n (plain_form n es s) (slice_get es h)))
+      line = let_form (told h) (bound_name n k h) (as_value (unnamed_form n source s h))
 
       later : List Binding
       later = emit_bindings n (given_after n.function h k) hs
 
       behind : tree.Statements
-      behind = lets_form n told es (given_after n.function h k) hs (after_one n k h s) rest
+      behind = lets_form n told source (given_after n.function h k) hs (after_one n k h s) rest
 
       by : (b : Bool) → statements_annotations behind ≡ told_of later ++ statements_annotations rest → statements_annotations (then_if b line behind) ≡ told_of (cond b (record { handle = h; name = bound_name n k h } ∷ later) later) ++ statements_annotations rest
-      by true more = λ i. let_tells (told h) (bound_name n k h) (as_value (own_if n (plain_form n es s) (slice_get es h))) i ++ more i
+      by true more = λ i. let_tells (told h) (bound_name n k h) (as_value (unnamed_form n source s h)) i ++ more i
       by false more = more
 
-  simple_tells : (k : ℕ) (st : SimpleStatement) (s : Handles) (rest : tree.Statements) → statements_annotations (simple_form n told es k st s rest) ≡ told_of (statement_bindings n k (simple_shape st)) ++ statements_annotations rest
-  simple_tells k (emit first last) s rest = lets_tell k (from first (last - first)) s rest
-  simple_tells k (return v) s rest = ap (λ ts. ts ++ statements_annotations rest) (return_tells s v)
-  simple_tells k _ s rest = refl
+  simple_tells : (k : ℕ) (st : SimpleStatement) → has_form st ≡ true → (s : Handles) (rest : tree.Statements) → statements_annotations (simple_form n told source k st s rest) ≡ told_of (statement_bindings n k (simple_shape source.declared.around st)) ++ statements_annotations rest
+  simple_tells k (emit first last) have s rest = lets_tell k (from first (last - first)) s rest
+  simple_tells k (return v) have s rest = ap (λ ts. ts ++ statements_annotations rest) (return_tells s v)
+  simple_tells k (store pointer value) have s rest = stored (points_to_atomic source.declared.around pointer)
+    where
+      stored : (b : Bool) → statements_annotations rest ≡ told_of (statement_bindings n k (store_shape b pointer value)) ++ statements_annotations rest
+      stored true = refl
+      stored false = refl
+  simple_tells k break have s rest = refl
+  simple_tells k continue have s rest = refl
+  simple_tells k kill have s rest = refl
+  simple_tells k _ have s rest = absurd cc
 
   mutual
-    line_tells : (k : ℕ) (st : StatementTree) (s : Handles) (rest : tree.Statements) → statements_annotations (line_form n told es k st s rest) ≡ told_of (statement_bindings n k (statement_shape st)) ++ statements_annotations rest
-    line_tells k (simple st) s rest = simple_tells k st s rest
-    line_tells k (block b) s rest = ap (λ ts. ts ++ statements_annotations rest) (lines_tell k b s)
-    line_tells k (branch condition accept reject) s rest =
-        let k1 = given_by_all n.function (statements_shape accept) k in
-        ap (λ ts. ts ++ statements_annotations rest) (told_both (statements_bindings n k (statements_shape accept)) (statements_bindings n k1 (statements_shape reject)) (lines_tell k accept s) (lines_tell k1 reject s))
-    line_tells k (switch selector cs) s rest = ap (λ ts. ts ++ statements_annotations rest) (cases_tell k [] cs s)
-    line_tells k (loop body continuing break_if) s rest =
-        let k1 = given_by_all n.function (statements_shape body) k in
-        let inside = after_all n k (statements_shape body) s in
+    line_tells : (k : ℕ) (st : StatementTree) → have_forms_in st ≡ true → (s : Handles) (rest : tree.Statements) → statements_annotations (line_form n told source k st s rest) ≡ told_of (statement_bindings n k (statement_shape source.declared.around st)) ++ statements_annotations rest
+    line_tells k (simple st) have s rest = simple_tells k st have s rest
+    line_tells k (block b) have s rest = ap (λ ts. ts ++ statements_annotations rest) (lines_tell k b have s)
+    line_tells k (branch condition accept reject) have s rest =
+        let both = and_parts (have_forms accept) (have_forms reject) have in
+        let k1 = given_by_all n.function (statements_shape source.declared.around accept) k in
+        ap (λ ts. ts ++ statements_annotations rest) (told_both (statements_bindings n k (statements_shape source.declared.around accept)) (statements_bindings n k1 (statements_shape source.declared.around reject)) (lines_tell k accept both.0 s) (lines_tell k1 reject both.1 s))
+    line_tells k (switch selector cs) have s rest = ap (λ ts. ts ++ statements_annotations rest) (cases_tell k [] cs have s)
+    line_tells k (loop body continuing break_if) have s rest =
+        let both = and_parts (have_forms body) (have_forms continuing) have in
+        let k1 = given_by_all n.function (statements_shape source.declared.around body) k in
+        let inside = after_all n k (statements_shape source.declared.around body) s in
         ap (λ ts. ts ++ statements_annotations rest)
-        (loop_tells (lines_form n told es k body s) (lines_form n told es k1 continuing inside) _
-        ∙ told_both (statements_bindings n k (statements_shape body)) (statements_bindings n k1 (statements_shape continuing)) (lines_tell k body s) (lines_tell k1 continuing inside))
+        (loop_tells (lines_form n told source k body s) (lines_form n told source k1 continuing inside) _
+        ∙ told_both (statements_bindings n k (statements_shape source.declared.around body)) (statements_bindings n k1 (statements_shape source.declared.around continuing)) (lines_tell k body both.0 s) (lines_tell k1 continuing both.1 inside))
 
-    lines_tell : (k : ℕ) (b : BlockTree) (s : Handles) → statements_annotations (lines_form n told es k b s) ≡ told_of (statements_bindings n k (statements_shape b))
-    lines_tell k no_statements s = refl
-    lines_tell k (statement st b) s =
-        let k1 = given_by n.function (statement_shape st) k in
-        line_tells k st s (lines_form n told es k1 b (after n k (statement_shape st) s))
-        ∙ told_both (statement_bindings n k (statement_shape st)) (statements_bindings n k1 (statements_shape b)) refl (lines_tell k1 b (after n k (statement_shape st) s))
+    lines_tell : (k : ℕ) (b : BlockTree) → have_forms b ≡ true → (s : Handles) → statements_annotations (lines_form n told source k b s) ≡ told_of (statements_bindings n k (statements_shape source.declared.around b))
+    lines_tell k no_statements have s = refl
+    lines_tell k (statement st b) have s =
+        let both = and_parts (have_forms_in st) (have_forms b) have in
+        let k1 = given_by n.function (statement_shape source.declared.around st) k in
+        line_tells k st both.0 s (lines_form n told source k1 b (after n k (statement_shape source.declared.around st) s))
+        ∙ told_both (statement_bindings n k (statement_shape source.declared.around st)) (statements_bindings n k1 (statements_shape source.declared.around b)) refl (lines_tell k1 b both.1 (after n k (statement_shape source.declared.around st) s))
 
-    cases_tell : (k : ℕ) (labels : List tree.Label) (cs : CaseTrees) (s : Handles) → cases_annotations (cases_form n told es k labels cs s) ≡ told_of (cases_bindings n k (cases_shape cs))
-    cases_tell k labels no_cases s = refl
-    cases_tell k labels (case value body true cs) s =
-        cases_tell (given_by_all n.function (statements_shape body) k) (labels ++ label_form value ∷ []) cs s
-    cases_tell k labels (case value body false cs) s =
-        let k1 = given_by_all n.function (statements_shape body) k in
-        told_both (statements_bindings n k (statements_shape body)) (cases_bindings n k1 (cases_shape cs)) (lines_tell k body s) (cases_tell k1 [] cs s)
+    cases_tell : (k : ℕ) (labels : List tree.Label) (cs : CaseTrees) → cases_have_forms cs ≡ true → (s : Handles) → cases_annotations (cases_form n told source k labels cs s) ≡ told_of (cases_bindings n k (cases_shape source.declared.around cs))
+    cases_tell k labels no_cases have s = refl
+    cases_tell k labels (case value body true cs) have s =
+        let both = and_parts (have_forms body) (cases_have_forms cs) have in
+        cases_tell (given_by_all n.function (statements_shape source.declared.around body) k) (labels ++ label_form value ∷ []) cs both.1 s
+    cases_tell k labels (case value body false cs) have s =
+        let both = and_parts (have_forms body) (cases_have_forms cs) have in
+        let k1 = given_by_all n.function (statements_shape source.declared.around body) k in
+        told_both (statements_bindings n k (statements_shape source.declared.around body)) (cases_bindings n k1 (cases_shape source.declared.around cs)) (lines_tell k body both.0 s) (cases_tell k1 [] cs both.1 s)
 
 -- the layout of a type that a `let` tells is the spelling of its handle's type
 told_spells : (explicit : Bool) (t : TypeNames) (es : List ExpressionInfo) (h : ℕ) → option_map type_layout (told_type explicit t es h) ≡ told_spelling explicit t es h
@@ -133,18 +157,19 @@ told_spells true t es h = by (slice_get es h)
     by None = refl
     by (Some k) = row k.ty
 
-functions_tell : (explicit : Bool) (names : NameMap) (m : Module) (g : ℕ) (fs : List ir_function.Function) (ess : List (List ExpressionInfo)) → map (λ (f : tree_functions.Function). statements_annotations f.body) (functions_form explicit names m g fs ess) ≡ module_annotations explicit (names_of m.types names) (namings_from names g (function_shapes m fs ess)) ess
-functions_tell explicit names m g [] ess = refl
-functions_tell explicit names m g (f ∷ fs) [] = refl
-functions_tell explicit names m g (f ∷ fs) (es ∷ ess) =
-    let n = function_naming names m g f es in
+functions_tell : (explicit : Bool) (names : NameMap) (m : Module) (info : ModuleInfo) (g : ℕ) (fs : List ir_function.Function) (ess : List (List ExpressionInfo)) → IsTrue (list_all function_is_written fs) → map (λ (f : tree_functions.Function). statements_annotations f.body) (functions_form explicit names m info g fs ess) ≡ module_annotations explicit (names_of m.types names) (namings_from names g (function_shapes m info fs ess)) ess
+functions_tell explicit names m info g [] ess written = refl
+functions_tell explicit names m info g (f ∷ fs) [] written = refl
+functions_tell explicit names m info g (f ∷ fs) (es ∷ ess) written =
+    let parts = and_parts (function_is_written f) (list_all function_is_written fs) written in
+    let n = function_naming names m info g f es in
     let t = names_of m.types names in
-    let line = lines_tell n (told_type explicit t es) f.expressions 0 f.body (at_start n.function)
+    let line = lines_tell n (told_type explicit t es) (function_source m info f es) 0 f.body (written_have_forms f.body (function_parts f parts.0).body) (at_start n.function)
     ∙ (λ i. map (λ b. told_spells explicit t es b.handle i) (function_bindings n)) in
-    λ i. line i ∷ functions_tell explicit names m (g + 1) fs ess i
+    λ i. line i ∷ functions_tell explicit names m info (g + 1) fs ess parts.1 i
 
 pub binds_as : (m : Module) (info : ModuleInfo) (explicit : Bool) → IsTrue (is_accepted m info) → IsTrue (is_written_so_far m info) → BindsAs m info explicit (written_program m info explicit)
 binds_as m info explicit accepted written =
-    let names = ap text_lets (program_reads m info explicit accepted written) ∙ binds_as_meant (program_shape m info) (outer_names (module_names m)) (namings (module_names m) m info) in
-    let annotations = functions_tell explicit (module_names m) m 0 m.functions info.functions.items in
+    let names = ap text_lets (reads_as_shapes m info explicit accepted written) ∙ binds_as_meant (module_shape m info) (outer_names (module_names m)) (namings (module_names m) m info) in
+    let annotations = functions_tell explicit (module_names m) m info 0 m.functions info.functions.items (functions_are_written m info written) in
     λ i. record { names = names i; annotations = annotations i }

@@ -1,12 +1,10 @@
--- Lemmas of the shapes of functions that are written so far: what stands at a handle, and that front
--- ends name nothing.
-use Rattle.std.proofs.Common.{[], ◌≡◌, ℕ, suc, zero, true, false, List, ◌∷◌, map}
-use Rattle.std.proofs.Common.{length, Option, Some, None, refl, sym, ap, subst, ◌∙◌, ◌+◌}
+-- Lemmas of lists that are made from others, and of functions in which front ends name nothing.
+use Rattle.std.proofs.Common.{[], ◌≡◌, ℕ, suc, zero, Bool, true, false, List, ◌∷◌, map}
+use Rattle.std.proofs.Common.{length, Some, refl, ap, ◌∙◌, ◌+◌}
 use Rattle.std.proofs.Common.{◌-◌, codes}
 use Rattle.std.specs.Prelude.{IsTrue, slice_get, unwrap_or, ◌==◌, get_or, cond}
-use Rattle.std.specs.Option.{option_map}
 use Rattle.std.proofs.lemmas.Bool.{eqb-true}
-use Rattle.naga_ir.specs.StatementTree.{emit, StatementTree, simple, block, branch}
+use Rattle.naga_ir.specs.StatementTree.{emit, store, StatementTree, simple, block, branch}
 use Rattle.naga_ir.specs.StatementTree.{switch, loop, BlockTree, no_statements, statement}
 use Rattle.naga_ir.specs.StatementTree.{CaseTrees, no_cases, case}
 use Rattle.naga_ir.specs.declared.expression.Expression as ir
@@ -14,6 +12,7 @@ use Rattle.naga_ir.specs.declared.module.Function as ir_function
 use Rattle.naga_ir.specs.declared.module.LocalVariable.{LocalVariable}
 use Rattle.naga_ir.specs.declared.module.Module.{Module}
 use Rattle.naga_info.specs.declared.info.ExpressionInfo.{ExpressionInfo}
+use Rattle.naga_info.specs.declared.info.ModuleInfo.{ModuleInfo}
 use Rattle.module_meaning.specs.Part.{names_nothing}
 use Rattle.naga_names.specs.Reset.{LabelledItem}
 use Rattle.shader_runs.specs.Value.{ValueType, BooleanType, type_at}
@@ -22,10 +21,12 @@ use Rattle.shader_runs.specs.Program.{operands_of, handle_type, argument_count, 
 use Rattle.shader_runs.specs.Program.{is_given, local_count, from}
 use Rattle.shader_runs.specs.Scope.{given_by_all, given_by_cases, given_after}
 use Rattle.shader_runs.specs.Scope.{given_after_all, given_by}
-use Rattle.module_meaning.specs.Shapes.{expression_shape, statements_shape, cases_shape}
-use Rattle.module_meaning.specs.Shapes.{function_shape}
-use Rattle.module_meaning.specs.Shapes.{statement_shape, given_from}
-use Rattle.std.proofs.lemmas.Option.{slice_get-map}
+use Rattle.module_meaning.specs.ExpressionOperators.{Surroundings, points_to_atomic}
+use Rattle.module_meaning.specs.FunctionShapes.{function_shape, statement_shape, statements_shape}
+use Rattle.module_meaning.specs.FunctionShapes.{cases_shape}
+use Rattle.module_meaning.specs.Shapes.{given_from}
+use Rattle.module_meaning.specs.StatementShapes.{store_shape}
+use Rattle.module_meaning.specs.Surroundings.{declared, types_known}
 use Rattle.indexmap.specs.IndexMap.{keys}
 use Rattle.naga_names.specs.Naming.{label_or}
 use Rattle.naga_names.specs.declared.key.NameKey.TheVariants as key
@@ -61,18 +62,13 @@ no_keys (k ∷ ks) e = absurd (some_none (length ks) (eqb-true (length (k ∷ ks
 abbrev pub local_item : ℕ → ℕ → LocalVariable → LabelledItem
 local_item g l v = (key.FunctionLocal g l, label_or v.name (codes "local"))
 
--- what holds of no shape and of each expression's holds of the shape of any handle
-pub at_any : (m : Module) (f : ir_function.Function) (es : List ExpressionInfo) (h : ℕ) (P : Option shapes.Expression → Type 0) → P None → ((e : ir.Expression) → slice_get f.expressions h ≡ Some e → P (Some (expression_shape e))) → P (expression_of (function_shape m f es) h)
-at_any m f es h P none some = subst P (sym (slice_get-map expression_shape f.expressions h)) (by (slice_get f.expressions h) refl)
-  where
-    by : (o : Option ir.Expression) → slice_get f.expressions h ≡ o → P (option_map expression_shape o)
-    by None is = none
-    by (Some e) is = some e is
-
 -- ---- a function in which front ends name nothing
-module _ (m : Module) (f : ir_function.Function) (es : List ExpressionInfo) (unnamed : IsTrue (names_nothing f)) where
+module _ (m : Module) (info : ModuleInfo) (f : ir_function.Function) (es : List ExpressionInfo) (unnamed : IsTrue (names_nothing f)) where
   abbrev unnamed_shape : shapes.Function
-  unnamed_shape = function_shape m f es
+  unnamed_shape = function_shape m info f es
+
+  abbrev around : Surroundings
+  around = (declared m info (types_known es)).around
 
   pub none_is_given : (h : ℕ) → is_given unnamed_shape h ≡ false
   none_is_given h = ap (λ ks. get_or (given_from ks 0 f.expressions) h false) (no_keys (keys f.named_expressions) unnamed) ∙ nothing_given 0 f.expressions h
@@ -85,22 +81,27 @@ module _ (m : Module) (f : ir_function.Function) (es : List ExpressionInfo) (unn
   given_some (h ∷ hs) k = given_some hs (given_after unnamed_shape h k) ∙ given_one h k
 
   mutual
-    pub none_given_by : (st : StatementTree) (k : ℕ) → given_by unnamed_shape (statement_shape st) k ≡ k
+    pub none_given_by : (st : StatementTree) (k : ℕ) → given_by unnamed_shape (statement_shape around st) k ≡ k
     none_given_by (simple (emit first last)) k = given_some (from first (last - first)) k
+    none_given_by (simple (store pointer value)) k = stored (points_to_atomic around pointer)
+      where
+        stored : (b : Bool) → given_by unnamed_shape (store_shape b pointer value) k ≡ k
+        stored true = refl
+        stored false = refl
     none_given_by (simple _) k = refl
     none_given_by (block b) k = none_given_by_all b k
     none_given_by (branch condition accept reject) k =
-        none_given_by_all reject (given_by_all unnamed_shape (statements_shape accept) k) ∙ none_given_by_all accept k
+        none_given_by_all reject (given_by_all unnamed_shape (statements_shape around accept) k) ∙ none_given_by_all accept k
     none_given_by (switch selector cases) k = none_given_by_cases cases k
     none_given_by (loop body continuing break_if) k =
-        none_given_by_all continuing (given_by_all unnamed_shape (statements_shape body) k) ∙ none_given_by_all body k
+        none_given_by_all continuing (given_by_all unnamed_shape (statements_shape around body) k) ∙ none_given_by_all body k
 
-    pub none_given_by_all : (b : BlockTree) (k : ℕ) → given_by_all unnamed_shape (statements_shape b) k ≡ k
+    pub none_given_by_all : (b : BlockTree) (k : ℕ) → given_by_all unnamed_shape (statements_shape around b) k ≡ k
     none_given_by_all no_statements k = refl
     none_given_by_all (statement st b) k =
-        none_given_by_all b (given_by unnamed_shape (statement_shape st) k) ∙ none_given_by st k
+        none_given_by_all b (given_by unnamed_shape (statement_shape around st) k) ∙ none_given_by st k
 
-    none_given_by_cases : (cs : CaseTrees) (k : ℕ) → given_by_cases unnamed_shape (cases_shape cs) k ≡ k
+    none_given_by_cases : (cs : CaseTrees) (k : ℕ) → given_by_cases unnamed_shape (cases_shape around cs) k ≡ k
     none_given_by_cases no_cases k = refl
     none_given_by_cases (case value body falls cs) k =
-        none_given_by_cases cs (given_by_all unnamed_shape (statements_shape body) k) ∙ none_given_by_all body k
+        none_given_by_cases cs (given_by_all unnamed_shape (statements_shape around body) k) ∙ none_given_by_all body k

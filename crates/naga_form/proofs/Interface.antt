@@ -10,7 +10,6 @@ use Rattle.naga_info.specs.declared.info.ExpressionInfo.{ExpressionInfo}
 use Rattle.naga_info.specs.declared.info.ModuleInfo.{ModuleInfo}
 use Rattle.naga_names.specs.Keys.{NameMap}
 use Rattle.naga_words.specs.Contexts.{names_of, Names as TypeNames}
-use Rattle.naga_ir.specs.declared.expression.Expression as ir
 use Rattle.naga_ir.specs.declared.module.LocalVariable.{LocalVariable}
 use Rattle.shader_runs.specs.Scope.{Naming}
 use Rattle.naga_form.specs.Types.{type_form}
@@ -22,7 +21,8 @@ use Rattle.std.specs.Option.{option_map}
 use Rattle.std.specs.Prelude.{unwrap_or}
 use Rattle.wgsl_text.specs.Reading.{type_layout}
 use Rattle.wgsl_text.specs.Types.{TypeSpecifier, Named}
-use Rattle.module_meaning.specs.Shapes.{function_naming}
+use Rattle.module_meaning.specs.Namings.{function_naming}
+use Rattle.naga_form.specs.Expressions.{Source, function_source}
 use Rattle.module_meaning.specs.Names.{module_names}
 use Rattle.naga_form.specs.Declarations.{written_program}
 use Rattle.naga_form.specs.Functions.{locals_form, parameters_form, result_form, function_form}
@@ -56,23 +56,23 @@ results_passed : (t : TypeNames) (r : Option FunctionResult) → result_read (re
 results_passed t None = refl
 results_passed t (Some r) = ap Some (passed_is t r.ty)
 
-locals_declared : (n : Naming) (t : TypeNames) (es : List ir.Expression) (l : ℕ) (vs : List LocalVariable) → map (λ v. type_layout v.type) (locals_form n t es l vs) ≡ map (λ v. spelled_type t v.ty) vs
-locals_declared n t es l [] = refl
-locals_declared n t es l (v ∷ more) = λ i. spelled_form t v.ty i ∷ locals_declared n t es (l + 1) more i
+locals_declared : (n : Naming) (t : TypeNames) (source : Source) (l : ℕ) (vs : List LocalVariable) → map (λ v. type_layout v.type) (locals_form n t source l vs) ≡ map (λ v. spelled_type t v.ty) vs
+locals_declared n t source l [] = refl
+locals_declared n t source l (v ∷ more) = λ i. spelled_form t v.ty i ∷ locals_declared n t source (l + 1) more i
 
-function_interface_form : (explicit : Bool) (names : NameMap) (m : Module) (g : ℕ) (f : ir_function.Function) (es : List ExpressionInfo) → function_interface_read (function_form explicit names m g f es) ≡ function_interface names m.types g f
-function_interface_form explicit names m g f es = λ i. record {
+function_interface_form : (explicit : Bool) (names : NameMap) (m : Module) (info : ModuleInfo) (g : ℕ) (f : ir_function.Function) (es : List ExpressionInfo) → function_interface_read (function_form explicit names m info g f es) ≡ function_interface names m.types g f
+function_interface_form explicit names m info g f es = λ i. record {
   name = (function_interface names m.types g f).name;
   arguments = parameters_passed names m.types g 0 f.arguments.items i;
   result = results_passed (names_of m.types names) f.result i;
-  locals = locals_declared (function_naming names m g f es) (names_of m.types names) f.expressions 0 f.local_variables i;
+  locals = locals_declared (function_naming names m info g f es) (names_of m.types names) (function_source m info f es) 0 f.local_variables i;
 }
 
-function_interfaces_form : (explicit : Bool) (names : NameMap) (m : Module) (g : ℕ) (fs : List ir_function.Function) (ess : List (List ExpressionInfo)) → length fs ≡ length ess → map function_interface_read (functions_form explicit names m g fs ess) ≡ function_interfaces names m.types g fs
-function_interfaces_form explicit names m g [] [] size = refl
-function_interfaces_form explicit names m g [] (es ∷ ess) size = refl
-function_interfaces_form explicit names m g (f ∷ fs) [] size = absurd (cc)
-function_interfaces_form explicit names m g (f ∷ fs) (es ∷ ess) size = λ i. function_interface_form explicit names m g f es i ∷ function_interfaces_form explicit names m (g + 1) fs ess (ap pred size) i
+function_interfaces_form : (explicit : Bool) (names : NameMap) (m : Module) (info : ModuleInfo) (g : ℕ) (fs : List ir_function.Function) (ess : List (List ExpressionInfo)) → length fs ≡ length ess → map function_interface_read (functions_form explicit names m info g fs ess) ≡ function_interfaces names m.types g fs
+function_interfaces_form explicit names m info g [] [] size = refl
+function_interfaces_form explicit names m info g [] (es ∷ ess) size = refl
+function_interfaces_form explicit names m info g (f ∷ fs) [] size = absurd (cc)
+function_interfaces_form explicit names m info g (f ∷ fs) (es ∷ ess) size = λ i. function_interface_form explicit names m info g f es i ∷ function_interfaces_form explicit names m info (g + 1) fs ess (ap pred size) i
 
 pub has_interface : (m : Module) (info : ModuleInfo) (explicit : Bool) → length m.functions ≡ length info.functions.items → HasInterfaceOf m (written_program m info explicit)
 has_interface m info explicit size = λ i. record {
@@ -81,6 +81,6 @@ has_interface m info explicit size = λ i. record {
   constants = [];
   overrides = [];
   globals = [];
-  functions = function_interfaces_form explicit (module_names m) m 0 m.functions info.functions.items size i;
+  functions = function_interfaces_form explicit (module_names m) m info 0 m.functions info.functions.items size i;
   entry_points = [];
 }

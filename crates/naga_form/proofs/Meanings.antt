@@ -34,40 +34,62 @@ use Rattle.module_meaning.specs.Meanings.{HasTypedWorld, IsNeverStuck}
 use Rattle.module_meaning.specs.ModuleShapes.{module_shape}
 use Rattle.module_meaning.specs.Names.{NamesAreCounted, module_names, function_name}
 use Rattle.module_meaning.specs.Part.{block_is_written, function_is_written, is_written_so_far}
-use Rattle.module_meaning.specs.Part.{statement_is_written}
+use Rattle.module_meaning.specs.Part.{is_scalar_type, statement_is_written}
 use Rattle.module_meaning.specs.Premises.{ScopesHold}
-use Rattle.module_meaning.specs.Shapes.{statement_shape, statements_shape, function_shape}
-use Rattle.module_meaning.specs.Shapes.{function_shapes, program_shape, namings, outer_names}
-use Rattle.module_meaning.proofs.ModuleShapes.{same_program}
-use Rattle.module_meaning.proofs.Part.{functions_are_written}
+use Rattle.module_meaning.specs.ExpressionOperators.{Surroundings}
+use Rattle.module_meaning.specs.FunctionShapes.{statement_shape, statements_shape, function_shape}
+use Rattle.module_meaning.specs.FunctionShapes.{function_shapes}
+use Rattle.module_meaning.specs.Namings.{namings, outer_names}
+use Rattle.module_meaning.specs.Surroundings.{declared, types_known}
+use Rattle.module_meaning.proofs.ExpressionShapes.{plain_store}
+use Rattle.module_meaning.proofs.ModuleShapes.{declares_functions_alone, points_plainly}
+use Rattle.module_meaning.proofs.Part.{functions_are_written, written_so_far_parts}
 use Rattle.naga_form.proofs.PartFits.{function_parts}
 use Rattle.naga_form.proofs.Runs.{module_fits, reads_as_shapes}
 use Rattle.naga_form.proofs.ScopeRules.{scopes_are_checked}
 use Rattle.naga_form.proofs.WellFormed.{all_well_formed}
 
 -- ---- bounds on loop turns
--- each function's body is that of a function that is written so far
+-- a body is that of a function that is written so far, among scalar types
+pub record IsWrittenBody (body : shapes.Statements) : Type 0 where
+  pub around : Surroundings
+  pub scalars : IsTrue (list_all is_scalar_type around.types)
+  pub block : BlockTree
+  pub written : block_is_written block ≡ true
+  pub same : body ≡ statements_shape around block
+
+-- so is that of each function
 abbrev AllAreWritten : List shapes.Function → Type 0
 AllAreWritten [] = Unit {0}
-AllAreWritten (f ∷ fs) =
-    ((b : BlockTree) × (block_is_written b ≡ true) × (f.body ≡ statements_shape b)) × AllAreWritten fs
+AllAreWritten (f ∷ fs) = IsWrittenBody f.body × AllAreWritten fs
 
-all_are_written : (m : Module) (fs : List ir_function.Function) (ess : List (List ExpressionInfo)) → list_all function_is_written fs ≡ true → (behind : List shapes.Function) → AllAreWritten behind → AllAreWritten (reverse_aux (function_shapes m fs ess) behind)
-all_are_written m [] ess written behind all = all
-all_are_written m (f ∷ fs) [] written behind all = all
-all_are_written m (f ∷ fs) (es ∷ ess) written behind all =
+all_are_written : (m : Module) (info : ModuleInfo) → IsTrue (list_all is_scalar_type m.types) → (fs : List ir_function.Function) (ess : List (List ExpressionInfo)) → list_all function_is_written fs ≡ true → (behind : List shapes.Function) → AllAreWritten behind → AllAreWritten (reverse_aux (function_shapes m info fs ess) behind)
+all_are_written m info scalars [] ess written behind all = all
+all_are_written m info scalars (f ∷ fs) [] written behind all = all
+all_are_written m info scalars (f ∷ fs) (es ∷ ess) written behind all =
     let parts = and_parts (function_is_written f) (list_all function_is_written fs) written in
-    all_are_written m fs ess parts.1 (function_shape m f es ∷ behind) ((f.body, (function_parts f parts.0).body, refl), all)
+    all_are_written m info scalars fs ess parts.1 (function_shape m info f es ∷ behind) (
+      record {
+        around = (declared m info (types_known es)).around;
+        scalars = scalars;
+        block = f.body;
+        written = (function_parts f parts.0).body;
+        same = refl;
+      },
+      all,
+    )
 
 -- no statement that is written so far makes turns
-module _ (c : Call) (j n : ℕ) where
-  steady_line : (s : StatementTree) → statement_is_written s ≡ true → (kept : KeptValues) (t : List Event) → run c j (statement_shape s) kept t ≡ run c n (statement_shape s) kept t
+module _ (c : Call) (j n : ℕ) (a : Surroundings) (scalars : IsTrue (list_all is_scalar_type a.types)) where
+  steady_line : (s : StatementTree) → statement_is_written s ≡ true → (kept : KeptValues) (t : List Event) → run c j (statement_shape a s) kept t ≡ run c n (statement_shape a s) kept t
   steady_line (simple (emit first last)) is kept t = refl
-  steady_line (simple (store pointer value)) is kept t = refl
+  steady_line (simple (store pointer value)) is kept t =
+      let plain = plain_store a pointer value (points_plainly a scalars pointer) in
+      subst (λ s. run c j s kept t ≡ run c n s kept t) (sym plain) refl
   steady_line (simple (return value)) is kept t = refl
   steady_line _ is kept t = absurd (cc)
 
-  steady_lines : (b : BlockTree) → block_is_written b ≡ true → (kept : KeptValues) (t : List Event) → run_all c j (statements_shape b) kept t ≡ run_all c n (statements_shape b) kept t
+  steady_lines : (b : BlockTree) → block_is_written b ≡ true → (kept : KeptValues) (t : List Event) → run_all c j (statements_shape a b) kept t ≡ run_all c n (statements_shape a b) kept t
   steady_lines no_statements is kept t = refl
   steady_lines (statement s b) is kept t =
       let parts = and_parts (statement_is_written s) (block_is_written b) is in
@@ -84,21 +106,21 @@ module _ (env : Environment) (w : World) (m : Meaning) (f : shapes.Function) (fs
   abbrev either_by : (ℕ → List Value → List Event → ReachedOrHalted (Option Value)) → ℕ → ReachedOrHalted (Option Value) → ReachedOrHalted (Option Value)
   either_by calls n other = cond (nat_eq g (length fs)) (own_by calls n) other
 
-  own_steady : (b : BlockTree) → block_is_written b ≡ true → f.body ≡ statements_shape b → (calls : ℕ → List Value → List Event → ReachedOrHalted (Option Value)) (j n : ℕ) → own_by calls j ≡ own_by calls n
-  own_steady b written is calls j n =
+  own_steady : IsWrittenBody f.body → (calls : ℕ → List Value → List Event → ReachedOrHalted (Option Value)) (j n : ℕ) → own_by calls j ≡ own_by calls n
+  own_steady body calls j n =
       let c = call_by calls in
       let kept = constants_kept f env m in
       λ i. run_if_arguments_fit (nat_eq (length vs) (argument_count f)) (run_from_entry (length fs) vs (first_used_all c kept f.first_values) t (λ t1. answer (lines kept t1 i))) t
     where
       lines : (kept : KeptValues) (t1 : List Event) → run_all (call_by calls) j f.body kept t1 ≡ run_all (call_by calls) n f.body kept t1
-      lines kept t1 = subst (λ b. run_all (call_by calls) j b kept t1 ≡ run_all (call_by calls) n b kept t1) (sym is) (steady_lines (call_by calls) j n b written kept t1)
+      lines kept t1 = subst (λ b. run_all (call_by calls) j b kept t1 ≡ run_all (call_by calls) n b kept t1) (sym body.same) (steady_lines (call_by calls) j n body.around body.scalars body.block body.written kept t1)
 
 steady_calls : (env : Environment) (w : World) (m : Meaning) (fs : List shapes.Function) → AllAreWritten fs → (j n g : ℕ) (vs : List Value) (t : List Event) → run_call env w m j fs g vs t ≡ run_call env w m n fs g vs t
 steady_calls env w m [] all j n g vs t = refl
 steady_calls env w m (f ∷ fs) all j n g vs t =
     let same_calls : run_call env w m j fs ≡ run_call env w m n fs = λ i. λ g vs t. steady_calls env w m fs all.1 j n g vs t i in
     ap (λ calls. either_by env w m f fs g vs t calls j (calls g vs t)) same_calls
-    ∙ ap (λ o. cond (nat_eq g (length fs)) o (run_call env w m n fs g vs t)) (own_steady env w m f fs g vs t all.0.0 all.0.1 all.0.2 (run_call env w m n fs) j n)
+    ∙ ap (λ o. cond (nat_eq g (length fs)) o (run_call env w m n fs g vs t)) (own_steady env w m f fs g vs t all.0 (run_call env w m n fs) j n)
 
 -- ---- a module of the part
 module _ (m : Module) (info : ModuleInfo) (written : IsTrue (is_written_so_far m info)) where
@@ -107,8 +129,8 @@ module _ (m : Module) (info : ModuleInfo) (written : IsTrue (is_written_so_far m
 
   all_written : AllAreWritten shape.functions
   all_written =
-      subst (λ (p : shapes.Module). AllAreWritten p.functions) (sym (same_program m info written))
-      (all_are_written m m.functions info.functions.items (functions_are_written m info written) [] tt)
+      subst (λ (p : shapes.Module). AllAreWritten p.functions) (sym (declares_functions_alone m info written))
+      (all_are_written m info (written_so_far_parts m info written).1 m.functions info.functions.items (functions_are_written m info written) [] tt)
 
   pub has_world : HasTypedWorld m info
   has_world settings fit meaning typed =

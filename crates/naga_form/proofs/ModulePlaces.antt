@@ -2,7 +2,7 @@
 -- its handles: the shapes of the expressions, and the types of their values.
 use Rattle.module_meaning.specs.Names.{TypesAreTold}
 use Rattle.module_meaning.proofs.SideBySide.{zip_parts}
-use Rattle.std.proofs.Common.{◌≡◌, ℕ, zero, suc, ◌+◌, List, [], ◌∷◌, ◌++◌, refl, sym, ap, ◌∙◌, map}
+use Rattle.std.proofs.Common.{◌≡◌, ℕ, zero, suc, ◌+◌, List, [], ◌∷◌, ◌++◌, refl, sym, ap, ◌∙◌, map, length}
 use Rattle.std.proofs.Common.{Some, None, slice_get, arith, ◌⊎◌, inl, inr}
 use Rattle.std.specs.Prelude.{IsTrue, reverse}
 use mathlib.Core.List.{reverse_aux}
@@ -124,6 +124,11 @@ shapes_at d all n (e ∷ es) zero =
 shapes_at d all n (e ∷ es) (suc h) =
     let at : (n + 1) + h ≡ n + suc h = omega arith in
     shapes_at d all (n + 1) es h ∙ ap (λ k. option_map (shape_of d all k) (slice_get es h)) at
+
+pub shapes_length : (d : Declared) (all : List ir.Expression) (n : ℕ) (es : List ir.Expression) →
+    length (shapes_from d all n es) ≡ length es
+shapes_length d all n [] = refl
+shapes_length d all n (e ∷ es) = ap suc (shapes_length d all (n + 1) es)
 
 -- a list that is made from another that is made from a third
 map_twice : {X Y Z : Type 0} (f : X → Y) (g : Y → Z) (xs : List X) →

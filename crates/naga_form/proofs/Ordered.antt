@@ -10,17 +10,14 @@ use Rattle.naga_ir.specs.declared.module.Function.{Function}
 use Rattle.naga_ir.specs.declared.module.Module.{Module}
 use Rattle.naga_info.specs.declared.info.ExpressionInfo.{ExpressionInfo}
 use Rattle.naga_info.specs.declared.info.ModuleInfo.{ModuleInfo}
-use Rattle.module_meaning.specs.Applications.{Application, application_of, operator_of}
 use Rattle.module_meaning.specs.ExpressionShapes.{Declared, shape_of, constant_tree, offset_left}
 use Rattle.module_meaning.specs.FunctionShapes.{function_shape}
 use Rattle.module_meaning.specs.Ranges.{all_below, function_in_range}
 use Rattle.module_meaning.specs.Ranges.{expression_in_range, names_in_range}
-use Rattle.module_meaning.specs.Shapes.{expression_shape, OperandsStandBefore}
+use Rattle.module_meaning.specs.Premises.{OperandsStandBefore}
 use Rattle.module_meaning.specs.Surroundings.{declared, types_known}
 use Rattle.module_meaning.proofs.ExpressionShapes.{shape_operands}
 use Rattle.module_meaning.proofs.Lists.{placed_at}
-use Rattle.module_meaning.proofs.Shapes.{application_any, operator_operands}
-use Rattle.naga_info.proofs.Options.{map_some}
 use Rattle.shader_runs.specs.Premises.{AllBelow}
 use Rattle.shader_runs.specs.Program.{ConstantTree, operands_of, expression_of}
 use Rattle.naga_form.proofs.AcceptedFunctions.{ranges_are}
@@ -39,7 +36,7 @@ behind : (h : ℕ) (xs ys zs : List ℕ) → (AllBelow h ys → AllBelow h zs) �
 behind h [] ys zs less all = less all
 behind h (x ∷ xs) ys zs less all = (all.0, behind h xs ys zs less all.1)
 
-shape_ordered : (d : Declared) (es : List ir.Expression) (h : ℕ) (e : ir.Expression) →
+pub shape_ordered : (d : Declared) (es : List ir.Expression) (h : ℕ) (e : ir.Expression) →
     AllBelow h (expression_operands e) → AllBelow h (operands_of (Some (shape_of d es h e)))
 shape_ordered d es h
     (expression.ImageSample
@@ -81,26 +78,8 @@ ordered m info callees f es ranges h =
     (λ e at. shape_ordered (declared m info (types_known es)) f.expressions h e
     (each_below h (expression_operands e) (operands_below m callees f ranges h e at)))
 
--- so do those of the shapes that are written so far
+-- and so do the operands of each expression
 pub operands_stand_before : (m : Module) (callees : ℕ) (f : Function) →
     function_in_range m callees f ≡ true → OperandsStandBefore f.expressions
 operands_stand_before m callees f ranges h e at =
-    by e (each_below h (expression_operands e) (operands_below m callees f ranges h e at))
-  where
-    own : (e : ir.Expression) (a : Application) → application_of e ≡ Some a →
-        expression_operands e ≡ a.operands
-    own e a is =
-        let k =
-        map_some (λ op. record { operator = op; operands = expression_operands e }) (operator_of e) a is in
-        ap (λ a. a.operands) k.2
-
-    by : (e : ir.Expression) → AllBelow h (expression_operands e) →
-        AllBelow h (operands_of (Some (expression_shape e)))
-    by (expression.Literal value) below = tt
-    by (expression.FunctionArgument number) below = tt
-    by (expression.LocalVariable handle) below = tt
-    by (expression.Load pointer) below = below
-    by e below =
-        application_any (λ s. AllBelow h (operands_of (Some s))) tt (application_of e)
-        (λ a is. subst (AllBelow h)
-        (own e a is ∙ sym (operator_operands a.operator a.operands)) below)
+    each_below h (expression_operands e) (operands_below m callees f ranges h e at)

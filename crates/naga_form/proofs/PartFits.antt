@@ -1,20 +1,24 @@
 -- What acceptance leaves to be shown of a function, its words and its names, where the function is of
 -- the part that is written so far.
 use Rattle.std.proofs.Common.{[], ◌≡◌, ◌≢◌, ℕ, suc, zero, Bool, true, false, ◌<◌, List, ◌∷◌}
-use Rattle.std.proofs.Common.{length, Option, Some, None, refl, sym, ap, subst, ◌∙◌, arith}
+use Rattle.std.proofs.Common.{length, Some, refl, sym, ap, subst, ◌∙◌, arith}
 use Rattle.std.proofs.Common.{take, nat_eq, true≢false}
-use Rattle.std.specs.Prelude.{IsTrue, slice_get, get_or, if◌then◌else◌, not}
-use Rattle.std.specs.Prelude.{◌&&◌, ◌||◌}
+use Rattle.std.specs.Prelude.{IsTrue, slice_get, get_or, not}
+use Rattle.std.specs.Prelude.{◌&&◌, ◌||◌, if◌then◌else◌}
 use Rattle.std.proofs.lemmas.Bool.{and_parts}
 use Rattle.naga_ir.specs.StatementTree.{emit, store, return, StatementTree, simple}
 use Rattle.naga_ir.specs.StatementTree.{BlockTree, no_statements, statement}
 use Rattle.naga_ir.specs.declared.expression.Expression as ir
 use Rattle.naga_ir.specs.declared.module.Function as ir_function
 use Rattle.naga_info.specs.declared.info.ExpressionInfo.{ExpressionInfo}
-use Rattle.module_meaning.specs.Applications.{application_of, operator_is_written, written_word}
-use Rattle.module_meaning.specs.OperatorTable.{Operator, BinarySign, UnarySign, Choice}
-use Rattle.module_meaning.specs.OperatorTable.{operator_word, run_word}
-use Rattle.module_meaning.proofs.Shapes.{application_any, operator_any}
+use Rattle.naga_info.specs.declared.info.ModuleInfo.{ModuleInfo}
+use Rattle.module_meaning.specs.ExpressionShapes.{Declared, shape_of}
+use Rattle.module_meaning.specs.OperatorTable.{BinarySign, UnarySign, Choice, Mathematical}
+use Rattle.module_meaning.specs.OperatorTable.{Relation, relational_word, run_word}
+use Rattle.module_meaning.specs.Surroundings.{declared, types_known}
+use Rattle.module_meaning.proofs.ExpressionShapes.{plain_load, plain_store}
+use Rattle.module_meaning.proofs.ModuleShapes.{points_plainly}
+use Rattle.module_meaning.proofs.Shapes.{operator_any}
 use Rattle.module_meaning.specs.Part.{names_nothing}
 use Rattle.naga_names.specs.Reset.{LabelledItem, labelled_items, labels_of}
 use Rattle.shader_runs.specs.Value.{ValueType}
@@ -37,11 +41,16 @@ use Rattle.module_meaning.specs.Names.{argument_name, numbered_name, wgsl_names,
 use Rattle.module_meaning.specs.Names.{name_in, function_name, local_name, numbered_text}
 use Rattle.module_meaning.specs.Names.{NamesAreCounted}
 use Rattle.module_meaning.specs.Types.{declared_type}
-use Rattle.module_meaning.specs.Shapes.{expression_shape, statements_shape}
-use Rattle.module_meaning.specs.Shapes.{function_shape, outer_names, function_naming}
-use Rattle.module_meaning.specs.Shapes.{statement_shape}
+use Rattle.module_meaning.specs.FunctionShapes.{function_shape, statement_shape, statements_shape}
+use Rattle.module_meaning.specs.Namings.{outer_names, function_naming}
 use Rattle.naga_ir.specs.declared.expression.Expression.TheVariants as expression
+use Rattle.naga_ir.specs.declared.operators.BinaryOperator.{BinaryOperator}
 use Rattle.naga_ir.specs.declared.operators.BinaryOperator.TheVariants as operator
+use Rattle.naga_ir.specs.declared.operators.MathFunction.{MathFunction}
+use Rattle.naga_ir.specs.declared.operators.MathFunction.TheVariants as math
+use Rattle.naga_ir.specs.declared.operators.RelationalFunction.{RelationalFunction}
+use Rattle.naga_ir.specs.declared.operators.RelationalFunction.TheVariants as relational
+use Rattle.naga_ir.specs.declared.operators.UnaryOperator.{UnaryOperator}
 use Rattle.naga_ir.specs.declared.operators.UnaryOperator.TheVariants as unary
 use Rattle.naga_ir.specs.declared.module.Module.{Module}
 use Rattle.naga_keywords.specs.Plain.{is_word}
@@ -51,16 +60,17 @@ use Rattle.naga_names.proofs.NamedItems.{Stands, local_stands}
 use Rattle.wgsl_text.specs.Keywords.{builtin_words}
 use Rattle.wgsl_text.specs.Requests.{is_request}
 use Rattle.wgsl_text.specs.Words.{is_builtin}
-use Rattle.naga_form.proofs.Fits.{local_item, mapped_length, at_any, none_given_by_all}
+use Rattle.wgsl_words.specs.Words.{math_word}
+use Rattle.std.specs.Option.{is_some}
+use Rattle.naga_form.proofs.Fits.{local_item, mapped_length, none_given_by_all}
+use Rattle.naga_form.proofs.WellFormed.{any_shape}
 use Rattle.naga_form.proofs.FunctionsFit.{IsLeft}
 use Rattle.naga_form.proofs.Regular.{AreWorded, IsWorded}
 use Rattle.module_meaning.specs.Writable.{only_empty_fall, only_empty_fall_in}
-use Rattle.module_meaning.specs.Applications.{Application}
-use Rattle.module_meaning.specs.Part.{function_is_written, block_is_written, statement_is_written, is_unbound, expression_is_written, local_is_written}
-use Rattle.module_meaning.proofs.Lists.{list_all_at, some_word}
+use Rattle.module_meaning.specs.Part.{function_is_written, block_is_written, statement_is_written, is_scalar_type, is_unbound, expression_is_written, local_is_written}
+use Rattle.module_meaning.proofs.Lists.{list_all_at}
 use Rattle.std.proofs.lemmas.Bool.{and_from}
 use Rattle.std.specs.List.{list_all}
-use Rattle.std.specs.Option.{option_map_or, is_some}
 
 -- ---- what is written so far
 -- all that a function's being written so far says here
@@ -76,10 +86,6 @@ function_parts f written =
     let three = and_parts (list_all expression_is_written f.expressions) _ two.1 in
     let four = and_parts (list_all (local_is_written f.expressions) f.local_variables) (block_is_written f.body) three.1 in
     record { unnamed = one.0; expressions = three.0; body = four.1 }
-
--- the word of what is applied
-applied_word : (o : Option Application) → option_map_or (λ a. is_some (written_word a.operator)) o false ≡ true → (a : Application) → o ≡ Some a → (w : List ℕ) × (written_word a.operator ≡ Some w)
-applied_word o is a at = some_word (written_word a.operator) (sym (ap (λ o. option_map_or (λ a. is_some (written_word a.operator)) o false) at) ∙ is)
 
 -- no constant is named
 pub no_constant_named : (f : ir_function.Function) → IsTrue (function_is_written f) → (h c : ℕ) → slice_get f.expressions h ≡ Some (expression.Constant c) → ⊥
@@ -119,47 +125,74 @@ operates_freely (c ∷ rest) =
     (not (nat_eq c 95) &&
     (not (nat_eq c 32) && (not (is_word (c ∷ rest)) || is_builtin (c ∷ rest))))
 
--- as is the word of each operator that is written so far
-written_freely : (op : Operator) →
-    (if operator_is_written op then operates_freely (run_word op) else true) ≡ true
+-- as are the signs and the words of the operators that are written so far
+unary_free : (op : UnaryOperator) → operates_freely (run_word (UnarySign op)) ≡ true
 unfolding is_request is_builtin builtin_words
-written_freely (UnarySign unary.Negate) = refl
-written_freely (UnarySign unary.LogicalNot) = refl
-written_freely (UnarySign unary.BitwiseNot) = refl
-written_freely (BinarySign operator.Add) = refl
-written_freely (BinarySign operator.Subtract) = refl
-written_freely (BinarySign operator.Multiply) = refl
-written_freely (BinarySign operator.Divide) = refl
-written_freely (BinarySign operator.Modulo) = refl
-written_freely (BinarySign operator.Equal) = refl
-written_freely (BinarySign operator.NotEqual) = refl
-written_freely (BinarySign operator.Less) = refl
-written_freely (BinarySign operator.LessEqual) = refl
-written_freely (BinarySign operator.Greater) = refl
-written_freely (BinarySign operator.GreaterEqual) = refl
-written_freely (BinarySign operator.And) = refl
-written_freely (BinarySign operator.ExclusiveOr) = refl
-written_freely (BinarySign operator.InclusiveOr) = refl
-written_freely (BinarySign operator.LogicalAnd) = refl
-written_freely (BinarySign operator.LogicalOr) = refl
-written_freely (BinarySign operator.ShiftLeft) = refl
-written_freely (BinarySign operator.ShiftRight) = refl
-written_freely Choice = refl
-written_freely _ = refl
+unary_free unary.Negate = refl
+unary_free unary.LogicalNot = refl
+unary_free unary.BitwiseNot = refl
+
+binary_free : (op : BinaryOperator) → operates_freely (run_word (BinarySign op)) ≡ true
+unfolding is_request is_builtin builtin_words
+binary_free operator.Add = refl
+binary_free operator.Subtract = refl
+binary_free operator.Multiply = refl
+binary_free operator.Divide = refl
+binary_free operator.Modulo = refl
+binary_free operator.Equal = refl
+binary_free operator.NotEqual = refl
+binary_free operator.Less = refl
+binary_free operator.LessEqual = refl
+binary_free operator.Greater = refl
+binary_free operator.GreaterEqual = refl
+binary_free operator.And = refl
+binary_free operator.ExclusiveOr = refl
+binary_free operator.InclusiveOr = refl
+binary_free operator.LogicalAnd = refl
+binary_free operator.LogicalOr = refl
+binary_free operator.ShiftLeft = refl
+binary_free operator.ShiftRight = refl
+
+choice_free : operates_freely (run_word Choice) ≡ true
+unfolding is_request is_builtin builtin_words
+choice_free = refl
+
+-- as are the words of functions of mathematics and of relations
+math_row : (fun : MathFunction) →
+    (if is_some (math_word fun) then operates_freely (run_word (Mathematical fun)) else true) ≡ true
+unfolding is_request is_builtin builtin_words
+math_row math.Abs = refl
+math_row _ = refl
+
+math_free : (fun : MathFunction) → is_some (math_word fun) ≡ true →
+    operates_freely (run_word (Mathematical fun)) ≡ true
+math_free fun written =
+    sym (ap (λ b. if b then operates_freely (run_word (Mathematical fun)) else true) written)
+    ∙ math_row fun
+
+relation_free : (fun : RelationalFunction) → is_some (relational_word fun) ≡ true →
+    operates_freely (run_word (Relation fun)) ≡ true
+unfolding is_request is_builtin builtin_words
+relation_free relational.All written = refl
+relation_free relational.Any written = refl
+relation_free _ written = absurd cc
 
 none_listed : (i : ℕ) (ts : List ValueType) → ts ≡ [] → i < length ts → ⊥
 none_listed i ts e lt = let none : i < 0 = subst (λ ts. i < length ts) e lt in omega (arith, none)
 
 -- ---- one function
-module _ (m : Module) (g : ℕ) (f : ir_function.Function) (found : slice_get m.functions g ≡ Some f) (es : List ExpressionInfo) (written : IsTrue (function_is_written f)) (p : shapes.Module) (constants : p.constant_types ≡ []) (globals : p.global_types ≡ []) (counted : length p.functions ≡ length m.functions) where
+module _ (m : Module) (info : ModuleInfo) (scalars : IsTrue (list_all is_scalar_type m.types)) (g : ℕ) (f : ir_function.Function) (found : slice_get m.functions g ≡ Some f) (es : List ExpressionInfo) (written : IsTrue (function_is_written f)) (p : shapes.Module) (constants : p.constant_types ≡ []) (globals : p.global_types ≡ []) (counted : length p.functions ≡ length m.functions) where
   abbrev own : Naming
-  own = function_naming (module_names m) m g f es
+  own = function_naming (module_names m) m info g f es
 
   abbrev shape : shapes.Function
-  shape = function_shape m f es
+  shape = function_shape m info f es
 
-  none_given : (k : ℕ) → k < given_by_all shape (statements_shape f.body) 0 → ⊥
-  none_given k lt = let none : k < 0 = subst (λ n. k < n) (none_given_by_all m f es (function_parts f written).unnamed f.body 0) lt in omega (arith, none)
+  abbrev d : Declared
+  d = declared m info (types_known es)
+
+  none_given : (k : ℕ) → k < given_by_all shape (statements_shape d.around f.body) 0 → ⊥
+  none_given k lt = let none : k < 0 = subst (λ n. k < n) (none_given_by_all m info f es (function_parts f written).unnamed f.body 0) lt in omega (arith, none)
 
   -- ---- words
   word_of : (item : LabelledItem) → Stands (labelled_items wgsl_names m) item → is_word (name_in (module_names m) item.0) ≡ true
@@ -199,57 +232,60 @@ module _ (m : Module) (g : ℕ) (f : ir_function.Function) (found : slice_get m.
       no_name (NumberedKey h) is e = sign_not_numbered h c rest one two e
       no_name (GivenKey k) is e = none_given k is
 
-  operates : (op : Operator) (w : List ℕ) →
-      written_word op ≡ Some w → OperatesBy p own (run_word op)
-  operates op w e =
-      by (run_word op)
-      (freely (operator_is_written op) (operates_freely (run_word op)) e (written_freely op))
-    where
-      freely : (accepted free : Bool) → (if accepted then operator_word op else None) ≡ Some w →
-          (if accepted then free else true) ≡ true → free ≡ true
-      freely true free e is = is
-      freely false free e is = absurd (cc)
+  operates : (w : List ℕ) → operates_freely w ≡ true → OperatesBy p own w
+  operates [] free = absurd (cc)
+  operates (c ∷ rest) free =
+      let one =
+      and_parts (not (is_request (c ∷ rest)))
+      (not (nat_eq c 95) &&
+      (not (nat_eq c 32) && (not (is_word (c ∷ rest)) || is_builtin (c ∷ rest)))) free in
+      let two =
+      and_parts (not (nat_eq c 95))
+      (not (nat_eq c 32) && (not (is_word (c ∷ rest)) || is_builtin (c ∷ rest))) one.1 in
+      let three =
+      and_parts (not (nat_eq c 32))
+      (not (is_word (c ∷ rest)) || is_builtin (c ∷ rest)) two.1 in (
+        is_no (is_request (c ∷ rest)) one.0,
+        stands_free c rest
+            (is_no (nat_eq c 95) two.0) (is_no (nat_eq c 32) three.0) three.1,
+      )
 
-      by : (x : List ℕ) → operates_freely x ≡ true → OperatesBy p own x
-      by [] free = absurd (cc)
-      by (c ∷ rest) free =
-          let one =
-          and_parts (not (is_request (c ∷ rest)))
-          (not (nat_eq c 95) &&
-          (not (nat_eq c 32) && (not (is_word (c ∷ rest)) || is_builtin (c ∷ rest)))) free in
-          let two =
-          and_parts (not (nat_eq c 95))
-          (not (nat_eq c 32) && (not (is_word (c ∷ rest)) || is_builtin (c ∷ rest))) one.1 in
-          let three =
-          and_parts (not (nat_eq c 32))
-          (not (is_word (c ∷ rest)) || is_builtin (c ∷ rest)) two.1 in (
-            is_no (is_request (c ∷ rest)) one.0,
-            stands_free c rest
-                (is_no (nat_eq c 95) two.0) (is_no (nat_eq c 32) three.0) three.1,
-          )
+  words : (h : ℕ) (e : ir.Expression) → expression_is_written e ≡ true →
+      WordFits p own (Some (shape_of d f.expressions h e))
+  words h (expression.FunctionArgument number) is = tt
+  words h (expression.LocalVariable handle) is = tt
+  words h (expression.Load pointer) is =
+      subst (λ s. WordFits p own (Some s))
+      (sym (plain_load d f.expressions h pointer (points_plainly d.around scalars pointer))) tt
+  words h (expression.Literal value) is = tt
+  words h (expression.Unary op expr) is = operates (run_word (UnarySign op)) (unary_free op)
+  words h (expression.Binary op left right) is =
+      operator_any (λ s. WordFits p own (Some s)) (BinarySign op) (left ∷ right ∷ [])
+      (λ j l r. tt) (operates (run_word (BinarySign op)) (binary_free op))
+  words h (expression.Select condition accept reject) is = operates (run_word Choice) choice_free
+  words h (expression.Math fun arg arg1 arg2 arg3) is =
+      operates (run_word (Mathematical fun)) (math_free fun is)
+  words h (expression.Relational fun argument) is =
+      operates (run_word (Relation fun)) (relation_free fun is)
+  words h _ is = absurd cc
 
-  words_at : (h : ℕ) (e : ir.Expression) → slice_get f.expressions h ≡ Some e → WordFits p own (Some (expression_shape e))
-  words_at h e at = words e (list_all_at expression_is_written f.expressions h e (function_parts f written).expressions at)
-    where
-      words : (e : ir.Expression) → expression_is_written e ≡ true → WordFits p own (Some (expression_shape e))
-      words (expression.FunctionArgument number) is = tt
-      words (expression.LocalVariable handle) is = tt
-      words (expression.Load pointer) is = tt
-      words (expression.Literal value) is = tt
-      words e is =
-          application_any (λ s. WordFits p own (Some s)) tt (application_of e)
-          (λ a at. let word = applied_word (application_of e) is a at in
-          operator_any (λ s. WordFits p own (Some s)) a.operator a.operands (λ j l r. tt)
-          (operates a.operator word.0 word.1))
+  words_at : (h : ℕ) (e : ir.Expression) → slice_get f.expressions h ≡ Some e →
+      WordFits p own (Some (shape_of d f.expressions h e))
+  words_at h e at =
+      words h e
+      (list_all_at expression_is_written f.expressions h e (function_parts f written).expressions at)
 
   -- ---- statements
-  line_worded : (st : StatementTree) → statement_is_written st ≡ true → IsWorded p own (statement_shape st)
+  line_worded : (st : StatementTree) → statement_is_written st ≡ true →
+      IsWorded p own (statement_shape d.around st)
   line_worded (simple (emit first last)) is = tt
-  line_worded (simple (store pointer value)) is = tt
+  line_worded (simple (store pointer value)) is =
+      subst (IsWorded p own)
+      (sym (plain_store d.around pointer value (points_plainly d.around scalars pointer))) tt
   line_worded (simple (return value)) is = tt
   line_worded _ is = absurd cc
 
-  worded : (b : BlockTree) → block_is_written b ≡ true → AreWorded p own (statements_shape b)
+  worded : (b : BlockTree) → block_is_written b ≡ true → AreWorded p own (statements_shape d.around b)
   worded no_statements is = tt
   worded (statement st b) is =
       let parts = and_parts (statement_is_written st) (block_is_written b) is in
@@ -315,7 +351,7 @@ module _ (m : Module) (g : ℕ) (f : ir_function.Function) (found : slice_get m.
   is_left callees earlier counted scope = record {
     outer = refl;
     earlier = sym earlier;
-    words = λ h. at_any m f es h (λ o. WordFits p own o) tt (words_at h);
+    words = λ h. any_shape m info f es h (λ o. WordFits p own o) tt (words_at h);
     worded = worded f.body (function_parts f written).body;
     distinct = distinct counted;
     scope = scope;

@@ -14,9 +14,10 @@ use Rattle.std.proofs.Common.{nat_lt, ◌+◌, pos, negsuc, Option, Some, None, 
 use Rattle.std.proofs.Common.{nat_eq, nat_le, true≢false}
 use Rattle.std.specs.Prelude.{IsTrue, slice_get, cond, get_or}
 use Rattle.std.specs.List.{list_all}
-use Rattle.std.specs.Option.{option_map, is_some}
+use Rattle.std.specs.Option.{option_map}
 use Rattle.std.proofs.lemmas.Bool.{and_from, or_right, lt-ltb, ltb-true, leb-true, and_parts}
 use Rattle.naga_ir.specs.StatementTree.{SimpleStatement, emit, store, return, StatementTree, simple}
+use Rattle.naga_ir.specs.StatementTree.{break, continue, kill}
 use Rattle.naga_ir.specs.StatementTree.{block, branch, switch, loop, BlockTree, no_statements}
 use Rattle.naga_ir.specs.StatementTree.{statement, CaseTrees, no_cases, case}
 use Rattle.naga_ir.specs.declared.statement.SwitchValue.{SwitchValue}
@@ -46,19 +47,25 @@ use Rattle.naga_names.proofs.Label.{all_digits-decimal}
 use Rattle.naga_names.proofs.Refusal.{element}
 use Rattle.naga_form.specs.Declarations.{written_program}
 use Rattle.naga_form.specs.Expressions.{PlainForm, ValueForm, ReferenceForm, as_value, as_reference}
-use Rattle.naga_form.specs.Expressions.{application_plain, own_plain, own_if, standing_plain}
-use Rattle.naga_form.specs.Expressions.{plain_below, plain_form, value_form}
+use Rattle.naga_form.specs.Expressions.{applied_plain, no_form, own_plain, own_if, standing_plain}
+use Rattle.naga_form.specs.Expressions.{plain_below, plain_form, value_form, unnamed_form, Source}
+use Rattle.naga_form.specs.Expressions.{function_source}
 use Rattle.naga_form.specs.Functions.{locals_form, parameters_form, result_form, function_form}
 use Rattle.naga_form.specs.Functions.{functions_form}
 use Rattle.naga_form.specs.Statements.{let_form, then_if, lets_form, return_line, simple_form}
 use Rattle.naga_form.specs.Statements.{loop_form, label_form, labels_form, line_form, lines_form}
-use Rattle.naga_form.specs.Statements.{cases_form}
+use Rattle.naga_form.specs.Statements.{cases_form, has_form}
 use Rattle.module_meaning.specs.Premises.{handles_are_counted}
 use Rattle.module_meaning.specs.Names.{module_names, wgsl_names, numbered_text, numbered_name}
 use Rattle.module_meaning.specs.Types.{type_names}
 use Rattle.naga_form.specs.Types.{told_type}
 use Rattle.naga_form.proofs.WrittenTypes.{is_type_at, told_is}
-use Rattle.module_meaning.specs.Applications.{Application, application_of}
+use Rattle.module_meaning.specs.ExpressionOperators.{applied_operator, load_operator}
+use Rattle.module_meaning.specs.ExpressionOperators.{points_to_atomic}
+use Rattle.module_meaning.specs.ExpressionShapes.{Declared, shape_of}
+use Rattle.module_meaning.specs.OperatorTable.{Operator}
+use Rattle.module_meaning.specs.StatementShapes.{store_shape}
+use Rattle.naga_ir.specs.Operands.{expression_operands}
 use Rattle.naga_form.specs.Operators.{notation}
 use Rattle.naga_form.proofs.Operators.{is_notated, notated, applied_is}
 use Rattle.naga_form.proofs.Facts.{further, from_start}
@@ -67,7 +74,7 @@ use Rattle.naga_form.proofs.Names.{item_is_identifier, function_item, argument_i
 use Rattle.naga_form.proofs.Names.{argument_there}
 use Rattle.std.specs.Char.{is_ascii_digit}
 use Rattle.std.specs.Str.{bytes_eq}
-use Rattle.std.proofs.lemmas.Option.{slice_get-map, slice_get_within}
+use Rattle.std.proofs.lemmas.Option.{slice_get_within}
 use Rattle.std.proofs.lemmas.Slice.Eq.{bytes_eq-Decides}
 use Rattle.naga_names.proofs.NamedItems.{local_stands}
 use Rattle.naga_ir.specs.declared.expression.Expression.TheVariants as expression
@@ -82,9 +89,10 @@ use Rattle.shader_runs.specs.Scope.{after_all, Absent, Barred, Everywhere, Inlin
 use Rattle.shader_runs.specs.Scope.{is_pure, is_constant_below, start_standing}
 use Rattle.shader_runs.specs.Scope.{standing_without_name, with_emitted_handle}
 use Rattle.shader_runs.specs.Scope.{after_emit, forgotten_if}
-use Rattle.module_meaning.specs.Shapes.{statement_shape, statements_shape, function_naming}
-use Rattle.module_meaning.specs.Shapes.{expression_shape}
+use Rattle.module_meaning.specs.FunctionShapes.{statement_shape, statements_shape}
+use Rattle.module_meaning.specs.Namings.{function_naming}
 use Rattle.naga_form.proofs.Fits.{local_item, none_is_given}
+use Rattle.naga_form.proofs.ModulePlaces.{expression_is}
 
 -- ---- numbered names
 digits_are_bytes : (w : List ℕ) → list_all is_ascii_digit w ≡ true → all_word_bytes w ≡ true
@@ -177,46 +185,54 @@ some_case_stays no_cases = false
 some_case_stays (case value body true cs) = some_case_stays cs
 some_case_stays (case value body false cs) = true
 
--- each switch has a case with lines, and labels of their types
+-- each statement without blocks has a form, and each switch a case with lines, and labels of their types
 abbrev mutual
-  SwitchesFit : StatementTree → Type 0
-  SwitchesFit (simple st) = Unit {0}
-  SwitchesFit (block b) = AllSwitchesFit b
-  SwitchesFit (branch condition accept reject) = AllSwitchesFit accept × AllSwitchesFit reject
-  SwitchesFit (switch selector cs) = IsTrue (some_case_stays cs) × CasesFit cs
-  SwitchesFit (loop body continuing break_if) = AllSwitchesFit body × AllSwitchesFit continuing
+  StatementsFit : StatementTree → Type 0
+  StatementsFit (simple st) = has_form st ≡ true
+  StatementsFit (block b) = AllFit b
+  StatementsFit (branch condition accept reject) = AllFit accept × AllFit reject
+  StatementsFit (switch selector cs) = IsTrue (some_case_stays cs) × CasesFit cs
+  StatementsFit (loop body continuing break_if) = AllFit body × AllFit continuing
 
-  AllSwitchesFit : BlockTree → Type 0
-  AllSwitchesFit no_statements = Unit {0}
-  AllSwitchesFit (statement st b) = SwitchesFit st × AllSwitchesFit b
+  AllFit : BlockTree → Type 0
+  AllFit no_statements = Unit {0}
+  AllFit (statement st b) = StatementsFit st × AllFit b
 
   CasesFit : CaseTrees → Type 0
   CasesFit no_cases = Unit {0}
-  CasesFit (case value body falls cs) = LabelFits value × AllSwitchesFit body × CasesFit cs
+  CasesFit (case value body falls cs) = LabelFits value × AllFit body × CasesFit cs
 
--- no statement with a block is written so far
-switches_fit : (b : BlockTree) → block_is_written b ≡ true → AllSwitchesFit b
-switches_fit no_statements is = tt
-switches_fit (statement st b) is =
+-- of statements with blocks none is written so far
+statements_fit : (b : BlockTree) → block_is_written b ≡ true → AllFit b
+statements_fit no_statements is = tt
+statements_fit (statement st b) is =
     let parts = and_parts (statement_is_written st) (block_is_written b) is in
-    (by st parts.0, switches_fit b parts.1)
+    (by st parts.0, statements_fit b parts.1)
   where
-    by : (st : StatementTree) → statement_is_written st ≡ true → SwitchesFit st
-    by (simple st) is = tt
+    by : (st : StatementTree) → statement_is_written st ≡ true → StatementsFit st
+    by (simple (emit first last)) is = refl
+    by (simple (store pointer value)) is = refl
+    by (simple (return value)) is = refl
     by _ is = absurd (cc)
 
-module _ (m : Module) (g : ℕ) (f : ir_function.Function) (found : slice_get m.functions g ≡ Some f) (es : List ExpressionInfo) (callees : ℕ) (ranges : function_in_range m callees f ≡ true) (written : IsTrue (function_is_written f)) (known : list_all (λ k. resolution_is_written m.types k.ty) es ≡ true) (scalars : list_all is_scalar_type m.types ≡ true) (few : length f.expressions ≤ 2 ^ 64) where
+module _ (m : Module) (info : ModuleInfo) (g : ℕ) (f : ir_function.Function) (found : slice_get m.functions g ≡ Some f) (es : List ExpressionInfo) (callees : ℕ) (ranges : function_in_range m callees f ≡ true) (written : IsTrue (function_is_written f)) (known : list_all (λ k. resolution_is_written m.types k.ty) es ≡ true) (scalars : list_all is_scalar_type m.types ≡ true) (few : length f.expressions ≤ 2 ^ 64) where
   abbrev own : Naming
-  own = function_naming (module_names m) m g f es
+  own = function_naming (module_names m) m info g f es
 
-  application_is : (operand : ℕ → PlainForm) → ((x : ℕ) → IsPlainForm (operand x)) →
-      (o : Option Application) → is_notated o ≡ true → IsPlainForm (application_plain operand o)
-  application_is operand all None is = tt
-  application_is operand all (Some applied) is =
-      applied_is operand (λ h. value_is_one (operand h) (all h))
-      (notation applied.operator) applied.operands is
+  abbrev source : Source
+  source = function_source m info f es
 
-  own_is : (operand : ℕ → PlainForm) → ((x : ℕ) → IsPlainForm (operand x)) → (h : ℕ) (e : ir.Expression) → slice_get f.expressions h ≡ Some e → IsPlainForm (own_plain own operand e)
+  abbrev d : Declared
+  d = source.declared
+
+  application_is : (otherwise : PlainForm) → IsPlainForm otherwise → (operand : ℕ → PlainForm) →
+      ((x : ℕ) → IsPlainForm (operand x)) → (hs : List ℕ) (o : Option Operator) →
+      is_notated hs o ≡ true → IsPlainForm (applied_plain otherwise operand hs o)
+  application_is otherwise plain operand all hs None is = plain
+  application_is otherwise plain operand all hs (Some op) is =
+      applied_is operand (λ h. value_is_one (operand h) (all h)) (notation op) hs is
+
+  own_is : (operand : ℕ → PlainForm) → ((x : ℕ) → IsPlainForm (operand x)) → (h : ℕ) (e : ir.Expression) → slice_get f.expressions h ≡ Some e → IsPlainForm (own_plain own d operand e)
   own_is operand all h (expression.Literal v) at =
       literal_is v (list_all_at expression_is_written f.expressions h (expression.Literal v) (function_parts f written).expressions at)
       (names_are_in_range m callees f ranges h (expression.Literal v) at)
@@ -226,10 +242,15 @@ module _ (m : Module) (g : ℕ) (f : ir_function.Function) (found : slice_get m.
   own_is operand all h (expression.LocalVariable v) at =
       let l = element f.local_variables v (ltb-true v (length f.local_variables) (names_are_in_range m callees f ranges h (expression.LocalVariable v) at)) in
       (item_is_identifier m (local_item g v l.0) (local_stands wgsl_names m g f v l.0 found l.1), refl)
-  own_is operand all h (expression.Load q) at = (reference_is_one (operand q) (all q)).0
-  own_is operand all h e at = application_is operand all (application_of e) (notated e)
+  own_is operand all h (expression.Load q) at =
+      application_is (ValueForm (as_reference (operand q))) (reference_is_one (operand q) (all q)).0
+      operand all (q ∷ []) (load_operator d.around q) (notated d.around (expression.Load q) refl)
+  own_is operand all h e at =
+      application_is no_form tt operand all (expression_operands e) (applied_operator d.around e)
+      (notated d.around e
+      (list_all_at expression_is_written f.expressions h e (function_parts f written).expressions at))
 
-  own_if_is : (operand : ℕ → PlainForm) → ((x : ℕ) → IsPlainForm (operand x)) → (h : ℕ) (o : Option ir.Expression) → slice_get f.expressions h ≡ o → IsPlainForm (own_if own operand o)
+  own_if_is : (operand : ℕ → PlainForm) → ((x : ℕ) → IsPlainForm (operand x)) → (h : ℕ) (o : Option ir.Expression) → slice_get f.expressions h ≡ o → IsPlainForm (own_if own d operand o)
   own_if_is operand all h None at = tt
   own_if_is operand all h (Some e) at = own_is operand all h e at
 
@@ -237,20 +258,20 @@ module _ (m : Module) (g : ℕ) (f : ir_function.Function) (found : slice_get m.
   standing_is (Named x) p named_well is = named_well x refl
   standing_is _ p named_well is = is
 
-  below_is : (s : Handles) → NamesAre s → (k h : ℕ) → IsPlainForm (plain_below own f.expressions s k h)
+  below_is : (s : Handles) → NamesAre s → (k h : ℕ) → IsPlainForm (plain_below own source s k h)
   below_is s well zero h = tt
-  below_is s well (suc k) h = standing_is (s h) (own_if own (plain_below own f.expressions s k) (slice_get f.expressions h)) (well h) (own_if_is (plain_below own f.expressions s k) (below_is s well k) h (slice_get f.expressions h) refl)
+  below_is s well (suc k) h = standing_is (s h) (own_if own d (plain_below own source s k) (slice_get f.expressions h)) (well h) (own_if_is (plain_below own source s k) (below_is s well k) h (slice_get f.expressions h) refl)
 
-  plain_is : (s : Handles) → NamesAre s → (h : ℕ) → IsPlainForm (plain_form own f.expressions s h)
+  plain_is : (s : Handles) → NamesAre s → (h : ℕ) → IsPlainForm (plain_form own source s h)
   plain_is s well h = below_is s well (length f.expressions) h
 
   -- a bound handle's name
   bound_is : (k h : ℕ) → binds own.function h ≡ true → IsIdentifier (bound_name own k h)
-  bound_is k h bound = subst (λ b. IsIdentifier (cond b [] (numbered_name h))) (sym (none_is_given m f es (function_parts f written).unnamed h)) (numbered_is h (within (slice_get f.expressions h) refl))
+  bound_is k h bound = subst (λ b. IsIdentifier (cond b [] (numbered_name h))) (sym (none_is_given m info f es (function_parts f written).unnamed h)) (numbered_is h (within (slice_get f.expressions h) refl))
     where
       within : (o : Option ir.Expression) → slice_get f.expressions h ≡ o → h < 2 ^ 64
       within (Some e) at = let lt = slice_get_within f.expressions h e at in omega (arith, lt, few)
-      within None at = absurd (true≢false (sym bound ∙ ap (binds_as own.function h) (slice_get-map expression_shape f.expressions h ∙ ap (option_map expression_shape) at)))
+      within None at = absurd (true≢false (sym bound ∙ ap (binds_as own.function h) (expression_is m info f es h ∙ ap (option_map (shape_of d f.expressions h)) at)))
 
   -- one more handle
   after_one_is : (k h : ℕ) (s : Handles) → NamesAre s → NamesAre (after_one own k h s)
@@ -283,17 +304,27 @@ module _ (m : Module) (g : ℕ) (f : ir_function.Function) (found : slice_get m.
   after_emit_is k [] s well = well
   after_emit_is k (h ∷ hs) s well = after_emit_is (given_after own.function h k) hs (after_one own k h s) (after_one_is k h s well)
 
-  after_is : (k : ℕ) (st : StatementTree) (s : Handles) → NamesAre s → NamesAre (after own k (statement_shape st) s)
-  after_is k (simple (emit first last)) s well = after_emit_is k (from first (last - first)) s well
-  after_is k _ s well = well
+  after_is : (k : ℕ) (st : StatementTree) → StatementsFit st → (s : Handles) → NamesAre s → NamesAre (after own k (statement_shape d.around st) s)
+  after_is k (simple (emit first last)) fit s well = after_emit_is k (from first (last - first)) s well
+  after_is k (simple (store pointer value)) fit s well = stored (points_to_atomic d.around pointer)
+    where
+      stored : (b : Bool) → NamesAre (after own k (store_shape b pointer value) s)
+      stored true = well
+      stored false = well
+  after_is k (simple (return value)) fit s well = well
+  after_is k (simple break) fit s well = well
+  after_is k (simple continue) fit s well = well
+  after_is k (simple kill) fit s well = well
+  after_is k (simple _) fit s well = absurd cc
+  after_is k _ fit s well = well
 
-  after_all_is : (k : ℕ) (b : BlockTree) (s : Handles) → NamesAre s → NamesAre (after_all own k (statements_shape b) s)
-  after_all_is k no_statements s well = well
-  after_all_is k (statement st b) s well =
-      by (holds_continue (statement_shape st)) (after_all_is (given_by own.function (statement_shape st) k) b (after own k (statement_shape st) s) (after_is k st s well))
+  after_all_is : (k : ℕ) (b : BlockTree) → AllFit b → (s : Handles) → NamesAre s → NamesAre (after_all own k (statements_shape d.around b) s)
+  after_all_is k no_statements fit s well = well
+  after_all_is k (statement st b) fit s well =
+      by (holds_continue (statement_shape d.around st)) (after_all_is (given_by own.function (statement_shape d.around st) k) b fit.1 (after own k (statement_shape d.around st) s) (after_is k st fit.0 s well))
     where
       last : Handles
-      last = after_all own (given_by own.function (statement_shape st) k) (statements_shape b) (after own k (statement_shape st) s)
+      last = after_all own (given_by own.function (statement_shape d.around st) k) (statements_shape d.around b) (after own k (statement_shape d.around st) s)
 
       by : (continues : Bool) → NamesAre last → NamesAre (forgotten_if continues s last)
       by true last_well = λ h x e. well h x (forgotten_named (s h) (last h) x e)
@@ -310,81 +341,81 @@ module _ (m : Module) (g : ℕ) (f : ir_function.Function) (found : slice_get m.
   let_is None told_well x e name is = (name, is)
   let_is (Some t) told_well x e name is = (name, told_well t refl, is)
 
-  lets_are : (told : ℕ → Option TypeSpecifier) → ((h : ℕ) (t : TypeSpecifier) → told h ≡ Some t → IsType t) → (k : ℕ) (hs : List ℕ) (s : Handles) → NamesAre s → (rest : tree.Statements) → IsStatements rest → IsStatements (lets_form own told f.expressions k hs s rest)
+  lets_are : (told : ℕ → Option TypeSpecifier) → ((h : ℕ) (t : TypeSpecifier) → told h ≡ Some t → IsType t) → (k : ℕ) (hs : List ℕ) (s : Handles) → NamesAre s → (rest : tree.Statements) → IsStatements rest → IsStatements (lets_form own told source k hs s rest)
   lets_are told told_well k [] s well rest is = is
   lets_are told told_well k (h ∷ hs) s well rest is =
       then_is (binds own.function h) refl (lets_are told told_well (given_after own.function h k) hs (after_one own k h s) (after_one_is k h s well) rest is)
     where
       e : tree_expressions.Expression
-      e = as_value (own_if own (plain_form own f.expressions s) (slice_get f.expressions h))
+      e = as_value (unnamed_form own source s h)
 
       behind : tree.Statements
-      behind = lets_form own told f.expressions (given_after own.function h k) hs (after_one own k h s) rest
+      behind = lets_form own told source (given_after own.function h k) hs (after_one own k h s) rest
 
       then_is : (b : Bool) → binds own.function h ≡ b → IsStatements behind → IsStatements (then_if b (let_form (told h) (bound_name own k h) e) behind)
       then_is true bound more = (
-        let_is (told h) (told_well h) (bound_name own k h) e (bound_is k h bound) (value_is_one (own_if own (plain_form own f.expressions s) (slice_get f.expressions h)) (own_if_is (plain_form own f.expressions s) (plain_is s well) h (slice_get f.expressions h) refl)),
+        let_is (told h) (told_well h) (bound_name own k h) e (bound_is k h bound) (value_is_one (unnamed_form own source s h) (own_if_is (plain_form own source s) (plain_is s well) h (slice_get f.expressions h) refl)),
         more,
       )
       then_is false bound more = more
 
-  return_is : (s : Handles) → NamesAre s → (v : Option ℕ) → IsStatement (return_line own f.expressions s v)
+  return_is : (s : Handles) → NamesAre s → (v : Option ℕ) → IsStatement (return_line own source s v)
   return_is s well None = tt
-  return_is s well (Some h) = value_is_one (plain_form own f.expressions s h) (plain_is s well h)
+  return_is s well (Some h) = value_is_one (plain_form own source s h) (plain_is s well h)
 
-  simple_is : (told : ℕ → Option TypeSpecifier) → ((h : ℕ) (t : TypeSpecifier) → told h ≡ Some t → IsType t) → (k : ℕ) (st : SimpleStatement) (s : Handles) → NamesAre s → (rest : tree.Statements) → IsStatements rest → IsStatements (simple_form own told f.expressions k st s rest)
+  simple_is : (told : ℕ → Option TypeSpecifier) → ((h : ℕ) (t : TypeSpecifier) → told h ≡ Some t → IsType t) → (k : ℕ) (st : SimpleStatement) (s : Handles) → NamesAre s → (rest : tree.Statements) → IsStatements rest → IsStatements (simple_form own told source k st s rest)
   simple_is told told_well k (emit first last) s well rest is = lets_are told told_well k (from first (last - first)) s well rest is
   simple_is told told_well k (store pointer value) s well rest is =
-      let r = reference_is_one (plain_form own f.expressions s pointer) (plain_is s well pointer) in
-      ((r.0, value_is_one (plain_form own f.expressions s value) (plain_is s well value), r.1), is)
+      let r = reference_is_one (plain_form own source s pointer) (plain_is s well pointer) in
+      ((r.0, value_is_one (plain_form own source s value) (plain_is s well value), r.1), is)
   simple_is told told_well k (return v) s well rest is = (return_is s well v, is)
   simple_is told told_well k _ s well rest is = (tt, is)
 
-  value_at_is : (s : Handles) → NamesAre s → (h : ℕ) → IsExpression (value_form own f.expressions s h)
-  value_at_is s well h = value_is_one (plain_form own f.expressions s h) (plain_is s well h)
+  value_at_is : (s : Handles) → NamesAre s → (h : ℕ) → IsExpression (value_form own source s h)
+  value_at_is s well h = value_is_one (plain_form own source s h) (plain_is s well h)
 
-  loop_is : (body continuing : tree.Statements) (s : Handles) → NamesAre s → (e : Option ℕ) → IsStatements body → IsStatements continuing → IsStatement (loop_form body continuing (option_map (value_form own f.expressions s) e))
+  loop_is : (body continuing : tree.Statements) (s : Handles) → NamesAre s → (e : Option ℕ) → IsStatements body → IsStatements continuing → IsStatement (loop_form body continuing (option_map (value_form own source s) e))
   loop_is body continuing s well None b d = (b, d)
   loop_is body continuing s well (Some h) b d = (b, d, value_at_is s well h)
 
-  cases_stay : (told : ℕ → Option TypeSpecifier) (k : ℕ) (labels : List tree.Label) (cs : CaseTrees) → IsTrue (some_case_stays cs) → (s : Handles) → IsTrue (has_case (cases_form own told f.expressions k labels cs s))
+  cases_stay : (told : ℕ → Option TypeSpecifier) (k : ℕ) (labels : List tree.Label) (cs : CaseTrees) → IsTrue (some_case_stays cs) → (s : Handles) → IsTrue (has_case (cases_form own told source k labels cs s))
   cases_stay told k labels no_cases stays s = stays
   cases_stay told k labels (case value body true cs) stays s =
-      cases_stay told (given_by_all own.function (statements_shape body) k) (labels ++ label_form value ∷ []) cs stays s
+      cases_stay told (given_by_all own.function (statements_shape d.around body) k) (labels ++ label_form value ∷ []) cs stays s
   cases_stay told k labels (case value body false cs) stays s = refl
 
   mutual
-    line_is : (told : ℕ → Option TypeSpecifier) → ((h : ℕ) (t : TypeSpecifier) → told h ≡ Some t → IsType t) → (k : ℕ) (st : StatementTree) → SwitchesFit st → (s : Handles) → NamesAre s → (rest : tree.Statements) → IsStatements rest → IsStatements (line_form own told f.expressions k st s rest)
+    line_is : (told : ℕ → Option TypeSpecifier) → ((h : ℕ) (t : TypeSpecifier) → told h ≡ Some t → IsType t) → (k : ℕ) (st : StatementTree) → StatementsFit st → (s : Handles) → NamesAre s → (rest : tree.Statements) → IsStatements rest → IsStatements (line_form own told source k st s rest)
     line_is told told_well k (simple st) fit s well rest is = simple_is told told_well k st s well rest is
     line_is told told_well k (block b) fit s well rest is = (lines_are told told_well k b fit s well, is)
     line_is told told_well k (branch condition accept reject) fit s well rest is =
-        let behind = given_by_all own.function (statements_shape accept) k in
+        let behind = given_by_all own.function (statements_shape d.around accept) k in
         ((value_at_is s well condition, lines_are told told_well k accept fit.0 s well, lines_are told told_well behind reject fit.1 s well), is)
     line_is told told_well k (switch selector cs) fit s well rest is =
         ((value_at_is s well selector, cases_are told told_well k [] tt cs fit.1 s well, cases_stay told k [] cs fit.0 s), is)
     line_is told told_well k (loop body continuing break_if) fit s well rest is =
-        let behind = given_by_all own.function (statements_shape body) k in
-        let inside = after_all own k (statements_shape body) s in
-        let inside_well = after_all_is k body s well in
-        (loop_is _ _ (after_all own behind (statements_shape continuing) inside) (after_all_is behind continuing inside inside_well) break_if (lines_are told told_well k body fit.0 s well) (lines_are told told_well behind continuing fit.1 inside inside_well), is)
+        let behind = given_by_all own.function (statements_shape d.around body) k in
+        let inside = after_all own k (statements_shape d.around body) s in
+        let inside_well = after_all_is k body fit.0 s well in
+        (loop_is _ _ (after_all own behind (statements_shape d.around continuing) inside) (after_all_is behind continuing fit.1 inside inside_well) break_if (lines_are told told_well k body fit.0 s well) (lines_are told told_well behind continuing fit.1 inside inside_well), is)
 
-    lines_are : (told : ℕ → Option TypeSpecifier) → ((h : ℕ) (t : TypeSpecifier) → told h ≡ Some t → IsType t) → (k : ℕ) (b : BlockTree) → AllSwitchesFit b → (s : Handles) → NamesAre s → IsStatements (lines_form own told f.expressions k b s)
+    lines_are : (told : ℕ → Option TypeSpecifier) → ((h : ℕ) (t : TypeSpecifier) → told h ≡ Some t → IsType t) → (k : ℕ) (b : BlockTree) → AllFit b → (s : Handles) → NamesAre s → IsStatements (lines_form own told source k b s)
     lines_are told told_well k no_statements fit s well = tt
     lines_are told told_well k (statement st b) fit s well =
-        line_is told told_well k st fit.0 s well (lines_form own told f.expressions (given_by own.function (statement_shape st) k) b (after own k (statement_shape st) s))
-        (lines_are told told_well (given_by own.function (statement_shape st) k) b fit.1 (after own k (statement_shape st) s) (after_is k st s well))
+        line_is told told_well k st fit.0 s well (lines_form own told source (given_by own.function (statement_shape d.around st) k) b (after own k (statement_shape d.around st) s))
+        (lines_are told told_well (given_by own.function (statement_shape d.around st) k) b fit.1 (after own k (statement_shape d.around st) s) (after_is k st fit.0 s well))
 
-    cases_are : (told : ℕ → Option TypeSpecifier) → ((h : ℕ) (t : TypeSpecifier) → told h ≡ Some t → IsType t) → (k : ℕ) (labels : List tree.Label) → Each IsLabel labels → (cs : CaseTrees) → CasesFit cs → (s : Handles) → NamesAre s → IsCases (cases_form own told f.expressions k labels cs s)
+    cases_are : (told : ℕ → Option TypeSpecifier) → ((h : ℕ) (t : TypeSpecifier) → told h ≡ Some t → IsType t) → (k : ℕ) (labels : List tree.Label) → Each IsLabel labels → (cs : CaseTrees) → CasesFit cs → (s : Handles) → NamesAre s → IsCases (cases_form own told source k labels cs s)
     cases_are told told_well k labels are no_cases fit s well = tt
     cases_are told told_well k labels are (case value body true cs) fit s well =
-        cases_are told told_well (given_by_all own.function (statements_shape body) k) (labels ++ label_form value ∷ []) (labels_more labels value are fit.0) cs fit.2 s well
+        cases_are told told_well (given_by_all own.function (statements_shape d.around body) k) (labels ++ label_form value ∷ []) (labels_more labels value are fit.0) cs fit.2 s well
     cases_are told told_well k labels are (case value body false cs) fit s well = (
       labels_are labels value are fit.0,
       lines_are told told_well k body fit.1 s well,
-      cases_are told told_well (given_by_all own.function (statements_shape body) k) [] tt cs fit.2 s well,
+      cases_are told told_well (given_by_all own.function (statements_shape d.around body) k) [] tt cs fit.2 s well,
     )
 
-  locals_are : (l : ℕ) (vs : List LocalVariable) → l + length vs ≡ length f.local_variables → list_all (local_in_range (length m.types) (length f.expressions)) vs ≡ true → Each IsLocal (locals_form own (type_names m) f.expressions l vs)
+  locals_are : (l : ℕ) (vs : List LocalVariable) → l + length vs ≡ length f.local_variables → list_all (local_in_range (length m.types) (length f.expressions)) vs ≡ true → Each IsLocal (locals_form own (type_names m) source l vs)
   locals_are l [] size fit = tt
   locals_are l (v ∷ vs) size fit =
       let lt : l < length f.local_variables = omega (arith, size) in
@@ -400,9 +431,9 @@ module _ (m : Module) (g : ℕ) (f : ir_function.Function) (found : slice_get m.
         locals_are (l + 1) vs next both.1,
       )
     where
-      first_is : (o : Option ℕ) → IsValue (option_map (value_form own f.expressions (at_start own.function)) o)
+      first_is : (o : Option ℕ) → IsValue (option_map (value_form own source (at_start own.function)) o)
       first_is None = tt
-      first_is (Some h) = value_is_one (plain_form own f.expressions (at_start own.function) h) (plain_is (at_start own.function) start_is h)
+      first_is (Some h) = value_is_one (plain_form own source (at_start own.function) h) (plain_is (at_start own.function) start_is h)
 
   parameters_are : (n : ℕ) (args : List FunctionArgument) → n + length args ≡ length f.arguments.items → IsTrue (list_all (λ a. nat_lt a.ty (length m.types)) args) → Each IsParameter (parameters_form (module_names m) m.types g n args)
   parameters_are n [] size fit = tt
@@ -419,7 +450,7 @@ module _ (m : Module) (g : ℕ) (f : ir_function.Function) (found : slice_get m.
   result_is None fit = tt
   result_is (Some r) fit = (tt, refl, is_type_at m.types scalars (module_names m) r.ty (ltb-true r.ty (length m.types) fit))
 
-  function_is : (explicit : Bool) → IsFunction (function_form explicit (module_names m) m g f es)
+  function_is : (explicit : Bool) → IsFunction (function_form explicit (module_names m) m info g f es)
   function_is explicit =
       let signature = (and_parts (signature_types_fit (length m.types) f) (signature_fits_32_bits f) (and_parts (signature_fits (length m.types) f) _ ranges).0).0 in
       let args = list_all (λ a. nat_lt a.ty (length m.types)) f.arguments.items in
@@ -431,12 +462,12 @@ module _ (m : Module) (g : ℕ) (f : ir_function.Function) (found : slice_get m.
         parameters = parameters_are 0 f.arguments.items all (and_left args answer signature);
         result = result_is f.result (and_right args answer signature);
         locals = locals_are 0 f.local_variables all_locals (locals_are_in_range m callees f ranges);
-        body = lines_are (told_type explicit (type_names m) es) (told_is m.types scalars (module_names m) explicit es known) 0 f.body (switches_fit f.body (function_parts f written).body) (at_start own.function) start_is;
+        body = lines_are (told_type explicit (type_names m) es) (told_is m.types scalars (module_names m) explicit es known) 0 f.body (statements_fit f.body (function_parts f written).body) (at_start own.function) start_is;
       }
 
 module _ (explicit : Bool) (m : Module) (info : ModuleInfo) (accepted : IsTrue (is_accepted m info)) (scalars : list_all is_scalar_type m.types ≡ true) where
   functions_are : (g : ℕ) (fs : List ir_function.Function) (ess : List (List ExpressionInfo)) → ((i : ℕ) (f : ir_function.Function) → slice_get fs i ≡ Some f → slice_get m.functions (g + i) ≡ Some f) → IsTrue (list_all function_is_written fs) →
-      IsTrue (list_all (list_all (λ k. resolution_is_written m.types k.ty)) ess) → IsTrue (list_all (λ f. nat_le (length f.expressions) (2 ^ 64)) fs) → Each IsFunction (functions_form explicit (module_names m) m g fs ess)
+      IsTrue (list_all (list_all (λ k. resolution_is_written m.types k.ty)) ess) → IsTrue (list_all (λ f. nat_le (length f.expressions) (2 ^ 64)) fs) → Each IsFunction (functions_form explicit (module_names m) m info g fs ess)
   functions_are g [] [] there written known few = tt
   functions_are g [] (es ∷ ess) there written known few = tt
   functions_are g (f ∷ fs) [] there written known few = tt
@@ -448,7 +479,7 @@ module _ (explicit : Bool) (m : Module) (info : ModuleInfo) (accepted : IsTrue (
       let all = and_parts (function_is_written f) (list_all function_is_written fs) written in
       let types = and_parts (list_all (λ k. resolution_is_written m.types k.ty) es) (list_all (list_all (λ k. resolution_is_written m.types k.ty)) ess) known in
       let counted = and_parts (nat_le (length f.expressions) (2 ^ 64)) (list_all (λ f. nat_le (length f.expressions) (2 ^ 64)) fs) few in (
-        function_is m g f found es is.callees is.ranges all.0 types.0 scalars (leb-true (length f.expressions) (2 ^ 64) counted.0) explicit,
+        function_is m info g f found es is.callees is.ranges all.0 types.0 scalars (leb-true (length f.expressions) (2 ^ 64) counted.0) explicit,
         functions_are (g + 1) fs ess (further m.functions g f fs there) all.1 types.1 counted.1,
       )
 

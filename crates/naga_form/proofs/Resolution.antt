@@ -1,8 +1,8 @@
 -- Each identifier of what is written for a module stands for what it was written for.
 use Rattle.naga_form.proofs.AcceptedFunctions.{names_are_in_range}
 use Rattle.std.proofs.Common.{◌≡◌, ℕ, ◌<◌, Bool, true, List, [], ◌∷◌, sym, ap, subst, ◌∙◌, ◌+◌}
-use Rattle.std.proofs.Common.{Some}
-use Rattle.std.specs.Prelude.{IsTrue, slice_get}
+use Rattle.std.proofs.Common.{Option, Some, None, false}
+use Rattle.std.specs.Prelude.{IsTrue, slice_get, if◌then◌else◌}
 use mathlib.Core.List.{reverse_aux}
 use Rattle.naga_ir.specs.declared.expression.Expression as ir
 use Rattle.naga_ir.specs.declared.expression.Expression.TheVariants as expression
@@ -16,55 +16,82 @@ use Rattle.std.proofs.Common.{length, refl, arith}
 use Rattle.std.proofs.lemmas.Bool.{ltb-true}
 use Rattle.naga_form.proofs.AcceptedFunctions.{accepted_at, function_there}
 use Rattle.naga_form.proofs.Facts.{further, from_start}
+use Rattle.shader_runs.specs.Program as shapes
 use Rattle.shader_runs.specs.Program.{expression_of}
+use Rattle.shader_runs.specs.Value.{Selector}
 use Rattle.shader_runs.specs.Scope.{Naming}
 use Rattle.shader_runs.specs.Resolution.{text_targets}
 use Rattle.shader_runs.specs.Identifiers.{LeafStands, LeavesStand}
 use Rattle.shader_runs.proofs.Resolution.{resolves_as_meant}
 use Rattle.module_meaning.specs.Names.{module_names, NamesAreCounted}
 use Rattle.module_meaning.specs.Types.{declared_type}
-use Rattle.module_meaning.specs.Shapes.{function_naming, expression_shape, function_shape}
+use Rattle.module_meaning.specs.ExpressionOperators.{points_to_atomic}
+use Rattle.module_meaning.specs.ExpressionShapes.{Declared, shape_of, applied_shape, applied_or}
+use Rattle.module_meaning.specs.ExpressionShapes.{part_shape, part_selector}
+use Rattle.module_meaning.specs.FunctionShapes.{function_shape, function_shapes}
+use Rattle.module_meaning.specs.Namings.{function_naming, namings_from, namings, outer_names}
 use Rattle.module_meaning.specs.ModuleShapes.{module_shape}
+use Rattle.module_meaning.specs.OperatorTable.{Operator, BinarySign, AtomicLoad}
+use Rattle.module_meaning.specs.Surroundings.{declared, types_known}
 use Rattle.module_meaning.specs.Part.{is_written_so_far}
-use Rattle.module_meaning.specs.Shapes.{function_shapes, namings_from, namings}
-use Rattle.module_meaning.specs.Shapes.{outer_names}
-use Rattle.module_meaning.specs.Applications.{application_of}
-use Rattle.module_meaning.proofs.Shapes.{application_any, operator_any}
 use Rattle.naga_form.specs.Declarations.{written_program}
 use Rattle.module_meaning.specs.Premises.{ScopesHold}
 use Rattle.module_meaning.specs.Resolution.{ResolvesAs}
-use Rattle.naga_form.proofs.Fits.{mapped_length, at_any}
+use Rattle.naga_form.proofs.Fits.{mapped_length}
+use Rattle.naga_form.proofs.WellFormed.{any_shape, applied_any}
 use Rattle.naga_form.proofs.ScopeRules.{scopes_are_checked}
 use Rattle.naga_form.proofs.Runs.{reads_as_shapes, module_fits}
 
 -- the arguments and locals of a function in range are its own
-module _ (m : Module) (callees : ℕ) (f : ir_function.Function) (ranges : function_in_range m callees f ≡ true) (es : List ExpressionInfo) where
-  leaf_stands : (h : ℕ) (e : ir.Expression) → slice_get f.expressions h ≡ Some e → LeafStands (function_shape m f es) (Some (expression_shape e))
+module _ (m : Module) (info : ModuleInfo) (callees : ℕ) (f : ir_function.Function) (ranges : function_in_range m callees f ≡ true) (es : List ExpressionInfo) where
+  abbrev own : shapes.Function
+  own = function_shape m info f es
+
+  abbrev d : Declared
+  d = declared m info (types_known es)
+
+  applied_stands : (op : Operator) (xs : List ℕ) → LeafStands own (Some (applied_shape op xs))
+  applied_stands op xs = applied_any (λ s. LeafStands own (Some s)) op xs tt (λ j l r. tt) tt
+
+  leaf_stands : (h : ℕ) (e : ir.Expression) → slice_get f.expressions h ≡ Some e →
+      LeafStands own (Some (shape_of d f.expressions h e))
   leaf_stands h (expression.FunctionArgument n) at =
       subst (λ count. n < count) (sym (mapped_length (λ a. declared_type m a.ty) f.arguments.items)) (ltb-true n (length f.arguments.items) (names_are_in_range m callees f ranges h (expression.FunctionArgument n) at))
   leaf_stands h (expression.LocalVariable v) at =
       subst (λ count. v < count) (sym (mapped_length (λ l. l.init) f.local_variables)) (ltb-true v (length f.local_variables) (names_are_in_range m callees f ranges h (expression.LocalVariable v) at))
-  leaf_stands h (expression.Literal value) at = tt
-  leaf_stands h (expression.Load pointer) at = tt
-  leaf_stands h e at =
-      application_any (λ s. LeafStands (function_shape m f es) (Some s)) tt (application_of e)
-      (λ a is. operator_any
-      (λ s. LeafStands (function_shape m f es) (Some s)) a.operator a.operands
-      (λ j l r. tt) tt)
+  leaf_stands h (expression.Load pointer) at = by (points_to_atomic d.around pointer)
+    where
+      by : (atomic : Bool) →
+          LeafStands own
+          (Some
+          (applied_or (shapes.Load pointer) (pointer ∷ []) (if atomic then Some AtomicLoad else None)))
+      by true = tt
+      by false = tt
+  leaf_stands h (expression.Compose ty components) at = applied_stands _ _
+  leaf_stands h (expression.AccessIndex base index) at = by (part_selector d base index)
+    where
+      by : (o : Option Selector) → LeafStands own (Some (part_shape base index o))
+      by None = tt
+      by (Some s) = tt
+  leaf_stands h (expression.ImageQuery image query) at = applied_stands _ _
+  leaf_stands h (expression.Binary op left right) at = applied_stands (BinarySign op) _
+  leaf_stands h (expression.As expr kind convert) at = applied_stands _ _
+  leaf_stands h (expression.CooperativeLoad columns rows role place) at = applied_stands _ _
+  leaf_stands h _ at = tt
 
-  leaves_are_own : (h : ℕ) → LeafStands (function_shape m f es) (expression_of (function_shape m f es) h)
-  leaves_are_own h = at_any m f es h (λ o. LeafStands (function_shape m f es) o) tt (leaf_stands h)
+  leaves_are_own : (h : ℕ) → LeafStands own (expression_of own h)
+  leaves_are_own h = any_shape m info f es h (λ o. LeafStands own o) tt (leaf_stands h)
 
 module _ (m : Module) (info : ModuleInfo) (accepted : IsTrue (is_accepted m info)) where
   leaves_stand : (g : ℕ) (fs : List ir_function.Function) (ess : List (List ExpressionInfo)) → ((i : ℕ) (f : ir_function.Function) → slice_get fs i ≡ Some f → slice_get m.functions (g + i) ≡ Some f) →
-      (behind : List Naming) → LeavesStand behind → LeavesStand (reverse_aux (namings_from (module_names m) g (function_shapes m fs ess)) behind)
+      (behind : List Naming) → LeavesStand behind → LeavesStand (reverse_aux (namings_from (module_names m) g (function_shapes m info fs ess)) behind)
   leaves_stand g [] ess there behind all = all
   leaves_stand g (f ∷ fs) [] there behind all = all
   leaves_stand g (f ∷ fs) (es ∷ ess) there behind all =
       let here : g + 0 ≡ g = omega arith in
       let known = function_there m info accepted g f (subst (λ h. slice_get m.functions h ≡ Some f) here (there 0 f refl)) in
       let is = accepted_at m info accepted g f known.0 known.1 in
-      leaves_stand (g + 1) fs ess (further m.functions g f fs there) (function_naming (module_names m) m g f es ∷ behind) (leaves_are_own m is.callees f is.ranges es, all)
+      leaves_stand (g + 1) fs ess (further m.functions g f fs there) (function_naming (module_names m) m info g f es ∷ behind) (leaves_are_own m info is.callees f is.ranges es, all)
 
 pub resolves : (m : Module) (info : ModuleInfo) (explicit : Bool) → IsTrue (is_accepted m info) → IsTrue (is_written_so_far m info) → ScopesHold m info → NamesAreCounted m → ResolvesAs m info (written_program m info explicit)
 resolves m info explicit accepted written scope counted =

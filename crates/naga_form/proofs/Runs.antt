@@ -1,11 +1,11 @@
 -- The program that is written for a module does what the module does.
 use Rattle.naga_form.proofs.AcceptedFunctions.{accepted_at, locals_are_in_range}
 use Rattle.naga_form.proofs.AcceptedFunctions.{function_there as function_there_known}
-use Rattle.module_meaning.specs.Part.{expression_is_written}
+use Rattle.module_meaning.specs.Part.{is_scalar_type}
 use Rattle.module_meaning.specs.Types.{type_names}
 use Rattle.naga_form.specs.Types.{LocalsHaveForms}
-use Rattle.std.proofs.Common.{[], ◌≡◌, ℕ, suc, ◌+◌, ◌<◌, Bool, true, List, ◌∷◌, map, length, Option}
-use Rattle.std.proofs.Common.{Some, None, refl, sym, ap, subst, ◌∙◌, arith, add-one, append-nil}
+use Rattle.std.proofs.Common.{[], ◌≡◌, ℕ, suc, ◌+◌, ◌<◌, Bool, List, ◌∷◌, map, length}
+use Rattle.std.proofs.Common.{Some, refl, sym, ap, subst, ◌∙◌, arith, add-one, append-nil}
 use Rattle.std.specs.Prelude.{IsTrue, slice_get, reverse}
 use Rattle.std.specs.List.{list_all}
 use mathlib.Core.List.{reverse_aux}
@@ -16,21 +16,16 @@ use Rattle.naga_ir.specs.declared.module.Function as ir_function
 use Rattle.naga_ir.specs.declared.module.Module.{Module}
 use Rattle.module_meaning.specs.Part.{is_written_so_far}
 use Rattle.module_meaning.specs.ModuleShapes.{module_shape}
-use Rattle.module_meaning.proofs.ModuleShapes.{same_program}
+use Rattle.module_meaning.proofs.ModuleShapes.{declares_functions_alone, functions_alone}
 use Rattle.module_meaning.proofs.Part.{functions_are_written, written_so_far_parts}
 use Rattle.naga_info.specs.declared.info.ExpressionInfo.{ExpressionInfo}
 use Rattle.naga_info.specs.declared.info.ModuleInfo.{ModuleInfo}
-use Rattle.std.specs.Option.{option_map_or}
-use Rattle.naga_ir.specs.declared.expression.Expression as ir
-use Rattle.naga_ir.specs.declared.expression.Expression.TheVariants as expression
 use Rattle.naga_form.specs.Functions.{functions_form}
 use Rattle.naga_form.specs.Declarations.{written_program}
 use Rattle.naga_form.proofs.Abstraction.{locals_have_forms, function_reads}
 use Rattle.naga_form.proofs.ToldItems.{written_are_told}
 use Rattle.naga_form.proofs.Names.{items_tell, function_item, function_there}
 use Rattle.naga_names.proofs.Refusal.{element}
-use Rattle.naga_form.specs.Literals.{LiteralsAreWritten, literal_is_written}
-use Rattle.naga_names.specs.Keys.{NameMap}
 use Rattle.naga_names.specs.declared.key.NameKey.TheVariants as key
 use Rattle.shader_runs.specs.Program as shapes
 use Rattle.shader_runs.specs.Scope.{Naming, fits_function}
@@ -45,13 +40,13 @@ use Rattle.shader_runs.proofs.Update.{and_left, and_right}
 use Rattle.module_meaning.specs.Premises.{scope_holds, ScopesHold}
 use Rattle.module_meaning.specs.Names.{NamesAreCounted, TypesAreTold, module_names}
 use Rattle.module_meaning.specs.Names.{function_name}
-use Rattle.module_meaning.specs.Shapes.{function_shapes, program_shape, namings_from, namings}
-use Rattle.module_meaning.specs.Shapes.{outer_names, function_naming}
+use Rattle.module_meaning.specs.FunctionShapes.{function_shapes}
+use Rattle.module_meaning.specs.Namings.{namings_from, namings, outer_names, function_naming}
 use Rattle.text_meaning.specs.Abstraction.{function_read, program_read}
 use Rattle.wgsl_text.specs.Requests.{is_request}
 use Rattle.module_meaning.specs.Faithful.{RunsAs}
 use Rattle.naga_form.proofs.Facts.{further, from_start}
-use Rattle.naga_form.proofs.PartFits.{function_parts, is_left, no_case_falls, no_constant_named}
+use Rattle.naga_form.proofs.PartFits.{is_left, no_case_falls, no_constant_named}
 use Rattle.naga_form.proofs.FunctionsFit.{IsLeft, AllBehind, all_fit}
 use Rattle.naga_form.proofs.AcceptedFunctions.{functions_known, group_at, numbered, Numbered, functions_counted, AsFunction, AsEntryPoint}
 use Rattle.naga_form.proofs.ConstantTrees.{trees_are}
@@ -70,30 +65,20 @@ pub form_functions-map : (ns : List Naming) → form_functions ns ≡ map form_f
 form_functions-map [] = refl
 form_functions-map (n ∷ ns) = ap (λ fs. form_function n ∷ fs) (form_functions-map ns)
 
-pub shapes_counted : (m : Module) (fs : List ir_function.Function) (ess : List (List ExpressionInfo)) → length fs ≡ length ess → length (function_shapes m fs ess) ≡ length fs
-shapes_counted m [] ess paired = refl
-shapes_counted m (f ∷ fs) [] paired = absurd (omega (arith, paired))
-shapes_counted m (f ∷ fs) (es ∷ ess) paired = ap suc (shapes_counted m fs ess (omega (arith, paired)))
+pub shapes_counted : (m : Module) (info : ModuleInfo) (fs : List ir_function.Function) (ess : List (List ExpressionInfo)) → length fs ≡ length ess → length (function_shapes m info fs ess) ≡ length fs
+shapes_counted m info [] ess paired = refl
+shapes_counted m info (f ∷ fs) [] paired = absurd (omega (arith, paired))
+shapes_counted m info (f ∷ fs) (es ∷ ess) paired = ap suc (shapes_counted m info fs ess (omega (arith, paired)))
 
--- the literals of a function that is written so far are written
-literals_written : (f : ir_function.Function) → IsTrue (function_is_written f) → LiteralsAreWritten f.expressions
-literals_written f written h = by (slice_get f.expressions h) refl
-  where
-    by : (o : Option ir.Expression) → slice_get f.expressions h ≡ o → option_map_or literal_is_written o true ≡ true
-    by (Some (expression.Literal v)) at = list_all_at expression_is_written f.expressions h (expression.Literal v) (function_parts f written).expressions at
-    by (Some _) at = refl
-    by None at = refl
-
-functions_read : (explicit : Bool) (m : Module) (g : ℕ) (fs : List ir_function.Function) (ess : List (List ExpressionInfo)) → IsTrue (list_all function_is_written fs) → ((i : ℕ) (f : ir_function.Function) → slice_get fs i ≡ Some f → LocalsHaveForms (type_names m) f.local_variables) →
-    map function_read (functions_form explicit (module_names m) m g fs ess) ≡ map form_function (namings_from (module_names m) g (function_shapes m fs ess))
-functions_read explicit m g [] [] is spelled = refl
-functions_read explicit m g [] (es ∷ ess) is spelled = refl
-functions_read explicit m g (f ∷ fs) [] is spelled = refl
-functions_read explicit m g (f ∷ fs) (es ∷ ess) is spelled =
+functions_read : (explicit : Bool) (m : Module) (info : ModuleInfo) → IsTrue (list_all is_scalar_type m.types) → (g : ℕ) (fs : List ir_function.Function) (ess : List (List ExpressionInfo)) → IsTrue (list_all function_is_written fs) → ((i : ℕ) (f : ir_function.Function) → slice_get fs i ≡ Some f → LocalsHaveForms (type_names m) f.local_variables) →
+    map function_read (functions_form explicit (module_names m) m info g fs ess) ≡ map form_function (namings_from (module_names m) g (function_shapes m info fs ess))
+functions_read explicit m info scalars g [] [] is spelled = refl
+functions_read explicit m info scalars g [] (es ∷ ess) is spelled = refl
+functions_read explicit m info scalars g (f ∷ fs) [] is spelled = refl
+functions_read explicit m info scalars g (f ∷ fs) (es ∷ ess) is spelled =
     let all = and_parts (function_is_written f) (list_all function_is_written fs) is in
-    let here = literals_written f all.0 in
     let own = spelled 0 f refl in
-    λ i. function_reads explicit m g f es here own i ∷ functions_read explicit m (g + 1) fs ess all.1 (λ i f there. spelled (suc i) f there) i
+    λ i. function_reads explicit m info g f es scalars all.0 own i ∷ functions_read explicit m info scalars (g + 1) fs ess all.1 (λ i f there. spelled (suc i) f there) i
 
 -- what holds of all of a list that is turned round onto another holds of all of both
 behind_all : {X : Type 0} (test : X → Bool) (xs behind : List X) → IsTrue (list_all test (reverse_aux xs behind)) → IsTrue (list_all test behind)
@@ -104,16 +89,16 @@ all_reversed : {X : Type 0} (test : X → Bool) (xs behind : List X) → IsTrue 
 all_reversed test [] behind all = refl
 all_reversed test (x ∷ xs) behind all = and_from (test x) (list_all test xs) (and_left (test x) (list_all test behind) (behind_all test xs (x ∷ behind) all)) (all_reversed test xs (x ∷ behind) all)
 
--- the square: what is written of the module is read as its program of shapes is written
-pub program_reads : (m : Module) (info : ModuleInfo) (explicit : Bool) → IsTrue (is_accepted m info) → IsTrue (is_written_so_far m info) → program_read (written_program m info explicit) ≡ form_module (program_shape m info) (outer_names (module_names m)) (namings (module_names m) m info)
+-- the square: what is written of the module is read as its functions are written
+pub program_reads : (m : Module) (info : ModuleInfo) (explicit : Bool) → IsTrue (is_accepted m info) → IsTrue (is_written_so_far m info) → program_read (written_program m info explicit) ≡ form_module (functions_alone m info) (outer_names (module_names m)) (namings (module_names m) m info)
 program_reads m info explicit accepted written =
-    let listed = namings_from (module_names m) 0 (function_shapes m m.functions info.functions.items) in
-    let each = functions_read explicit m 0 m.functions info.functions.items (functions_are_written m info written) formed in
+    let listed = namings_from (module_names m) 0 (function_shapes m info m.functions info.functions.items) in
+    let each = functions_read explicit m info (written_so_far_parts m info written).1 0 m.functions info.functions.items (functions_are_written m info written) formed in
     λ i. record {
       constants = [];
       overrides = [];
       globals = [];
-      functions = (ap reverse (append-nil (map function_read (functions_form explicit (module_names m) m 0 m.functions info.functions.items)) ∙ each) ∙ sym (form_functions-map (reverse listed) ∙ map-reverse form_function listed)) i;
+      functions = (ap reverse (append-nil (map function_read (functions_form explicit (module_names m) m info 0 m.functions info.functions.items)) ∙ each) ∙ sym (form_functions-map (reverse listed) ∙ map-reverse form_function listed)) i;
     }
   where
     formed : (i : ℕ) (f : ir_function.Function) → slice_get m.functions i ≡ Some f → LocalsHaveForms (type_names m) f.local_variables
@@ -122,11 +107,11 @@ program_reads m info explicit accepted written =
         let is = accepted_at m info accepted i f known.0 known.1 in
         locals_have_forms m f (length f.expressions) (written_so_far_parts m info written).1 (locals_are_in_range m is.callees f is.ranges)
 
--- and so as that of every module
+-- and so as its program of shapes is
 pub reads_as_shapes : (m : Module) (info : ModuleInfo) (explicit : Bool) → IsTrue (is_accepted m info) → IsTrue (is_written_so_far m info) → program_read (written_program m info explicit) ≡ form_module (module_shape m info) (outer_names (module_names m)) (namings (module_names m) m info)
 reads_as_shapes m info explicit accepted written =
     program_reads m info explicit accepted written
-    ∙ ap (λ p. form_module p (outer_names (module_names m)) (namings (module_names m) m info)) (sym (same_program m info written))
+    ∙ ap (λ p. form_module p (outer_names (module_names m)) (namings (module_names m) m info)) (sym (declares_functions_alone m info written))
 
 -- ---- what the law of runs asks
 -- A module that is accepted and of the part: all is said by acceptance but what the part shows.
@@ -134,8 +119,8 @@ module _ (m : Module) (info : ModuleInfo) (accepted : IsTrue (is_accepted m info
   abbrev p : shapes.Module
   p = module_shape m info
 
-  same : p ≡ program_shape m info
-  same = same_program m info written
+  same : p ≡ functions_alone m info
+  same = declares_functions_alone m info written
 
   no_constant_types : p.constant_types ≡ []
   no_constant_types = ap (λ p. p.constant_types) same
@@ -146,8 +131,8 @@ module _ (m : Module) (info : ModuleInfo) (accepted : IsTrue (is_accepted m info
   all_counted : length p.functions ≡ length m.functions
   all_counted =
       ap (λ p. length p.functions) same
-      ∙ (length-reverse (function_shapes m m.functions info.functions.items)
-      ∙ shapes_counted m m.functions info.functions.items (functions_counted m info accepted))
+      ∙ (length-reverse (function_shapes m info m.functions info.functions.items)
+      ∙ shapes_counted m info m.functions info.functions.items (functions_counted m info accepted))
 
   no_entry_points : m.entry_points.items ≡ []
   no_entry_points =
@@ -184,20 +169,20 @@ module _ (m : Module) (info : ModuleInfo) (accepted : IsTrue (is_accepted m info
         }
 
     -- nothing is left of each function, behind those before it
-    all_left : (g : ℕ) (fs : List ir_function.Function) (ess : List (List ExpressionInfo)) → ((i : ℕ) (f : ir_function.Function) → slice_get fs i ≡ Some f → slice_get m.functions (g + i) ≡ Some f) → IsTrue (list_all function_is_written fs) → IsTrue (list_all fits_function (namings_from (module_names m) g (function_shapes m fs ess))) →
-        (behind : List Naming) → length behind ≡ g → AllBehind (IsLeft p (outer_names (module_names m))) behind → AllBehind (IsLeft p (outer_names (module_names m))) (reverse_aux (namings_from (module_names m) g (function_shapes m fs ess)) behind)
+    all_left : (g : ℕ) (fs : List ir_function.Function) (ess : List (List ExpressionInfo)) → ((i : ℕ) (f : ir_function.Function) → slice_get fs i ≡ Some f → slice_get m.functions (g + i) ≡ Some f) → IsTrue (list_all function_is_written fs) → IsTrue (list_all fits_function (namings_from (module_names m) g (function_shapes m info fs ess))) →
+        (behind : List Naming) → length behind ≡ g → AllBehind (IsLeft p (outer_names (module_names m))) behind → AllBehind (IsLeft p (outer_names (module_names m))) (reverse_aux (namings_from (module_names m) g (function_shapes m info fs ess)) behind)
     all_left g [] ess there is scoped behind at so_far = so_far
     all_left g (f ∷ fs) [] there is scoped behind at so_far = so_far
     all_left g (f ∷ fs) (es ∷ ess) there is scoped behind at so_far =
         let here : g + 0 ≡ g = omega arith in
         let found = subst (λ h. slice_get m.functions h ≡ Some f) here (there 0 f refl) in
-        let own = function_naming (module_names m) m g f es in
+        let own = function_naming (module_names m) m info g f es in
         let all = and_parts (function_is_written f) (list_all function_is_written fs) is in
-        let scopes = and_parts (fits_function own) (list_all fits_function (namings_from (module_names m) (g + 1) (function_shapes m fs ess))) scoped in
-        let this = is_left m g f found es all.0 p no_constant_types no_global_types all_counted (functions_of behind) (length-functions_of behind ∙ at) counted scopes.0 in
+        let scopes = and_parts (fits_function own) (list_all fits_function (namings_from (module_names m) (g + 1) (function_shapes m info fs ess))) scoped in
+        let this = is_left m info (written_so_far_parts m info written).1 g f found es all.0 p no_constant_types no_global_types all_counted (functions_of behind) (length-functions_of behind ∙ at) counted scopes.0 in
         all_left (g + 1) fs ess (further m.functions g f fs there) all.1 scopes.1 (own ∷ behind) (ap suc at ∙ sym (add-one g)) (this, so_far)
 
-    no_constants : ConstantsFit (program_shape m info) (outer_names (module_names m))
+    no_constants : ConstantsFit (functions_alone m info) (outer_names (module_names m))
     no_constants = record {
       counted = omega arith;
       rank = λ i. i;
@@ -210,7 +195,7 @@ module _ (m : Module) (info : ModuleInfo) (accepted : IsTrue (is_accepted m info
 
     pub module_fits : ModuleFits (module_shape m info) (outer_names (module_names m)) (namings (module_names m) m info)
     module_fits =
-        let listed = namings_from (module_names m) 0 (function_shapes m m.functions info.functions.items) in
+        let listed = namings_from (module_names m) 0 (function_shapes m info m.functions info.functions.items) in
         record {
           functions = same_functions m info accepted written;
           distinct = record {

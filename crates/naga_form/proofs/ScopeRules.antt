@@ -18,9 +18,10 @@ use Rattle.shader_runs.proofs.ScopeRules.{scope_check_is_the_rules}
 use Rattle.shader_runs.proofs.Update.{and_left, and_right}
 use Rattle.module_meaning.specs.Names.{module_names}
 use Rattle.module_meaning.specs.Part.{is_written_so_far}
-use Rattle.module_meaning.proofs.ModuleShapes.{same_program}
+use Rattle.module_meaning.proofs.ModuleShapes.{declares_functions_alone, functions_alone}
 use Rattle.module_meaning.specs.Premises.{scope_holds, EachScopeHolds, ScopesHold}
-use Rattle.module_meaning.specs.Shapes.{function_shapes, program_shape, namings_from, namings}
+use Rattle.module_meaning.specs.FunctionShapes.{function_shapes}
+use Rattle.module_meaning.specs.Namings.{namings_from, namings}
 use Rattle.module_meaning.specs.ModuleShapes.{module_shape}
 use Rattle.naga_form.proofs.AcceptedFunctions.{accepted_at}
 use Rattle.naga_form.proofs.FunctionsFit.{AllBehind, all_from, all_told, shape_numbered, Tells}
@@ -34,11 +35,11 @@ pub functions_of_namings : (names : NameMap) (g : ℕ) (fs : List shapes.Functio
 functions_of_namings names g [] = refl
 functions_of_namings names g (f ∷ fs) = ap (λ fs. f ∷ fs) (functions_of_namings names (g + 1) fs)
 
--- the functions of the namings are those of the program of shapes
-pub namings_functions : (m : Module) (info : ModuleInfo) → functions_of (namings (module_names m) m info) ≡ (program_shape m info).functions
+-- the functions of the namings are those of the module that declares them alone
+pub namings_functions : (m : Module) (info : ModuleInfo) → functions_of (namings (module_names m) m info) ≡ (functions_alone m info).functions
 namings_functions m info =
-    let listed = namings_from (module_names m) 0 (function_shapes m m.functions info.functions.items) in
-    functions_of-map (reverse listed) ∙ (map-reverse (λ n. n.function) listed ∙ ap reverse (functions_of_namings (module_names m) 0 (function_shapes m m.functions info.functions.items)))
+    let listed = namings_from (module_names m) 0 (function_shapes m info m.functions info.functions.items) in
+    functions_of-map (reverse listed) ∙ (map-reverse (λ n. n.function) listed ∙ ap reverse (functions_of_namings (module_names m) 0 (function_shapes m info m.functions info.functions.items)))
 
 -- operands stand before their expressions
 abbrev IsOrdered : List shapes.Function → Naming → Type 0
@@ -62,7 +63,7 @@ module _ (m : Module) (info : ModuleInfo) (accepted : IsTrue (is_accepted m info
   pub same_functions : functions_of (namings (module_names m) m info) ≡ (module_shape m info).functions
   same_functions =
       namings_functions m info
-      ∙ ap (λ p. p.functions) (sym (same_program m info written))
+      ∙ ap (λ p. p.functions) (sym (declares_functions_alone m info written))
 
   all_are_ordered : AllBehind IsOrdered (namings (module_names m) m info)
   all_are_ordered =

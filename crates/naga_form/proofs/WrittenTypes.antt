@@ -5,10 +5,8 @@ use Rattle.std.proofs.Common.{None, refl, sym, ap, subst, ◌∙◌, codes, slic
 use Rattle.std.specs.Prelude.{IsTrue, unwrap_or, if◌then◌else◌}
 use Rattle.std.specs.List.{list_all}
 use Rattle.std.specs.Option.{option_map, option_map_or}
-use Rattle.std.proofs.lemmas.Bool.{eqb-true}
 use Rattle.std.proofs.lemmas.Option.{same_Some}
 use Rattle.naga_info.proofs.Options.{then_some}
-use Rattle.naga_info.specs.Resolution.{inner_of}
 use Rattle.naga_info.specs.declared.info.ExpressionInfo.{ExpressionInfo}
 use Rattle.naga_info.specs.declared.info.TypeResolution.{TypeResolution}
 use Rattle.naga_info.specs.declared.info.TypeResolution.TheVariants.{Handle, Value}
@@ -21,7 +19,7 @@ use Rattle.naga_ir.specs.declared.types.TypeInner.{TypeInner}
 use Rattle.naga_ir.specs.declared.types.TypeInner.TheVariants as inner
 use Rattle.naga_names.proofs.Refusal.{element}
 use Rattle.naga_names.specs.Keys.{NameMap}
-use Rattle.naga_words.specs.Contexts.{names_of, Names as TypeNames}
+use Rattle.naga_words.specs.Contexts.{names_of}
 use Rattle.module_meaning.proofs.Lists.{list_all_at}
 use Rattle.module_meaning.specs.Part.{is_scalar_type, is_scalar_at, is_written_scalar}
 use Rattle.module_meaning.specs.Part.{resolution_is_written, scalar_is_written, type_is_written}

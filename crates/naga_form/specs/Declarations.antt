@@ -12,5 +12,5 @@ abbrev pub written_program : Module → ModuleInfo → (explicit : Bool) → Pro
 written_program m info explicit =
     let functions = info.functions.items in
     record no_declarations {
-      functions = functions_form explicit (module_names m) m 0 m.functions functions;
+      functions = functions_form explicit (module_names m) m info 0 m.functions functions;
     }

@@ -1,7 +1,9 @@
 -- The function that is written for a function of a module, under the module's names.
+--
+-- Throughout, m is a module, info what is known of it, f a function with the handle g, es what is
+-- known of its expressions, and t are the names that types are spelled with.
 use Rattle.std.specs.Prelude.{ℕ, Bool, List, [], ◌∷◌, Option, None, Some, ◌+◌}
 use Rattle.std.specs.Option.{option_map}
-use Rattle.naga_ir.specs.declared.expression.Expression as ir
 use Rattle.naga_ir.specs.declared.module.Function as ir_function
 use Rattle.naga_ir.specs.declared.module.FunctionArgument.{FunctionArgument}
 use Rattle.naga_ir.specs.declared.module.FunctionResult.{FunctionResult}
@@ -14,21 +16,22 @@ use Rattle.naga_words.specs.Contexts.{names_of, Names as TypeNames}
 use Rattle.naga_form.specs.Types.{type_form, told_type}
 use Rattle.naga_ir.specs.declared.module.LocalVariable.{LocalVariable}
 use Rattle.naga_info.specs.declared.info.ExpressionInfo.{ExpressionInfo}
+use Rattle.naga_info.specs.declared.info.ModuleInfo.{ModuleInfo}
 use Rattle.shader_runs.specs.Scope.{Naming, at_start}
-use Rattle.module_meaning.specs.Shapes.{function_naming}
-use Rattle.naga_form.specs.Expressions.{value_form}
+use Rattle.module_meaning.specs.Namings.{function_naming}
+use Rattle.naga_form.specs.Expressions.{Source, function_source, value_form}
 use Rattle.naga_form.specs.Statements.{lines_form}
 
 -- the locals from this one on, with their first values
 abbrev pub locals_form :
-    Naming → TypeNames → List ir.Expression → ℕ → List LocalVariable → List Local
-locals_form n t es l [] = []
-locals_form n t es l (v ∷ more) =
+    Naming → TypeNames → Source → ℕ → List LocalVariable → List Local
+locals_form n t source l [] = []
+locals_form n t source l (v ∷ more) =
     record {
       name = n.names.local_ l;
       type = type_form t v.ty;
-      value = option_map (value_form n es (at_start n.function)) v.init;
-    } ∷ locals_form n t es (l + 1) more
+      value = option_map (value_form n source (at_start n.function)) v.init;
+    } ∷ locals_form n t source (l + 1) more
 
 abbrev pub parameter_form : NameMap → List Type_ → ℕ → ℕ → FunctionArgument → Parameter
 parameter_form names types g number a =
@@ -50,22 +53,24 @@ result_form t (Some r) = ResultOf [] (type_form t r.ty)
 
 -- a function, with what is known of its expressions
 abbrev pub function_form :
-    (explicit : Bool) → NameMap → Module → ℕ → ir_function.Function → List ExpressionInfo → Function
-function_form explicit names m g f es =
-    let n : Naming = function_naming names m g f es in
+    (explicit : Bool) → NameMap → Module → ModuleInfo → ℕ → ir_function.Function →
+    List ExpressionInfo → Function
+function_form explicit names m info g f es =
+    let n : Naming = function_naming names m info g f es in
+    let source : Source = function_source m info f es in
     let t : TypeNames = names_of m.types names in
     record {
       name = function_name names g;
       parameters = parameters_form names m.types g 0 f.arguments.items;
       result = result_form t f.result;
-      locals = locals_form n t f.expressions 0 f.local_variables;
-      body = lines_form n (told_type explicit t es) f.expressions 0 f.body (at_start n.function);
+      locals = locals_form n t source 0 f.local_variables;
+      body = lines_form n (told_type explicit t es) source 0 f.body (at_start n.function);
     }
 
 -- the functions from this handle on, each with what is known of its expressions
 abbrev pub functions_form :
-    (explicit : Bool) → NameMap → Module → ℕ → List ir_function.Function →
+    (explicit : Bool) → NameMap → Module → ModuleInfo → ℕ → List ir_function.Function →
     List (List ExpressionInfo) → List Function
-functions_form explicit names m g (f ∷ fs) (es ∷ ess) =
-    function_form explicit names m g f es ∷ functions_form explicit names m (g + 1) fs ess
-functions_form explicit names m g _ _ = []
+functions_form explicit names m info g (f ∷ fs) (es ∷ ess) =
+    function_form explicit names m info g f es ∷ functions_form explicit names m info (g + 1) fs ess
+functions_form explicit names m info g _ _ = []

@@ -16,7 +16,6 @@ use Rattle.naga_info.specs.declared.info.ExpressionInfo.{ExpressionInfo}
 use Rattle.naga_info.specs.declared.info.ModuleInfo.{ModuleInfo}
 use Rattle.naga_info.specs.declared.info.TypeResolution.{TypeResolution}
 use Rattle.naga_info.specs.declared.info.TypeResolution.TheVariants as resolutions
-use Rattle.naga_names.specs.Keys.{NameMap}
 use Rattle.naga_words.specs.Contexts.{Names, writer_context}
 use Rattle.naga_words.specs.Parts.{Part, IsText, known_text, lacks}
 use Rattle.naga_words.specs.Spelling.{inner_parts, type_parts}
@@ -40,14 +39,13 @@ use Rattle.module_meaning.specs.Writable.{IsWritable}
 use Rattle.module_meaning.specs.Names.{ItemsAreCounted, ItemsAreTold, NamesAreCounted}
 use Rattle.module_meaning.specs.Names.{TypesAreTold, module_names}
 use Rattle.module_meaning.specs.Ranges.{resolution_fits}
-use Rattle.module_meaning.specs.Part.{is_written_so_far}
+use Rattle.module_meaning.specs.Part.{function_is_written, is_scalar_type, is_written_so_far}
 use Rattle.module_meaning.specs.Premises.{handles_are_counted, scope_holds, ScopesHold}
 use Rattle.module_meaning.specs.Resolution.{ResolvesAs}
 use Rattle.module_meaning.specs.ModuleShapes.{module_shape}
-use Rattle.module_meaning.specs.Shapes.{function_naming, outer_names, namings}
+use Rattle.module_meaning.specs.Namings.{function_naming, outer_names, namings}
 use Rattle.module_meaning.specs.TypeIdentity.{identity}
 use Rattle.module_meaning.specs.Types.{spelled_resolution, type_names, type_of_values}
-use Rattle.naga_form.specs.Literals.{LiteralsAreWritten}
 use Rattle.module_meaning.specs.OperatorTable.{Operator, TypeIsSound, asks, is_told, one_word}
 use Rattle.module_meaning.specs.OperatorTable.{operand_count, operator_word, run_word}
 use Rattle.naga_form.specs.Readable.{AreAlike, AreNamed, ResolutionIsWithin, handle_names, has_form}
@@ -94,14 +92,15 @@ BindsAsCounted =
     IsTrue (is_written_so_far m info) →
     BindsAs m info explicit (written_program m info explicit)
 
--- what is written of a function whose literals are all written so far, and the types of whose
--- locals all have forms, is read as its shape is written, whatever is known of it
+-- what is written of a function that is written so far, of a module of scalar types, in which the
+-- types of the function's locals have forms, is read as its shape is written, whatever is known of it
 abbrev pub FunctionsAreRead : Type 0
 FunctionsAreRead =
-    (explicit : Bool) (m : Module) (g : ℕ) (f : Function) (es : List ExpressionInfo) →
-    LiteralsAreWritten f.expressions → LocalsHaveForms (type_names m) f.local_variables →
-    function_read (function_form explicit (module_names m) m g f es)
-    ≡ form_function (function_naming (module_names m) m g f es)
+    (explicit : Bool) (m : Module) (info : ModuleInfo) (g : ℕ) (f : Function) →
+    (es : List ExpressionInfo) → IsTrue (list_all is_scalar_type m.types) →
+    IsTrue (function_is_written f) → LocalsHaveForms (type_names m) f.local_variables →
+    function_read (function_form explicit (module_names m) m info g f es)
+    ≡ form_function (function_naming (module_names m) m info g f es)
 
 -- what the program does is what the program of shapes says that is written for the module
 abbrev pub IsReadAsItsShapes : Type 0

@@ -2,19 +2,21 @@
 use Rattle.std.proofs.Common.{◌≡◌, ℕ, suc, ◌+◌, ◌-◌, ◌<◌, ◌≤◌, ◌&&◌, ◌||◌, Bool, true, false}
 use Rattle.std.proofs.Common.{nat_eq, List, [], ◌∷◌, length, get_or, refl, sym, ap, ap₂, ◌∙◌, arith}
 use Rattle.std.proofs.Common.{slice_set, eqb-true, add-one}
-use Rattle.std.specs.Prelude.{IsTrue, Option, cond, not}
-use Rattle.std.specs.Option.{option_map}
+use Rattle.std.specs.Prelude.{IsTrue, cond, not}
 use Rattle.std.proofs.lemmas.Bool.{eqb-false}
 use Rattle.std.proofs.lemmas.List.{get_or-set_other, set-get_or}
 use Rattle.std.proofs.lemmas.Grind.{get_or-set_at}
-use Rattle.std.proofs.lemmas.Option.{slice_get-map, slice_get_past}
-use Rattle.module_meaning.specs.Part.{names_nothing}
+use Rattle.std.proofs.lemmas.Option.{slice_get_past}
+use Rattle.module_meaning.specs.FunctionShapes.{function_shape}
+use Rattle.module_meaning.specs.Namings.{function_naming}
+use Rattle.module_meaning.specs.Part.{function_is_written}
 use Rattle.naga_ir.specs.declared.module.Function as ir_function
 use Rattle.naga_ir.specs.declared.module.Module.{Module}
 use Rattle.naga_info.specs.declared.info.ExpressionInfo.{ExpressionInfo}
+use Rattle.naga_info.specs.declared.info.ModuleInfo.{ModuleInfo}
 use Rattle.naga_names.specs.Keys.{NameMap}
 use Rattle.shader_runs.specs.World.{update}
-use Rattle.shader_runs.specs.Program.{Expression, Function, binds, binds_as, expression_of}
+use Rattle.shader_runs.specs.Program.{Function, binds, binds_as, expression_of, is_given}
 use Rattle.shader_runs.specs.Program.{operands_of, from}
 use Rattle.shader_runs.specs.Scope as runs
 use Rattle.shader_runs.specs.Scope.{Naming, Handles, is_pure, is_new, is_emittable, usable_all}
@@ -22,12 +24,14 @@ use Rattle.shader_runs.specs.Scope.{with_emitted_handle, after_one, after_emit, 
 use Rattle.shader_runs.specs.Scope.{may_emit}
 use Rattle.shader_runs.specs.Scope.{may_emit_all}
 use Rattle.module_meaning.specs.Names.{numbered_name}
-use Rattle.module_meaning.specs.Shapes.{expression_shape, function_shape, function_naming}
 use Rattle.naga_form.proofs.Fits.{none_is_given}
+use Rattle.naga_form.proofs.ModulePlaces.{no_expression_at}
+use Rattle.naga_form.proofs.PartFits.{function_parts}
 use Rattle.naga_scope.specs.declared.points.Standing.{Standing}
 use Rattle.naga_scope.specs.declared.points.Standing.TheVariants.{Absent, Named}
-use Rattle.naga_scope.specs.Standings.{standing_of, handles_of, shape_at, unbound_standing}
-use Rattle.naga_scope.specs.Standings.{emitted_standing}
+use Rattle.naga_scope.specs.Standings.{standing_of, handles_of, kind_at, unbound_standing}
+use Rattle.naga_scope.specs.Standings.{emitted_standing, is_emittable_kind, operands_at}
+use Rattle.naga_scope.proofs.Shaped.{emittable_at, operands_are}
 
 -- ---- a table with another cell
 set_handles : (table : List Standing) (h : ℕ) (cell : Standing) → h < length table → handles_of (slice_set table h cell) ≡ update (handles_of table) h (standing_of (numbered_name h) cell)
@@ -67,63 +71,63 @@ pub no_and : (a b : Bool) → false ≡ (a && (false && b))
 no_and true b = refl
 no_and false b = refl
 
-module _ (m : Module) (f : ir_function.Function) (es : List ExpressionInfo) where
+module _ (m : Module) (info : ModuleInfo) (f : ir_function.Function) (es : List ExpressionInfo) where
   abbrev of : Function
-  of = function_shape m f es
+  of = function_shape m info f es
 
   -- it isn't, where it isn't new
   pub refused_old : (h : ℕ) (s : Handles) → is_new (s h) ≡ false → false ≡ may_emit of h s
   refused_old h s old = sym (ap (λ a. a && (is_emittable (expression_of of h) && (not (binds of h) || usable_all of s (operands_of (expression_of of h))))) old)
 
   -- nor where it is none that is emitted
-  pub refused_kind : (h : ℕ) (s : Handles) → is_emittable (shape_at f.expressions h) ≡ false → false ≡ may_emit of h s
+  pub refused_kind : (h : ℕ) (s : Handles) → is_emittable_kind (kind_at f.expressions h) ≡ false → false ≡ may_emit of h s
   refused_kind h s kind =
       let b = not (binds of h) || usable_all of s (operands_of (expression_of of h)) in
       no_and (is_new (s h)) b
-      ∙ ap (λ m. is_new (s h) && (m && b)) (sym (ap is_emittable (slice_get-map expression_shape f.expressions h) ∙ kind))
+      ∙ ap (λ m. is_new (s h) && (m && b)) (sym (emittable_at m info f es h ∙ kind))
 
   -- else it is where no name binds it, or its operands are in scope
-  pub allowed_by : (h : ℕ) (s : Handles) (b u : Bool) → is_new (s h) ≡ true → is_emittable (shape_at f.expressions h) ≡ true → b ≡ binds of h → u ≡ usable_all of s (operands_of (shape_at f.expressions h)) → (not b || u) ≡ may_emit of h s
-  allowed_by h s b u new kind bound operands =
-      let at = sym (slice_get-map expression_shape f.expressions h) in
-      λ i. sym new i && (sym (ap is_emittable (sym at) ∙ kind) i && (not (bound i) || (operands ∙ ap (λ e. usable_all of s (operands_of e)) at) i))
+  pub allowed_by : (written : IsTrue (function_is_written f)) (h : ℕ) (s : Handles) (b u : Bool) → is_new (s h) ≡ true → is_emittable_kind (kind_at f.expressions h) ≡ true → b ≡ binds of h → u ≡ usable_all of s (operands_at f.expressions h) → (not b || u) ≡ may_emit of h s
+  allowed_by written h s b u new kind bound operands =
+      λ i. sym new i && (sym (emittable_at m info f es h ∙ kind) i && (not (bound i) || (operands ∙ ap (usable_all of s) (sym (operands_are m info f es written h))) i))
 
-module _ (names : NameMap) (m : Module) (g : ℕ) (f : ir_function.Function) (es : List ExpressionInfo) (unnamed : IsTrue (names_nothing f)) where
+module _ (names : NameMap) (m : Module) (info : ModuleInfo) (g : ℕ) (f : ir_function.Function) (es : List ExpressionInfo) (written : IsTrue (function_is_written f)) where
   abbrev own : Naming
-  own = function_naming names m g f es
+  own = function_naming names m info g f es
 
   abbrev shape : Function
-  shape = function_shape m f es
+  shape = function_shape m info f es
+
+  none_named : (h : ℕ) → is_given shape h ≡ false
+  none_named h = none_is_given m info f es (function_parts f written).unnamed h
 
   -- an Emit of a handle gives it the cell that stands behind one
   pub emitted_is : (h : ℕ) (table : List Standing) (cell : Standing) → h < length table →
-      (let evaluated = shape_at f.expressions h in
+      (let evaluated = expression_of shape h in
       cell ≡ emitted_standing (binds shape h) (is_pure evaluated)
       (usable_all shape (handles_of table) (operands_of evaluated)) (get_or table h Absent)) →
       (k : ℕ) → handles_of (slice_set table h cell) ≡ after_one own k h (handles_of table)
   emitted_is h table cell lt is k =
       let s = handles_of table in
-      let at = sym (slice_get-map expression_shape f.expressions h) in
       let b = binds shape h in
-      let by = λ (e : Option Expression). with_emitted_handle b (is_pure e)
-      (usable_all shape s (operands_of e)) (numbered_name h) s h in
-      let found = shape_at f.expressions h in
+      let o = is_pure (expression_of shape h) in
+      let u = usable_all shape s (operands_of (expression_of shape h)) in
       ap (λ c. handles_of (slice_set table h c)) is
-      ∙ cell_emitted b (is_pure found) (usable_all shape s (operands_of found)) table h lt
-      ∙ ap by at
-      ∙ ap (λ given. with_emitted_handle b (is_pure (expression_of shape h)) (usable_all shape s (operands_of (expression_of shape h))) (cond given [] (numbered_name h)) s h) (sym (none_is_given m f es unnamed h))
+      ∙ cell_emitted b o u table h lt
+      ∙ ap (λ given. with_emitted_handle b o u (cond given [] (numbered_name h)) s h)
+      (sym (none_named h))
 
   -- an Emit of a handle past the expressions changes nothing
   pub past_emitted : (k h : ℕ) (table : List Standing) → length table ≤ h → length table ≡ length f.expressions → handles_of table ≡ after_one own k h (handles_of table)
   past_emitted k h table le size =
       let past : length f.expressions ≤ h = omega (arith, le, size) in
       let s = handles_of table in
-      let at = slice_get-map expression_shape f.expressions h ∙ ap (option_map expression_shape) (slice_get_past f.expressions h past) in
+      let at = no_expression_at m info f es h (slice_get_past f.expressions h past) in
       sym (ap (λ e. with_emitted_handle (binds_as shape h e) (is_pure e) (usable_all shape s (operands_of e)) (runs.bound_name own k h) s h) at)
 
   -- ---- the handles of a range in turn
   given_same : (h k : ℕ) → given_after shape h k ≡ k
-  given_same h k = ap (λ b. cond b (suc k) k) (none_is_given m f es unnamed h)
+  given_same h k = ap (λ b. cond b (suc k) k) (none_named h)
 
   pub range_holds : (k i e : ℕ) (s s1 : Handles) → i < e → may_emit shape i s ≡ true → s1 ≡ after_one own k i s → may_emit_all own k (from (i + 1) (e - (i + 1))) s1 ≡ may_emit_all own k (from i (e - i)) s
   range_holds k i e s s1 lt may next =

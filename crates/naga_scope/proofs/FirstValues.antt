@@ -1,26 +1,31 @@
 -- The first values of locals, each in scope behind the locals before it.
 use Rattle.std.proofs.Common.{◌≡◌, ℕ, ◌+◌, min, Bool, true, false, ◌&&◌, nat_lt, List, [], ◌∷◌, map}
-use Rattle.std.proofs.Common.{Option, Some, None, refl, sym, ap, ◌∙◌, add-one, ◌<◌, arith}
-use Rattle.std.specs.Prelude.{slice_get}
+use Rattle.std.proofs.Common.{Option, Some, None, refl, sym, ap, ap₂, ◌∙◌, add-one, ◌<◌, arith}
+use Rattle.std.specs.Prelude.{slice_get, if◌then◌else◌}
 use Rattle.std.specs.List.{enumerate_from}
-use Rattle.std.specs.Option.{option_map}
 use Rattle.std.proofs.Math.Nat.{min-le_left, min-le_right, le-min}
 use Rattle.std.proofs.lemmas.Bool.{ltb-true, lt-ltb, ltb_from_iff}
 use Rattle.std.proofs.lemmas.List.{length-take}
-use Rattle.std.proofs.lemmas.Option.{slice_get-map}
 use Rattle.naga_ir.specs.declared.expression.Expression as ir
 use Rattle.naga_ir.specs.declared.expression.Expression.TheVariants as expression
 use Rattle.naga_ir.specs.declared.module.Function as ir_function
 use Rattle.naga_ir.specs.declared.module.LocalVariable.{LocalVariable}
 use Rattle.naga_ir.specs.declared.module.Module.{Module}
 use Rattle.naga_info.specs.declared.info.ExpressionInfo.{ExpressionInfo}
-use Rattle.shader_runs.specs.Program.{Function, local_count}
+use Rattle.shader_runs.specs.Program.{Expression, Function, Load, local_count}
 use Rattle.shader_runs.specs.Scope.{Standing, Handles, usable_as, usable_if, at_start, before_local}
-use Rattle.shader_runs.specs.Scope.{first_values_fit}
+use Rattle.shader_runs.specs.Scope.{first_values_fit, is_present}
 use Rattle.shader_runs.proofs.Update.{and_left, and_right, and_both}
-use Rattle.module_meaning.specs.Applications.{Application, application_of}
-use Rattle.module_meaning.specs.Shapes.{application_shape, expression_shape, function_shape}
-use Rattle.module_meaning.proofs.Shapes.{application_any, operator_any}
+use Rattle.module_meaning.specs.ExpressionOperators.{points_to_atomic}
+use Rattle.module_meaning.specs.ExpressionShapes.{Declared, shape_of, applied_or, applied_shape}
+use Rattle.module_meaning.specs.ExpressionShapes.{part_selector, part_shape}
+use Rattle.module_meaning.specs.FunctionShapes.{function_shape}
+use Rattle.module_meaning.specs.OperatorTable.{Operator as TableOperator, AtomicLoad, BinarySign}
+use Rattle.module_meaning.specs.Surroundings.{declared, types_known}
+use Rattle.naga_form.proofs.ModulePlaces.{expression_at, no_expression_at}
+use Rattle.naga_form.proofs.WellFormed.{applied_any}
+use Rattle.naga_info.specs.declared.info.ModuleInfo.{ModuleInfo}
+use Rattle.shader_runs.specs.Value.{Selector}
 use Rattle.naga_scope.specs.Standings.{names_earlier, is_earlier}
 
 -- each local with its index: its first value is in scope where it stands
@@ -47,38 +52,62 @@ and_true : (b : Bool) → (b && true) ≡ b
 and_true true = refl
 and_true false = refl
 
-module _ (m : Module) (f : ir_function.Function) (es : List ExpressionInfo) (i : ℕ) where
+module _ (m : Module) (info : ModuleInfo) (f : ir_function.Function) (es : List ExpressionInfo) (i : ℕ) where
   abbrev shape : Function
-  shape = function_shape m f es
+  shape = function_shape m info f es
+
+  abbrev d : Declared
+  d = declared m info (types_known es)
 
   fewer : local_count (before_local shape i) ≡ min i (local_count shape)
   fewer = length-take i shape.first_values
 
-  -- an operator is in scope where it stands, whatever locals there are
-  usable_applied : (o : Option Application) (s : Standing) →
-      usable_as shape (Some (application_shape o)) s ≡
-      usable_as (before_local shape i) (Some (application_shape o)) s
-  usable_applied o s =
-      application_any
-      (λ e. usable_as shape (Some e) s ≡ usable_as (before_local shape i) (Some e) s) refl o
-      (λ a is. operator_any
-      (λ e. usable_as shape (Some e) s ≡ usable_as (before_local shape i) (Some e) s)
-      a.operator a.operands (λ j l r. refl) refl)
+  -- what is no local is in scope where it stands, whatever locals there are
+  abbrev IsAlike : Standing → Expression → Type 0
+  IsAlike s e = (usable_as shape (Some e) s && true) ≡ usable_as (before_local shape i) (Some e) s
 
-  usable_shape : (e : Option ir.Expression) (s : Standing) → (usable_as shape (option_map expression_shape e) s && names_earlier i e) ≡ usable_as (before_local shape i) (option_map expression_shape e) s
-  usable_shape None s = refl
-  usable_shape (Some (expression.LocalVariable other)) s = below_both other i (local_count shape) ∙ ap (nat_lt other) (sym fewer)
-  usable_shape (Some (expression.Literal value)) s = refl
-  usable_shape (Some (expression.FunctionArgument number)) s = and_true _
-  usable_shape (Some (expression.Load pointer)) s = and_true _
-  usable_shape (Some e) s =
-      and_true (usable_as shape (Some (application_shape (application_of e))) s)
-      ∙ usable_applied (application_of e) s
+  applied_alike : (op : TableOperator) (xs : List ℕ) (s : Standing) → IsAlike s (applied_shape op xs)
+  applied_alike op xs s =
+      applied_any (IsAlike s) op xs (and_true (is_present s)) (λ j l r. and_true (is_present s))
+      (and_true (is_present s))
+
+  usable_shape : (h : ℕ) (e : ir.Expression) (s : Standing) →
+      (usable_as shape (Some (shape_of d f.expressions h e)) s && names_earlier i (Some e)) ≡
+      usable_as (before_local shape i) (Some (shape_of d f.expressions h e)) s
+  usable_shape h (expression.LocalVariable other) s =
+      below_both other i (local_count shape) ∙ ap (nat_lt other) (sym fewer)
+  usable_shape h (expression.FunctionArgument number) s = and_true _
+  usable_shape h (expression.Load pointer) s = by (points_to_atomic d.around pointer)
+    where
+      by : (atomic : Bool) →
+          IsAlike s
+          (applied_or (Load pointer) (pointer ∷ []) (if atomic then Some AtomicLoad else None))
+      by true = and_true (is_present s)
+      by false = and_true (is_present s)
+  usable_shape h (expression.Compose ty components) s = applied_alike _ _ s
+  usable_shape h (expression.AccessIndex base index) s = by (part_selector d base index)
+    where
+      by : (o : Option Selector) → IsAlike s (part_shape base index o)
+      by None = and_true (is_present s)
+      by (Some x) = and_true (is_present s)
+  usable_shape h (expression.ImageQuery image query) s = applied_alike _ _ s
+  usable_shape h (expression.Binary op left right) s = applied_alike (BinarySign op) _ s
+  usable_shape h (expression.As expr kind convert) s = applied_alike _ _ s
+  usable_shape h (expression.CooperativeLoad columns rows role place) s = applied_alike _ _ s
+  usable_shape h _ s = and_true _
 
   -- what is in scope in front of a local is in scope at the start, and no later local
   pub usable_before : (s : Handles) (o : Option ℕ) → (usable_if shape s o && is_earlier f.expressions i o) ≡ usable_if (before_local shape i) s o
   usable_before s None = refl
-  usable_before s (Some h) =
-      ap (λ e. usable_as shape e (s h) && names_earlier i (slice_get f.expressions h)) (slice_get-map expression_shape f.expressions h)
-      ∙ usable_shape (slice_get f.expressions h) (s h)
-      ∙ ap (λ e. usable_as (before_local shape i) e (s h)) (sym (slice_get-map expression_shape f.expressions h))
+  usable_before s (Some h) = by (slice_get f.expressions h) refl
+    where
+      by : (o : Option ir.Expression) → slice_get f.expressions h ≡ o →
+          (usable_if shape s (Some h) && is_earlier f.expressions i (Some h)) ≡
+          usable_if (before_local shape i) s (Some h)
+      by None at =
+          ap₂ (λ e o. usable_as shape e (s h) && names_earlier i o) (no_expression_at m info f es h at) at
+          ∙ sym (ap (λ e. usable_as (before_local shape i) e (s h)) (no_expression_at m info f es h at))
+      by (Some e) at =
+          ap₂ (λ e o. usable_as shape e (s h) && names_earlier i o) (expression_at m info f es h e at) at
+          ∙ usable_shape h e (s h)
+          ∙ sym (ap (λ e. usable_as (before_local shape i) e (s h)) (expression_at m info f es h e at))

@@ -10,40 +10,44 @@ use Rattle.shader_runs.specs.Premises.{AllBelow}
 use Rattle.shader_runs.specs.Scope.{fits_function}
 use Rattle.shader_runs.specs.ScopeRules.{ScopeHolds}
 use Rattle.shader_runs.proofs.ScopeRules.{scope_check_is_the_rules}
-use Rattle.module_meaning.specs.Shapes.{function_naming, function_shape, function_shapes}
-use Rattle.module_meaning.specs.Shapes.{OperandsStandBefore}
-use Rattle.naga_form.proofs.Fits.{at_any}
+use Rattle.module_meaning.specs.FunctionShapes.{function_shape, function_shapes}
+use Rattle.module_meaning.specs.Namings.{function_naming}
+use Rattle.module_meaning.specs.Premises.{OperandsStandBefore}
+use Rattle.module_meaning.specs.Surroundings.{declared, types_known}
+use Rattle.naga_form.proofs.Ordered.{shape_ordered}
+use Rattle.naga_form.proofs.WellFormed.{any_shape}
 use Rattle.naga_scope.specs.Plans.{IsPlan, IsPlanOf}
 use Rattle.naga_scope.specs.declared.points.Standing.{Standing}
 
 -- the check of a function decides whether the rules of scope hold in it
-pub check_is_the_rules : (m : Module) (f : ir_function.Function) (es : List ExpressionInfo) →
+pub check_is_the_rules : (m : Module) (info : ModuleInfo) (f : ir_function.Function) (es : List ExpressionInfo) →
     OperandsStandBefore f.expressions →
-    (IsTrue (fits_function (function_naming (λ key. None) m 0 f es))
-    ↔ ScopeHolds (function_shape m f es))
-check_is_the_rules m f es ordered =
-    scope_check_is_the_rules (function_naming (λ key. None) m 0 f es)
-    (λ h. at_any m f es h (λ o. AllBelow h (operands_of o)) tt (ordered h))
+    (IsTrue (fits_function (function_naming (λ key. None) m info 0 f es))
+    ↔ ScopeHolds (function_shape m info f es))
+check_is_the_rules m info f es ordered =
+    scope_check_is_the_rules (function_naming (λ key. None) m info 0 f es)
+    (λ h. any_shape m info f es h (λ o. AllBelow h (operands_of o)) tt
+    (λ e at. shape_ordered (declared m info (types_known es)) f.expressions h e (ordered h e at)))
 
 -- a function that there is, with what is known of it, has a shape
-pub shape_found : (m : Module) (fs : List ir_function.Function)
+pub shape_found : (m : Module) (info : ModuleInfo) (fs : List ir_function.Function)
     (ess : List (List ExpressionInfo)) (g : ℕ) (f : ir_function.Function)
     (es : List ExpressionInfo) → slice_get fs g ≡ Some f → slice_get ess g ≡ Some es →
-    slice_get (function_shapes m fs ess) g ≡ Some (function_shape m f es)
-shape_found m [] ess g f es at known = absurd cc
-shape_found m (x ∷ fs) [] g f es at known = absurd cc
-shape_found m (x ∷ fs) (y ∷ ess) zero f es at known =
+    slice_get (function_shapes m info fs ess) g ≡ Some (function_shape m info f es)
+shape_found m info [] ess g f es at known = absurd cc
+shape_found m info (x ∷ fs) [] g f es at known = absurd cc
+shape_found m info (x ∷ fs) (y ∷ ess) zero f es at known =
     let same : x ≡ f = cc in
     let alike : y ≡ es = cc in
-    λ i. Some (function_shape m (same i) (alike i))
-shape_found m (x ∷ fs) (y ∷ ess) (suc g) f es at known =
-    shape_found m fs ess g f es at known
+    λ i. Some (function_shape m info (same i) (alike i))
+shape_found m info (x ∷ fs) (y ∷ ess) (suc g) f es at known =
+    shape_found m info fs ess g f es at known
 
 -- a plan of a function that there is
 pub plan_found : (m : Module) (info : ModuleInfo) (g : ℕ) (f : ir_function.Function)
     (es : List ExpressionInfo) (table : List Standing) → slice_get m.functions g ≡ Some f →
     slice_get info.functions.items g ≡ Some es → IsPlanOf m info g table →
-    IsPlan (function_shape m f es) table
+    IsPlan (function_shape m info f es) table
 plan_found m info g f es table at known plan =
-    let found = shape_found m m.functions info.functions.items g f es at known in
+    let found = shape_found m info m.functions info.functions.items g f es at known in
     subst (λ o. IsSomeAnd o (λ s. IsPlan s table)) found plan

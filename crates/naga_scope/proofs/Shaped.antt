@@ -1,29 +1,92 @@
--- The shapes of a function's expressions, and what is not named in it.
-use Rattle.std.proofs.Common.{◌≡◌, ℕ, ◌||◌, true, false, List, map}
-use Rattle.std.proofs.Common.{get_or, nat_le, Option, Some, None, refl, sym, ap, ◌∙◌}
-use Rattle.std.specs.Prelude.{IsTrue, slice_get}
-use Rattle.std.specs.Option.{is_some, option_map, option_map_or}
-use Rattle.std.proofs.lemmas.Option.{slice_get-map}
-use Rattle.module_meaning.specs.Part.{names_nothing}
+-- The shapes of a function's expressions have the kinds and the operands of these, and a `let` binds
+-- what is used as often as its kind asks.
+use Rattle.std.proofs.Common.{◌≡◌, ℕ, Bool, ◌||◌, true, false, List, [], ◌∷◌, map}
+use Rattle.std.proofs.Common.{get_or, nat_le, nat_lt, Option, Some, None, refl, sym, ap, ◌∙◌}
+use Rattle.std.specs.Prelude.{IsTrue, slice_get, if◌then◌else◌}
+use Rattle.std.specs.Option.{option_map_or}
+use Rattle.naga_ir.specs.Kinds.{kind_of}
+use Rattle.naga_ir.specs.Operands.{expression_operands}
 use Rattle.naga_ir.specs.declared.expression.Expression as ir
 use Rattle.naga_ir.specs.declared.expression.Expression.TheVariants as expression
+use Rattle.naga_ir.specs.declared.kind.ExpressionKind.{ExpressionKind}
+use Rattle.naga_ir.specs.declared.kind.ExpressionKind.TheVariants as kind
 use Rattle.naga_ir.specs.declared.module.Function as ir_function
 use Rattle.naga_ir.specs.declared.module.Module.{Module}
 use Rattle.naga_info.specs.declared.info.ExpressionInfo.{ExpressionInfo}
+use Rattle.naga_info.specs.declared.info.ModuleInfo.{ModuleInfo}
 use Rattle.naga_back.specs.Baking.{count_to_bind}
 use Rattle.shader_runs.specs.Program.{Expression, Load, Operator, Access, AccessIndex, Logical}
-use Rattle.shader_runs.specs.Program.{Swizzle, Request}
+use Rattle.shader_runs.specs.Program.{Argument, Constant, Global, Local, Request, Result, Swizzle}
+use Rattle.shader_runs.specs.Program.{operands_of}
 use Rattle.shader_runs.specs.Program.{Function, expression_of, is_counted, binds_as, binds}
-use Rattle.shader_runs.specs.Scope.{is_emittable}
-use Rattle.naga_ir.specs.Operands.{expression_operands}
-use Rattle.module_meaning.specs.Applications.{operator_of}
-use Rattle.module_meaning.specs.OperatorTable.{Operator as TableOperator}
-use Rattle.module_meaning.specs.Shapes.{application_shape, expression_shape, function_shape}
-use Rattle.module_meaning.proofs.ShapeKinds.{applied}
+use Rattle.shader_runs.specs.Scope.{Handles, Standing, is_present, is_constant_leaf, is_emittable}
+use Rattle.shader_runs.specs.Scope.{is_pure, usable, usable_as}
+use Rattle.shader_runs.specs.Value.{Selector}
+use Rattle.module_meaning.specs.ExpressionOperators.{Surroundings, points_to_atomic}
+use Rattle.module_meaning.specs.ExpressionShapes.{Declared, shape_of, applied_or, applied_shape}
+use Rattle.module_meaning.specs.ExpressionShapes.{part_selector, part_shape}
+use Rattle.module_meaning.specs.FunctionShapes.{function_shape}
+use Rattle.module_meaning.specs.OperatorTable.{Operator as TableOperator, AtomicLoad, BinarySign}
+use Rattle.module_meaning.specs.Part.{expression_is_written, function_is_written}
+use Rattle.module_meaning.specs.ShapeKinds.{shape_kind}
+use Rattle.module_meaning.specs.Surroundings.{declared, types_known}
+use Rattle.module_meaning.specs.Types.{declared_type}
+use Rattle.module_meaning.proofs.ExpressionShapes.{kind_shaped, shape_kinds, shape_operands}
+use Rattle.module_meaning.proofs.Lists.{list_all_at}
 use Rattle.module_meaning.proofs.Shapes.{operator_bound}
-use Rattle.naga_form.proofs.Fits.{none_is_given}
+use Rattle.naga_form.proofs.Fits.{mapped_length, none_is_given}
+use Rattle.naga_form.proofs.ModulePlaces.{expression_at, no_expression_at}
+use Rattle.naga_form.proofs.PartFits.{function_parts}
+use Rattle.naga_form.proofs.WellFormed.{applied_any}
+use Rattle.naga_scope.specs.Standings.{kind_at, operands_at, is_pure_kind, is_constant_kind}
+use Rattle.naga_scope.specs.Standings.{is_emittable_kind, usable_by}
 
--- ---- what a `let` binds
+-- ---- the runs' words for shapes are tests of their kind
+pure_shape : (o : Option Expression) → is_pure o ≡ is_pure_kind (shape_kind o)
+pure_shape (Some (Constant tree)) = refl
+pure_shape (Some (Argument number)) = refl
+pure_shape (Some (Local number)) = refl
+pure_shape (Some (Global number)) = refl
+pure_shape (Some (Load pointer)) = refl
+pure_shape (Some (Operator word xs)) = refl
+pure_shape (Some (Access base index)) = refl
+pure_shape (Some (AccessIndex selector base)) = refl
+pure_shape (Some (Swizzle letters vector)) = refl
+pure_shape (Some (Logical circuit left right)) = refl
+pure_shape (Some (Request asking word xs ts)) = refl
+pure_shape (Some Result) = refl
+pure_shape None = refl
+
+constant_shape : (o : Option Expression) → is_constant_leaf o ≡ is_constant_kind (shape_kind o)
+constant_shape (Some (Constant tree)) = refl
+constant_shape (Some (Argument number)) = refl
+constant_shape (Some (Local number)) = refl
+constant_shape (Some (Global number)) = refl
+constant_shape (Some (Load pointer)) = refl
+constant_shape (Some (Operator word xs)) = refl
+constant_shape (Some (Access base index)) = refl
+constant_shape (Some (AccessIndex selector base)) = refl
+constant_shape (Some (Swizzle letters vector)) = refl
+constant_shape (Some (Logical circuit left right)) = refl
+constant_shape (Some (Request asking word xs ts)) = refl
+constant_shape (Some Result) = refl
+constant_shape None = refl
+
+emittable_shape : (o : Option Expression) → is_emittable o ≡ is_emittable_kind (shape_kind o)
+emittable_shape (Some (Constant tree)) = refl
+emittable_shape (Some (Argument number)) = refl
+emittable_shape (Some (Local number)) = refl
+emittable_shape (Some (Global number)) = refl
+emittable_shape (Some (Load pointer)) = refl
+emittable_shape (Some (Operator word xs)) = refl
+emittable_shape (Some (Access base index)) = refl
+emittable_shape (Some (AccessIndex selector base)) = refl
+emittable_shape (Some (Swizzle letters vector)) = refl
+emittable_shape (Some (Logical circuit left right)) = refl
+emittable_shape (Some (Request asking word xs ts)) = refl
+emittable_shape (Some Result) = refl
+emittable_shape None = refl
+
 never_bound : (f : Function) (h : ℕ) (o : Option Expression) → is_emittable o ≡ false →
     binds_as f h o ≡ false
 never_bound f h (Some (Load p)) none = absurd cc
@@ -36,66 +99,188 @@ never_bound f h (Some (AccessIndex x b)) none = absurd cc
 never_bound f h (Some _) none = refl
 never_bound f h None none = refl
 
--- what applies an operator is bound from two uses on
-applied_count : (e : ir.Expression) → is_some (operator_of e) ≡ true → count_to_bind e ≡ 2
-applied_count e is = by e (operator_of e) refl is
+-- a test that doesn't tell requests from loads holds of an expression's kind as of its shape's
+shaped_test : (test : ExpressionKind → Bool) → test kind.Request ≡ test kind.Load →
+    (a : Surroundings) (e : ir.Expression) → test (kind_shaped a e) ≡ test (kind_of e)
+shaped_test test same a (expression.Load pointer) = by (points_to_atomic a pointer)
   where
-    each : (e : ir.Expression) → option_map_or (λ op. count_to_bind e) (operator_of e) 2 ≡ 2
-    each (expression.Unary op expr) = refl
-    each (expression.Binary op left right) = refl
-    each (expression.Select condition accept reject) = refl
-    each _ = refl
+    by : (b : Bool) → test (if b then kind.Request else kind.Load) ≡ test kind.Load
+    by true = same
+    by false = refl
+shaped_test test same a _ = refl
 
-    by : (e : ir.Expression) (o : Option TableOperator) → operator_of e ≡ o → is_some o ≡ true →
-        count_to_bind e ≡ 2
-    by e (Some op) at is = sym (ap (λ o. option_map_or (λ op. count_to_bind e) o 2) at) ∙ each e
-    by e None at is = absurd cc
-
-module _ (m : Module) (f : ir_function.Function) (es : List ExpressionInfo) (h : ℕ) (unnamed : IsTrue (names_nothing f)) where
+-- ---- a function of a module
+module _ (m : Module) (info : ModuleInfo) (f : ir_function.Function) (es : List ExpressionInfo) where
   abbrev shape : Function
-  shape = function_shape m f es
+  shape = function_shape m info f es
 
-  -- how often the handle is used
-  abbrev count : ℕ
-  count = get_or (map (λ e. e.ref_count) es) h 0
+  abbrev d : Declared
+  d = declared m info (types_known es)
 
-  counted_from : (least : ℕ) → is_counted shape least h ≡ nat_le least count
-  counted_from least = ap (λ b. b || nat_le least count) (none_is_given m f es unnamed h)
+  tested : (test : ExpressionKind → Bool) → test kind.Request ≡ test kind.Load → (h : ℕ) →
+      test (shape_kind (expression_of shape h)) ≡ test (kind_at f.expressions h)
+  tested test same h = by (slice_get f.expressions h) refl
+    where
+      by : (o : Option ir.Expression) → slice_get f.expressions h ≡ o →
+          test (shape_kind (expression_of shape h)) ≡ test (kind_at f.expressions h)
+      by None at =
+          ap (λ o. test (shape_kind o)) (no_expression_at m info f es h at)
+          ∙ sym (ap (λ o. test (option_map_or kind_of o kind.Result)) at)
+      by (Some e) at =
+          ap (λ o. test (shape_kind o)) (expression_at m info f es h e at)
+          ∙ (ap test (shape_kinds d f.expressions h e)
+          ∙ (shaped_test test same d.around e
+          ∙ sym (ap (λ o. test (option_map_or kind_of o kind.Result)) at)))
 
-  shape_of : (o : Option ir.Expression) → slice_get f.expressions h ≡ o → expression_of shape h ≡ option_map expression_shape o
-  shape_of o at = slice_get-map expression_shape f.expressions h ∙ ap (option_map expression_shape) at
+  pub pure_at : (h : ℕ) → is_pure (expression_of shape h) ≡ is_pure_kind (kind_at f.expressions h)
+  pure_at h = pure_shape (expression_of shape h) ∙ tested is_pure_kind refl h
 
-  applied_binds : (e : ir.Expression) (o : Option TableOperator) → operator_of e ≡ o →
-      is_emittable (Some (application_shape (option_map (applied (expression_operands e)) o))) ≡
-      true →
-      nat_le (count_to_bind e) count ≡
-      binds_as shape h
-      (Some (application_shape (option_map (applied (expression_operands e)) o)))
-  applied_binds e (Some op) is may =
-      ap (λ n. nat_le n count) (applied_count e (ap is_some is))
-      ∙ sym (operator_bound shape h op (expression_operands e) ∙ counted_from 2)
-  applied_binds e None is may = absurd cc
+  pub constant_at : (h : ℕ) →
+      is_constant_leaf (expression_of shape h) ≡ is_constant_kind (kind_at f.expressions h)
+  constant_at h = constant_shape (expression_of shape h) ∙ tested is_constant_kind refl h
 
-  -- what an Emit may give is bound from its number of uses on
-  pub emitted_binds : (e : ir.Expression) → slice_get f.expressions h ≡ Some e →
-      is_emittable (Some (expression_shape e)) ≡ true →
-      nat_le (count_to_bind e) count ≡ binds shape h
-  emitted_binds (expression.Literal value) at may = absurd cc
-  emitted_binds (expression.FunctionArgument number) at may = absurd cc
-  emitted_binds (expression.LocalVariable handle) at may = absurd cc
-  emitted_binds (expression.Load pointer) at may =
-      sym (ap (binds_as shape h) (shape_of (Some (expression.Load pointer)) at) ∙ counted_from 1)
-  emitted_binds e at may =
-      applied_binds e (operator_of e) refl may ∙ sym (ap (binds_as shape h) (shape_of (Some e) at))
+  pub emittable_at : (h : ℕ) →
+      is_emittable (expression_of shape h) ≡ is_emittable_kind (kind_at f.expressions h)
+  emittable_at h = emittable_shape (expression_of shape h) ∙ tested is_emittable_kind refl h
 
-  -- and nothing else is
-  pub others_bind : (o : Option ir.Expression) → slice_get f.expressions h ≡ o →
-      is_emittable (option_map expression_shape o) ≡ false → false ≡ binds shape h
-  others_bind o at none =
-      sym (ap (binds_as shape h) (shape_of o at)
-      ∙ never_bound shape h (option_map expression_shape o) none)
+  -- an operator has its expression's operands
+  pub pure_operands : (h : ℕ) → is_pure_kind (kind_at f.expressions h) ≡ true →
+      operands_of (expression_of shape h) ≡ operands_at f.expressions h
+  pure_operands h pure = by (slice_get f.expressions h) refl
+    where
+      pure_own : (e : ir.Expression) → is_pure_kind (kind_of e) ≡ true →
+          operands_of (Some (shape_of d f.expressions h e)) ≡ expression_operands e
+      pure_own
+          (expression.ImageSample
+          image sampler gather coordinate array_index offset level depth_ref clamp) is =
+          absurd cc
+      pure_own e is = shape_operands d f.expressions h e refl
 
--- what an expression that was found evaluates
-pub shape_found : {X : Type 0} (view : X → ir.Expression) (o : Option X) (found : Option ir.Expression) → option_map view o ≡ found → option_map (λ x. expression_shape (view x)) o ≡ option_map expression_shape found
-shape_found view None found is = ap (option_map expression_shape) is
-shape_found view (Some x) found is = ap (option_map expression_shape) is
+      by : (o : Option ir.Expression) → slice_get f.expressions h ≡ o →
+          operands_of (expression_of shape h) ≡ operands_at f.expressions h
+      by None at =
+          ap operands_of (no_expression_at m info f es h at)
+          ∙ sym (ap (λ o. option_map_or expression_operands o []) at)
+      by (Some e) at =
+          ap operands_of (expression_at m info f es h e at)
+          ∙ (pure_own e (sym (ap (λ o. is_pure_kind (option_map_or kind_of o kind.Result)) at) ∙ pure)
+          ∙ sym (ap (λ o. option_map_or expression_operands o []) at))
+
+  -- ---- what is in scope
+  applied_usable : (op : TableOperator) (xs : List ℕ) (s : Standing) →
+      usable_as shape (Some (applied_shape op xs)) s ≡ is_present s
+  applied_usable op xs s =
+      applied_any (λ e. usable_as shape (Some e) s ≡ is_present s) op xs refl (λ j l r. refl) refl
+
+  usable_own : (h : ℕ) (e : ir.Expression) (s : Standing) →
+      usable_as shape (Some (shape_of d f.expressions h e)) s ≡ usable_by f (Some e) s
+  usable_own h (expression.FunctionArgument number) s =
+      ap (nat_lt number) (mapped_length (λ a. declared_type m a.ty) f.arguments.items)
+  usable_own h (expression.LocalVariable handle) s =
+      ap (nat_lt handle) (mapped_length (λ l. l.init) f.local_variables)
+  usable_own h (expression.Load pointer) s = by (points_to_atomic d.around pointer)
+    where
+      by : (atomic : Bool) →
+          usable_as shape
+          (Some
+          (applied_or (Load pointer) (pointer ∷ []) (if atomic then Some AtomicLoad else None))) s ≡
+          is_present s
+      by true = refl
+      by false = refl
+  usable_own h (expression.Compose ty components) s = applied_usable _ _ s
+  usable_own h (expression.AccessIndex base index) s = by (part_selector d base index)
+    where
+      by : (o : Option Selector) → usable_as shape (Some (part_shape base index o)) s ≡ is_present s
+      by None = refl
+      by (Some x) = refl
+  usable_own h (expression.ImageQuery image query) s = applied_usable _ _ s
+  usable_own h (expression.Binary op left right) s = applied_usable (BinarySign op) _ s
+  usable_own h (expression.As expr kind convert) s = applied_usable _ _ s
+  usable_own h (expression.CooperativeLoad columns rows role place) s = applied_usable _ _ s
+  usable_own h _ s = refl
+
+  pub usable_is : (s : Handles) (h : ℕ) → usable shape s h ≡ usable_by f (slice_get f.expressions h) (s h)
+  usable_is s h = by (slice_get f.expressions h) refl
+    where
+      by : (o : Option ir.Expression) → slice_get f.expressions h ≡ o →
+          usable shape s h ≡ usable_by f (slice_get f.expressions h) (s h)
+      by None at =
+          ap (λ e. usable_as shape e (s h)) (no_expression_at m info f es h at)
+          ∙ sym (ap (λ o. usable_by f o (s h)) at)
+      by (Some e) at =
+          ap (λ e. usable_as shape e (s h)) (expression_at m info f es h e at)
+          ∙ (usable_own h e (s h) ∙ sym (ap (λ o. usable_by f o (s h)) at))
+
+  -- ---- a function that is written so far
+  module _ (written : IsTrue (function_is_written f)) where
+    written_at : (h : ℕ) (e : ir.Expression) → slice_get f.expressions h ≡ Some e →
+        expression_is_written e ≡ true
+    written_at h e at =
+        list_all_at expression_is_written f.expressions h e (function_parts f written).expressions at
+
+    -- every expression has its own operands
+    pub operands_are : (h : ℕ) → operands_of (expression_of shape h) ≡ operands_at f.expressions h
+    operands_are h = by (slice_get f.expressions h) refl
+      where
+        own : (e : ir.Expression) → expression_is_written e ≡ true →
+            operands_of (Some (shape_of d f.expressions h e)) ≡ expression_operands e
+        own
+            (expression.ImageSample
+            image sampler gather coordinate array_index offset level depth_ref clamp) is =
+            absurd cc
+        own e is = shape_operands d f.expressions h e refl
+
+        by : (o : Option ir.Expression) → slice_get f.expressions h ≡ o →
+            operands_of (expression_of shape h) ≡ operands_at f.expressions h
+        by None at =
+            ap operands_of (no_expression_at m info f es h at)
+            ∙ sym (ap (λ o. option_map_or expression_operands o []) at)
+        by (Some e) at =
+            ap operands_of (expression_at m info f es h e at)
+            ∙ (own e (written_at h e at)
+            ∙ sym (ap (λ o. option_map_or expression_operands o []) at))
+
+    -- how often a handle is used
+    abbrev count : ℕ → ℕ
+    count h = get_or (map (λ e. e.ref_count) es) h 0
+
+    counted_from : (least h : ℕ) → is_counted shape least h ≡ nat_le least (count h)
+    counted_from least h =
+        ap (λ b. b || nat_le least (count h))
+        (none_is_given m info f es (function_parts f written).unnamed h)
+
+    -- what an Emit may give is bound from its number of uses on
+    pub emitted_binds : (h : ℕ) (e : ir.Expression) → slice_get f.expressions h ≡ Some e →
+        is_emittable_kind (kind_of e) ≡ true → nat_le (count_to_bind e) (count h) ≡ binds shape h
+    emitted_binds h e at may =
+        sym (ap (binds_as shape h) (expression_at m info f es h e at) ∙ own e (written_at h e at) may)
+      where
+        own : (e : ir.Expression) → expression_is_written e ≡ true →
+            is_emittable_kind (kind_of e) ≡ true →
+            binds_as shape h (Some (shape_of d f.expressions h e)) ≡ nat_le (count_to_bind e) (count h)
+        own (expression.Load pointer) is may = by (points_to_atomic d.around pointer)
+          where
+            by : (atomic : Bool) →
+                binds_as shape h
+                (Some
+                (applied_or (Load pointer) (pointer ∷ [])
+                (if atomic then Some AtomicLoad else None))) ≡
+                nat_le 1 (count h)
+            by true = counted_from 1 h
+            by false = counted_from 1 h
+        own (expression.Unary op expr) is may = counted_from 2 h
+        own (expression.Binary op left right) is may =
+            operator_bound shape h (BinarySign op) (left ∷ right ∷ []) ∙ counted_from 2 h
+        own (expression.Select condition accept reject) is may = counted_from 2 h
+        own (expression.Math fun arg arg1 arg2 arg3) is may = counted_from 2 h
+        own (expression.Relational fun argument) is may = counted_from 2 h
+        own (expression.Literal value) is may = absurd cc
+        own (expression.FunctionArgument number) is may = absurd cc
+        own (expression.LocalVariable handle) is may = absurd cc
+        own _ is may = absurd cc
+
+    -- and nothing else is
+    pub others_bind : (h : ℕ) → is_emittable_kind (kind_at f.expressions h) ≡ false →
+        false ≡ binds shape h
+    others_bind h none =
+        sym (never_bound shape h (expression_of shape h) (emittable_at h ∙ none))

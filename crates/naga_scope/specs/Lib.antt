@@ -1,3 +1,2 @@
 pub mod Standings
-pub mod Flat
 pub mod Plans

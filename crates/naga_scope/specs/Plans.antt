@@ -9,7 +9,7 @@ use Rattle.naga_info.specs.declared.info.ModuleInfo.{ModuleInfo}
 use Rattle.shader_runs.specs.Program.{Function}
 use Rattle.shader_runs.specs.Scope.{at_start}
 use Rattle.shader_runs.specs.ScopeRules.{ScopeHolds}
-use Rattle.module_meaning.specs.Shapes.{function_shapes}
+use Rattle.module_meaning.specs.FunctionShapes.{function_shapes}
 use Rattle.naga_scope.specs.Standings.{handles_of}
 use Rattle.naga_scope.specs.declared.plan.PlanError.{PlanError}
 use Rattle.naga_scope.specs.declared.plan.PlanError.TheVariants.{OutOfScope, Memory}
@@ -18,7 +18,7 @@ use Rattle.naga_scope.specs.declared.points.Standing.{Standing}
 -- the shape of the function with this handle, if there is one
 abbrev pub function_shape_at : Module → ModuleInfo → (handle : ℕ) → Option Function
 function_shape_at m info handle =
-    slice_get (function_shapes m m.functions info.functions.items) handle
+    slice_get (function_shapes m info m.functions info.functions.items) handle
 
 -- the rules of scope hold in it, if there is one
 abbrev pub ScopeHoldsIn : Module → ModuleInfo → (handle : ℕ) → Type 0

@@ -1,16 +1,19 @@
 -- Where the expressions of a function stand at a point of its text, as the code keeps it.
 --
--- Throughout, h is a handle, es are a function's expressions, o tells whether one is an operator,
--- and u whether its operands are usable.
-use Rattle.std.specs.Prelude.{ℕ, Bool, true, false, List, Option, Some, None, nat_lt}
+-- Throughout, h is a handle, f a function, es are its expressions, o tells whether one is an
+-- operator, and u whether its operands are usable.
+use Rattle.std.specs.Prelude.{ℕ, Bool, true, false, List, [], Option, Some, None, nat_lt, length}
 use Rattle.std.specs.Prelude.{slice_get, get_or, ◌||◌}
-use Rattle.std.specs.Option.{option_map}
+use Rattle.std.specs.Option.{option_map_or}
+use Rattle.naga_ir.specs.Kinds.{kind_of}
+use Rattle.naga_ir.specs.Operands.{expression_operands}
 use Rattle.naga_ir.specs.declared.expression.Expression as ir
-use Rattle.naga_ir.specs.declared.expression.Expression.TheVariants.{LocalVariable}
-use Rattle.shader_runs.specs.Program as shapes
+use Rattle.naga_ir.specs.declared.expression.Expression.TheVariants as expression
+use Rattle.naga_ir.specs.declared.kind.ExpressionKind.{ExpressionKind}
+use Rattle.naga_ir.specs.declared.kind.ExpressionKind.TheVariants as kind
+use Rattle.naga_ir.specs.declared.module.Function.{Function}
 use Rattle.shader_runs.specs.Scope as runs
 use Rattle.module_meaning.specs.Names.{numbered_name}
-use Rattle.module_meaning.specs.Shapes.{expression_shape}
 use Rattle.naga_scope.specs.declared.points.Standing.{Standing}
 use Rattle.naga_scope.specs.declared.points.Standing.TheVariants.{Absent, Barred, Everywhere}
 use Rattle.naga_scope.specs.declared.points.Standing.TheVariants.{Inline, Named}
@@ -28,23 +31,57 @@ standing_of name Named = runs.Named name
 abbrev pub handles_of : List Standing → runs.Handles
 handles_of table h = standing_of (numbered_name h) (get_or table h Absent)
 
--- what the expression with this handle evaluates, if there is one
-abbrev pub shape_at : List ir.Expression → ℕ → Option shapes.Expression
-shape_at es h = option_map expression_shape (slice_get es h)
+-- the kind of the expression with this handle; where there is none, it is as a result that no
+-- statement gives
+abbrev pub kind_at : List ir.Expression → ℕ → ExpressionKind
+kind_at es h = option_map_or kind_of (slice_get es h) kind.Result
+
+-- its operands
+abbrev pub operands_at : List ir.Expression → ℕ → List ℕ
+operands_at es h = option_map_or expression_operands (slice_get es h) []
+
+-- an operator, whose value its operands alone determine
+abbrev pub is_pure_kind : ExpressionKind → Bool
+is_pure_kind kind.Pure = true
+is_pure_kind _ = false
+
+abbrev pub is_constant_kind : ExpressionKind → Bool
+is_constant_kind kind.Constant = true
+is_constant_kind _ = false
+
+-- what an `Emit` may give
+abbrev pub is_emittable_kind : ExpressionKind → Bool
+is_emittable_kind kind.Pure = true
+is_emittable_kind kind.Load = true
+is_emittable_kind kind.Request = true
+is_emittable_kind _ = false
+
+-- Constants and variables of the module are in scope everywhere, arguments and locals where there
+-- are such, and other expressions by their standing.
+abbrev pub usable_by : Function → Option ir.Expression → runs.Standing → Bool
+usable_by f (Some (expression.Literal value)) s = true
+usable_by f (Some (expression.Constant handle)) s = true
+usable_by f (Some (expression.Override handle)) s = true
+usable_by f (Some (expression.ZeroValue ty)) s = true
+usable_by f (Some (expression.GlobalVariable handle)) s = true
+usable_by f (Some (expression.FunctionArgument number)) s = nat_lt number (length f.arguments.items)
+usable_by f (Some (expression.LocalVariable handle)) s = nat_lt handle (length f.local_variables)
+usable_by f (Some _) s = runs.is_present s
+usable_by f None s = false
 
 -- a cell that is in scope everywhere
 abbrev pub is_everywhere : Standing → Bool
 is_everywhere Everywhere = true
 is_everywhere _ = false
 
--- a literal, or what the table says is in scope everywhere
+-- a constant, or what the table says is in scope everywhere
 abbrev pub is_constant_by : List Standing → List ir.Expression → ℕ → Bool
 is_constant_by table es h =
-    runs.is_constant_leaf (shape_at es h) || is_everywhere (get_or table h Absent)
+    is_constant_kind (kind_at es h) || is_everywhere (get_or table h Absent)
 
 -- an expression is no local, or one before this local
 abbrev pub names_earlier : ℕ → Option ir.Expression → Bool
-names_earlier local (Some (LocalVariable other)) = nat_lt other local
+names_earlier local (Some (expression.LocalVariable other)) = nat_lt other local
 names_earlier local _ = true
 
 -- the expression with this handle, if there is one, is so

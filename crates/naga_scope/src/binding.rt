@@ -3,12 +3,13 @@
 
 ghost use Rattle.std.specs.Prelude.{◌≡◌, List, get_or, map, slice_get, IsTrue};
 ghost use Rattle.std.specs.Option.{option_map};
-ghost use Rattle.module_meaning.specs.Part.{names_nothing};
-ghost use Rattle.module_meaning.specs.ShapeKinds.{shape_kind};
-ghost use Rattle.module_meaning.specs.Shapes.{expression_shape, function_shape};
+ghost use Rattle.module_meaning.specs.FunctionShapes.{function_shape};
+ghost use Rattle.module_meaning.specs.Part.{function_is_written};
+ghost use Rattle.naga_info.specs.declared.info.ModuleInfo.{ModuleInfo};
 ghost use Rattle.naga_ir.specs.declared.module.Module.{Module};
 ghost use Rattle.shader_runs.specs.Program.{binds};
-ghost use Rattle.shader_runs.specs.Scope.{is_emittable};
+ghost use Rattle.naga_scope.specs.Standings.{is_constant_kind, is_emittable_kind, is_pure_kind};
+ghost use Rattle.naga_scope.specs.Standings.{kind_at};
 
 use naga_back::BakeRefCount;
 use naga_info::FunctionInfo;
@@ -35,46 +36,58 @@ fn count_of(info: &FunctionInfo, handle: Handle<Expression>) -> usize
     }
 }
 
-/// The kind of what the expression evaluates: its own, where it is written so far, and that of a
-/// result where it is not or there is none.
-pub(crate) fn shape_kind(expression: Option<&Expression>) -> ExpressionKind
-    ensures { result ≡ shape_kind (option_map (λ e. expression_shape e.now) expression.entry) }
+/// The kind of the expression with this handle. Where there is none, it is that of a result, which no
+/// statement gives.
+pub(crate) fn kind_at(function: &Function, handle: Handle<Expression>) -> ExpressionKind
+    ensures { result ≡ kind_at function.now.expressions handle }
 {
-    match expression {
-        Some(expression) => match expression {
-            Expression::Literal(_)
-            | Expression::FunctionArgument(_)
-            | Expression::LocalVariable(_)
-            | Expression::Load { .. }
-            | Expression::Unary { .. }
-            | Expression::Binary { .. }
-            | Expression::Select { .. } => expression.kind(),
-            _ => ExpressionKind::Result,
-        },
+    match expression_at(function, handle) {
+        Some(expression) => expression.kind(),
         None => ExpressionKind::Result,
     }
 }
 
-/// Whether an `Emit` may give the expression at all.
-pub(crate) fn is_emittable(expression: Option<&Expression>) -> bool
-    ensures { result ≡ is_emittable (option_map (λ e. expression_shape e.now) expression.entry) }
+/// Whether an `Emit` may give an expression of this kind.
+pub(crate) fn is_emittable(kind: ExpressionKind) -> bool
+    ensures { result ≡ is_emittable_kind kind }
 {
-    match shape_kind(expression) {
+    match kind {
         ExpressionKind::Pure | ExpressionKind::Load | ExpressionKind::Request => true,
         ExpressionKind::Constant | ExpressionKind::Leaf | ExpressionKind::Result => false,
     }
 }
 
+/// Whether an expression of this kind is an operator, whose value its operands alone determine.
+pub(crate) fn is_operator(kind: ExpressionKind) -> bool
+    ensures { result ≡ is_pure_kind kind }
+{
+    match kind {
+        ExpressionKind::Pure => true,
+        _ => false,
+    }
+}
+
+/// Whether an expression of this kind is a constant by itself.
+pub(crate) fn is_constant_leaf(kind: ExpressionKind) -> bool
+    ensures { result ≡ is_constant_kind kind }
+{
+    match kind {
+        ExpressionKind::Constant => true,
+        _ => false,
+    }
+}
+
 /// Whether a `let` binds the expression with this handle where it is emitted: a `Load` with a use,
-/// or an operator with two. It is for functions in which no front end named an expression.
+/// or an operator with two. It is for functions that are written so far, in which no front end named
+/// an expression.
 pub fn binds(function: &Function, info: &FunctionInfo, handle: Handle<Expression>) -> bool
-    requires unnamed { IsTrue (names_nothing function.now) }
-    ensures { (m : Module) →
-        result ≡ binds (function_shape m function.now info.now) handle }
+    requires written { IsTrue (function_is_written function.now) }
+    ensures { (m : Module) (known : ModuleInfo) →
+        result ≡ binds (function_shape m known function.now info.now) handle }
 {
     match expression_at(function, handle) {
         Some(expression) => {
-            is_emittable(Some(expression)) && count_of(info, handle) >= expression.bake_ref_count()
+            is_emittable(expression.kind()) && count_of(info, handle) >= expression.bake_ref_count()
         }
         None => false,
     }

@@ -1,17 +1,19 @@
 //! The check that each expression is in scope where it is used.
 
 ghost use Rattle.std.specs.Prelude.{◌≡◌, ◌-◌, ℕ, List, length, IsTrue};
-ghost use Rattle.module_meaning.specs.Part.{names_nothing};
-ghost use Rattle.module_meaning.specs.Shapes.{function_shape, function_naming, statement_shape};
+ghost use Rattle.module_meaning.specs.FunctionShapes.{function_shape, statement_shape};
+ghost use Rattle.module_meaning.specs.Namings.{function_naming};
+ghost use Rattle.module_meaning.specs.Part.{function_is_written, statement_is_written};
+ghost use Rattle.module_meaning.specs.Surroundings.{declared, types_known};
 ghost use Rattle.naga_info.specs.declared.info.ExpressionInfo.{ExpressionInfo};
 ghost use Rattle.naga_ir.specs.StatementViews.{tree_of};
+ghost use Rattle.naga_info.specs.declared.info.ModuleInfo.{ModuleInfo};
 ghost use Rattle.naga_ir.specs.declared.module.Module.{Module};
 ghost use Rattle.naga_names.specs.Keys.{NameMap};
 ghost use Rattle.shader_runs.specs.Program.{from};
 ghost use Rattle.shader_runs.specs.Scope.{after, after_emit, at_start, before_local};
 ghost use Rattle.shader_runs.specs.Scope.{first_values_fit, fits, fits_function, may_emit_all};
 ghost use Rattle.shader_runs.specs.Scope.{usable_if};
-ghost use Rattle.naga_scope.specs.Flat.{holds_no_block, is_flat};
 ghost use Rattle.naga_scope.specs.Standings.{handles_of, is_earlier};
 
 use crate::binding::expression_at;
@@ -21,8 +23,8 @@ use naga_ir::{Expression, Function, Handle, LocalVariable, Place, Range, Stateme
 
 /// Whether the expression, if there is one, may be written at this point.
 fn is_usable_if(scope: &Scope, function: &Function, handle: Option<Handle<Expression>>) -> bool
-    ensures { (m : Module) (es : List ExpressionInfo) →
-        result ≡ usable_if (function_shape m function.now es) (handles_of scope.now) handle }
+    ensures { (m : Module) (known : ModuleInfo) (es : List ExpressionInfo) →
+        result ≡ usable_if (function_shape m known function.now es) (handles_of scope.now) handle }
 {
     match handle {
         Some(handle) => scope.is_usable(function, handle),
@@ -54,8 +56,8 @@ fn first_value_holds(
     handle: Handle<LocalVariable>,
     local: &LocalVariable,
 ) -> bool
-    ensures { (m : Module) (es : List ExpressionInfo) →
-        let shape = function_shape m function.now es in
+    ensures { (m : Module) (known : ModuleInfo) (es : List ExpressionInfo) →
+        let shape = function_shape m known function.now es in
         result ≡ usable_if (before_local shape handle) (handles_of scope.now) local.now.init }
 {
     is_usable_if(scope, function, local.init) && is_earlier(function, local.init, handle)
@@ -63,8 +65,8 @@ fn first_value_holds(
 
 /// Whether the first value of each local is in scope where it stands, at the start of the function.
 fn first_values_hold(scope: &Scope, function: &Function) -> bool
-    ensures { (m : Module) (es : List ExpressionInfo) →
-        let shape = function_shape m function.now es in
+    ensures { (m : Module) (known : ModuleInfo) (es : List ExpressionInfo) →
+        let shape = function_shape m known function.now es in
         handles_of scope.now ≡ at_start shape → result ≡ first_values_fit shape 0 shape.first_values }
 {
     for (handle, local) in function.local_variables.iter() {
@@ -78,14 +80,14 @@ fn first_values_hold(scope: &Scope, function: &Function) -> bool
 /// Goes behind an `Emit` of these handles, and says whether it is allowed. Where it is not, the
 /// scope is that of some point inside.
 fn emit_holds(scope: &mut Scope, function: &Function, info: &FunctionInfo, range: Range) -> bool
-    requires unnamed { IsTrue (names_nothing function.now) }
+    requires written { IsTrue (function_is_written function.now) }
     requires size { length scope.old ≡ length function.now.expressions }
-    ensures fits { (names : NameMap) (m : Module) (g k : ℕ) →
-        let n = function_naming names m g function.now info.now in
+    ensures fits { (names : NameMap) (m : Module) (known : ModuleInfo) (g k : ℕ) →
+        let n = function_naming names m known g function.now info.now in
         result
         ≡ may_emit_all n k (from range.first (range.end - range.first)) (handles_of scope.old) }
-    ensures after { (names : NameMap) (m : Module) (g k : ℕ) → IsTrue result →
-        let n = function_naming names m g function.now info.now in
+    ensures after { (names : NameMap) (m : Module) (known : ModuleInfo) (g k : ℕ) → IsTrue result →
+        let n = function_naming names m known g function.now info.now in
         handles_of scope.new
         ≡ after_emit n k (from range.first (range.end - range.first)) (handles_of scope.old) }
     ensures size { length scope.new ≡ length scope.old }
@@ -108,16 +110,18 @@ fn statement_holds(
     info: &FunctionInfo,
     statement: &Statement,
 ) -> bool
-    requires flat { IsTrue (holds_no_block (tree_of statement.now)) }
-    requires unnamed { IsTrue (names_nothing function.now) }
+    requires line { IsTrue (statement_is_written (tree_of statement.now)) }
+    requires written { IsTrue (function_is_written function.now) }
     requires size { length scope.old ≡ length function.now.expressions }
-    ensures fits { (names : NameMap) (m : Module) (g k : ℕ) →
-        let n = function_naming names m g function.now info.now in
-        result ≡ fits n k (statement_shape (tree_of statement.now)) (handles_of scope.old) }
-    ensures after { (names : NameMap) (m : Module) (g k : ℕ) → IsTrue result →
-        let n = function_naming names m g function.now info.now in
+    ensures fits { (names : NameMap) (m : Module) (known : ModuleInfo) (g k : ℕ) →
+        let n = function_naming names m known g function.now info.now in
+        let around = (declared m known (types_known info.now)).around in
+        result ≡ fits n k (statement_shape around (tree_of statement.now)) (handles_of scope.old) }
+    ensures after { (names : NameMap) (m : Module) (known : ModuleInfo) (g k : ℕ) → IsTrue result →
+        let n = function_naming names m known g function.now info.now in
+        let around = (declared m known (types_known info.now)).around in
         handles_of scope.new
-        ≡ after n k (statement_shape (tree_of statement.now)) (handles_of scope.old) }
+        ≡ after n k (statement_shape around (tree_of statement.now)) (handles_of scope.old) }
     ensures size { length scope.new ≡ length scope.old }
 {
     match statement {
@@ -126,20 +130,19 @@ fn statement_holds(
             scope.is_usable(function, *pointer) && scope.is_usable(function, *value)
         }
         Statement::Return { value } => is_usable_if(scope, function, *value),
-        _ => true,
+        _ => unreachable!(),
     }
 }
 
 /// Whether each expression of the function is in scope where it is used, and each `Emit` is
 /// allowed. The scope is that of the function's start, and then that of some point inside.
 pub(crate) fn function_holds(scope: &mut Scope, function: &Function, info: &FunctionInfo) -> bool
-    requires flat { IsTrue (is_flat function.now.body) }
-    requires unnamed { IsTrue (names_nothing function.now) }
-    requires start { (m : Module) →
-        handles_of scope.old ≡ at_start (function_shape m function.now info.now) }
+    requires written { IsTrue (function_is_written function.now) }
+    requires start { (m : Module) (known : ModuleInfo) →
+        handles_of scope.old ≡ at_start (function_shape m known function.now info.now) }
     requires size { length scope.old ≡ length function.now.expressions }
-    ensures scope { (names : NameMap) (m : Module) (g : ℕ) →
-        result ≡ fits_function (function_naming names m g function.now info.now) }
+    ensures scope { (names : NameMap) (m : Module) (known : ModuleInfo) (g : ℕ) →
+        result ≡ fits_function (function_naming names m known g function.now info.now) }
     ensures size { length scope.new ≡ length scope.old }
 {
     if !first_values_hold(scope, function) {

@@ -2,10 +2,11 @@
 
 ghost use Rattle.std.specs.Prelude.{◌≡◌, ◌<◌, List, IfErr, IfOk, IsTrue, length};
 ghost use Rattle.module_meaning.specs.Accepted.{is_accepted};
-ghost use Rattle.module_meaning.specs.Part.{is_written_so_far, names_nothing};
-ghost use Rattle.module_meaning.specs.Shapes.{function_shape, OperandsStandBefore};
+ghost use Rattle.module_meaning.specs.FunctionShapes.{function_shape};
+ghost use Rattle.module_meaning.specs.Part.{function_is_written, is_written_so_far};
+ghost use Rattle.module_meaning.specs.Premises.{OperandsStandBefore};
+ghost use Rattle.naga_info.specs.declared.info.ModuleInfo.{ModuleInfo};
 ghost use Rattle.naga_ir.specs.declared.module.Module.{Module};
-ghost use Rattle.naga_scope.specs.Flat.{is_flat};
 ghost use Rattle.naga_scope.specs.Plans.{IsPlan, IsPlanOf, IsRefusalToPlan, IsRefusalToPlanOf};
 ghost use Rattle.naga_scope.specs.declared.plan.PlanError.TheVariants.{Memory};
 
@@ -82,12 +83,11 @@ impl Plan {
         info: &FunctionInfo,
     ) -> Result<Plan, PlanError>
         requires ordered { OperandsStandBefore function.now.expressions }
-        requires flat { IsTrue (is_flat function.now.body) }
-        requires unnamed { IsTrue (names_nothing function.now) }
-        ensures ok { (m : Module) →
-            IfOk result (IsPlan (function_shape m function.now info.now)) }
-        ensures err { (m : Module) →
-            IfErr result (IsRefusalToPlan (function_shape m function.now info.now)) }
+        requires written { IsTrue (function_is_written function.now) }
+        ensures ok { (m : Module) (known : ModuleInfo) →
+            IfOk result (IsPlan (function_shape m known function.now info.now)) }
+        ensures err { (m : Module) (known : ModuleInfo) →
+            IfErr result (IsRefusalToPlan (function_shape m known function.now info.now)) }
     {
         let mut scope = Scope::start(alloc, function)?;
         if !function_holds(&mut scope, function, info) {

@@ -3,24 +3,27 @@
 ghost use Rattle.std.specs.Prelude.{◌≡◌, ◌&&◌, ◌^◌, ℕ, List, length, nat_le, get_or};
 ghost use Rattle.std.specs.Prelude.{IsTrue, IfOk, Some};
 ghost use Rattle.std.specs.Option.{option_map};
-ghost use Rattle.module_meaning.specs.Part.{names_nothing};
-ghost use Rattle.module_meaning.specs.Shapes.{expression_shape, function_shape};
-ghost use Rattle.module_meaning.specs.Shapes.{function_naming, OperandsStandBefore};
+ghost use Rattle.module_meaning.specs.FunctionShapes.{function_shape};
+ghost use Rattle.module_meaning.specs.Namings.{function_naming};
+ghost use Rattle.module_meaning.specs.Part.{function_is_written};
+ghost use Rattle.module_meaning.specs.Premises.{OperandsStandBefore};
 ghost use Rattle.naga_info.specs.declared.info.ExpressionInfo.{ExpressionInfo};
 ghost use Rattle.naga_ir.specs.Operands.{expression_operands};
+ghost use Rattle.naga_info.specs.declared.info.ModuleInfo.{ModuleInfo};
 ghost use Rattle.naga_ir.specs.declared.module.Module.{Module};
 ghost use Rattle.naga_names.specs.Keys.{NameMap};
-ghost use Rattle.shader_runs.specs.Program.{binds, operands_of};
-ghost use Rattle.shader_runs.specs.Scope.{all_constant, at_start, after_one, is_constant_leaf};
+ghost use Rattle.shader_runs.specs.Program.{binds, expression_of, operands_of};
+ghost use Rattle.shader_runs.specs.Scope.{all_constant, at_start, after_one};
 ghost use Rattle.shader_runs.specs.Scope.{is_new, is_present, is_pure, may_emit};
 ghost use Rattle.shader_runs.specs.Scope.{usable, usable_all};
+ghost use Rattle.naga_ir.specs.Kinds.{kind_of};
 ghost use Rattle.naga_scope.specs.Standings.{emitted_standing, first_standing, handles_of};
-ghost use Rattle.naga_scope.specs.Standings.{is_constant_by, shape_at, standing_of};
-ghost use Rattle.naga_scope.specs.Standings.{unbound_standing};
+ghost use Rattle.naga_scope.specs.Standings.{is_constant_by, is_pure_kind, operands_at};
+ghost use Rattle.naga_scope.specs.Standings.{standing_of, unbound_standing, usable_by};
 
-use crate::binding::{binds, expression_at, is_emittable, shape_kind};
+use crate::binding::{binds, expression_at, is_constant_leaf, is_emittable, is_operator, kind_at};
 use naga_info::FunctionInfo;
-use naga_ir::{Expression, ExpressionKind, Function, Handle, Place};
+use naga_ir::{Expression, Function, Handle, Place};
 use std::alloc::{AllocError, Global};
 use std::marker::Model;
 
@@ -31,7 +34,7 @@ pub enum Standing {
     Absent,
     /// It was emitted where one of its operands was out of scope, so it is never written.
     Barred,
-    /// An operator over literals alone that no `Emit` gave here. It is in scope nevertheless.
+    /// An operator over constants alone that no `Emit` gave here. It is in scope nevertheless.
     Everywhere,
     /// It was emitted, and is written wherever it is used.
     Inline,
@@ -89,21 +92,6 @@ impl Model for Scope {
     ghost view = { λ s. s.standings.items };
 }
 
-/// Whether the expression is a literal.
-fn is_literal(expression: Option<&Expression>) -> bool
-    ensures { result ≡ is_constant_leaf
-        (option_map (λ e. expression_shape e.now) expression.entry) }
-{
-    shape_kind(expression) == ExpressionKind::Constant
-}
-
-/// Whether the expression is an operator.
-fn is_operator(expression: Option<&Expression>) -> bool
-    ensures { result ≡ is_pure (option_map (λ e. expression_shape e.now) expression.entry) }
-{
-    shape_kind(expression) == ExpressionKind::Pure
-}
-
 /// The cell of this handle, by a table of all handles up to some.
 fn standing_at(standings: &[Standing], handle: Handle<Expression>) -> Standing
     ensures { result ≡ get_or standings.now handle Standing.Absent }
@@ -114,16 +102,16 @@ fn standing_at(standings: &[Standing], handle: Handle<Expression>) -> Standing
     }
 }
 
-/// Whether the expression with this handle is a literal, or one that the table has in scope
+/// Whether the expression with this handle is a constant, or one that the table has in scope
 /// everywhere.
 fn is_constant(standings: &[Standing], function: &Function, handle: Handle<Expression>) -> bool
     ensures { result ≡ is_constant_by standings.now function.now.expressions handle }
 {
-    is_literal(expression_at(function, handle))
+    is_constant_leaf(kind_at(function, handle))
         || standing_at(standings, handle) == Standing::Everywhere
 }
 
-/// Whether each operand of the expression is a literal, or one that the table has in scope
+/// Whether each operand of the expression is a constant, or one that the table has in scope
 /// everywhere.
 fn has_constant_operands(
     standings: &[Standing],
@@ -143,25 +131,45 @@ fn has_constant_operands(
 
 /// The cell of an expression at the start of the function, by those of its operands.
 fn first_standing(standings: &[Standing], function: &Function, expression: &Expression) -> Standing
-    ensures { let shape = expression_shape expression.now in result ≡ first_standing
-        (is_pure (Some shape)
+    ensures { result ≡ first_standing
+        (is_pure_kind (kind_of expression.now)
         && all_constant (is_constant_by standings.now function.now.expressions)
-        (operands_of (Some shape))) }
+        (expression_operands expression.now)) }
 {
-    if is_operator(Some(expression)) && has_constant_operands(standings, function, expression) {
+    if is_operator(expression.kind()) && has_constant_operands(standings, function, expression) {
         Standing::Everywhere
     } else {
         Standing::Absent
     }
 }
 
+/// Whether the expression, if there is one, may be written where it stands so.
+fn stands_usable(function: &Function, expression: Option<&Expression>, standing: Standing) -> bool
+    ensures { (name : List ℕ) → result ≡ usable_by function.now
+        (option_map (λ e. e.now) expression.entry) (standing_of name standing) }
+{
+    match expression {
+        Some(expression) => match expression {
+            Expression::Literal(_)
+            | Expression::Constant(_)
+            | Expression::Override(_)
+            | Expression::ZeroValue(_)
+            | Expression::GlobalVariable(_) => true,
+            Expression::FunctionArgument(number) => (*number as usize) < function.arguments.len(),
+            Expression::LocalVariable(local) => local.index() < function.local_variables.len(),
+            _ => standing.is_present(),
+        },
+        None => false,
+    }
+}
+
 impl Scope {
-    /// Where the expressions stand at the start of the function: operators over literals alone are
+    /// Where the expressions stand at the start of the function: operators over constants alone are
     /// in scope everywhere, and all others are absent.
     pub fn start(alloc: Global, function: &Function) -> Result<Scope, AllocError>
         requires ordered { OperandsStandBefore function.now.expressions }
-        ensures start { (m : Module) (es : List ExpressionInfo) →
-            IfOk result (λ s. handles_of s ≡ at_start (function_shape m function.now es)) }
+        ensures start { (m : Module) (known : ModuleInfo) (es : List ExpressionInfo) →
+            IfOk result (λ s. handles_of s ≡ at_start (function_shape m known function.now es)) }
         ensures size { IfOk result (λ s. length s ≡ length function.now.expressions) }
         ensures counted { IfOk result
             (λ _. IsTrue (nat_le (length function.now.expressions) (2 ^ 64))) }
@@ -176,8 +184,8 @@ impl Scope {
     pub fn restart(&mut self, function: &Function)
         requires ordered { OperandsStandBefore function.now.expressions }
         requires size { length self.old ≡ length function.now.expressions }
-        ensures start { (m : Module) (es : List ExpressionInfo) →
-            handles_of self.new ≡ at_start (function_shape m function.now es) }
+        ensures start { (m : Module) (known : ModuleInfo) (es : List ExpressionInfo) →
+            handles_of self.new ≡ at_start (function_shape m known function.now es) }
         ensures size { length self.new ≡ length self.old }
     {
         for index in 0..function.expressions.len() {
@@ -194,29 +202,23 @@ impl Scope {
         standing_at(&self.standings, handle)
     }
 
-    /// Whether the expression with this handle is in scope here. A literal, and an argument or a
-    /// local that there is, is so everywhere.
+    /// Whether the expression with this handle is in scope here. A constant, a variable of the
+    /// module, and an argument or a local that there is, is so everywhere.
     pub fn is_usable(&self, function: &Function, handle: Handle<Expression>) -> bool
-        ensures { (m : Module) (es : List ExpressionInfo) →
-            result ≡ usable (function_shape m function.now es) (handles_of self.now) handle }
+        ensures { (m : Module) (known : ModuleInfo) (es : List ExpressionInfo) →
+            result ≡ usable (function_shape m known function.now es) (handles_of self.now) handle }
     {
-        match expression_at(function, handle) {
-            Some(expression) => match expression {
-                Expression::Literal(_) => true,
-                Expression::FunctionArgument(number) => {
-                    (*number as usize) < function.arguments.len()
-                }
-                Expression::LocalVariable(local) => local.index() < function.local_variables.len(),
-                _ => self.standing(handle).is_present(),
-            },
-            None => false,
-        }
+        stands_usable(
+            function,
+            expression_at(function, handle),
+            self.standing(handle),
+        )
     }
 
     /// Whether each operand of the expression is in scope here.
     fn are_usable(&self, function: &Function, expression: &Expression) -> bool
-        ensures { (m : Module) (es : List ExpressionInfo) →
-            result ≡ usable_all (function_shape m function.now es) (handles_of self.now)
+        ensures { (m : Module) (known : ModuleInfo) (es : List ExpressionInfo) →
+            result ≡ usable_all (function_shape m known function.now es) (handles_of self.now)
             (expression_operands expression.now) }
     {
         for operand in expression.operands() {
@@ -227,17 +229,14 @@ impl Scope {
         true
     }
 
-    /// Whether each operand of what the expression evaluates is in scope here.
-    fn has_operands(&self, function: &Function, expression: Option<&Expression>) -> bool
-        ensures { (m : Module) (es : List ExpressionInfo) →
-            result ≡ usable_all (function_shape m function.now es) (handles_of self.now)
-            (operands_of (option_map (λ e. expression_shape e.now) expression.entry)) }
+    /// Whether each operand of the expression with this handle is in scope here.
+    fn has_operands(&self, function: &Function, handle: Handle<Expression>) -> bool
+        ensures { (m : Module) (known : ModuleInfo) (es : List ExpressionInfo) →
+            result ≡ usable_all (function_shape m known function.now es) (handles_of self.now)
+            (operands_at function.now.expressions handle) }
     {
-        match expression {
-            Some(known) => match shape_kind(expression) {
-                ExpressionKind::Result => true,
-                _ => self.are_usable(function, known),
-            },
+        match expression_at(function, handle) {
+            Some(expression) => self.are_usable(function, expression),
             None => true,
         }
     }
@@ -250,15 +249,14 @@ impl Scope {
         info: &FunctionInfo,
         handle: Handle<Expression>,
     ) -> bool
-        requires unnamed { IsTrue (names_nothing function.now) }
-        ensures { (m : Module) →
-            result ≡ may_emit (function_shape m function.now info.now) handle
+        requires written { IsTrue (function_is_written function.now) }
+        ensures { (m : Module) (known : ModuleInfo) →
+            result ≡ may_emit (function_shape m known function.now info.now) handle
             (handles_of self.now) }
     {
-        let expression = expression_at(function, handle);
         self.standing(handle).is_new()
-            && is_emittable(expression)
-            && (!binds(function, info, handle) || self.has_operands(function, expression))
+            && is_emittable(kind_at(function, handle))
+            && (!binds(function, info, handle) || self.has_operands(function, handle))
     }
 
     /// Where the expression with this handle stands behind an `Emit` of it. Its operands are looked
@@ -269,10 +267,10 @@ impl Scope {
         info: &FunctionInfo,
         handle: Handle<Expression>,
     ) -> Standing
-        requires unnamed { IsTrue (names_nothing function.now) }
-        ensures { (m : Module) →
-            let shape = function_shape m function.now info.now in
-            let evaluated = shape_at function.now.expressions handle in
+        requires written { IsTrue (function_is_written function.now) }
+        ensures { (m : Module) (known : ModuleInfo) →
+            let shape = function_shape m known function.now info.now in
+            let evaluated = expression_of shape handle in
             result ≡ emitted_standing (binds shape handle) (is_pure evaluated)
             (usable_all shape (handles_of self.now) (operands_of evaluated))
             (get_or self.now handle Standing.Absent) }
@@ -281,9 +279,8 @@ impl Scope {
         if binds(function, info, handle) {
             return Standing::Named;
         }
-        let expression = expression_at(function, handle);
-        if is_operator(expression) {
-            before.unbound(self.has_operands(function, expression))
+        if is_operator(kind_at(function, handle)) {
+            before.unbound(self.has_operands(function, handle))
         } else {
             before
         }
@@ -294,11 +291,11 @@ impl Scope {
     /// scope here. A `Load` that no `let` binds stays absent, since it may not be read later than
     /// here.
     pub fn emit(&mut self, function: &Function, info: &FunctionInfo, handle: Handle<Expression>)
-        requires unnamed { IsTrue (names_nothing function.now) }
+        requires written { IsTrue (function_is_written function.now) }
         requires size { length self.old ≡ length function.now.expressions }
-        ensures handles { (names : NameMap) (m : Module) (g k : ℕ) →
+        ensures handles { (names : NameMap) (m : Module) (known : ModuleInfo) (g k : ℕ) →
             handles_of self.new ≡
-            after_one (function_naming names m g function.now info.now) k handle
+            after_one (function_naming names m known g function.now info.now) k handle
             (handles_of self.old) }
         ensures size { length self.new ≡ length self.old }
     {

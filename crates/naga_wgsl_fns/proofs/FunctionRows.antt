@@ -52,7 +52,7 @@ use Rattle.naga_wgsl_fns.specs.declared.error.Error.{Error}
 use Rattle.wgsl_text.specs.Reading.{expression_layout, type_layout}
 use Rattle.wgsl_text.specs.Text.{text}
 use Rattle.naga_wgsl_fns.specs.declared.functions.FunctionText.{FunctionText}
-use Rattle.naga_wgsl_fns.specs.FunctionText.{CanWrite, expressions, naming, tells_types}
+use Rattle.naga_wgsl_fns.specs.FunctionText.{CanWrite, source, naming, tells_types}
 use Rattle.naga_wgsl_fns.specs.FunctionText.{let_annotation}
 use Rattle.naga_wgsl_fns.specs.FunctionText.{type_names_of}
 use Rattle.naga_wgsl_fns.specs.Names.{name_of_argument, name_of_function, name_of_local}
@@ -111,11 +111,12 @@ can_write t info accepted written named here known =
     }
 
 -- the text of a function that there is
-pub text_of_function_at : (t : FunctionText) (info : ModuleInfo) → slice_get t.shader.now.functions t.handle ≡ Some t.function.now → slice_get info.functions.items t.handle ≡ Some t.info.now → text_of_function t.shader.now info t.flags t.handle ≡ function_text t
+pub text_of_function_at : (t : FunctionText) → slice_get t.shader.now.functions t.handle ≡ Some t.function.now → slice_get t.module_info.now.functions.items t.handle ≡ Some t.info.now → text_of_function t.shader.now t.module_info.now t.flags t.handle ≡ function_text t
 unfolding function_text
-text_of_function_at t info here known =
+text_of_function_at t here known =
     let m = t.shader.now in
-    let form = λ (f : Function) (es : List ExpressionInfo). text (function_pieces (function_form (tells_types t.flags) (module_names m) m t.handle f es)) in
+    let info = t.module_info.now in
+    let form = λ (f : Function) (es : List ExpressionInfo). text (function_pieces (function_form (tells_types t.flags) (module_names m) m info t.handle f es)) in
     ap (λ o. option_map_or (λ f. form f (known_of info t.handle)) o []) here ∙ ap (form t.function.now) (known_is info t.handle t.info.now known)
 
 -- ---- the head
@@ -193,7 +194,7 @@ arguments_none f n items past = ap (arguments_left f n) (drop_all n items past) 
 pub first_value_row : (f : FunctionText) (table : List Standing) (value : ℕ) → StartsAt f table → joined_texts (codes " = ") (joined_texts (value_text f table value) (codes ";\n")) ≡ first_value_text f value
 unfolding first_value_text value_text joined_texts
 first_value_row f table value start =
-    ap (λ (s : Handles). codes " = " ++ (expression_layout (value_form (naming f) (expressions f) s value) ++ codes ";\n")) start
+    ap (λ (s : Handles). codes " = " ++ (expression_layout (value_form (naming f) (source f) s value) ++ codes ";\n")) start
     ∙ sym (value_row_text (first_form f value))
 
 abbrev pub first_at : FunctionText → (value : Option ℕ) → List ℕ
@@ -216,12 +217,12 @@ local_row f handle local at =
 
 -- the locals from this one on
 abbrev pub locals_left : FunctionText → ℕ → List LocalVariable → List ℕ
-locals_left f handle locals = text (locals_pieces (locals_form (naming f) (type_names_of f) (expressions f) handle locals))
+locals_left f handle locals = text (locals_pieces (locals_form (naming f) (type_names_of f) (source f) handle locals))
 
 locals_step : (f : FunctionText) (handle : ℕ) (local : LocalVariable) (more : List LocalVariable) → locals_left f handle (local ∷ more) ≡ local_text_of f handle local ++ locals_left f (handle + 1) more
 locals_step f handle local more =
     let form = local_form f handle local in
-    let behind = locals_form (naming f) (type_names_of f) (expressions f) (handle + 1) more in
+    let behind = locals_form (naming f) (type_names_of f) (source f) (handle + 1) more in
     let first = text (locals_pieces behind) in
     local_row_text form behind
     ∙ (ap (λ t. codes "    var " ++ (form.name ++ (codes ": " ++ t))) (sym (append_assoc (type_layout form.type) (text (value_pieces form.value)) first))
@@ -253,7 +254,7 @@ pub locals_row : (f : FunctionText) → locals_text f ≡ joined_texts (locals_l
 unfolding locals_text group_end_text joined_texts
 locals_row f = ap (λ t. locals_left f 0 f.function.now.local_variables ++ t) (sym (by f.function.now.local_variables))
   where
-    by : (locals : List LocalVariable) → (if length locals == 0 then [] else codes "\n") ≡ text (group_end (locals_form (naming f) (type_names_of f) (expressions f) 0 locals))
+    by : (locals : List LocalVariable) → (if length locals == 0 then [] else codes "\n") ≡ text (group_end (locals_form (naming f) (type_names_of f) (source f) 0 locals))
     by [] = refl
     by (local ∷ more) = ap (λ b. if b then [] else codes "\n") (ne_eqb (suc (length more)) 0 (λ same. absurd (omega arith)))
 
@@ -261,7 +262,7 @@ locals_row f = ap (λ t. locals_left f 0 f.function.now.local_variables ++ t) (s
 pub body_row : (f : FunctionText) (table : List Standing) → StartsAt f table → joined_texts (locals_text f) (joined_texts (block_text f table 1 f.function.now.body) (codes "}\n")) ≡ body_text f
 unfolding body_text block_text joined_texts
 body_row f table start =
-    ap (λ (s : Handles). locals_text f ++ (lines_text 1 (lines_form (naming f) (let_annotation f) (expressions f) 0 f.function.now.body s) ++ codes "}\n")) start
+    ap (λ (s : Handles). locals_text f ++ (lines_text 1 (lines_form (naming f) (let_annotation f) (source f) 0 f.function.now.body s) ++ codes "}\n")) start
 
 pub function_row : (f : FunctionText) → function_text f ≡ joined_texts (head_text f) (body_text f)
 unfolding function_text head_text body_text name_of_function arguments_text result_text locals_text joined_texts

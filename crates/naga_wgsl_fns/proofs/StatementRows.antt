@@ -3,7 +3,7 @@ use Rattle.std.proofs.Common.{◌≡◌, ℕ, ◌+◌, ◌-◌, ◌<◌, ◌≤�
 use Rattle.std.proofs.Common.{[], ◌∷◌, ◌++◌, Option, None, Some, length, refl, sym, ap, ◌∙◌, arith}
 use Rattle.std.proofs.Common.{add-one, codes, replicate, drop, drop-cons, slice_index_or}
 use Rattle.std.proofs.Common.{append_assoc, IsTrue}
-use Rattle.std.specs.Prelude.{cond, nat_le, nat_lt, slice_get}
+use Rattle.std.specs.Prelude.{cond, nat_le, nat_lt}
 use Rattle.std.proofs.lemmas.Bool.{and_parts, leb-true, ltb-true}
 use Rattle.std.proofs.lemmas.List.{append-nil, drop_all}
 use Rattle.naga_ir.specs.StatementTree.{BlockTree, StatementTree, emit, return, simple, statement}
@@ -12,7 +12,6 @@ use Rattle.std.specs.Option.{option_map}
 use Rattle.naga_ir.specs.StatementViews.{tree_of, block_of}
 use Rattle.naga_ir.specs.declared.statement.Range.{Range}
 use Rattle.naga_ir.specs.declared.statement.Statement.{Statement}
-use Rattle.naga_ir.specs.declared.expression.Expression as ir
 use Rattle.naga_back.specs.Indentation.{indentation}
 use Rattle.module_meaning.specs.Part.{block_is_written, statement_is_written}
 use Rattle.module_meaning.specs.Ranges.{block_in_range, statement_in_range}
@@ -20,10 +19,11 @@ use Rattle.shader_runs.specs.Program.{binds, from}
 use Rattle.shader_runs.specs.Scope.{Handles, Naming, after, after_all, after_emit, after_one}
 use Rattle.shader_runs.specs.Scope.{bound_name, given_after, given_by_all}
 use Rattle.module_meaning.specs.Names.{numbered_name}
-use Rattle.module_meaning.specs.Shapes.{statement_shape, statements_shape}
+use Rattle.module_meaning.specs.FunctionShapes.{statement_shape, statements_shape}
 use Rattle.wgsl_text.specs.Types.{TypeSpecifier}
 use Rattle.wgsl_text.specs.Expressions.{Expression, expression_pieces}
-use Rattle.naga_form.specs.Expressions.{as_value, as_reference, own_if, plain_form, value_form}
+use Rattle.naga_form.specs.Expressions.{Source, as_value, as_reference, plain_form, value_form}
+use Rattle.naga_form.specs.Expressions.{unnamed_form}
 use Rattle.wgsl_text.specs.Statements.{Block, Statements, NoStatements, Then, statement_pieces}
 use Rattle.wgsl_text.specs.Statements.{statements_pieces}
 use Rattle.naga_form.specs.Statements.{let_form, then_if, lets_form, return_line, loop_form}
@@ -38,7 +38,7 @@ use Rattle.naga_words.specs.Output.{joined_texts}
 use Rattle.wgsl_text.specs.Reading.{type_layout}
 use Rattle.wgsl_text.specs.Text.{text}
 use Rattle.naga_wgsl_fns.specs.declared.functions.FunctionText.{FunctionText}
-use Rattle.naga_wgsl_fns.specs.FunctionText.{CanWrite, expressions, naming, let_annotation}
+use Rattle.naga_wgsl_fns.specs.FunctionText.{CanWrite, around, naming, let_annotation, source}
 use Rattle.naga_wgsl_fns.specs.Expressions.{own_form, own_text, reference_text, value_text}
 use Rattle.naga_wgsl_fns.specs.Statements.{block_text, emitted_text, let_line, let_text, lets_text}
 use Rattle.naga_wgsl_fns.specs.Statements.{line_start, line_text, lines_text, return_text}
@@ -76,14 +76,14 @@ pub store_row : (f : FunctionText) (table : List Standing) (level pointer value 
     → store_text f table level pointer value ≡ joined_texts (line_start level []) (joined_texts (reference_text f table pointer) (joined_texts (codes " = ") (joined_texts (value_text f table value) (codes ";\n"))))
 unfolding store_text reference_text value_text joined_texts
 store_row f table level pointer value =
-    let operand = plain_form (naming f) (expressions f) (handles_of table) in
+    let operand = plain_form (naming f) (source f) (handles_of table) in
     assign_text (as_reference (operand pointer)) (as_value (operand value)) level
     ∙ sym (line_starts level [] (text (expression_pieces (as_reference (operand pointer))) ++ (codes " = " ++ (text (expression_pieces (as_value (operand value))) ++ codes ";\n"))))
 
 pub return_value_row : (f : FunctionText) (table : List Standing) (level value : ℕ) → return_value_text f table level value ≡ joined_texts (line_start level (codes "return ")) (joined_texts (value_text f table value) (codes ";\n"))
 unfolding return_value_text value_text joined_texts
 return_value_row f table level value =
-    let form = value_form (naming f) (expressions f) (handles_of table) value in
+    let form = value_form (naming f) (source f) (handles_of table) value in
     return_row_text form level ∙ sym (line_starts level (codes "return ") (text (expression_pieces form) ++ codes ";\n"))
 
 abbrev pub return_at : FunctionText → (table : List Standing) → (level : ℕ) → (value : Option ℕ) → List ℕ
@@ -123,24 +123,24 @@ pub statement_row : (f : FunctionText) (table : List Standing) (level : ℕ) (st
 unfolding statement_text lets_text store_text return_text
 statement_row f table level (simple (emit first last)) = refl
 statement_row f table level (simple (store pointer value)) =
-    let operand = plain_form (naming f) (expressions f) (handles_of table) in
+    let operand = plain_form (naming f) (source f) (handles_of table) in
     then_text (tree.Assign (as_reference (operand pointer)) (as_value (operand value))) NoStatements level ∙ append-nil (store_text f table level pointer value)
 statement_row f table level (simple (return value)) =
-    then_text (return_line (naming f) (expressions f) (handles_of table) value) NoStatements level ∙ append-nil (return_text f table level value)
+    then_text (return_line (naming f) (source f) (handles_of table) value) NoStatements level ∙ append-nil (return_text f table level value)
 statement_row f table level _ = refl
 
 -- ---- the handles of an Emit
-module _ (n : Naming) (let_annotation : ℕ → Option TypeSpecifier) (es : List ir.Expression) where
+module _ (n : Naming) (let_annotation : ℕ → Option TypeSpecifier) (code : Source) where
   -- `let`s in front of what follows
-  pub lets_then : (k : ℕ) (hs : List ℕ) (s : Handles) (rest : Statements) (level : ℕ) → text (statements_pieces (lets_form n let_annotation es k hs s rest) level) ≡ text (statements_pieces (lets_form n let_annotation es k hs s NoStatements) level) ++ text (statements_pieces rest level)
+  pub lets_then : (k : ℕ) (hs : List ℕ) (s : Handles) (rest : Statements) (level : ℕ) → text (statements_pieces (lets_form n let_annotation code k hs s rest) level) ≡ text (statements_pieces (lets_form n let_annotation code k hs s NoStatements) level) ++ text (statements_pieces rest level)
   lets_then k [] s rest level = refl
   lets_then k (h ∷ hs) s rest level = by (binds n.function h) (lets_then (given_after n.function h k) hs (after_one n k h s) rest level)
     where
       behind : Statements → Statements
-      behind rest = lets_form n let_annotation es (given_after n.function h k) hs (after_one n k h s) rest
+      behind rest = lets_form n let_annotation code (given_after n.function h k) hs (after_one n k h s) rest
 
       line : tree.Statement
-      line = let_form (let_annotation h) (bound_name n k h) (as_value (own_if n (plain_form n es s) (slice_get es h)))
+      line = let_form (let_annotation h) (bound_name n k h) (as_value (unnamed_form n code s h))
 
       by : (b : Bool) → text (statements_pieces (behind rest) level) ≡ text (statements_pieces (behind NoStatements) level) ++ text (statements_pieces rest level) → text (statements_pieces (then_if b line (behind rest)) level) ≡ text (statements_pieces (then_if b line (behind NoStatements)) level) ++ text (statements_pieces rest level)
       by true more =
@@ -164,7 +164,7 @@ module _ (f : FunctionText) (can : CanWrite f) where
       rest = from (index + 1) (last - (index + 1))
 
       form : List ℕ → Handles → ℕ → Statements
-      form hs s k = lets_form (naming f) (let_annotation f) (expressions f) k hs s NoStatements
+      form hs s k = lets_form (naming f) (let_annotation f) (source f) k hs s NoStatements
 
       lets : List ℕ → Handles → ℕ → List ℕ
       lets hs s k = lines_text level (form hs s k)
@@ -187,48 +187,48 @@ module _ (f : FunctionText) (can : CanWrite f) where
 
   -- ---- the statements of a block
   abbrev operand_at : Handles → ℕ → Expression
-  operand_at s h = value_form (naming f) (expressions f) s h
+  operand_at s h = value_form (naming f) (source f) s h
 
   abbrev lines_at : ℕ → BlockTree → Handles → Statements
-  lines_at k b s = lines_form (naming f) (let_annotation f) (expressions f) k b s
+  lines_at k b s = lines_form (naming f) (let_annotation f) (source f) k b s
 
   -- a statement in front of others
   line_then : (st : StatementTree) (s : Handles) (rest : Statements) (level : ℕ)
-      → lines_text level (line_form (naming f) (let_annotation f) (expressions f) 0 st s rest) ≡ lines_text level (line_form (naming f) (let_annotation f) (expressions f) 0 st s NoStatements) ++ lines_text level rest
+      → lines_text level (line_form (naming f) (let_annotation f) (source f) 0 st s rest) ≡ lines_text level (line_form (naming f) (let_annotation f) (source f) 0 st s NoStatements) ++ lines_text level rest
   line_then st s rest level = by st
     where
       one : (line : tree.Statement) → lines_text level (Then line rest) ≡ lines_text level (Then line NoStatements) ++ lines_text level rest
       one line = then_text line rest level ∙ ap (λ t. t ++ lines_text level rest) (sym (then_text line NoStatements level ∙ append-nil (line_text level line)))
 
-      by : (st : StatementTree) → lines_text level (line_form (naming f) (let_annotation f) (expressions f) 0 st s rest) ≡ lines_text level (line_form (naming f) (let_annotation f) (expressions f) 0 st s NoStatements) ++ lines_text level rest
-      by (simple (emit first last)) = lets_then (naming f) (let_annotation f) (expressions f) 0 (from first (last - first)) s rest level
-      by (simple (store pointer value)) = one (tree.Assign (as_reference (plain_form (naming f) (expressions f) s pointer)) (value_form (naming f) (expressions f) s value))
-      by (simple (return value)) = one (return_line (naming f) (expressions f) s value)
+      by : (st : StatementTree) → lines_text level (line_form (naming f) (let_annotation f) (source f) 0 st s rest) ≡ lines_text level (line_form (naming f) (let_annotation f) (source f) 0 st s NoStatements) ++ lines_text level rest
+      by (simple (emit first last)) = lets_then (naming f) (let_annotation f) (source f) 0 (from first (last - first)) s rest level
+      by (simple (store pointer value)) = one (tree.Assign (as_reference (plain_form (naming f) (source f) s pointer)) (value_form (naming f) (source f) s value))
+      by (simple (return value)) = one (return_line (naming f) (source f) s value)
       by (simple break) = one tree.Break
       by (simple continue) = one tree.Continue
       by (simple kill) = one tree.Discard
       by (simple _) = one (Block NoStatements)
       by (block b) = one (Block (lines_at 0 b s))
       by (branch condition accept reject) =
-          one (tree.If (operand_at s condition) (lines_at 0 accept s) (lines_at (given_by_all (naming f).function (statements_shape accept) 0) reject s))
-      by (switch selector cases) = one (tree.Switch (operand_at s selector) (cases_form (naming f) (let_annotation f) (expressions f) 0 [] cases s))
+          one (tree.If (operand_at s condition) (lines_at 0 accept s) (lines_at (given_by_all (naming f).function (statements_shape (around f) accept) 0) reject s))
+      by (switch selector cases) = one (tree.Switch (operand_at s selector) (cases_form (naming f) (let_annotation f) (source f) 0 [] cases s))
       by (loop body continuing break_if) =
-          let behind = given_by_all (naming f).function (statements_shape body) 0 in
-          let inside = after_all (naming f) 0 (statements_shape body) s in
-          let last = after_all (naming f) behind (statements_shape continuing) inside in
+          let behind = given_by_all (naming f).function (statements_shape (around f) body) 0 in
+          let inside = after_all (naming f) 0 (statements_shape (around f) body) s in
+          let last = after_all (naming f) behind (statements_shape (around f) continuing) inside in
           one (loop_form (lines_at 0 body s) (lines_at behind continuing inside) (option_map (operand_at last) break_if))
 
   -- a block, by its first statement, behind which `next` has what is in scope
-  pub block_row : (table next : List Standing) (level : ℕ) (st : StatementTree) (rest : BlockTree) → handles_of next ≡ after (naming f) 0 (statement_shape st) (handles_of table)
+  pub block_row : (table next : List Standing) (level : ℕ) (st : StatementTree) (rest : BlockTree) → handles_of next ≡ after (naming f) 0 (statement_shape (around f) st) (handles_of table)
       → block_text f table level (statement st rest) ≡ joined_texts (statement_text f table level st) (block_text f next level rest)
   unfolding block_text statement_text joined_texts
   block_row table next level st rest is =
-      ap (λ k. lines k (after (naming f) 0 (statement_shape st) (handles_of table))) (none_given_by f can st)
+      ap (λ k. lines k (after (naming f) 0 (statement_shape (around f) st) (handles_of table))) (none_given_by f can st)
       ∙ (ap (λ s. lines 0 s) (sym is)
-      ∙ line_then st (handles_of table) (lines_form (naming f) (let_annotation f) (expressions f) 0 rest (handles_of next)) level)
+      ∙ line_then st (handles_of table) (lines_form (naming f) (let_annotation f) (source f) 0 rest (handles_of next)) level)
     where
       lines : ℕ → Handles → List ℕ
-      lines k s = lines_text level (line_form (naming f) (let_annotation f) (expressions f) 0 st (handles_of table) (lines_form (naming f) (let_annotation f) (expressions f) k rest s))
+      lines k s = lines_text level (line_form (naming f) (let_annotation f) (source f) 0 st (handles_of table) (lines_form (naming f) (let_annotation f) (source f) k rest s))
 
 -- a list from an item of it on
 pub drop_first : {X : Type 0} (i : ℕ) (xs : List X) (x : X) → i < length xs → x ≡ slice_index_or xs i x → drop i xs ≡ x ∷ drop (i + 1) xs
@@ -240,7 +240,7 @@ pub block_step : (ss : List Statement) (i : ℕ) (s : Statement) → i < length 
 block_step ss i s h here = ap (λ ts. block_of ts) (drop_first i ss s h here)
 
 -- a loop over statements: one more, and none
-pub statements_more : (f : FunctionText) → CanWrite f → (table next : List Standing) (level : ℕ) (items : List Statement) (i : ℕ) (item : Statement) → i < length items → item ≡ slice_index_or items i item → handles_of next ≡ after (naming f) 0 (statement_shape (tree_of item)) (handles_of table)
+pub statements_more : (f : FunctionText) → CanWrite f → (table next : List Standing) (level : ℕ) (items : List Statement) (i : ℕ) (item : Statement) → i < length items → item ≡ slice_index_or items i item → handles_of next ≡ after (naming f) 0 (statement_shape (around f) (tree_of item)) (handles_of table)
     → block_text f table level (block_of (drop i items)) ≡ joined_texts (statement_text f table level (tree_of item)) (block_text f next level (block_of (drop (i + 1) items)))
 statements_more f can table next level items i item lt at is =
     ap (block_text f table level) (block_step items i item lt at) ∙ block_row f can table next level (tree_of item) (block_of (drop (i + 1) items)) is

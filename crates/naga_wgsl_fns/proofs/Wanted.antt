@@ -1,9 +1,9 @@
 -- What the parts of a function want, from what the function wants.
 use Rattle.std.proofs.Common.{◌≡◌, ℕ, suc, ◌<◌, true, false, List, [], ◌++◌, codes, length}
-use Rattle.std.proofs.Common.{Some, refl, sym, ap, subst, ◌∙◌, IsTrue}
+use Rattle.std.proofs.Common.{Option, Some, refl, sym, ap, subst, ◌∙◌, IsTrue}
 use Rattle.std.specs.Prelude.{slice_get, cond, nat_lt, unwrap_or}
 use Rattle.std.specs.List.{list_all}
-use Rattle.std.specs.Option.{option_map, option_and_then}
+use Rattle.std.specs.Option.{is_some, option_map, option_and_then}
 use Rattle.std.proofs.lemmas.Bool.{and_parts, ltb-true}
 use Rattle.naga_ir.specs.Operands.{expression_operands}
 use Rattle.naga_ir.specs.StatementTree.{StatementTree}
@@ -16,33 +16,37 @@ use Rattle.naga_ir.specs.declared.module.FunctionResult.{FunctionResult}
 use Rattle.naga_ir.specs.declared.module.LocalVariable.{LocalVariable}
 use Rattle.naga_ir.specs.declared.module.Module.{Module}
 use Rattle.naga_ir.specs.declared.operators.BinaryOperator.{BinaryOperator}
+use Rattle.naga_ir.specs.declared.operators.MathFunction.{MathFunction}
+use Rattle.naga_ir.specs.declared.operators.RelationalFunction.{RelationalFunction}
 use Rattle.naga_ir.specs.declared.operators.UnaryOperator.{UnaryOperator}
-use Rattle.naga_info.proofs.Options.{map_some}
 use Rattle.naga_info.specs.declared.info.ExpressionInfo.{ExpressionInfo}
 use Rattle.module_meaning.proofs.Lists.{list_all_at}
-use Rattle.module_meaning.specs.Applications.{Application, application_of, operator_of}
+use Rattle.module_meaning.proofs.ModuleShapes.{points_plainly}
+use Rattle.module_meaning.specs.ExpressionOperators.{points_to_atomic}
+use Rattle.module_meaning.specs.FunctionShapes.{statement_shape}
 use Rattle.module_meaning.specs.Names.{module_names, numbered_name}
 use Rattle.module_meaning.specs.Numbers.{signature_fits_32_bits}
+use Rattle.module_meaning.specs.OperatorTable.{relational_word}
 use Rattle.module_meaning.specs.Part.{expression_is_written, is_scalar_at, is_written_literal}
 use Rattle.module_meaning.specs.Part.{names_nothing, resolution_is_written}
 use Rattle.module_meaning.specs.Ranges.{is_below, local_in_range, names_in_range, signature_fits}
 use Rattle.module_meaning.specs.Ranges.{signature_types_fit}
-use Rattle.module_meaning.specs.Shapes.{expression_shape, statement_shape, OperandsStandBefore}
+use Rattle.module_meaning.specs.Premises.{OperandsStandBefore}
 use Rattle.module_meaning.specs.Types.{type_names}
 use Rattle.shader_runs.specs.Premises.{AllBelow}
-use Rattle.shader_runs.specs.Program.{operands_of}
 use Rattle.shader_runs.specs.Scope.{bound_name, given_after, given_by}
 use Rattle.naga_form.proofs.AcceptedFunctions.{locals_are_in_range, names_are_in_range}
 use Rattle.naga_form.proofs.Fits.{none_is_given, none_given_by as nothing_given_by}
-use Rattle.naga_form.proofs.Ordered.{each_below, operands_below, operands_stand_before}
+use Rattle.naga_form.proofs.Ordered.{operands_stand_before}
 use Rattle.naga_form.proofs.PartFits.{function_parts}
 use Rattle.naga_form.proofs.WrittenTypes.{resolution_has_form, scalars_at}
 use Rattle.naga_form.specs.TypeTrees.{resolution_tree}
 use Rattle.naga_form.specs.Types.{told_type}
 use Rattle.wgsl_text.specs.Reading.{type_layout}
+use Rattle.wgsl_words.specs.Words.{math_word}
 use Rattle.wgsl_text.specs.Types.{Named}
 use Rattle.naga_wgsl_fns.specs.declared.functions.FunctionText.{FunctionText}
-use Rattle.naga_wgsl_fns.specs.FunctionText.{CanWrite, naming, tells_types}
+use Rattle.naga_wgsl_fns.specs.FunctionText.{CanWrite, around, naming, tells_types}
 use Rattle.naga_wgsl_fns.specs.Types.{annotation_text, resolution_text, told_text}
 use Rattle.naga_wgsl_fns.specs.Types.{told_type_text}
 
@@ -127,41 +131,74 @@ module _ (t : FunctionText) (can : CanWrite t) where
   pub ordered : OperandsStandBefore f.expressions
   ordered h e at = operands_stand_before m g f can.ranges h e at
 
-  pub pointer_before : (h : ℕ) (e : Expression) (p : ℕ) → slice_get f.expressions h ≡ Some e → e ≡ expression.Load p → p < h
-  pointer_before h e p here is = (subst (λ e. AllBelow h (operands_of (Some (expression_shape e)))) is (ordered h e here)).0
-
   pub all_before : (h : ℕ) (e : Expression) → slice_get f.expressions h ≡ Some e → AllBelow h (expression_operands e)
-  all_before h e here = each_below h (expression_operands e) (operands_below m g f can.ranges h e here)
+  all_before h e here = ordered h e here
 
-  pub operands_before : (h : ℕ) (e : Expression) (a : Application) →
-      slice_get f.expressions h ≡ Some e → application_of e ≡ Some a → AllBelow h a.operands
-  operands_before h e a here is =
-      let own = map_some (λ op. record { operator = op; operands = expression_operands e }) (operator_of e) a is in
-      subst (AllBelow h) (ap (λ a. a.operands) own.2) (all_before h e here)
+  pub operands_before : (h : ℕ) (e own : Expression) → slice_get f.expressions h ≡ Some e → e ≡ own →
+      AllBelow h (expression_operands own)
+  operands_before h e own here is =
+      subst (λ e. AllBelow h (expression_operands e)) is (all_before h e here)
+
+  -- functions of mathematics and relations have words
+  pub math_is_written : (h : ℕ) (e : Expression) (fun : MathFunction) (x : ℕ) (y z w : Option ℕ) →
+      slice_get f.expressions h ≡ Some e → e ≡ expression.Math fun x y z w →
+      IsTrue (is_some (math_word fun))
+  math_is_written h e fun x y z w here is = ap expression_is_written (sym is) ∙ is_written h e here
+
+  pub relation_is_written : (h : ℕ) (e : Expression) (fun : RelationalFunction) (x : ℕ) →
+      slice_get f.expressions h ≡ Some e → e ≡ expression.Relational fun x →
+      IsTrue (is_some (relational_word fun))
+  relation_is_written h e fun x here is = ap expression_is_written (sym is) ∙ is_written h e here
+
+  -- it loads and stores no atomic
+  pub points_to_none : (h : ℕ) → points_to_atomic (around t) h ≡ false
+  points_to_none h = points_plainly (around t) can.scalars h
 
   -- no other expression is written
-  pub no_other_expression : (h : ℕ) (e : Expression) → slice_get f.expressions h ≡ Some e → ((value : ir_literal.Literal) → e ≡ expression.Literal value → ⊥) → ((n : ℕ) → e ≡ expression.FunctionArgument n → ⊥) → ((v : ℕ) → e ≡ expression.LocalVariable v → ⊥) → ((p : ℕ) → e ≡ expression.Load p → ⊥) → ((op : UnaryOperator) (x : ℕ) → e ≡ expression.Unary op x → ⊥) → ((op : BinaryOperator) (l r : ℕ) → e ≡ expression.Binary op l r → ⊥) → ((c a r : ℕ) → e ≡ expression.Select c a r → ⊥) → ⊥
-  no_other_expression h e here literal argument local load unary binary select = by e (is_written h e here) literal argument local load unary binary select
+  pub no_other_expression : (h : ℕ) (e : Expression) → slice_get f.expressions h ≡ Some e →
+      ((value : ir_literal.Literal) → e ≡ expression.Literal value → ⊥) →
+      ((n : ℕ) → e ≡ expression.FunctionArgument n → ⊥) →
+      ((v : ℕ) → e ≡ expression.LocalVariable v → ⊥) →
+      ((p : ℕ) → e ≡ expression.Load p → ⊥) →
+      ((op : UnaryOperator) (x : ℕ) → e ≡ expression.Unary op x → ⊥) →
+      ((op : BinaryOperator) (l r : ℕ) → e ≡ expression.Binary op l r → ⊥) →
+      ((c a r : ℕ) → e ≡ expression.Select c a r → ⊥) →
+      ((fun : MathFunction) (x : ℕ) (y z w : Option ℕ) → e ≡ expression.Math fun x y z w → ⊥) →
+      ((fun : RelationalFunction) (x : ℕ) → e ≡ expression.Relational fun x → ⊥) →
+      ⊥
+  no_other_expression h e here = by e (is_written h e here)
     where
-      by : (e : Expression) → IsTrue (expression_is_written e) → ((value : ir_literal.Literal) → e ≡ expression.Literal value → ⊥) → ((n : ℕ) → e ≡ expression.FunctionArgument n → ⊥) → ((v : ℕ) → e ≡ expression.LocalVariable v → ⊥) → ((p : ℕ) → e ≡ expression.Load p → ⊥) → ((op : UnaryOperator) (x : ℕ) → e ≡ expression.Unary op x → ⊥) → ((op : BinaryOperator) (l r : ℕ) → e ≡ expression.Binary op l r → ⊥) → ((c a r : ℕ) → e ≡ expression.Select c a r → ⊥) → ⊥
-      by (expression.Literal v) is literal argument local load unary binary select = literal v refl
-      by (expression.FunctionArgument n) is literal argument local load unary binary select = argument n refl
-      by (expression.LocalVariable v) is literal argument local load unary binary select = local v refl
-      by (expression.Load p) is literal argument local load unary binary select = load p refl
-      by (expression.Unary op x) is literal argument local load unary binary select = unary op x refl
-      by (expression.Binary op l r) is literal argument local load unary binary select = binary op l r refl
-      by (expression.Select c a r) is literal argument local load unary binary select = select c a r refl
-      by _ is literal argument local load unary binary select = absurd cc
+      by : (e : Expression) → IsTrue (expression_is_written e) →
+          ((value : ir_literal.Literal) → e ≡ expression.Literal value → ⊥) →
+          ((n : ℕ) → e ≡ expression.FunctionArgument n → ⊥) →
+          ((v : ℕ) → e ≡ expression.LocalVariable v → ⊥) →
+          ((p : ℕ) → e ≡ expression.Load p → ⊥) →
+          ((op : UnaryOperator) (x : ℕ) → e ≡ expression.Unary op x → ⊥) →
+          ((op : BinaryOperator) (l r : ℕ) → e ≡ expression.Binary op l r → ⊥) →
+          ((c a r : ℕ) → e ≡ expression.Select c a r → ⊥) →
+          ((fun : MathFunction) (x : ℕ) (y z w : Option ℕ) → e ≡ expression.Math fun x y z w → ⊥) →
+          ((fun : RelationalFunction) (x : ℕ) → e ≡ expression.Relational fun x → ⊥) →
+          ⊥
+      by (expression.Literal v) is literal argument local load unary binary select mathematical relational = literal v refl
+      by (expression.FunctionArgument n) is literal argument local load unary binary select mathematical relational = argument n refl
+      by (expression.LocalVariable v) is literal argument local load unary binary select mathematical relational = local v refl
+      by (expression.Load p) is literal argument local load unary binary select mathematical relational = load p refl
+      by (expression.Unary op x) is literal argument local load unary binary select mathematical relational = unary op x refl
+      by (expression.Binary op l r) is literal argument local load unary binary select mathematical relational = binary op l r refl
+      by (expression.Select c a r) is literal argument local load unary binary select mathematical relational = select c a r refl
+      by (expression.Math fun x y z w) is literal argument local load unary binary select mathematical relational = mathematical fun x y z w refl
+      by (expression.Relational fun x) is literal argument local load unary binary select mathematical relational = relational fun x refl
+      by _ is literal argument local load unary binary select mathematical relational = absurd cc
 
   -- ---- names of handles
   unnamed : IsTrue (names_nothing f)
   unnamed = (function_parts f can.written).unnamed
 
   pub none_given : (h k : ℕ) → given_after (naming t).function h k ≡ k
-  none_given h k = ap (λ b. cond b (suc k) k) (none_is_given m f es unnamed h)
+  none_given h k = ap (λ b. cond b (suc k) k) (none_is_given m t.module_info.now f es unnamed h)
 
   pub bound_is : (h : ℕ) → numbered_name h ≡ bound_name (naming t) 0 h
-  bound_is h = sym (ap (λ b. cond b [] (numbered_name h)) (none_is_given m f es unnamed h))
+  bound_is h = sym (ap (λ b. cond b [] (numbered_name h)) (none_is_given m t.module_info.now f es unnamed h))
 
-  pub none_given_by : (st : StatementTree) → given_by (naming t).function (statement_shape st) 0 ≡ 0
-  none_given_by st = nothing_given_by m f es unnamed st 0
+  pub none_given_by : (st : StatementTree) → given_by (naming t).function (statement_shape (around t) st) 0 ≡ 0
+  none_given_by st = nothing_given_by m t.module_info.now f es unnamed st 0

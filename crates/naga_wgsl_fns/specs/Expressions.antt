@@ -7,22 +7,22 @@ use Rattle.wgsl_text.specs.Expressions.{Name, AddressOf, Dereference, arguments_
 use Rattle.wgsl_text.specs.Expressions.{more_arguments_pieces, operands as arguments_of}
 use Rattle.wgsl_text.specs.Text.{text}
 use Rattle.wgsl_text.specs.Types.{Named}
-use Rattle.naga_form.specs.Expressions.{PlainForm, as_value, as_reference, value_forms, own_if}
-use Rattle.naga_form.specs.Expressions.{plain_form}
+use Rattle.naga_form.specs.Expressions.{PlainForm, as_value, as_reference, value_forms}
+use Rattle.naga_form.specs.Expressions.{plain_form, unnamed_form}
 use Rattle.naga_form.specs.Operators.{Notation, Called, applied_form}
 use Rattle.naga_scope.specs.declared.points.Standing.{Standing}
 use Rattle.naga_scope.specs.Standings.{handles_of}
 use Rattle.wgsl_text.specs.Reading.{expression_layout}
 use Rattle.naga_wgsl_fns.specs.declared.functions.FunctionText.{FunctionText}
-use Rattle.naga_wgsl_fns.specs.FunctionText.{expressions, naming}
+use Rattle.naga_wgsl_fns.specs.FunctionText.{expressions, naming, source}
 
 -- the form of a handle
 abbrev pub form_at : FunctionText → (table : List Standing) → (handle : ℕ) → PlainForm
-form_at f table handle = plain_form (naming f) (expressions f) (handles_of table) handle
+form_at f table handle = plain_form (naming f) (source f) (handles_of table) handle
 
 -- the same whether it has a name or not
 abbrev pub own_form : FunctionText → (table : List Standing) → (handle : ℕ) → PlainForm
-own_form f table handle = own_if (naming f) (form_at f table) (slice_get (expressions f) handle)
+own_form f table handle = unnamed_form (naming f) (source f) (handles_of table) handle
 
 -- as a value: its name where it has one, else what it is made of
 unfoldable pub value_text : FunctionText → (table : List Standing) → (handle : ℕ) → List ℕ

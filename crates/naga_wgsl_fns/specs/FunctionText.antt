@@ -8,7 +8,9 @@ use Rattle.module_meaning.specs.Ranges.{function_in_range}
 use Rattle.naga_names.specs.Keys.{names_in}
 use Rattle.shader_runs.specs.Scope.{Naming}
 use Rattle.module_meaning.specs.Names.{HasNamesOf, module_names}
-use Rattle.module_meaning.specs.Shapes.{function_naming}
+use Rattle.module_meaning.specs.ExpressionOperators.{Surroundings}
+use Rattle.module_meaning.specs.Namings.{function_naming}
+use Rattle.naga_form.specs.Expressions.{Source, function_source}
 use Rattle.naga_form.specs.Types.{told_type}
 use Rattle.module_meaning.specs.Types.{type_names}
 use Rattle.naga_words.specs.Contexts.{Names as TypeNames}
@@ -24,11 +26,18 @@ tells_types flags = bit_and flags.0 1 == 1
 abbrev pub naming : FunctionText → Naming
 naming f =
     let m = f.shader.now in
-    function_naming (module_names m) m f.handle f.function.now f.info.now
+    function_naming (module_names m) m f.module_info.now f.handle f.function.now f.info.now
 
 -- its expressions
 abbrev pub expressions : FunctionText → List Expression
 expressions f = f.function.now.expressions
+
+-- the same with what stands around them
+abbrev pub source : FunctionText → Source
+source f = function_source f.shader.now f.module_info.now f.function.now f.info.now
+
+abbrev pub around : FunctionText → Surroundings
+around f = (source f).declared.around
 
 -- the names by which its types are spelled
 abbrev pub type_names_of : FunctionText → TypeNames

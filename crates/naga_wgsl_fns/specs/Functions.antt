@@ -22,7 +22,7 @@ use Rattle.naga_scope.specs.Standings.{handles_of}
 use Rattle.wgsl_text.specs.Text.{text}
 use Rattle.naga_back.specs.declared.flags.WriterFlags.{WriterFlags}
 use Rattle.naga_wgsl_fns.specs.declared.functions.FunctionText.{FunctionText}
-use Rattle.naga_wgsl_fns.specs.FunctionText.{expressions, naming, tells_types, type_names_of}
+use Rattle.naga_wgsl_fns.specs.FunctionText.{source, naming, tells_types, type_names_of}
 use Rattle.naga_wgsl_fns.specs.Names.{name_of_function}
 use Rattle.naga_wgsl_fns.specs.Statements.{lines_text}
 use Rattle.naga_wgsl_fns.specs.Types.{type_text}
@@ -32,23 +32,24 @@ abbrev pub known_of : ModuleInfo → ℕ → List ExpressionInfo
 known_of info handle = unwrap_or (slice_get info.functions.items handle) []
 
 -- the text of a function of the module, with what is known of its expressions
-abbrev pub text_of : Module → WriterFlags → (handle : ℕ) → ir.Function → List ExpressionInfo
-    → List ℕ
-text_of m flags handle f known =
-    let form = function_form (tells_types flags) (module_names m) m handle f known in
+abbrev pub text_of :
+    Module → ModuleInfo → WriterFlags → (handle : ℕ) → ir.Function → List ExpressionInfo → List ℕ
+text_of m info flags handle f known =
+    let form = function_form (tells_types flags) (module_names m) m info handle f known in
     text (function_pieces form)
 
 -- the same of the module's function with this handle; nothing, where there is none
 abbrev pub text_of_function : Module → ModuleInfo → WriterFlags → (handle : ℕ) → List ℕ
 text_of_function m info flags handle =
-    option_map_or (λ f. text_of m flags handle f (known_of info handle))
+    option_map_or (λ f. text_of m info flags handle f (known_of info handle))
     (slice_get m.functions handle) []
 
 -- the form of a function
 abbrev pub form_of : FunctionText → Function
 form_of f =
     let m = f.shader.now in
-    function_form (tells_types f.flags) (module_names m) m f.handle f.function.now f.info.now
+    let info = f.module_info.now in
+    function_form (tells_types f.flags) (module_names m) m info f.handle f.function.now f.info.now
 
 unfoldable pub function_text : FunctionText → List ℕ
 function_text f = text (function_pieces (form_of f))
@@ -102,7 +103,7 @@ body_text f = locals_text f ++ (lines_text 1 (form_of f).body ++ codes "}\n")
 
 -- the first value of a local
 abbrev pub first_form : FunctionText → (value : ℕ) → Expression
-first_form f value = value_form (naming f) (expressions f) (at_start (naming f).function) value
+first_form f value = value_form (naming f) (source f) (at_start (naming f).function) value
 
 -- what stands behind a local's type
 unfoldable pub first_text : FunctionText → (value : Option ℕ) → List ℕ

@@ -13,7 +13,7 @@ use Rattle.naga_scope.specs.declared.points.Standing.{Standing}
 use Rattle.naga_scope.specs.Standings.{handles_of}
 use Rattle.wgsl_text.specs.Text.{text}
 use Rattle.naga_wgsl_fns.specs.declared.functions.FunctionText.{FunctionText}
-use Rattle.naga_wgsl_fns.specs.FunctionText.{expressions, naming, let_annotation}
+use Rattle.naga_wgsl_fns.specs.FunctionText.{source, naming, let_annotation}
 use Rattle.naga_wgsl_fns.specs.Expressions.{form_at, own_form}
 
 -- a statement's lines
@@ -36,7 +36,7 @@ store_text f table level pointer value =
 unfoldable pub return_text : FunctionText → (table : List Standing)
     → (level : ℕ) (value : Option ℕ) → List ℕ
 return_text f table level value =
-    line_text level (return_line (naming f) (expressions f) (handles_of table) value)
+    line_text level (return_line (naming f) (source f) (handles_of table) value)
 
 unfoldable pub return_value_text : FunctionText → (table : List Standing)
     → (level value : ℕ) → List ℕ
@@ -63,7 +63,7 @@ unfoldable pub lets_text : FunctionText → (table : List Standing) → (level :
 lets_text f table level handles =
     let rest = NoStatements in
     let lets =
-    lets_form (naming f) (let_annotation f) (expressions f) 0 handles (handles_of table) rest in
+    lets_form (naming f) (let_annotation f) (source f) 0 handles (handles_of table) rest in
     lines_text level lets
 
 -- a statement of a block
@@ -72,7 +72,7 @@ unfoldable pub statement_text : FunctionText → (table : List Standing) → (le
 statement_text f table level statement =
     let rest = NoStatements in
     let lines =
-    line_form (naming f) (let_annotation f) (expressions f) 0 statement (handles_of table)
+    line_form (naming f) (let_annotation f) (source f) 0 statement (handles_of table)
     rest in
     lines_text level lines
 
@@ -80,4 +80,4 @@ unfoldable pub block_text : FunctionText → (table : List Standing) → (level 
     → BlockTree → List ℕ
 block_text f table level block =
     lines_text level
-    (lines_form (naming f) (let_annotation f) (expressions f) 0 block (handles_of table))
+    (lines_form (naming f) (let_annotation f) (source f) 0 block (handles_of table))

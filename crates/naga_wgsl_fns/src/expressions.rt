@@ -1,21 +1,28 @@
 //! Expressions.
 
-ghost use Rattle.std.specs.Prelude.{[], ◌∷◌, ◌<◌, ◌≡◌, length};
+ghost use Rattle.std.specs.Prelude.{[], ◌∷◌, ◌<◌, ◌≡◌, length, IsTrue};
+ghost use Rattle.std.specs.Option.{is_some};
+ghost use Rattle.module_meaning.specs.OperatorTable.{Mathematical, Relation, relational_word};
+ghost use Rattle.module_meaning.specs.OperatorTable.{run_word};
 ghost use Rattle.naga_form.specs.Operators.{Infix, Prefix, operator_form, unary_form};
 ghost use Rattle.naga_words.specs.Output.{Writes};
 ghost use Rattle.naga_wgsl_fns.specs.FunctionText.{CanWrite};
 ghost use Rattle.naga_wgsl_fns.specs.Expressions.{address_text, applied_text, called_text};
 ghost use Rattle.naga_wgsl_fns.specs.Expressions.{next_operand_text, operands_text, own_text};
 ghost use Rattle.naga_wgsl_fns.specs.Expressions.{pointed_text, reference_text, value_text};
-ghost use Rattle.wgsl_words.specs.Words.{unary_text};
+ghost use Rattle.wgsl_words.specs.Words.{math_word, unary_text};
 
 use crate::functions::FunctionText;
 use crate::literal::write_literal;
 use crate::names::write_bound_name;
 use naga_back::binary_operation_str;
-use naga_ir::{BinaryOperator, Expression, Handle, LocalVariable, UnaryOperator};
+use naga_ir::{
+    BinaryOperator, Expression, Handle, LocalVariable, MathFunction, RelationalFunction,
+    UnaryOperator,
+};
 use naga_scope::{Scope, Standing};
 use naga_words::{Output, TextSink};
+use wgsl_words::TryToWgsl;
 
 impl FunctionText<'_> {
     /// An expression as a value: its name where it has one here, else what it is made of. A
@@ -61,6 +68,12 @@ impl FunctionText<'_> {
                 self.write_infix(scope, *op, *left, *right, out)
             }
             Expression::Select { .. } => self.write_called(scope, handle, "select", out),
+            Expression::Math { fun, .. } => {
+                self.write_called(scope, handle, math_function_str(*fun), out)
+            }
+            Expression::Relational { fun, .. } => {
+                self.write_called(scope, handle, relational_function_str(*fun), out)
+            }
             _ => unreachable!(),
         }
     }
@@ -235,5 +248,28 @@ fn unary_operation_str(op: UnaryOperator) -> &'static str
         UnaryOperator::Negate => "-",
         UnaryOperator::LogicalNot => "!",
         UnaryOperator::BitwiseNot => "~",
+    }
+}
+
+/// The word of a function of mathematics that has one.
+fn math_function_str(fun: MathFunction) -> &'static str
+    requires { IsTrue (is_some (math_word fun)) }
+    ensures { result.now ≡ run_word (Mathematical fun) }
+{
+    match fun.try_to_wgsl() {
+        Some(word) => word,
+        None => unreachable!(),
+    }
+}
+
+/// The word of a relation that has one.
+fn relational_function_str(fun: RelationalFunction) -> &'static str
+    requires { IsTrue (is_some (relational_word fun)) }
+    ensures { result.now ≡ run_word (Relation fun) }
+{
+    match fun {
+        RelationalFunction::All => "all",
+        RelationalFunction::Any => "any",
+        RelationalFunction::IsNan | RelationalFunction::IsInf => unreachable!(),
     }
 }

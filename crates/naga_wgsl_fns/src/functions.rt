@@ -66,6 +66,7 @@ pub fn write_function<W: TextSink>(
 {
     let text = FunctionText {
         shader: module,
+        module_info: info,
         names,
         flags,
         handle,
@@ -84,6 +85,7 @@ pub fn write_function<W: TextSink>(
 #[derive(Clone, Copy)]
 pub(crate) struct FunctionText<'a> {
     pub(crate) shader: &'a Module,
+    pub(crate) module_info: &'a ModuleInfo,
     pub(crate) names: &'a HashMap<NameKey, String>,
     pub(crate) flags: WriterFlags,
     pub(crate) handle: Handle<Function>,

@@ -4,13 +4,13 @@ ghost use Rattle.std.specs.Prelude.{◌≡◌, ◌<◌, ◌-◌, ◌≤◌, IsTr
 ghost use Rattle.module_meaning.specs.Part.{block_is_written, statement_is_written};
 ghost use Rattle.module_meaning.specs.Ranges.{block_in_range, is_below, statement_in_range};
 ghost use Rattle.naga_back.specs.Indentation.{indentation};
-ghost use Rattle.module_meaning.specs.Shapes.{statement_shape};
+ghost use Rattle.module_meaning.specs.FunctionShapes.{statement_shape};
 ghost use Rattle.naga_ir.specs.StatementViews.{tree_of};
 ghost use Rattle.naga_scope.specs.Standings.{handles_of};
 ghost use Rattle.shader_runs.specs.Program.{from};
 ghost use Rattle.shader_runs.specs.Scope.{after, after_emit};
 ghost use Rattle.naga_words.specs.Output.{Writes};
-ghost use Rattle.naga_wgsl_fns.specs.FunctionText.{CanWrite, naming};
+ghost use Rattle.naga_wgsl_fns.specs.FunctionText.{CanWrite, around, naming};
 ghost use Rattle.naga_wgsl_fns.specs.Statements.{block_text, emitted_text, let_text, lets_text};
 ghost use Rattle.naga_wgsl_fns.specs.Statements.{line_start, return_text, return_value_text};
 ghost use Rattle.naga_wgsl_fns.specs.Statements.{statement_text, store_text};
@@ -51,7 +51,7 @@ impl FunctionText<'_> {
     }
 
     /// A statement. Behind the call, `scope` is what is in scope behind it.
-    #[tactic(auto, using(crate::proofs::StatementRows::statement_row))]
+    #[tactic(auto, using(crate::proofs::StatementRows::statement_row, naga_scope::proofs::Holding::store_after))]
     fn write_statement<W: TextSink>(
         &self,
         alloc: Global,
@@ -68,7 +68,7 @@ impl FunctionText<'_> {
         ensures lines { Writes W.text W.failures out.old out.new
             (statement_text self.now scope.old level.0 (tree_of statement.now)) }
         ensures after { handles_of scope.new
-            ≡ after (naming self.now) 0 (statement_shape (tree_of statement.now))
+            ≡ after (naming self.now) 0 (statement_shape (around self.now) (tree_of statement.now))
             (handles_of scope.old) }
         ensures size { length scope.new ≡ length scope.old }
     {

@@ -36,15 +36,15 @@ use Rattle.naga_wgsl_out.specs.Writing.{HasPlan, MetNoPlan, WritesFunctions, Wro
 use Rattle.naga_wgsl_out.specs.Writing.{line_of, lines_before, lines_of, module_lines, written_text}
 use Rattle.naga_wgsl_out.proofs.Scopes.{planned_holds}
 
-functions_text : (m : Module) (info : ModuleInfo) (flags : WriterFlags) (g : ℕ) (fs : List Function) (ess : List (List ExpressionInfo)) → length fs ≡ length ess → ((i : ℕ) (es : List ExpressionInfo) → slice_get ess i ≡ Some es → known_of info (g + i) ≡ es) → text (functions_pieces (functions_form (tells_types flags) (module_names m) m g fs ess)) ≡ lines_of m info flags (enumerate_from g fs)
+functions_text : (m : Module) (info : ModuleInfo) (flags : WriterFlags) (g : ℕ) (fs : List Function) (ess : List (List ExpressionInfo)) → length fs ≡ length ess → ((i : ℕ) (es : List ExpressionInfo) → slice_get ess i ≡ Some es → known_of info (g + i) ≡ es) → text (functions_pieces (functions_form (tells_types flags) (module_names m) m info g fs ess)) ≡ lines_of m info flags (enumerate_from g fs)
 functions_text m info flags g [] [] size known = refl
 functions_text m info flags g [] (es ∷ ess) size known = refl
 functions_text m info flags g (f ∷ fs) [] size known = absurd (cc)
 functions_text m info flags g (f ∷ fs) (es ∷ ess) size known =
-    let own = λ (ks : List ExpressionInfo). function_pieces (function_form (tells_types flags) (module_names m) m g f ks) in
+    let own = λ (ks : List ExpressionInfo). function_pieces (function_form (tells_types flags) (module_names m) m info g f ks) in
     let here : g + 0 ≡ g = omega arith in
     let same : known_of info g ≡ es = ap (known_of info) (sym here) ∙ known 0 es refl in
-    text-append (own es) (LineEnd ∷ functions_pieces (functions_form (tells_types flags) (module_names m) m (g + 1) fs ess))
+    text-append (own es) (LineEnd ∷ functions_pieces (functions_form (tells_types flags) (module_names m) m info (g + 1) fs ess))
     ∙ (ap (λ rest. text (own es) ++ (10 ∷ rest)) (functions_text m info flags (g + 1) fs ess (ap pred size) later)
     ∙ (ap (λ ks. text (own ks) ++ (10 ∷ lines_of m info flags (enumerate_from (g + 1) fs))) (sym same)
     ∙ sym (append_assoc (text (own (known_of info g))) (codes "\n") (lines_of m info flags (enumerate_from (g + 1) fs)))))
@@ -55,14 +55,14 @@ functions_text m info flags g (f ∷ fs) (es ∷ ess) size known =
 -- so far a module's text is its functions
 pub written_lines : (m : Module) (info : ModuleInfo) (flags : WriterFlags) → IsTrue (is_accepted m info) → lines_of m info flags (enumerate_from 0 m.functions) ≡ written_text m info flags
 written_lines m info flags accepted =
-    let form = functions_form (tells_types flags) (module_names m) m 0 m.functions info.functions.items in
+    let form = functions_form (tells_types flags) (module_names m) m info 0 m.functions info.functions.items in
     sym (ap text (append-nil (functions_pieces form)) ∙ functions_text m info flags 0 m.functions info.functions.items (functions_counted m info accepted) known)
   where
     known : (i : ℕ) (es : List ExpressionInfo) → slice_get info.functions.items i ≡ Some es → known_of info (0 + i) ≡ es
     known i es at = let same : i ≡ 0 + i = omega arith in subst (λ h. known_of info h ≡ es) same (ap (λ o. unwrap_or o []) at)
 
 -- the first of the functions that are left
-pub next_line : (m : Module) (info : ModuleInfo) (flags : WriterFlags) (all : List (ℕ × Function)) (n : ℕ) (f : ℕ × Function) → n < length all → f ≡ get_or all n f → lines_of m info flags (drop n all) ≡ (text (function_pieces (function_form (tells_types flags) (module_names m) m f.0 f.1 (known_of info f.0))) ++ codes "\n") ++ lines_of m info flags (drop (n + 1) all)
+pub next_line : (m : Module) (info : ModuleInfo) (flags : WriterFlags) (all : List (ℕ × Function)) (n : ℕ) (f : ℕ × Function) → n < length all → f ≡ get_or all n f → lines_of m info flags (drop n all) ≡ (text (function_pieces (function_form (tells_types flags) (module_names m) m info f.0 f.1 (known_of info f.0))) ++ codes "\n") ++ lines_of m info flags (drop (n + 1) all)
 next_line m info flags all n f lt is =
     let split : drop n all ≡ get_or all n f ∷ drop (n + 1) all = rw add-one (drop-cons all n f lt) in
     ap (lines_of m info flags) split ∙ ap (λ q. lines_of m info flags (q ∷ drop (n + 1) all)) (sym is)
@@ -76,12 +76,12 @@ at_enumerated n (x ∷ fs) (suc i) f lt is =
     let moved : (n + 1) + i ≡ n + suc i = omega arith in
     (rest.0 ∙ moved, omega (arith, rest.1), rest.2)
 
-text_is : (m : Module) (info : ModuleInfo) (flags : WriterFlags) (n : ℕ) (f : ℕ × Function) → n < length (enumerate_from 0 m.functions) → f ≡ get_or (enumerate_from 0 m.functions) n f → text (function_pieces (function_form (tells_types flags) (module_names m) m f.0 f.1 (known_of info f.0))) ≡ text_of_function m info flags f.0
+text_is : (m : Module) (info : ModuleInfo) (flags : WriterFlags) (n : ℕ) (f : ℕ × Function) → n < length (enumerate_from 0 m.functions) → f ≡ get_or (enumerate_from 0 m.functions) n f → text (function_pieces (function_form (tells_types flags) (module_names m) m info f.0 f.1 (known_of info f.0))) ≡ text_of_function m info flags f.0
 text_is m info flags n f lt is =
     let at = at_enumerated 0 m.functions n f lt is in
     let same : 0 + n ≡ n = omega arith in
     let found : slice_get m.functions f.0 ≡ Some f.1 = ap (slice_get m.functions) (at.0 ∙ same) ∙ at.2 in
-    sym (ap (λ o. option_map_or (λ g. text (function_pieces (function_form (tells_types flags) (module_names m) m f.0 g (known_of info f.0)))) o []) found)
+    sym (ap (λ o. option_map_or (λ g. text (function_pieces (function_form (tells_types flags) (module_names m) m info f.0 g (known_of info f.0)))) o []) found)
 
 -- the lines that are left begin with those of the next function
 pub here_line : (m : Module) (info : ModuleInfo) (flags : WriterFlags) (n : ℕ) (f : ℕ × Function) → n < length (enumerate_from 0 m.functions) → f ≡ get_or (enumerate_from 0 m.functions) n f → lines_of m info flags (drop n (enumerate_from 0 m.functions)) ≡ (text_of_function m info flags f.0 ++ codes "\n") ++ lines_of m info flags (drop (n + 1) (enumerate_from 0 m.functions))

@@ -4,7 +4,6 @@ use Rattle.std.proofs.Common.{None, Option, Some, ap, arith, length, nat_le, ref
 use Rattle.std.specs.Prelude.{IfSome, IsSomeAnd, IsTrue, slice_get}
 use Rattle.std.specs.List.{list_all}
 use Rattle.std.proofs.lemmas.Bool.{and_from}
-use Rattle.std.proofs.lemmas.List.{length-map}
 use Rattle.std.proofs.lemmas.Option.{slice_get_within}
 use mathlib.Core.List.{reverse_aux}
 use Rattle.naga_ir.specs.declared.module.Function as ir_function
@@ -16,8 +15,10 @@ use Rattle.shader_runs.specs.ScopeRules.{ScopeHolds}
 use Rattle.module_meaning.specs.Accepted.{is_accepted}
 use Rattle.module_meaning.specs.Part.{is_written_so_far}
 use Rattle.module_meaning.specs.Premises.{EachScopeHolds, ScopesHold, handles_are_counted}
-use Rattle.module_meaning.specs.Shapes.{expression_shape, function_shapes}
-use Rattle.module_meaning.proofs.ModuleShapes.{same_program}
+use Rattle.module_meaning.specs.FunctionShapes.{function_shapes}
+use Rattle.module_meaning.specs.Surroundings.{declared, types_known}
+use Rattle.module_meaning.proofs.ModuleShapes.{declares_functions_alone}
+use Rattle.naga_form.proofs.ModulePlaces.{shapes_length}
 use Rattle.naga_form.proofs.AcceptedFunctions.{functions_counted}
 use Rattle.naga_names.proofs.Refusal.{element}
 use Rattle.naga_scope.specs.Plans.{IsPlan, ScopeHoldsIn, function_shape_at}
@@ -50,9 +51,9 @@ each_from (f ∷ fs) at = (at 0 (omega arith), each_from fs (λ i lt. at (suc i)
 pub scope_holds_in : (m : Module) (info : ModuleInfo) → IsTrue (is_written_so_far m info) →
     ScopesHold m info → (i : ℕ) → ScopeHoldsIn m info i
 scope_holds_in m info written rules i =
-    let own = function_shapes m m.functions info.functions.items in
+    let own = function_shapes m info m.functions info.functions.items in
     let of_part = subst (λ (p : shapes.Module). EachScopeHolds p.functions)
-    (same_program m info written) rules in
+    (declares_functions_alone m info written) rules in
     each_at own (turned_back own [] of_part).0 i
 
 -- ---- functions with a plan
@@ -66,11 +67,11 @@ planned_holds m info i has = by (function_shape_at m info i) has.plan
 
 -- more shapes than functions there are none
 shapes_below : (m : Module) (info : ModuleInfo) (i : ℕ) →
-    i < length (function_shapes m m.functions info.functions.items) → i < length m.functions
+    i < length (function_shapes m info m.functions info.functions.items) → i < length m.functions
 shapes_below m info i lt = by m.functions info.functions.items i lt
   where
     by : (fs : List ir_function.Function) (ess : List _) (i : ℕ) →
-        i < length (function_shapes m fs ess) → i < length fs
+        i < length (function_shapes m info fs ess) → i < length fs
     by [] ess i lt = lt
     by (f ∷ fs) [] i lt = absurd (omega (arith, lt))
     by (f ∷ fs) (es ∷ ess) zero lt = omega arith
@@ -81,9 +82,9 @@ shapes_below m info i lt = by m.functions info.functions.items i lt
 pub all_planned_hold : (m : Module) (info : ModuleInfo) → IsTrue (is_written_so_far m info) →
     ((i : ℕ) → i < length m.functions → HasPlan m info i) → ScopesHold m info
 all_planned_hold m info written planned =
-    let own = function_shapes m m.functions info.functions.items in
+    let own = function_shapes m info m.functions info.functions.items in
     subst (λ (p : shapes.Module). EachScopeHolds p.functions)
-    (sym (same_program m info written))
+    (sym (declares_functions_alone m info written))
     (turned own []
     (each_from own (λ i lt. planned_holds m info i (planned i (shapes_below m info i lt)))) tt)
 
@@ -109,4 +110,6 @@ all_planned_counted m info accepted planned =
         let known = element info.functions.items i (omega (arith, within, counted)) in
         let has = planned i within in
         let plan = plan_found m info i f known.0 has.table is known.1 has.plan in
-        ap (λ n. nat_le n (2 ^ 64)) (sym (length-map f.expressions expression_shape)) ∙ plan.counted
+        let d = declared m info (types_known known.0) in
+        ap (λ n. nat_le n (2 ^ 64)) (sym (shapes_length d f.expressions 0 f.expressions))
+        ∙ plan.counted

@@ -33,7 +33,7 @@ written_text m info flags = layout (written_program m info (tells_types flags))
 abbrev pub line_of : Module → ModuleInfo → WriterFlags → ℕ × Function → List ℕ
 line_of m info flags p =
     let known = known_of info p.0 in
-    let form = function_form (tells_types flags) (module_names m) m p.0 p.1 known in
+    let form = function_form (tells_types flags) (module_names m) m info p.0 p.1 known in
     text (function_pieces form) ++ codes "\n"
 
 -- those of these functions, of the module, and of it in front of this function

@@ -88,8 +88,9 @@ impl<W: TextSink> Writer<W> {
     ///
     /// So far a module is refused as `Unimplemented`, `not yet written`, unless it declares nothing
     /// but scalar types and functions whose locals have a literal as first value or none, whose
-    /// expressions are arguments, locals, literals, loads, choices and operators with a sign over scalars,
-    /// without names of their own, and whose statements are `Emit`s, `Store`s and `Return`s.
+    /// expressions are arguments, locals, literals, loads, choices, operators with a sign and calls
+    /// of functions of mathematics that have a word, of `all` and of `any` over scalars, without
+    /// names of their own, and whose statements are `Emit`s, `Store`s and `Return`s.
     ///
     /// An emitted expression is bound by a `let` where it is a `Load` that is used at all or an
     /// operator that is used at least twice; `EXPLICIT_TYPES` has each `let` tell its type.

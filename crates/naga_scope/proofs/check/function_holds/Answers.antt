@@ -1,54 +1,57 @@
 use Rattle.std.proofs.Common.{◌&&◌, ap, sym, ◌∙◌}
 use Rattle.shader_runs.specs.Scope.{at_start, fits_all}
-use Rattle.module_meaning.specs.Shapes.{function_shape, function_naming, statements_shape}
-use Rattle.naga_scope.specs.Flat.{is_flat}
+use Rattle.module_meaning.specs.FunctionShapes.{function_shape, statements_shape}
+use Rattle.module_meaning.specs.Namings.{function_naming}
+use Rattle.module_meaning.specs.Surroundings.{declared, types_known}
+use Rattle.module_meaning.specs.Part.{block_is_written}
+use Rattle.naga_form.proofs.PartFits.{function_parts}
 use Rattle.naga_scope.specs.Standings.{handles_of}
-use Rattle.naga_scope.proofs.Holding.{flat_at, lines_hold, lines_refused, lines_end}
+use Rattle.naga_scope.proofs.Holding.{written_at, lines_hold, lines_refused, lines_end}
 use Rattle.naga_scope.proofs.check.function_holds.Goals as goal
 
 pub returns-then-not-first_values_hold-clause-scope : goal.returns-then-not-first_values_hold-clause-scope
-returns-then-not-first_values_hold-clause-scope c names m g =
+returns-then-not-first_values_hold-clause-scope c names m known g =
     let f = c.args.function.now in
     let es = c.args.info.now in
-    let first = sym (c.first_values_hold.ensures m es (c.requires.start m)) ∙ c.if-not-first_values_hold.true in
-    sym (ap (λ b. b && fits_all (function_naming names m g f es) 0 (statements_shape f.body) (at_start (function_shape m f es))) first)
+    let first = sym (c.first_values_hold.ensures m known es (c.requires.start m known)) ∙ c.if-not-first_values_hold.true in
+    sym (ap (λ b. b && fits_all (function_naming names m known g f es) 0 (statements_shape (declared m known (types_known es)).around f.body) (at_start (function_shape m known f es))) first)
 
-pub statement_holds-requires-clause-flat : goal.statement_holds-requires-clause-flat
-statement_holds-requires-clause-flat c =
-    flat_at c.as_slice-statement-items.result.now c.loop-statement.statement-index c.statement-item.result c.loop-statement-test.true c.statement-item.is
-    (ap is_flat c.as_slice-statement-items.ensures ∙ c.requires.flat)
+pub statement_holds-requires-clause-line : goal.statement_holds-requires-clause-line
+statement_holds-requires-clause-line c =
+    written_at c.as_slice-statement-items.result.now c.loop-statement.statement-index c.statement-item.result c.loop-statement-test.true c.statement-item.is
+    (ap block_is_written c.as_slice-statement-items.ensures ∙ (function_parts c.args.function.now c.requires.written).body)
 
 pub loop-statement-init : goal.loop-statement-init
 loop-statement-init c = record {
   size = c.requires.size;
-  holds = λ names m g. λ i. fits_all (function_naming names m g c.args.function.now c.args.info.now) 0 (statements_shape (c.as_slice-statement-items.ensures i)) (c.requires.start m i);
+  holds = λ names m known g. λ i. fits_all (function_naming names m known g c.args.function.now c.args.info.now) 0 (statements_shape (declared m known (types_known c.args.info.now)).around (c.as_slice-statement-items.ensures i)) (c.requires.start m known i);
 }
 
 pub returns-then-not-statement_holds-clause-scope : goal.returns-then-not-statement_holds-clause-scope
-returns-then-not-statement_holds-clause-scope c names m g =
+returns-then-not-statement_holds-clause-scope c names m known g =
     let f = c.args.function.now in
     let es = c.args.info.now in
-    let first = sym (c.first_values_hold.ensures m es (c.requires.start m)) ∙ c.if-not-first_values_hold.false in
-    lines_refused names m g f es c.requires.unnamed c.loop-statement.statement-index c.as_slice-statement-items.result.now c.statement-item.result (handles_of c.loop-statement.scope) c.loop-statement-test.true c.statement-item.is
-    (sym (c.statement_holds.ensures.fits names m g 0) ∙ c.if-not-statement_holds.true)
-    ∙ c.loop-statement.invariant.holds names m g
-    ∙ ap (λ b. b && fits_all (function_naming names m g f es) 0 (statements_shape f.body) (at_start (function_shape m f es))) (sym first)
+    let first = sym (c.first_values_hold.ensures m known es (c.requires.start m known)) ∙ c.if-not-first_values_hold.false in
+    lines_refused names m known g f es c.requires.written c.loop-statement.statement-index c.as_slice-statement-items.result.now c.statement-item.result (handles_of c.loop-statement.scope) c.loop-statement-test.true c.statement-item.is
+    (sym (c.statement_holds.ensures.fits names m known g 0) ∙ c.if-not-statement_holds.true)
+    ∙ c.loop-statement.invariant.holds names m known g
+    ∙ ap (λ b. b && fits_all (function_naming names m known g f es) 0 (statements_shape (declared m known (types_known es)).around f.body) (at_start (function_shape m known f es))) (sym first)
 
 pub loop-statement-preserved : goal.loop-statement-preserved
 loop-statement-preserved c = record {
   size = c.statement_holds.ensures.size ∙ c.loop-statement.invariant.size;
-  holds = λ names m g.
-      lines_hold names m g c.args.function.now c.args.info.now c.requires.unnamed c.loop-statement.statement-index c.as_slice-statement-items.result.now c.statement-item.result (handles_of c.loop-statement.scope) (handles_of c.statement_holds.new.scope) c.loop-statement-test.true c.statement-item.is
-      (sym (c.statement_holds.ensures.fits names m g 0) ∙ c.if-not-statement_holds.false)
-      (c.statement_holds.ensures.after names m g 0 c.if-not-statement_holds.false)
-      ∙ c.loop-statement.invariant.holds names m g;
+  holds = λ names m known g.
+      lines_hold names m known g c.args.function.now c.args.info.now c.requires.written c.loop-statement.statement-index c.as_slice-statement-items.result.now c.statement-item.result (handles_of c.loop-statement.scope) (handles_of c.statement_holds.new.scope) c.loop-statement-test.true c.statement-item.is
+      (sym (c.statement_holds.ensures.fits names m known g 0) ∙ c.if-not-statement_holds.false)
+      (c.statement_holds.ensures.after names m known g 0 c.if-not-statement_holds.false)
+      ∙ c.loop-statement.invariant.holds names m known g;
 }
 
 pub returns-clause-scope : goal.returns-clause-scope
-returns-clause-scope c names m g =
+returns-clause-scope c names m known g =
     let f = c.args.function.now in
     let es = c.args.info.now in
-    let first = sym (c.first_values_hold.ensures m es (c.requires.start m)) ∙ c.if-not-first_values_hold.false in
-    lines_end names m g f es c.requires.unnamed c.as_slice-statement-items.result.now c.loop-statement.statement-index (handles_of c.loop-statement.scope) c.loop-statement-test.false
-    ∙ c.loop-statement.invariant.holds names m g
-    ∙ ap (λ b. b && fits_all (function_naming names m g f es) 0 (statements_shape f.body) (at_start (function_shape m f es))) (sym first)
+    let first = sym (c.first_values_hold.ensures m known es (c.requires.start m known)) ∙ c.if-not-first_values_hold.false in
+    lines_end names m known g f es c.requires.written c.as_slice-statement-items.result.now c.loop-statement.statement-index (handles_of c.loop-statement.scope) c.loop-statement-test.false
+    ∙ c.loop-statement.invariant.holds names m known g
+    ∙ ap (λ b. b && fits_all (function_naming names m known g f es) 0 (statements_shape (declared m known (types_known es)).around f.body) (at_start (function_shape m known f es))) (sym first)

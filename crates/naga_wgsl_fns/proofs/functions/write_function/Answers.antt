@@ -2,8 +2,8 @@ use Rattle.std.proofs.Common.{◌≡◌, ◌<◌, ◌∙◌, Some, arith, ap, le
 use Rattle.naga_form.proofs.AcceptedFunctions.{functions_counted}
 use Rattle.naga_words.proofs.Writing.{held_part_as, held_whole_as, never_formless, reason_given}
 use Rattle.naga_words.proofs.Writing.{same_sink, writes_as}
-use Rattle.std.proofs.lemmas.List.{length-map}
-use Rattle.module_meaning.specs.Shapes.{expression_shape}
+use Rattle.module_meaning.specs.Surroundings.{declared, types_known}
+use Rattle.naga_form.proofs.ModulePlaces.{shapes_length}
 use Rattle.naga_scope.proofs.Planned.{plan_found}
 use Rattle.naga_wgsl_fns.specs.Errors.{IsWant}
 use Rattle.naga_wgsl_fns.proofs.FunctionRows.{can_write, reason_told, text_of_function_at}
@@ -24,7 +24,9 @@ write_declaration-requires-clause-size g c =
     let f = c.index.result.now in
     let plan = plan_found c.args.module.now c.args.info.now c.args.handle f c.index-2.result.now
     c.args.plan c.index.ensures c.index-2.ensures c.requires.planned in
-    plan.size ∙ length-map f.expressions expression_shape
+    plan.size
+    ∙ shapes_length (declared c.args.module.now c.args.info.now (types_known c.index-2.result.now))
+    f.expressions 0 f.expressions
 
 pub index-requires-2 : goal.index-requires-2
 index-requires-2 g c =
@@ -38,14 +40,14 @@ pub returns-in-Ok-clause-text_ok : goal.returns-in-Ok-clause-text_ok
 returns-in-Ok-clause-text_ok g c =
     let same : c.write_declaration.new.out.sink.ghost_name ≡ c.new-written.result.sink.ghost_name = same_sink _ _ _ c.write_declaration.ensures in
     held_whole_as _ _ _ _ _ (grind arith) (grind arith)
-    (writes_as (sym (text_of_function_at _ c.args.info.now c.index.ensures c.index-2.ensures)) c.write_declaration.ensures)
+    (writes_as (sym (text_of_function_at _ c.index.ensures c.index-2.ensures)) c.write_declaration.ensures)
     c.new-written.ensures.want c.in-Ok.ensures.whole
 
 pub returns-in-Err-clause-text_err : goal.returns-in-Err-clause-text_err
 returns-in-Err-clause-text_err g c =
     let same : c.write_declaration.new.out.sink.ghost_name ≡ c.new-written.result.sink.ghost_name = same_sink _ _ _ c.write_declaration.ensures in
     held_part_as _ _ _ _ _ _ (grind arith) (grind arith)
-    (writes_as (sym (text_of_function_at _ c.args.info.now c.index.ensures c.index-2.ensures)) c.write_declaration.ensures)
+    (writes_as (sym (text_of_function_at _ c.index.ensures c.index-2.ensures)) c.write_declaration.ensures)
     c.new-written.ensures.want c.in-Err.ensures.wanting
 
 pub returns-in-Err-clause-reason : goal.returns-in-Err-clause-reason

@@ -5,9 +5,7 @@ use Rattle.module_meaning.proofs.Lists.{list_all_at}
 use Rattle.module_meaning.proofs.Part.{functions_are_written}
 use Rattle.naga_form.proofs.AcceptedFunctions.{accepted_at, function_there, functions_counted}
 use Rattle.naga_form.proofs.Ordered.{operands_stand_before}
-use Rattle.naga_form.proofs.PartFits.{function_parts}
 use Rattle.naga_scope.specs.Plans.{IsPlan, IsRefusalToPlan}
-use Rattle.naga_scope.proofs.Holding.{written_flat}
 use Rattle.naga_scope.proofs.Planned.{shape_found}
 use Rattle.naga_scope.proofs.plan.Plan.of.Goals as goal
 
@@ -26,25 +24,21 @@ of_function-requires c =
     let g = c.args.handle in
     let known = function_there m info c.requires.accepted g f c.index.ensures in
     let is = accepted_at m info c.requires.accepted g f known.0 known.1 in
-    let parts =
-    function_parts f
-    (list_all_at function_is_written m.functions g f
-    (functions_are_written m info c.requires.written) c.index.ensures) in
     record {
       ordered = operands_stand_before m is.callees f is.ranges;
-      flat = written_flat f.body parts.body;
-      unnamed = parts.unnamed;
+      written = list_all_at function_is_written m.functions g f
+          (functions_are_written m info c.requires.written) c.index.ensures;
     }
 
 pub returns : goal.returns
 returns c =
     let m = c.args.module.now in
     let r = c.of_function.result in
-    let found = shape_found m m.functions c.args.info.now.functions.items c.args.handle
+    let found = shape_found m c.args.info.now m.functions c.args.info.now.functions.items c.args.handle
     c.index.result.now c.index-2.result.now c.index.ensures c.index-2.ensures in
     record {
       ok = subst (λ o. IfOk r (λ table. IsSomeAnd o (λ f. IsPlan f table))) (sym found)
-          (c.of_function.ensures.ok m);
+          (c.of_function.ensures.ok m c.args.info.now);
       err = subst (λ o. IfErr r (λ e. IsSomeAnd o (λ f. IsRefusalToPlan f e))) (sym found)
-          (c.of_function.ensures.err m);
+          (c.of_function.ensures.err m c.args.info.now);
     }

@@ -1,29 +1,29 @@
 use Rattle.std.proofs.Common.{◌&&◌, ap, sym, ◌∙◌}
 use Rattle.shader_runs.specs.Scope.{usable_all}
-use Rattle.module_meaning.specs.Shapes.{function_shape}
+use Rattle.module_meaning.specs.FunctionShapes.{function_shape}
 use Rattle.naga_scope.specs.Standings.{handles_of}
 use Rattle.naga_scope.proofs.points.Scope.are_usable.Goals as goal
 
 pub returns-then-not-is_usable : goal.returns-then-not-is_usable
-returns-then-not-is_usable c m es =
-    let shape = function_shape m c.args.function.now es in
+returns-then-not-is_usable c m known es =
+    let shape = function_shape m known c.args.function.now es in
     let s = handles_of c.args.self.now in
-    sym (sym (c.loop-operand.invariant m es)
+    sym (sym (c.loop-operand.invariant m known es)
     ∙ ap (usable_all shape s) c.in-Some.ensures.steps
     ∙ ap (λ b. b && usable_all shape s c.next.new.self)
-    (sym (c.is_usable.ensures m es) ∙ c.if-not-is_usable.true))
+    (sym (c.is_usable.ensures m known es) ∙ c.if-not-is_usable.true))
 
 pub loop-operand-preserved : goal.loop-operand-preserved
-loop-operand-preserved c m es =
-    let shape = function_shape m c.args.function.now es in
+loop-operand-preserved c m known es =
+    let shape = function_shape m known c.args.function.now es in
     let s = handles_of c.args.self.now in
     sym (ap (usable_all shape s) c.in-Some.ensures.steps
     ∙ ap (λ b. b && usable_all shape s c.next.new.self)
-    (sym (c.is_usable.ensures m es) ∙ c.if-not-is_usable.false))
-    ∙ c.loop-operand.invariant m es
+    (sym (c.is_usable.ensures m known es) ∙ c.if-not-is_usable.false))
+    ∙ c.loop-operand.invariant m known es
 
 pub returns : goal.returns
-returns c m es =
-    let shape = function_shape m c.args.function.now es in
+returns c m known es =
+    let shape = function_shape m known c.args.function.now es in
     let s = handles_of c.args.self.now in
-    sym (ap (usable_all shape s) c.in-None.ensures.steps.0) ∙ c.loop-operand.invariant m es
+    sym (ap (usable_all shape s) c.in-None.ensures.steps.0) ∙ c.loop-operand.invariant m known es

@@ -1,15 +1,16 @@
 use Rattle.std.proofs.Common.{◌≡◌, List}
 use Rattle.naga_ir.specs.Operands.{expression_operands}
 use Rattle.naga_ir.specs.declared.module.Module.{Module}
+use Rattle.naga_info.specs.declared.info.ModuleInfo.{ModuleInfo}
 use Rattle.naga_info.specs.declared.info.ExpressionInfo.{ExpressionInfo}
 use Rattle.shader_runs.specs.Scope.{usable_all}
-use Rattle.module_meaning.specs.Shapes.{function_shape}
+use Rattle.module_meaning.specs.FunctionShapes.{function_shape}
 use Rattle.naga_scope.specs.Standings.{handles_of}
 use Rattle.naga_scope.proofs.points.Scope.are_usable.Given as goal
 
 abbrev pub invariant-loop-operand : goal.invariant-loop-operand
 invariant-loop-operand l =
-    (m : Module) (es : List ExpressionInfo) →
-    let shape = function_shape m l.function es in
+    (m : Module) (known : ModuleInfo) (es : List ExpressionInfo) →
+    let shape = function_shape m known l.function es in
     usable_all shape (handles_of l.self) l.operand-iterator ≡
     usable_all shape (handles_of l.self) (expression_operands l.expression)

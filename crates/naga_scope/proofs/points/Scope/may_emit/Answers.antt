@@ -1,53 +1,48 @@
 use Rattle.std.proofs.Common.{◌||◌, ap, refl, sym, ◌∙◌, true≢false}
 use Rattle.std.specs.Prelude.{not}
-use Rattle.shader_runs.specs.Program.{operands_of}
-use Rattle.shader_runs.specs.Scope.{is_new, is_emittable, usable_all}
+use Rattle.shader_runs.specs.Scope.{is_new, usable_all}
 use Rattle.module_meaning.specs.Names.{numbered_name}
-use Rattle.module_meaning.specs.Shapes.{function_shape}
-use Rattle.naga_scope.specs.Standings.{standing_of, handles_of, shape_at}
-use Rattle.naga_scope.proofs.Shaped.{shape_found}
+use Rattle.module_meaning.specs.FunctionShapes.{function_shape}
+use Rattle.naga_scope.specs.Standings.{standing_of, handles_of, is_emittable_kind, operands_at}
 use Rattle.naga_scope.proofs.Emitting.{refused_old, refused_kind, allowed_by}
 use Rattle.naga_scope.proofs.points.Scope.may_emit.Goals as goal
 use Rattle.naga_scope.proofs.points.Scope.may_emit.Goals.{then-is_new, else-is_new}
 
 pub returns-then-not-binds : goal.returns-then-not-binds
-returns-then-not-binds c m =
+returns-then-not-binds c m known =
     let h = c.args.handle in
     let s = handles_of c.args.self.now in
-    let shape = function_shape m c.args.function.now c.args.info.now in
-    let found = shape_found (λ e. e.now) c.expression_at-expression.result _ c.expression_at-expression.ensures in
-    let u = usable_all shape s (operands_of (shape_at c.args.function.now.expressions h)) in
+    let shape = function_shape m known c.args.function.now c.args.info.now in
+    let u = usable_all shape s (operands_at c.args.function.now.expressions h) in
     let same = ap not c.if-not-binds.true ∙ sym (ap (λ b. not b || u) c.if-not-binds.true) in
     elim c.if-is_new.branch [
       | then-is_new w ↦
           let new = sym (c.is_new.ensures (numbered_name h) ∙ ap (λ t. is_new (standing_of (numbered_name h) t)) c.standing.ensures) ∙ w.if-is_new.true in
-          let kind = sym (w.is_emittable.ensures ∙ ap is_emittable found) ∙ (sym w.value-is ∙ c.if-is_emittable.true) in
-          same ∙ allowed_by m c.args.function.now c.args.info.now h s c.binds.result u new kind (c.binds.ensures m) refl
+          let kind = sym (w.is_emittable.ensures ∙ ap is_emittable_kind w.kind_at.ensures) ∙ (sym w.value-is ∙ c.if-is_emittable.true) in
+          same ∙ allowed_by m known c.args.function.now c.args.info.now c.requires.written h s c.binds.result u new kind (c.binds.ensures m known) refl
       | else-is_new w ↦ absurd (true≢false (sym c.if-is_emittable.true ∙ (w.value-is ∙ w.if-is_new.false)))
     ]
 
 pub returns-else-not-binds : goal.returns-else-not-binds
-returns-else-not-binds c m =
+returns-else-not-binds c m known =
     let h = c.args.handle in
     let s = handles_of c.args.self.now in
-    let shape = function_shape m c.args.function.now c.args.info.now in
-    let found = shape_found (λ e. e.now) c.expression_at-expression.result _ c.expression_at-expression.ensures in
+    let shape = function_shape m known c.args.function.now c.args.info.now in
     let u = c.has_operands.result in
     let same = sym (ap (λ b. not b || u) c.if-not-binds.false) in
     elim c.if-is_new.branch [
       | then-is_new w ↦
           let new = sym (c.is_new.ensures (numbered_name h) ∙ ap (λ t. is_new (standing_of (numbered_name h) t)) c.standing.ensures) ∙ w.if-is_new.true in
-          let kind = sym (w.is_emittable.ensures ∙ ap is_emittable found) ∙ (sym w.value-is ∙ c.if-is_emittable.true) in
-          same ∙ allowed_by m c.args.function.now c.args.info.now h s c.binds.result u new kind (c.binds.ensures m) (c.has_operands.ensures m c.args.info.now ∙ ap (λ e. usable_all shape s (operands_of e)) found)
+          let kind = sym (w.is_emittable.ensures ∙ ap is_emittable_kind w.kind_at.ensures) ∙ (sym w.value-is ∙ c.if-is_emittable.true) in
+          same ∙ allowed_by m known c.args.function.now c.args.info.now c.requires.written h s c.binds.result u new kind (c.binds.ensures m known) (c.has_operands.ensures m known c.args.info.now)
       | else-is_new w ↦ absurd (true≢false (sym c.if-is_emittable.true ∙ (w.value-is ∙ w.if-is_new.false)))
     ]
 
 pub returns-else-is_emittable : goal.returns-else-is_emittable
-returns-else-is_emittable c m =
+returns-else-is_emittable c m known =
     let h = c.args.handle in
     let s = handles_of c.args.self.now in
-    let found = shape_found (λ e. e.now) c.expression_at-expression.result _ c.expression_at-expression.ensures in
     elim c.if-is_new.branch [
-      | then-is_new w ↦ c.if-is_emittable.false ∙ refused_kind m c.args.function.now c.args.info.now h s (sym (w.is_emittable.ensures ∙ ap is_emittable found) ∙ (sym w.value-is ∙ c.if-is_emittable.false))
-      | else-is_new w ↦ c.if-is_emittable.false ∙ refused_old m c.args.function.now c.args.info.now h s (sym (c.is_new.ensures (numbered_name h) ∙ ap (λ t. is_new (standing_of (numbered_name h) t)) c.standing.ensures) ∙ w.if-is_new.false)
+      | then-is_new w ↦ c.if-is_emittable.false ∙ refused_kind m known c.args.function.now c.args.info.now h s (sym (w.is_emittable.ensures ∙ ap is_emittable_kind w.kind_at.ensures) ∙ (sym w.value-is ∙ c.if-is_emittable.false))
+      | else-is_new w ↦ c.if-is_emittable.false ∙ refused_old m known c.args.function.now c.args.info.now h s (sym (c.is_new.ensures (numbered_name h) ∙ ap (λ t. is_new (standing_of (numbered_name h) t)) c.standing.ensures) ∙ w.if-is_new.false)
     ]

@@ -1,11 +1,12 @@
 use Rattle.std.proofs.Common.{◌≡◌, ◌<◌, ◌&&◌, ◌∙◌, Some, ap, arith, length, slice_get, subst}
-use Rattle.std.proofs.Common.{sym}
-use Rattle.std.specs.Option.{option_map}
+use Rattle.std.proofs.Common.{sym, []}
+use Rattle.std.specs.Option.{option_map_or}
 use Rattle.std.proofs.lemmas.List.{length-set}
-use Rattle.shader_runs.specs.Program.{operands_of}
-use Rattle.shader_runs.specs.Scope.{is_pure, all_constant}
-use Rattle.module_meaning.specs.Shapes.{expression_shape}
-use Rattle.naga_scope.specs.Standings.{is_constant_by, first_standing, shape_at}
+use Rattle.naga_ir.specs.Kinds.{kind_of}
+use Rattle.naga_ir.specs.Operands.{expression_operands}
+use Rattle.naga_ir.specs.declared.kind.ExpressionKind.TheVariants.{Result}
+use Rattle.shader_runs.specs.Scope.{all_constant}
+use Rattle.naga_scope.specs.Standings.{is_constant_by, first_standing, is_pure_kind}
 use Rattle.naga_scope.proofs.Constants.{IsStart, is_start_none, is_start_more, start_handles}
 use Rattle.naga_scope.proofs.points.Scope.restart.Goals as goal
 
@@ -14,7 +15,7 @@ loop-index-init c =
     let size = ap length c.self.view_is ∙ c.requires.size in
     record {
       size = size;
-      starts = λ m es. is_start_none m c.args.function.now es c.self.inside.standings.items size;
+      starts = λ m known es. is_start_none m known c.args.function.now es c.self.inside.standings.items size;
     }
 
 pub loop-index-preserved : goal.loop-index-preserved
@@ -25,25 +26,25 @@ loop-index-preserved c =
     rw (← c.from_index.ensures) c.index-expression.ensures in
     let within : i < length f.expressions = omega (arith, c.len-index-end.ensures) in
     let table = c.loop-index.self-inside.standings.items in
-    let shape : Some (expression_shape c.index-expression.result.now) ≡ shape_at f.expressions i =
-    sym (ap (option_map expression_shape) here) in
+    let kind = sym (ap (λ o. option_map_or kind_of o Result) here) in
+    let operands = sym (ap (λ o. option_map_or expression_operands o []) here) in
     let cell = c.first_standing-standing.ensures
-    ∙ (λ j. first_standing (is_pure (shape j) && all_constant
-    (is_constant_by (c.deref.ensures.value j) f.expressions) (operands_of (shape j)))) in
+    ∙ (λ j. first_standing (is_pure_kind (kind j) && all_constant
+    (is_constant_by (c.deref.ensures.value j) f.expressions) (operands j))) in
     record {
       size = length-set table i c.first_standing-standing.result ∙ c.loop-index.invariant.size;
-      starts = λ m es.
-          is_start_more m f es c.requires.ordered table i c.first_standing-standing.result within
-          (c.loop-index.invariant.starts m es) cell;
+      starts = λ m known es.
+          is_start_more m known f es c.requires.ordered table i c.first_standing-standing.result within
+          (c.loop-index.invariant.starts m known es) cell;
     }
 
 pub returns-clause-start : goal.returns-clause-start
-returns-clause-start c m es =
+returns-clause-start c m known es =
     let f = c.args.function.now in
     let table = c.loop-index.self-inside.standings.items in
     let all : c.loop-index.index ≡ length f.expressions = omega (arith, c.len-index-end.ensures) in
-    start_handles m f es c.requires.ordered table
-    (subst (IsStart m f es table) all (c.loop-index.invariant.starts m es))
+    start_handles m known f es c.requires.ordered table
+    (subst (IsStart m known f es table) all (c.loop-index.invariant.starts m known es))
 
 pub returns-clause-size : goal.returns-clause-size
 returns-clause-size c = c.loop-index.invariant.size ∙ sym c.requires.size

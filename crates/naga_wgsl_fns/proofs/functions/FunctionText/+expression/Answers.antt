@@ -1,15 +1,15 @@
-use Rattle.std.proofs.Common.{[], ap, arith, ◌<◌, ◌∙◌, length, subst, sym, true}
+use Rattle.std.proofs.Common.{[], ap, arith, ◌<◌, ◌∙◌, length, refl, subst, sym, true}
 use Rattle.std.specs.Option.{option_map_or}
 use Rattle.naga_ir.specs.Operands.{expression_operands}
 use Rattle.shader_runs.specs.Premises.{AllBelow}
-use Rattle.module_meaning.specs.Applications.{application_of}
 use Rattle.naga_words.proofs.Writing.{leaves_as, leaves_last, leaves_more, leaves_start}
 use Rattle.naga_words.proofs.Writing.{writes_as}
 use Rattle.naga_wgsl_fns.specs.Expressions.{operands_left, operands_text}
 use Rattle.naga_wgsl_fns.proofs.ExpressionRows.{operands_more, operands_none, operands_start}
-use Rattle.naga_wgsl_fns.proofs.ExpressionRows.{own_select}
+use Rattle.naga_wgsl_fns.proofs.ExpressionRows.{own_called}
 use Rattle.naga_wgsl_fns.proofs.Wanted.{all_before, argument_within, literal_is_written, local_within}
-use Rattle.naga_wgsl_fns.proofs.Wanted.{no_other_expression, operands_before, pointer_before}
+use Rattle.naga_wgsl_fns.proofs.Wanted.{math_is_written, no_other_expression, operands_before}
+use Rattle.naga_wgsl_fns.proofs.Wanted.{relation_is_written}
 use Rattle.naga_wgsl_fns.proofs.functions.FunctionText.+expression.Goals as goal
 
 pub write_own-write_literal-requires : goal.write_own-write_literal-requires
@@ -26,7 +26,9 @@ write_own-write_address-requires-clause-local g t c =
 
 pub write_own-write_reference-requires : goal.write_own-write_reference-requires
 write_own-write_reference-requires g t c κs within =
-    let before = pointer_before c.args.self.now c.requires.can c.args.handle c.index.result.now c.in-Load.pointer c.index.ensures c.in-Load.is in
+    let before =
+    (operands_before c.args.self.now c.requires.can c.args.handle c.index.result.now _
+    c.index.ensures c.in-Load.is).0 in
     let bound : c.args.handle < length c.args.self.now.function.now.expressions = c.requires.handle in
     (omega (arith, before, c.decreases), (within, (c.requires.can, omega (arith, before, bound))))
 
@@ -34,7 +36,7 @@ pub write_own-write_prefix-requires : goal.write_own-write_prefix-requires
 write_own-write_prefix-requires g t c κs within =
     let before =
     operands_before c.args.self.now c.requires.can c.args.handle c.index.result.now _
-    c.index.ensures (ap application_of c.in-Unary.is) in
+    c.index.ensures c.in-Unary.is in
     let bound : c.args.handle < length c.args.self.now.function.now.expressions = c.requires.handle in (
       omega (arith, before.0, c.decreases),
       (within, (c.requires.can, omega (arith, before.0, bound))),
@@ -44,7 +46,7 @@ pub write_own-write_infix-requires : goal.write_own-write_infix-requires
 write_own-write_infix-requires g t c κs within =
     let before =
     operands_before c.args.self.now c.requires.can c.args.handle c.index.result.now _
-    c.index.ensures (ap application_of c.in-Binary.is) in
+    c.index.ensures c.in-Binary.is in
     let bound : c.args.handle < length c.args.self.now.function.now.expressions = c.requires.handle in (
       omega (arith, before.0, before.1.0, c.decreases),
       (
@@ -55,7 +57,7 @@ write_own-write_infix-requires g t c κs within =
 
 pub write_own-unreachable-requires : goal.write_own-unreachable-requires
 write_own-unreachable-requires g t c =
-    no_other_expression c.args.self.now c.requires.can c.args.handle c.index.result.now c.index.ensures c.in_default.not-Literal c.in_default.not-FunctionArgument c.in_default.not-LocalVariable c.in_default.not-Load c.in_default.not-Unary c.in_default.not-Binary c.in_default.not-Select
+    no_other_expression c.args.self.now c.requires.can c.args.handle c.index.result.now c.index.ensures c.in_default.not-Literal c.in_default.not-FunctionArgument c.in_default.not-LocalVariable c.in_default.not-Load c.in_default.not-Unary c.in_default.not-Binary c.in_default.not-Select c.in_default.not-Math c.in_default.not-Relational
 
 pub write_reference-write_local_name-requires-clause-local : goal.write_reference-write_local_name-requires-clause-local
 write_reference-write_local_name-requires-clause-local g t c =
@@ -64,9 +66,33 @@ write_reference-write_local_name-requires-clause-local g t c =
 pub write_own-returns-in-Select : goal.write_own-returns-in-Select
 write_own-returns-in-Select g t c =
     writes_as
-    (own_select c.args.self.now c.args.scope.now c.args.handle c.index.result.now _ _ _
-    c.index.ensures c.in-Select.is)
+    (own_called c.args.self.now c.args.scope.now c.args.handle c.index.result.now _ _ _
+    c.requires.can c.index.ensures c.in-Select.is refl refl)
     c.write_called.ensures
+
+pub write_own-math_function_str-requires : goal.write_own-math_function_str-requires
+write_own-math_function_str-requires g t c =
+    math_is_written c.args.self.now c.requires.can c.args.handle c.index.result.now _ _ _ _ _
+    c.index.ensures c.in-Math.is
+
+pub write_own-returns-in-Math : goal.write_own-returns-in-Math
+write_own-returns-in-Math g t c =
+    writes_as
+    (own_called c.args.self.now c.args.scope.now c.args.handle c.index.result.now _ _ _
+    c.requires.can c.index.ensures c.in-Math.is c.math_function_str.ensures refl)
+    c.write_called-in-Math.ensures
+
+pub write_own-relational_function_str-requires : goal.write_own-relational_function_str-requires
+write_own-relational_function_str-requires g t c =
+    relation_is_written c.args.self.now c.requires.can c.args.handle c.index.result.now _ _
+    c.index.ensures c.in-Relational.is
+
+pub write_own-returns-in-Relational : goal.write_own-returns-in-Relational
+write_own-returns-in-Relational g t c =
+    writes_as
+    (own_called c.args.self.now c.args.scope.now c.args.handle c.index.result.now _ _ _
+    c.requires.can c.index.ensures c.in-Relational.is c.relational_function_str.ensures refl)
+    c.write_called-in-Relational.ensures
 
 pub write_operands-loop-operand-init : goal.write_operands-loop-operand-init
 write_operands-loop-operand-init g t c =

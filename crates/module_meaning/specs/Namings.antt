@@ -1,0 +1,56 @@
+-- The functions of a module as shapes, with the names that their texts use.
+--
+-- Throughout, names are those of the module m, info is what is known of it, f a function with the
+-- handle g, and es is what is known of its expressions.
+use Rattle.std.specs.Prelude.{ℕ, ◌+◌, List, [], ◌∷◌, reverse}
+use Rattle.naga_ir.specs.declared.module.Function as ir_function
+use Rattle.naga_ir.specs.declared.module.Module as ir_module
+use Rattle.naga_info.specs.declared.info.ExpressionInfo.{ExpressionInfo}
+use Rattle.naga_info.specs.declared.info.ModuleInfo.{ModuleInfo}
+use Rattle.naga_names.specs.Keys.{NameMap}
+use Rattle.module_meaning.specs.FunctionShapes.{function_shape, function_shapes}
+use Rattle.module_meaning.specs.Names.{function_name, argument_name, local_name, numbered_name}
+use Rattle.shader_runs.specs.Program.{Function}
+use Rattle.shader_runs.specs.Scope.{ModuleNames, Names, Naming}
+use Rattle.wgsl_text.specs.Requests.{is_request}
+
+-- the names of the module's items; it has no constants, overrides and variables so far
+abbrev pub outer_names : NameMap → ModuleNames
+outer_names names =
+    record {
+      constant = λ i. [];
+      global = λ i. [];
+      function = function_name names;
+      is_request = is_request;
+    }
+
+-- the names that the text of the function with this handle uses. Front ends name nothing in it so
+-- far
+abbrev pub inner_names : NameMap → ℕ → Names
+inner_names names g =
+    record {
+      outer = outer_names names;
+      argument = argument_name names g;
+      local_ = local_name names g;
+      given = λ k. [];
+      numbered = numbered_name;
+      earlier = g;
+    }
+
+-- the function with this handle, under its names
+abbrev pub function_naming :
+    NameMap → ir_module.Module → ModuleInfo → ℕ → ir_function.Function → List ExpressionInfo →
+    Naming
+function_naming names m info g f es =
+    record { function = function_shape m info f es; names = inner_names names g }
+
+-- the functions with their names, from this handle on
+abbrev pub namings_from : NameMap → ℕ → List Function → List Naming
+namings_from names g [] = []
+namings_from names g (f ∷ fs) =
+    record { function = f; names = inner_names names g } ∷ namings_from names (g + 1) fs
+
+-- the functions with their names, the last one first; so far a module has no entry points
+abbrev pub namings : NameMap → ir_module.Module → ModuleInfo → List Naming
+namings names m info =
+    reverse (namings_from names 0 (function_shapes m info m.functions info.functions.items))
