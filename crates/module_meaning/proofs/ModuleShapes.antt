@@ -23,34 +23,36 @@ use Rattle.module_meaning.specs.ExpressionOperators.{is_atomic, points_to_atomic
 use Rattle.module_meaning.specs.ExpressionTypes.{variable_type}
 use Rattle.module_meaning.specs.FunctionShapes.{function_shape, function_shapes}
 use Rattle.module_meaning.specs.ModuleShapes.{module_shape, initialiser, part_words}
-use Rattle.module_meaning.specs.Part.{is_scalar_type, is_written_scalar, is_written_so_far}
+use Rattle.module_meaning.specs.Part.{is_value_type, is_written_value, is_written_so_far}
 use Rattle.module_meaning.specs.Types.{declared_type, type_of_values}
 use Rattle.module_meaning.proofs.Lists.{list_all_at}
 use Rattle.module_meaning.proofs.Part.{written_so_far_parts}
 use Rattle.shader_runs.specs.Program.{Module}
 
 -- ---- nothing is atomic
--- a scalar is no atomic
-no_atomic : (it : TypeInner) → is_written_scalar it ≡ true → is_atomic it ≡ false
+-- a scalar, a vector and a matrix are no atomics
+no_atomic : (it : TypeInner) → is_written_value it ≡ true → is_atomic it ≡ false
 no_atomic (inner.Scalar s) is = refl
+no_atomic (inner.Vector size s) is = refl
+no_atomic (inner.Matrix columns rows s) is = refl
 no_atomic _ is = absurd cc
 
--- a pointer points to no atomic among scalar types
-no_atomic_behind : (types : List Type_) → list_all is_scalar_type types ≡ true →
+-- a pointer points to no atomic among such types
+no_atomic_behind : (types : List Type_) → list_all is_value_type types ≡ true →
     (o : Option TypeInner) →
     option_map_or is_atomic (option_and_then (type_behind types) o) false ≡ false
-no_atomic_behind types scalars None = refl
-no_atomic_behind types scalars (Some (inner.Pointer base space)) = by (slice_get types base) refl
+no_atomic_behind types values None = refl
+no_atomic_behind types values (Some (inner.Pointer base space)) = by (slice_get types base) refl
   where
     by : (o : Option Type_) → slice_get types base ≡ o →
         option_map_or is_atomic (option_map (λ t. t.inner) o) false ≡ false
     by None at = refl
-    by (Some t) at = no_atomic t.inner (list_all_at is_scalar_type types base t scalars at)
-no_atomic_behind types scalars (Some _) = refl
+    by (Some t) at = no_atomic t.inner (list_all_at is_value_type types base t values at)
+no_atomic_behind types values (Some _) = refl
 
-pub points_plainly : (a : Surroundings) → list_all is_scalar_type a.types ≡ true → (h : ℕ) →
+pub points_plainly : (a : Surroundings) → list_all is_value_type a.types ≡ true → (h : ℕ) →
     points_to_atomic a h ≡ false
-points_plainly a scalars h = no_atomic_behind a.types scalars (type_known a h)
+points_plainly a values h = no_atomic_behind a.types values (type_known a h)
 
 -- ---- modules
 nothing_there : {X : Type 0} (xs : List X) → (length xs == 0) ≡ true → xs ≡ []

@@ -6,7 +6,7 @@ use Rattle.std.proofs.lemmas.Bool.{and_parts, and_from}
 use Rattle.naga_ir.specs.declared.module.Function.{Function}
 use Rattle.naga_ir.specs.declared.module.Module.{Module}
 use Rattle.naga_info.specs.declared.info.ModuleInfo.{ModuleInfo}
-use Rattle.module_meaning.specs.Part.{is_scalar_type, declares_functions}
+use Rattle.module_meaning.specs.Part.{is_value_type, declares_functions}
 use Rattle.module_meaning.specs.Part.{is_written_so_far, function_is_written, local_is_written}
 use Rattle.module_meaning.specs.Part.{names_nothing, is_unbound, expression_is_written}
 use Rattle.module_meaning.specs.Part.{block_is_written, known_types_are_written}
@@ -25,11 +25,11 @@ written_parts f written =
 
 -- all that a module's being written so far says
 pub written_so_far_parts : (m : Module) (info : ModuleInfo) → IsTrue (is_written_so_far m info)
-    → IsTrue (declares_functions m) × IsTrue (list_all is_scalar_type m.types)
+    → IsTrue (declares_functions m) × IsTrue (list_all is_value_type m.types)
     × IsTrue (list_all function_is_written m.functions) × IsTrue (known_types_are_written m.types info)
 unfolding is_written_so_far
 written_so_far_parts m info written =
-    let types = list_all is_scalar_type m.types in
+    let types = list_all is_value_type m.types in
     let functions = list_all function_is_written m.functions in
     let known = known_types_are_written m.types info in
     let one = and_parts (declares_functions m) (types && (functions && known)) written in

@@ -14,7 +14,7 @@ use Rattle.naga_ir.specs.declared.expression.Expression.{Expression}
 use Rattle.naga_ir.specs.declared.expression.Expression.TheVariants.{Literal, FunctionArgument}
 use Rattle.naga_ir.specs.declared.expression.Expression.TheVariants.{LocalVariable, Load, Unary}
 use Rattle.naga_ir.specs.declared.expression.Expression.TheVariants.{Binary, Select, Math}
-use Rattle.naga_ir.specs.declared.expression.Expression.TheVariants.{Relational}
+use Rattle.naga_ir.specs.declared.expression.Expression.TheVariants.{Relational, Splat}
 use Rattle.naga_ir.specs.declared.expression.Literal.{Literal as LiteralValue}
 use Rattle.naga_ir.specs.declared.expression.Literal.TheVariants as literal
 use Rattle.naga_ir.specs.declared.module.Function.{Function}
@@ -40,34 +40,36 @@ declares_functions m =
     (length m.global_expressions == 0 && length m.entry_points.items == 0)))
 
 -- ---- types
--- the kinds and widths in bytes of the scalars that are written so far: `bool`, and integers of 32
--- and of 64 bits
+-- the kinds and widths in bytes of the scalars that are written so far: `bool`, and integers and
+-- floats of 32 and of 64 bits
 abbrev pub width_is_written : ScalarKind → (width : ℕ) → Bool
 width_is_written kind.Bool width = width == 1
 width_is_written kind.Sint width = width == 4 || width == 8
 width_is_written kind.Uint width = width == 4 || width == 8
+width_is_written kind.Float width = width == 4 || width == 8
 width_is_written _ width = false
 
 abbrev pub scalar_is_written : Scalar → Bool
 scalar_is_written s = width_is_written s.kind s.width
 
--- the type is such a scalar
-abbrev pub is_written_scalar : TypeInner → Bool
-is_written_scalar (inner.Scalar s) = scalar_is_written s
-is_written_scalar _ = false
+-- the type is such a scalar, or a vector or a matrix of such scalars
+abbrev pub is_written_value : TypeInner → Bool
+is_written_value (inner.Scalar s) = scalar_is_written s
+is_written_value (inner.Vector size s) = scalar_is_written s
+is_written_value (inner.Matrix columns rows s) = scalar_is_written s
+is_written_value _ = false
 
-abbrev pub is_scalar_type : Type_ → Bool
-is_scalar_type t = is_written_scalar t.inner
+abbrev pub is_value_type : Type_ → Bool
+is_value_type t = is_written_value t.inner
 
 -- the type with this handle is
-abbrev pub is_scalar_at : List Type_ → (handle : ℕ) → Bool
-is_scalar_at types handle = option_map_or is_scalar_type (slice_get types handle) false
+abbrev pub is_value_at : List Type_ → (handle : ℕ) → Bool
+is_value_at types handle = option_map_or is_value_type (slice_get types handle) false
 
--- the type is such a scalar, or a pointer to a local of one
+-- the type is such a value's, or that of a pointer to a local of one
 abbrev pub type_is_written : List Type_ → TypeInner → Bool
-type_is_written types (inner.Scalar s) = scalar_is_written s
-type_is_written types (inner.Pointer base OfFunction) = is_scalar_at types base
-type_is_written types _ = false
+type_is_written types (inner.Pointer base OfFunction) = is_value_at types base
+type_is_written types it = is_written_value it
 
 -- so is what is known of an expression's type
 abbrev pub resolution_is_written : List Type_ → TypeResolution → Bool
@@ -83,8 +85,9 @@ is_written_literal (literal.I64 value) = true
 is_written_literal (literal.U64 value) = true
 is_written_literal _ = false
 
--- a literal of one of the scalar types, an argument, a local, a load, an operator with a sign, the
--- choice of one of two values, or a function of mathematics or a relation that has a word
+-- a literal of `bool` or of an integer type, an argument, a local, a load, an operator with a sign,
+-- the choice of one of two values, a vector of one value, or a function of mathematics or a relation
+-- that has a word
 abbrev pub expression_is_written : Expression → Bool
 expression_is_written (Literal value) = is_written_literal value
 expression_is_written (FunctionArgument number) = true
@@ -93,6 +96,7 @@ expression_is_written (Load pointer) = true
 expression_is_written (Unary op expr) = true
 expression_is_written (Binary op left right) = true
 expression_is_written (Select condition accept reject) = true
+expression_is_written (Splat size value) = true
 expression_is_written (Math fun arg arg1 arg2 arg3) = is_some (math_word fun)
 expression_is_written (Relational fun argument) = is_some (relational_word fun)
 expression_is_written _ = false
@@ -138,8 +142,9 @@ abbrev pub known_types_are_written : List Type_ → ModuleInfo → Bool
 known_types_are_written types info =
     list_all (list_all (λ k. resolution_is_written types k.ty)) info.functions.items
 
--- scalar types and such functions, of whose expressions such types are known, and pointers to them
+-- such types of values and such functions, of whose expressions such types are known, and pointers to
+-- them
 unfoldable pub is_written_so_far : Module → ModuleInfo → Bool
 is_written_so_far m info =
-    declares_functions m && (list_all is_scalar_type m.types &&
+    declares_functions m && (list_all is_value_type m.types &&
     (list_all function_is_written m.functions && known_types_are_written m.types info))

@@ -8,8 +8,8 @@ ghost use Rattle.module_meaning.specs.OperatorTable.{relational_word};
 ghost use Rattle.module_meaning.specs.Part.{block_is_written, expression_is_written};
 ghost use Rattle.module_meaning.specs.Part.{function_is_written, is_literal, is_unbound};
 ghost use Rattle.module_meaning.specs.Part.{is_written_so_far, local_is_written};
-ghost use Rattle.module_meaning.specs.Part.{declares_functions, is_scalar_at, is_scalar_type};
-ghost use Rattle.module_meaning.specs.Part.{is_written_literal, is_written_scalar};
+ghost use Rattle.module_meaning.specs.Part.{declares_functions, is_value_at, is_value_type};
+ghost use Rattle.module_meaning.specs.Part.{is_written_literal, is_written_value};
 ghost use Rattle.module_meaning.specs.Part.{known_types_are_written, names_nothing};
 ghost use Rattle.module_meaning.specs.Part.{resolution_is_written, scalar_is_written};
 ghost use Rattle.module_meaning.specs.Part.{statement_is_written, type_is_written};
@@ -24,9 +24,10 @@ use naga_ir::{
 use wgsl_words::TryToWgsl;
 
 /// Whether the module holds nothing but what is written so far: the types `bool`, `i32`, `u32`,
-/// `i64` and `u64`, and functions without names of their expressions, whose arguments and result
-/// are bound to nothing, whose locals have a literal as first value or none, whose expressions are
-/// arguments, locals, literals of these types, loads, operators with a sign, choices and calls of
+/// `f32`, `i64`, `u64` and `f64`, vectors and matrices of these, and functions without names of
+/// their expressions, whose arguments and result are bound to nothing, whose locals have a literal
+/// as first value or none, whose expressions are arguments, locals, literals of `bool` and of the
+/// integer types, loads, operators with a sign, choices, vectors of one value, and calls of
 /// functions of mathematics that have a word, of `all` and of `any`, and whose statements are
 /// `Emit`s, `Store`s and `Return`s. And whether nothing else is known of these expressions' types
 /// than such a type, or a pointer to a local of one.
@@ -35,7 +36,7 @@ pub fn is_written_so_far(module: &Module, info: &ModuleInfo) -> bool
     ensures { result ≡ is_written_so_far «module».now info.now }
 {
     declares_functions(module)
-        && types_are_scalar(&module.types)
+        && types_are_values(&module.types)
         && functions_are_written(&module.functions)
         && known_types_are_written(&module.types, info)
 }
@@ -56,51 +57,55 @@ fn scalar_is_written(scalar: Scalar) -> bool
 {
     match scalar.kind {
         ScalarKind::Bool => scalar.width == 1,
-        ScalarKind::Sint | ScalarKind::Uint => scalar.width == 4 || scalar.width == 8,
+        ScalarKind::Sint | ScalarKind::Uint | ScalarKind::Float => {
+            scalar.width == 4 || scalar.width == 8
+        }
         _ => false,
     }
 }
 
-fn is_written_scalar(inner: &TypeInner) -> bool
-    ensures { result ≡ is_written_scalar inner.now }
+/// Whether a type is such a scalar, or a vector or a matrix of such scalars.
+fn is_written_value(inner: &TypeInner) -> bool
+    ensures { result ≡ is_written_value inner.now }
 {
     match inner {
-        TypeInner::Scalar(scalar) => scalar_is_written(*scalar),
+        TypeInner::Scalar(scalar)
+        | TypeInner::Vector { scalar, .. }
+        | TypeInner::Matrix { scalar, .. } => scalar_is_written(*scalar),
         _ => false,
     }
 }
 
-fn types_are_scalar(types: &UniqueArena<Type_>) -> bool
-    ensures { result ≡ list_all is_scalar_type types.now }
+fn types_are_values(types: &UniqueArena<Type_>) -> bool
+    ensures { result ≡ list_all is_value_type types.now }
 {
     for (_, ty) in types.iter() {
-        if !is_written_scalar(&ty.inner) {
+        if !is_written_value(&ty.inner) {
             return false;
         }
     }
     true
 }
 
-fn is_scalar_at(types: &UniqueArena<Type_>, handle: Handle<Type_>) -> bool
-    ensures { result ≡ is_scalar_at types.now handle }
+fn is_value_at(types: &UniqueArena<Type_>, handle: Handle<Type_>) -> bool
+    ensures { result ≡ is_value_at types.now handle }
 {
     match inner_at(types, handle) {
-        Some(inner) => is_written_scalar(inner),
+        Some(inner) => is_written_value(inner),
         None => false,
     }
 }
 
-/// Whether a type is such a scalar, or a pointer to a local of one.
+/// Whether a type is such a value's, or a pointer to a local of one.
 fn type_is_written(types: &UniqueArena<Type_>, inner: &TypeInner) -> bool
     ensures { result ≡ type_is_written types.now inner.now }
 {
     match inner {
-        TypeInner::Scalar(scalar) => scalar_is_written(*scalar),
         TypeInner::Pointer {
             base,
             space: AddressSpace::Function,
-        } => is_scalar_at(types, *base),
-        _ => false,
+        } => is_value_at(types, *base),
+        _ => is_written_value(inner),
     }
 }
 
@@ -205,7 +210,8 @@ fn expression_is_written(expression: &Expression) -> bool
         | Expression::Load { .. }
         | Expression::Unary { .. }
         | Expression::Binary { .. }
-        | Expression::Select { .. } => true,
+        | Expression::Select { .. }
+        | Expression::Splat { .. } => true,
         Expression::Math { fun, .. } => fun.try_to_wgsl().is_some(),
         Expression::Relational { fun, .. } => has_word(*fun),
         Expression::Literal(literal) => is_written_literal(*literal),

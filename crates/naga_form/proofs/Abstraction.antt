@@ -28,7 +28,7 @@ use Rattle.naga_info.specs.declared.info.ExpressionInfo.{ExpressionInfo}
 use Rattle.naga_info.specs.declared.info.ModuleInfo.{ModuleInfo}
 use Rattle.std.specs.List.{list_all}
 use Rattle.module_meaning.specs.Part.{block_is_written, expression_is_written}
-use Rattle.module_meaning.specs.Part.{function_is_written, is_scalar_type, statement_is_written}
+use Rattle.module_meaning.specs.Part.{function_is_written, is_value_type, statement_is_written}
 use Rattle.module_meaning.proofs.Lists.{list_all_at}
 use Rattle.naga_names.specs.Keys.{NameMap}
 use Rattle.wgsl_text.specs.Reading.{type_layout}
@@ -58,7 +58,7 @@ use Rattle.module_meaning.specs.Names.{function_name, argument_name, module_name
 use Rattle.naga_form.specs.Types.{type_form, told_type, LocalsHaveForms}
 use Rattle.naga_form.specs.TypeTrees.{type_tree}
 use Rattle.naga_form.proofs.TypeTrees.{inner_tree_row}
-use Rattle.naga_form.proofs.WrittenTypes.{scalars_at, type_has_form}
+use Rattle.naga_form.proofs.WrittenTypes.{values_at, type_has_form}
 use Rattle.module_meaning.specs.Types.{local_pointer, declared_type, type_names}
 use Rattle.module_meaning.specs.TypeIdentity.{identity, word_of_unspelled_type}
 use Rattle.module_meaning.specs.ExpressionOperators.{load_operator}
@@ -166,6 +166,8 @@ module _ (n : Naming) (d : Declared) (all : List ir.Expression) where
       applies operand like same k (expression.Binary op left right)
   own_reads operand like same k h (expression.Select condition accept reject) w =
       applies operand like same k (expression.Select condition accept reject)
+  own_reads operand like same k h (expression.Splat size value) w =
+      applies operand like same k (expression.Splat size value)
   own_reads operand like same k h (expression.Math fun arg arg1 arg2 arg3) w =
       applies operand like same k (expression.Math fun arg arg1 arg2 arg3)
   own_reads operand like same k h (expression.Relational fun argument) w =
@@ -184,7 +186,7 @@ module _ (n : Naming) (d : Declared) (all : List ir.Expression) where
   standing_reads (Named x) p q e = refl
   standing_reads _ p q e = e
 
-module _ (names : NameMap) (m : Module) (info : ModuleInfo) (g : ℕ) (f : ir_function.Function) (es : List ExpressionInfo) (scalars : IsTrue (list_all is_scalar_type m.types)) (written : IsTrue (list_all expression_is_written f.expressions)) where
+module _ (names : NameMap) (m : Module) (info : ModuleInfo) (g : ℕ) (f : ir_function.Function) (es : List ExpressionInfo) (values : IsTrue (list_all is_value_type m.types)) (written : IsTrue (list_all expression_is_written f.expressions)) where
   abbrev own : Naming
   own = function_naming names m info g f es
 
@@ -250,7 +252,7 @@ module _ (names : NameMap) (m : Module) (info : ModuleInfo) (g : ℕ) (f : ir_fu
   simple_reads told k (emit first end) s rest has = lets_read told k (from first (end - first)) s rest
   simple_reads told k (store pointer value) s rest has =
       (λ i. before (Assign ((place_is (plain_form own source s pointer) ∙ ap runs.place_form (plain_reads s pointer)) i) (value_reads s value i)) (statements_read rest))
-      ∙ ap (λ shape. runs.form own k shape s (statements_read rest)) (sym (plain_store d.around pointer value (points_plainly d.around scalars pointer)))
+      ∙ ap (λ shape. runs.form own k shape s (statements_read rest)) (sym (plain_store d.around pointer value (points_plainly d.around values pointer)))
   simple_reads told k (return value) s rest has = ap (λ l. before l (statements_read rest)) (return_reads s value)
   simple_reads told k break s rest has = refl
   simple_reads told k continue s rest has = refl
@@ -315,7 +317,7 @@ pointer_reads m ty t at =
     (inner_tree_row text-append (type_names m) (λ handle. true) (inner.Pointer ty space.Function)
     ∙ ap (λ o. option_map type_layout (option_map (pointer_tree (codes "function") None) o)) at))
 
-module _ (m : Module) (info : ModuleInfo) (g : ℕ) (f : ir_function.Function) (es : List ExpressionInfo) (scalars : IsTrue (list_all is_scalar_type m.types)) (written : IsTrue (list_all expression_is_written f.expressions)) where
+module _ (m : Module) (info : ModuleInfo) (g : ℕ) (f : ir_function.Function) (es : List ExpressionInfo) (values : IsTrue (list_all is_value_type m.types)) (written : IsTrue (list_all expression_is_written f.expressions)) where
   abbrev own_names : Naming
   own_names = function_naming (module_names m) m info g f es
 
@@ -327,7 +329,7 @@ module _ (m : Module) (info : ModuleInfo) (g : ℕ) (f : ir_function.Function) (
       let pointer = pointer_reads m v.ty t.0 t.1 ∙ sym (mapped_at (λ l. local_pointer m l.ty) [] f.local_variables l v here) in
       let rest = locals_read formed (l + 1) vs later in
       λ i.
-      record { name = own_names.names.local_ l; pointer = pointer i; first_value = value_if_reads (module_names m) m info g f es scalars written (at_start own_names.function) v.init i }
+      record { name = own_names.names.local_ l; pointer = pointer i; first_value = value_if_reads (module_names m) m info g f es values written (at_start own_names.function) v.init i }
       ∷ (rest ∙ ap (λ k. variables_from own_names k (map (λ v. v.init) vs)) (add-one l)) i
     where
       later : (k : ℕ) → slice_get vs k ≡ slice_get f.local_variables (k + (l + 1))
@@ -336,20 +338,20 @@ module _ (m : Module) (info : ModuleInfo) (g : ℕ) (f : ir_function.Function) (
           at (suc k) ∙ ap (slice_get f.local_variables) same
 
 -- the type of each local in range has a form
-pub locals_have_forms : (m : Module) (f : ir_function.Function) (count : ℕ) → IsTrue (list_all is_scalar_type m.types) → list_all (local_in_range (length m.types) count) f.local_variables ≡ true → LocalsHaveForms (type_names m) f.local_variables
-locals_have_forms m f count scalars ranges l v at =
+pub locals_have_forms : (m : Module) (f : ir_function.Function) (count : ℕ) → IsTrue (list_all is_value_type m.types) → list_all (local_in_range (length m.types) count) f.local_variables ≡ true → LocalsHaveForms (type_names m) f.local_variables
+locals_have_forms m f count values ranges l v at =
     let parts = and_parts (nat_lt v.ty (length m.types)) (is_below count v.init) (list_all_at (local_in_range (length m.types) count) f.local_variables l v ranges at) in
-    let form = type_has_form m.types v.ty (scalars_at m.types v.ty scalars (ltb-true v.ty (length m.types) parts.0)) in
+    let form = type_has_form m.types v.ty (values_at m.types v.ty values (ltb-true v.ty (length m.types) parts.0)) in
     (form.tree, form.is (module_names m))
 
-pub function_reads : (explicit : Bool) (m : Module) (info : ModuleInfo) (g : ℕ) (f : ir_function.Function) (es : List ExpressionInfo) → IsTrue (list_all is_scalar_type m.types) → IsTrue (function_is_written f) → LocalsHaveForms (type_names m) f.local_variables → function_read (function_form explicit (module_names m) m info g f es) ≡ form_function (function_naming (module_names m) m info g f es)
-function_reads explicit m info g f es scalars written formed =
+pub function_reads : (explicit : Bool) (m : Module) (info : ModuleInfo) (g : ℕ) (f : ir_function.Function) (es : List ExpressionInfo) → IsTrue (list_all is_value_type m.types) → IsTrue (function_is_written f) → LocalsHaveForms (type_names m) f.local_variables → function_read (function_form explicit (module_names m) m info g f es) ≡ form_function (function_naming (module_names m) m info g f es)
+function_reads explicit m info g f es values written formed =
     let names = module_names m in
     let parts = function_parts f written in
-    let locals = locals_read m info g f es scalars parts.expressions formed 0 f.local_variables (λ k. ap (slice_get f.local_variables) (sym (add-zero k))) in
+    let locals = locals_read m info g f es values parts.expressions formed 0 f.local_variables (λ k. ap (slice_get f.local_variables) (sym (add-zero k))) in
     λ i. record {
       name = function_name names g;
       parameters = (names_counted names m.types g 0 f.arguments.items ∙ ap (names_from (argument_name names g) 0) (sym (mapped_length (λ a. declared_type m a.ty) f.arguments.items))) i;
       variables = locals i;
-      lines = lines_read names m info g f es scalars parts.expressions (told_type explicit (type_names m) es) 0 f.body (at_start (function_shape m info f es)) (written_have_forms f.body parts.body) i;
+      lines = lines_read names m info g f es values parts.expressions (told_type explicit (type_names m) es) 0 f.body (at_start (function_shape m info f es)) (written_have_forms f.body parts.body) i;
     }

@@ -19,6 +19,7 @@ use Rattle.module_meaning.specs.OperatorTable.{own_math_word, run_word}
 use Rattle.module_meaning.specs.Part.{expression_is_written}
 use Rattle.module_meaning.specs.Shapes.{operator_shape}
 use Rattle.naga_ir.specs.Operands.{expression_operands}
+use Rattle.naga_ir.specs.declared.types.VectorSize.TheVariants.{Bi, Tri, Quad}
 use Rattle.wgsl_text.specs.Types.{TypeSpecifier, Named}
 use Rattle.wgsl_text.specs.Expressions.{Call, operands, binary_pieces, unary_mark, IsExpression}
 use Rattle.naga_form.specs.Expressions.{PlainForm, as_value, value_forms}
@@ -167,6 +168,9 @@ unfolding is_builtin builtin_words
 notated a (expression.Unary op expr) written = refl
 notated a (expression.Binary op left right) written = refl
 notated a (expression.Select condition accept reject) written = refl
+notated a (expression.Splat Bi value) written = refl
+notated a (expression.Splat Tri value) written = refl
+notated a (expression.Splat Quad value) written = refl
 notated a (expression.Math fun arg arg1 arg2 arg3) written =
     word_is_builtin (math_word fun) (own_math_word fun) (value_words.functions fun) written
 notated a (expression.Relational relational.All argument) written = refl

@@ -14,7 +14,7 @@ use Rattle.naga_info.specs.declared.info.ExpressionInfo.{ExpressionInfo}
 use Rattle.naga_info.specs.declared.info.ModuleInfo.{ModuleInfo}
 use Rattle.module_meaning.specs.ExpressionShapes.{Declared, shape_of}
 use Rattle.module_meaning.specs.OperatorTable.{BinarySign, UnarySign, Choice, Mathematical}
-use Rattle.module_meaning.specs.OperatorTable.{Relation, relational_word, run_word}
+use Rattle.module_meaning.specs.OperatorTable.{Relation, Splat, relational_word, run_word}
 use Rattle.module_meaning.specs.Surroundings.{declared, types_known}
 use Rattle.module_meaning.proofs.ExpressionShapes.{plain_load, plain_store}
 use Rattle.module_meaning.proofs.ModuleShapes.{points_plainly}
@@ -53,6 +53,8 @@ use Rattle.naga_ir.specs.declared.operators.RelationalFunction.TheVariants as re
 use Rattle.naga_ir.specs.declared.operators.UnaryOperator.{UnaryOperator}
 use Rattle.naga_ir.specs.declared.operators.UnaryOperator.TheVariants as unary
 use Rattle.naga_ir.specs.declared.module.Module.{Module}
+use Rattle.naga_ir.specs.declared.types.VectorSize.{VectorSize}
+use Rattle.naga_ir.specs.declared.types.VectorSize.TheVariants.{Bi, Tri, Quad}
 use Rattle.naga_keywords.specs.Plain.{is_word}
 use Rattle.naga_names.specs.declared.key.NameKey.TheVariants as key
 use Rattle.naga_names.proofs.NameShapes.{name_after_is_word}
@@ -67,7 +69,7 @@ use Rattle.naga_form.proofs.WellFormed.{any_shape}
 use Rattle.naga_form.proofs.FunctionsFit.{IsLeft}
 use Rattle.naga_form.proofs.Regular.{AreWorded, IsWorded}
 use Rattle.module_meaning.specs.Writable.{only_empty_fall, only_empty_fall_in}
-use Rattle.module_meaning.specs.Part.{function_is_written, block_is_written, statement_is_written, is_scalar_type, is_unbound, expression_is_written, local_is_written}
+use Rattle.module_meaning.specs.Part.{function_is_written, block_is_written, statement_is_written, is_value_type, is_unbound, expression_is_written, local_is_written}
 use Rattle.module_meaning.proofs.Lists.{list_all_at}
 use Rattle.std.proofs.lemmas.Bool.{and_from}
 use Rattle.std.specs.List.{list_all}
@@ -157,6 +159,12 @@ choice_free : operates_freely (run_word Choice) ≡ true
 unfolding is_request is_builtin builtin_words
 choice_free = refl
 
+splat_free : (size : VectorSize) → operates_freely (run_word (Splat size)) ≡ true
+unfolding is_request is_builtin builtin_words
+splat_free Bi = refl
+splat_free Tri = refl
+splat_free Quad = refl
+
 -- as are the words of functions of mathematics and of relations
 math_row : (fun : MathFunction) →
     (if is_some (math_word fun) then operates_freely (run_word (Mathematical fun)) else true) ≡ true
@@ -181,7 +189,7 @@ none_listed : (i : ℕ) (ts : List ValueType) → ts ≡ [] → i < length ts �
 none_listed i ts e lt = let none : i < 0 = subst (λ ts. i < length ts) e lt in omega (arith, none)
 
 -- ---- one function
-module _ (m : Module) (info : ModuleInfo) (scalars : IsTrue (list_all is_scalar_type m.types)) (g : ℕ) (f : ir_function.Function) (found : slice_get m.functions g ≡ Some f) (es : List ExpressionInfo) (written : IsTrue (function_is_written f)) (p : shapes.Module) (constants : p.constant_types ≡ []) (globals : p.global_types ≡ []) (counted : length p.functions ≡ length m.functions) where
+module _ (m : Module) (info : ModuleInfo) (values : IsTrue (list_all is_value_type m.types)) (g : ℕ) (f : ir_function.Function) (found : slice_get m.functions g ≡ Some f) (es : List ExpressionInfo) (written : IsTrue (function_is_written f)) (p : shapes.Module) (constants : p.constant_types ≡ []) (globals : p.global_types ≡ []) (counted : length p.functions ≡ length m.functions) where
   abbrev own : Naming
   own = function_naming (module_names m) m info g f es
 
@@ -256,13 +264,14 @@ module _ (m : Module) (info : ModuleInfo) (scalars : IsTrue (list_all is_scalar_
   words h (expression.LocalVariable handle) is = tt
   words h (expression.Load pointer) is =
       subst (λ s. WordFits p own (Some s))
-      (sym (plain_load d f.expressions h pointer (points_plainly d.around scalars pointer))) tt
+      (sym (plain_load d f.expressions h pointer (points_plainly d.around values pointer))) tt
   words h (expression.Literal value) is = tt
   words h (expression.Unary op expr) is = operates (run_word (UnarySign op)) (unary_free op)
   words h (expression.Binary op left right) is =
       operator_any (λ s. WordFits p own (Some s)) (BinarySign op) (left ∷ right ∷ [])
       (λ j l r. tt) (operates (run_word (BinarySign op)) (binary_free op))
   words h (expression.Select condition accept reject) is = operates (run_word Choice) choice_free
+  words h (expression.Splat size value) is = operates (run_word (Splat size)) (splat_free size)
   words h (expression.Math fun arg arg1 arg2 arg3) is =
       operates (run_word (Mathematical fun)) (math_free fun is)
   words h (expression.Relational fun argument) is =
@@ -281,7 +290,7 @@ module _ (m : Module) (info : ModuleInfo) (scalars : IsTrue (list_all is_scalar_
   line_worded (simple (emit first last)) is = tt
   line_worded (simple (store pointer value)) is =
       subst (IsWorded p own)
-      (sym (plain_store d.around pointer value (points_plainly d.around scalars pointer))) tt
+      (sym (plain_store d.around pointer value (points_plainly d.around values pointer))) tt
   line_worded (simple (return value)) is = tt
   line_worded _ is = absurd cc
 

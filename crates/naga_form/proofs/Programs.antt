@@ -29,7 +29,7 @@ use Rattle.naga_ir.specs.declared.module.FunctionResult.{FunctionResult}
 use Rattle.naga_ir.specs.declared.module.Module.{Module}
 use Rattle.naga_info.specs.declared.info.ExpressionInfo.{ExpressionInfo}
 use Rattle.naga_info.specs.declared.info.ModuleInfo.{ModuleInfo}
-use Rattle.module_meaning.specs.Part.{is_scalar_type, resolution_is_written}
+use Rattle.module_meaning.specs.Part.{is_value_type, resolution_is_written}
 use Rattle.module_meaning.specs.Ranges.{is_below}
 use Rattle.wgsl_text.specs.Words.{stands_in, is_builtin, IsIdentifier, is_letter, is_word_byte}
 use Rattle.wgsl_text.specs.Words.{all_word_bytes, is_reserved}
@@ -215,7 +215,7 @@ statements_fit (statement st b) is =
     by (simple (return value)) is = refl
     by _ is = absurd (cc)
 
-module _ (m : Module) (info : ModuleInfo) (g : ℕ) (f : ir_function.Function) (found : slice_get m.functions g ≡ Some f) (es : List ExpressionInfo) (callees : ℕ) (ranges : function_in_range m callees f ≡ true) (written : IsTrue (function_is_written f)) (known : list_all (λ k. resolution_is_written m.types k.ty) es ≡ true) (scalars : list_all is_scalar_type m.types ≡ true) (few : length f.expressions ≤ 2 ^ 64) where
+module _ (m : Module) (info : ModuleInfo) (g : ℕ) (f : ir_function.Function) (found : slice_get m.functions g ≡ Some f) (es : List ExpressionInfo) (callees : ℕ) (ranges : function_in_range m callees f ≡ true) (written : IsTrue (function_is_written f)) (known : list_all (λ k. resolution_is_written m.types k.ty) es ≡ true) (values : list_all is_value_type m.types ≡ true) (few : length f.expressions ≤ 2 ^ 64) where
   abbrev own : Naming
   own = function_naming (module_names m) m info g f es
 
@@ -425,7 +425,7 @@ module _ (m : Module) (info : ModuleInfo) (g : ℕ) (f : ir_function.Function) (
       let parts = and_parts (nat_lt v.ty (length m.types)) (is_below (length f.expressions) v.init) both.0 in (
         record {
           name = item_is_identifier m (local_item g l here.0) (local_stands wgsl_names m g f l here.0 found here.1);
-          type = is_type_at m.types scalars (module_names m) v.ty (ltb-true v.ty (length m.types) parts.0);
+          type = is_type_at m.types values (module_names m) v.ty (ltb-true v.ty (length m.types) parts.0);
           value = first_is v.init;
         },
         locals_are (l + 1) vs next both.1,
@@ -442,13 +442,13 @@ module _ (m : Module) (info : ModuleInfo) (g : ℕ) (f : ir_function.Function) (
       let next : (n + 1) + length args ≡ length f.arguments.items = omega (arith, size) in
       let there = element f.arguments.items n lt in
       let here = and_left (nat_lt a.ty (length m.types)) (list_all (λ a. nat_lt a.ty (length m.types)) args) fit in (
-        record { attributes = tt; binding = refl; name = item_is_identifier m (argument_item m g n there.0) (argument_there m g f n there.0 found there.1); type = is_type_at m.types scalars (module_names m) a.ty (ltb-true a.ty (length m.types) here) },
+        record { attributes = tt; binding = refl; name = item_is_identifier m (argument_item m g n there.0) (argument_there m g f n there.0 found there.1); type = is_type_at m.types values (module_names m) a.ty (ltb-true a.ty (length m.types) here) },
         parameters_are (n + 1) args next (and_right (nat_lt a.ty (length m.types)) (list_all (λ a. nat_lt a.ty (length m.types)) args) fit),
       )
 
   result_is : (r : Option FunctionResult) → IsTrue (is_below (length m.types) (option_map (λ r. r.ty) r)) → IsResult (result_form (type_names m) r)
   result_is None fit = tt
-  result_is (Some r) fit = (tt, refl, is_type_at m.types scalars (module_names m) r.ty (ltb-true r.ty (length m.types) fit))
+  result_is (Some r) fit = (tt, refl, is_type_at m.types values (module_names m) r.ty (ltb-true r.ty (length m.types) fit))
 
   function_is : (explicit : Bool) → IsFunction (function_form explicit (module_names m) m info g f es)
   function_is explicit =
@@ -462,10 +462,10 @@ module _ (m : Module) (info : ModuleInfo) (g : ℕ) (f : ir_function.Function) (
         parameters = parameters_are 0 f.arguments.items all (and_left args answer signature);
         result = result_is f.result (and_right args answer signature);
         locals = locals_are 0 f.local_variables all_locals (locals_are_in_range m callees f ranges);
-        body = lines_are (told_type explicit (type_names m) es) (told_is m.types scalars (module_names m) explicit es known) 0 f.body (statements_fit f.body (function_parts f written).body) (at_start own.function) start_is;
+        body = lines_are (told_type explicit (type_names m) es) (told_is m.types values (module_names m) explicit es known) 0 f.body (statements_fit f.body (function_parts f written).body) (at_start own.function) start_is;
       }
 
-module _ (explicit : Bool) (m : Module) (info : ModuleInfo) (accepted : IsTrue (is_accepted m info)) (scalars : list_all is_scalar_type m.types ≡ true) where
+module _ (explicit : Bool) (m : Module) (info : ModuleInfo) (accepted : IsTrue (is_accepted m info)) (values : list_all is_value_type m.types ≡ true) where
   functions_are : (g : ℕ) (fs : List ir_function.Function) (ess : List (List ExpressionInfo)) → ((i : ℕ) (f : ir_function.Function) → slice_get fs i ≡ Some f → slice_get m.functions (g + i) ≡ Some f) → IsTrue (list_all function_is_written fs) →
       IsTrue (list_all (list_all (λ k. resolution_is_written m.types k.ty)) ess) → IsTrue (list_all (λ f. nat_le (length f.expressions) (2 ^ 64)) fs) → Each IsFunction (functions_form explicit (module_names m) m info g fs ess)
   functions_are g [] [] there written known few = tt
@@ -479,7 +479,7 @@ module _ (explicit : Bool) (m : Module) (info : ModuleInfo) (accepted : IsTrue (
       let all = and_parts (function_is_written f) (list_all function_is_written fs) written in
       let types = and_parts (list_all (λ k. resolution_is_written m.types k.ty) es) (list_all (list_all (λ k. resolution_is_written m.types k.ty)) ess) known in
       let counted = and_parts (nat_le (length f.expressions) (2 ^ 64)) (list_all (λ f. nat_le (length f.expressions) (2 ^ 64)) fs) few in (
-        function_is m info g f found es is.callees is.ranges all.0 types.0 scalars (leb-true (length f.expressions) (2 ^ 64) counted.0) explicit,
+        function_is m info g f found es is.callees is.ranges all.0 types.0 values (leb-true (length f.expressions) (2 ^ 64) counted.0) explicit,
         functions_are (g + 1) fs ess (further m.functions g f fs there) all.1 types.1 counted.1,
       )
 

@@ -1,7 +1,7 @@
 -- The program that is written for a module does what the module does.
 use Rattle.naga_form.proofs.AcceptedFunctions.{accepted_at, locals_are_in_range}
 use Rattle.naga_form.proofs.AcceptedFunctions.{function_there as function_there_known}
-use Rattle.module_meaning.specs.Part.{is_scalar_type}
+use Rattle.module_meaning.specs.Part.{is_value_type}
 use Rattle.module_meaning.specs.Types.{type_names}
 use Rattle.naga_form.specs.Types.{LocalsHaveForms}
 use Rattle.std.proofs.Common.{[], ◌≡◌, ℕ, suc, ◌+◌, ◌<◌, Bool, List, ◌∷◌, map, length}
@@ -70,15 +70,15 @@ shapes_counted m info [] ess paired = refl
 shapes_counted m info (f ∷ fs) [] paired = absurd (omega (arith, paired))
 shapes_counted m info (f ∷ fs) (es ∷ ess) paired = ap suc (shapes_counted m info fs ess (omega (arith, paired)))
 
-functions_read : (explicit : Bool) (m : Module) (info : ModuleInfo) → IsTrue (list_all is_scalar_type m.types) → (g : ℕ) (fs : List ir_function.Function) (ess : List (List ExpressionInfo)) → IsTrue (list_all function_is_written fs) → ((i : ℕ) (f : ir_function.Function) → slice_get fs i ≡ Some f → LocalsHaveForms (type_names m) f.local_variables) →
+functions_read : (explicit : Bool) (m : Module) (info : ModuleInfo) → IsTrue (list_all is_value_type m.types) → (g : ℕ) (fs : List ir_function.Function) (ess : List (List ExpressionInfo)) → IsTrue (list_all function_is_written fs) → ((i : ℕ) (f : ir_function.Function) → slice_get fs i ≡ Some f → LocalsHaveForms (type_names m) f.local_variables) →
     map function_read (functions_form explicit (module_names m) m info g fs ess) ≡ map form_function (namings_from (module_names m) g (function_shapes m info fs ess))
-functions_read explicit m info scalars g [] [] is spelled = refl
-functions_read explicit m info scalars g [] (es ∷ ess) is spelled = refl
-functions_read explicit m info scalars g (f ∷ fs) [] is spelled = refl
-functions_read explicit m info scalars g (f ∷ fs) (es ∷ ess) is spelled =
+functions_read explicit m info values g [] [] is spelled = refl
+functions_read explicit m info values g [] (es ∷ ess) is spelled = refl
+functions_read explicit m info values g (f ∷ fs) [] is spelled = refl
+functions_read explicit m info values g (f ∷ fs) (es ∷ ess) is spelled =
     let all = and_parts (function_is_written f) (list_all function_is_written fs) is in
     let own = spelled 0 f refl in
-    λ i. function_reads explicit m info g f es scalars all.0 own i ∷ functions_read explicit m info scalars (g + 1) fs ess all.1 (λ i f there. spelled (suc i) f there) i
+    λ i. function_reads explicit m info g f es values all.0 own i ∷ functions_read explicit m info values (g + 1) fs ess all.1 (λ i f there. spelled (suc i) f there) i
 
 -- what holds of all of a list that is turned round onto another holds of all of both
 behind_all : {X : Type 0} (test : X → Bool) (xs behind : List X) → IsTrue (list_all test (reverse_aux xs behind)) → IsTrue (list_all test behind)

@@ -16,7 +16,7 @@ use Rattle.naga_names.proofs.Refusal.{element}
 use Rattle.naga_words.specs.Spelling.{is_struct}
 use Rattle.module_meaning.specs.Names.{ItemsAreCounted, ItemsAreTold, NamesAreCounted}
 use Rattle.module_meaning.specs.Names.{TypesAreTold, module_names, name_in, wgsl_names}
-use Rattle.module_meaning.specs.Part.{is_scalar_type, is_written_scalar, is_written_so_far}
+use Rattle.module_meaning.specs.Part.{is_value_type, is_written_value, is_written_so_far}
 use Rattle.module_meaning.proofs.Lists.{list_all_at}
 use Rattle.module_meaning.proofs.Part.{written_so_far_parts}
 use Rattle.naga_form.proofs.MemberNames.{member_names_tell}
@@ -62,30 +62,34 @@ module _ (m : Module) where
         member_names_tell m counted.names counted.keys h t at i j a b x y e;
   }
 
-  -- ---- types that are scalars
-  no_struct : (it : TypeInner) → is_written_scalar it ≡ true → is_struct it ≡ true → ⊥
-  no_struct (inner.Scalar s) scalar is = absurd (cc)
-  no_struct _ scalar is = absurd (cc)
+  -- ---- types of values
+  no_struct : (it : TypeInner) → is_written_value it ≡ true → is_struct it ≡ true → ⊥
+  no_struct (inner.Scalar s) value is = absurd (cc)
+  no_struct (inner.Vector size s) value is = absurd (cc)
+  no_struct (inner.Matrix columns rows s) value is = absurd (cc)
+  no_struct _ value is = absurd (cc)
 
-  no_member : (it : TypeInner) → is_written_scalar it ≡ true → (i : ℕ) (a : StructMember) →
+  no_member : (it : TypeInner) → is_written_value it ≡ true → (i : ℕ) (a : StructMember) →
       slice_get (members_of it) i ≡ Some a → ⊥
-  no_member (inner.Scalar s) scalar i a at = absurd (cc)
-  no_member _ scalar i a at = absurd (cc)
+  no_member (inner.Scalar s) value i a at = absurd (cc)
+  no_member (inner.Vector size s) value i a at = absurd (cc)
+  no_member (inner.Matrix columns rows s) value i a at = absurd (cc)
+  no_member _ value i a at = absurd (cc)
 
   -- a module of the part has none of them
   pub written_are_told : (info : ModuleInfo) → IsTrue (is_written_so_far m info) → ItemsAreTold m
   written_are_told info written = record {
     types = record {
-      structs = λ h k t u at there is_t is_u e. absurd (no_struct t.inner (scalar h t at) is_t);
+      structs = λ h k t u at there is_t is_u e. absurd (no_struct t.inner (value h t at) is_t);
       overrides = λ o p lo lp e. absurd (none o lo);
       apart = λ h o t at is lo e. absurd (none o lo);
     };
-    members = λ h t at i j a b x y e. absurd (no_member t.inner (scalar h t at) i a x);
+    members = λ h t at i j a b x y e. absurd (no_member t.inner (value h t at) i a x);
   }
     where
-      scalar : (h : ℕ) (t : Type_) → slice_get m.types h ≡ Some t → is_written_scalar t.inner ≡ true
-      scalar h t at =
-          list_all_at is_scalar_type m.types h t (written_so_far_parts m info written).1 at
+      value : (h : ℕ) (t : Type_) → slice_get m.types h ≡ Some t → is_written_value t.inner ≡ true
+      value h t at =
+          list_all_at is_value_type m.types h t (written_so_far_parts m info written).1 at
 
       none : (o : ℕ) → o < length m.overrides → ⊥
       none o lt =

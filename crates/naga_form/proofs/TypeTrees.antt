@@ -248,12 +248,12 @@ unfolding is_reserved
 vertex_return_is = record { text = refl; free = refl }
 
 -- ---- templates
-vector_rule : (v : VectorSize) → rule_among type_templates (vector_word v) ≡ TakesScalar
+pub vector_rule : (v : VectorSize) → rule_among type_templates (vector_word v) ≡ TakesScalar
 vector_rule Bi = refl
 vector_rule Tri = refl
 vector_rule Quad = refl
 
-matrix_rule : (c r : VectorSize) → rule_among type_templates (matrix_word c r) ≡ TakesScalar
+pub matrix_rule : (c r : VectorSize) → rule_among type_templates (matrix_word c r) ≡ TakesScalar
 matrix_rule Bi Bi = refl
 matrix_rule Bi Tri = refl
 matrix_rule Bi Quad = refl
@@ -277,7 +277,7 @@ scalar_tree_is s t e =
     subst IsType w.2 (scalar_word_is w.0 (value_words.scalars.each s w.0 w.1))
 
 -- a word with a scalar
-of_scalar_is : (word : List ℕ) → rule_among type_templates word ≡ TakesScalar → (s : Scalar) (t : TypeSpecifier) → option_map (of_one word) (scalar_tree s) ≡ Some t → IsType t
+pub of_scalar_is : (word : List ℕ) → rule_among type_templates word ≡ TakesScalar → (s : Scalar) (t : TypeSpecifier) → option_map (of_one word) (scalar_tree s) ≡ Some t → IsType t
 of_scalar_is word rule s t e =
     let x = map_some (of_one word) (scalar_tree s) t e in
     let w = map_some Named (scalar_word s) x.0 x.1 in

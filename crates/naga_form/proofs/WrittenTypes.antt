@@ -1,5 +1,4 @@
--- The types of a module of the part that is written so far are written by their words, and are types
--- of the grammar.
+-- The types of a module of the part that is written so far have forms, which are types of the grammar.
 use Rattle.std.proofs.Common.{[], ◌≡◌, ℕ, ◌<◌, Bool, true, false, ◌||◌, List, length, Option, Some}
 use Rattle.std.proofs.Common.{None, refl, sym, ap, subst, ◌∙◌, codes, slice_get, ◌==◌}
 use Rattle.std.specs.Prelude.{IsTrue, unwrap_or, if◌then◌else◌}
@@ -19,25 +18,29 @@ use Rattle.naga_ir.specs.declared.types.TypeInner.{TypeInner}
 use Rattle.naga_ir.specs.declared.types.TypeInner.TheVariants as inner
 use Rattle.naga_names.proofs.Refusal.{element}
 use Rattle.naga_names.specs.Keys.{NameMap}
-use Rattle.naga_words.specs.Contexts.{names_of}
+use Rattle.naga_words.specs.Contexts.{Names, names_of}
+use Rattle.naga_words.specs.Words.{vector_word, matrix_word}
 use Rattle.module_meaning.proofs.Lists.{list_all_at}
-use Rattle.module_meaning.specs.Part.{is_scalar_type, is_scalar_at, is_written_scalar}
+use Rattle.module_meaning.specs.Part.{is_value_type, is_value_at, is_written_value}
 use Rattle.module_meaning.specs.Part.{resolution_is_written, scalar_is_written, type_is_written}
 use Rattle.module_meaning.specs.Part.{width_is_written}
 use Rattle.wgsl_text.proofs.Building.{scalar_word_is, pointer_to_is}
 use Rattle.wgsl_text.proofs.ValueWords.{value_words}
 use Rattle.wgsl_text.specs.Tables.{scalar_words}
-use Rattle.wgsl_text.specs.Types.{TypeSpecifier, Named, IsType, of_two}
+use Rattle.wgsl_text.specs.Types.{TypeSpecifier, Named, IsType, TakesScalar, of_one, of_two}
+use Rattle.wgsl_text.specs.Types.{rule_among, type_templates}
 use Rattle.wgsl_text.specs.Words.{stands_in}
 use Rattle.wgsl_words.specs.Words.{scalar_word, scalar_word_of}
-use Rattle.naga_form.specs.TypeTrees.{inner_tree, named_tree_by, pointer_tree_in, found_tree_by}
+use Rattle.naga_form.proofs.TypeTrees.{matrix_rule, of_scalar_is, vector_rule}
+use Rattle.naga_form.specs.TypeTrees.{inner_tree, inner_tree_by, named_tree_by, pointer_tree_in}
+use Rattle.naga_form.specs.TypeTrees.{found_tree_by, scalar_tree}
 use Rattle.naga_form.specs.TypeTrees.{tree_within, type_tree, resolution_tree}
 use Rattle.naga_form.specs.Types.{told_type, type_form}
 
 -- ---- words
--- a pointer to a local of the type with this word
-abbrev pub pointer_to : List ℕ → TypeSpecifier
-pointer_to w = of_two (codes "ptr") (Named (codes "function")) (Named w)
+-- a pointer to a local of a type
+abbrev pub pointer_to : TypeSpecifier → TypeSpecifier
+pointer_to t = of_two (codes "ptr") (Named (codes "function")) t
 
 -- what is chosen is there, where one of two tests passes
 either_some : {X : Type 0} (a b c : Bool) (x y z : X) → (b || c) ≡ true →
@@ -54,26 +57,21 @@ width_has_word kind.Sint n is =
     either_some (n == 2) (n == 4) (n == 8) (codes "i16") (codes "i32") (codes "i64") is
 width_has_word kind.Uint n is =
     either_some (n == 2) (n == 4) (n == 8) (codes "u16") (codes "u32") (codes "u64") is
+width_has_word kind.Float n is =
+    either_some (n == 2) (n == 4) (n == 8) (codes "f16") (codes "f32") (codes "f64") is
 width_has_word _ n is = absurd (cc)
 
--- a scalar that is written so far has a word, which is a type, and one points at locals of it
+-- a scalar that is written so far has a word, which is a type
 record HasWord (s : Scalar) : Type 0 where
   pub word : List ℕ
   pub is : scalar_word s ≡ Some word
   pub itself : IsType (Named word)
-  pub pointer : IsType (pointer_to word)
 
 has_word : (s : Scalar) → scalar_is_written s ≡ true → HasWord s
 has_word s written =
     let w = width_has_word s.kind s.width written in
     let stands : stands_in scalar_words w.0 ≡ true = value_words.scalars.each s w.0 w.1 in
-    let is = scalar_word_is w.0 stands in
-    record {
-      word = w.0;
-      is = w.1;
-      itself = is;
-      pointer = pointer_to_is (codes "function") (Named w.0) refl is;
-    }
+    record { word = w.0; is = w.1; itself = scalar_word_is w.0 stands }
 
 -- ---- types
 -- A type has a form, whatever its names are, and that is a type of the grammar.
@@ -82,84 +80,121 @@ pub record HasForm (under : NameMap → Option TypeSpecifier) : Type 0 where
   pub is : (names : NameMap) → under names ≡ Some tree
   pub form : IsType tree
 
--- the scalar of a type that is one
-record IsScalar (it : TypeInner) : Type 0 where
-  pub scalar : Scalar
-  pub same : it ≡ inner.Scalar scalar
-  pub written : scalar_is_written scalar ≡ true
+-- the tree of a type of values, whatever its names are, and that one points at locals of it
+record HasTree (it : TypeInner) : Type 0 where
+  pub tree : TypeSpecifier
+  pub is : (n : Names) (f : ℕ → Option TypeSpecifier) → inner_tree_by n f it ≡ Some tree
+  pub named : (n : Names) (f : ℕ → Option TypeSpecifier) (h : ℕ) → named_tree_by n f h it ≡ Some tree
+  pub itself : IsType tree
 
-is_scalar : (it : TypeInner) → is_written_scalar it ≡ true → IsScalar it
-is_scalar (inner.Scalar s) is = record { scalar = s; same = refl; written = is }
-is_scalar _ is = absurd (cc)
+-- a template over the word of a scalar
+over_scalar : (w : List ℕ) → rule_among type_templates w ≡ TakesScalar → (s : Scalar) →
+    (found : HasWord s) →
+    (option_map (of_one w) (scalar_tree s) ≡ Some (of_one w (Named found.word)))
+    × IsType (of_one w (Named found.word))
+over_scalar w rule s found =
+    let is = ap (λ o. option_map (of_one w) (option_map Named o)) found.is in
+    (is, of_scalar_is w rule s (of_one w (Named found.word)) is)
 
--- of scalar types, each in range is one
-pub scalars_at : (types : List Type_) (ty : ℕ) → IsTrue (list_all is_scalar_type types) →
-    ty < length types → is_scalar_at types ty ≡ true
-scalars_at types ty scalars lt =
+has_tree : (it : TypeInner) → is_written_value it ≡ true → HasTree it
+has_tree (inner.Scalar s) written =
+    let w = has_word s written in
+    let is = ap (option_map Named) w.is in
+    record { tree = Named w.word; is = λ n f. is; named = λ n f h. is; itself = w.itself }
+has_tree (inner.Vector size s) written =
+    let w = has_word s written in
+    let over = over_scalar (vector_word size) (vector_rule size) s w in
+    record {
+      tree = of_one (vector_word size) (Named w.word);
+      is = λ n f. over.0;
+      named = λ n f h. over.0;
+      itself = over.1;
+    }
+has_tree (inner.Matrix columns rows s) written =
+    let w = has_word s written in
+    let over = over_scalar (matrix_word columns rows) (matrix_rule columns rows) s w in
+    record {
+      tree = of_one (matrix_word columns rows) (Named w.word);
+      is = λ n f. over.0;
+      named = λ n f h. over.0;
+      itself = over.1;
+    }
+has_tree _ written = absurd (cc)
+
+-- of types of values, each in range is one
+pub values_at : (types : List Type_) (ty : ℕ) → IsTrue (list_all is_value_type types) →
+    ty < length types → is_value_at types ty ≡ true
+values_at types ty values lt =
     let t = element types ty lt in
-    ap (λ o. option_map_or is_scalar_type o false) t.1
-    ∙ list_all_at is_scalar_type types ty t.0 scalars t.1
+    ap (λ o. option_map_or is_value_type o false) t.1
+    ∙ list_all_at is_value_type types ty t.0 values t.1
 
 module _ (types : List Type_) where
   -- the type at such a handle
-  scalar_there : (ty : ℕ) → is_scalar_at types ty ≡ true →
-      (t : Type_) × (slice_get types ty ≡ Some t) × IsScalar t.inner
-  scalar_there ty is = by (slice_get types ty) refl is
+  value_there : (ty : ℕ) → is_value_at types ty ≡ true →
+      (t : Type_) × (slice_get types ty ≡ Some t) × HasTree t.inner
+  value_there ty is = by (slice_get types ty) refl is
     where
       by : (o : Option Type_) → slice_get types ty ≡ o →
-          option_map_or is_scalar_type o false ≡ true →
-          (t : Type_) × (slice_get types ty ≡ Some t) × IsScalar t.inner
+          option_map_or is_value_type o false ≡ true →
+          (t : Type_) × (slice_get types ty ≡ Some t) × HasTree t.inner
       by None at is = absurd (cc)
-      by (Some t) at is = (t, at, is_scalar t.inner is)
+      by (Some t) at is = (t, at, has_tree t.inner is)
 
-  -- a scalar type of the module is written as its word
-  pub tree_of_scalar : (ty : ℕ) (t : Type_) (s : Scalar) (w : List ℕ) →
-      slice_get types ty ≡ Some t → t.inner ≡ inner.Scalar s → scalar_word s ≡ Some w →
-      (names : NameMap) → type_tree (names_of types names) ty ≡ Some (Named w)
+  -- a type of values of the module is written as its tree
+  tree_of_value : (ty : ℕ) (t : Type_) → slice_get types ty ≡ Some t → (has : HasTree t.inner) →
+      (names : NameMap) → type_tree (names_of types names) ty ≡ Some has.tree
   unfolding type_tree
-  tree_of_scalar ty t s w at same is names =
+  tree_of_value ty t at has names =
       let n = names_of types names in
-      ap (found_tree_by n (tree_within ty n) ty) at
-      ∙ (ap (named_tree_by n (tree_within ty n) ty) same ∙ ap (option_map Named) is)
+      ap (found_tree_by n (tree_within ty n) ty) at ∙ has.named n (tree_within ty n) ty
 
   -- so it has a form, as have pointers to locals of it
-  pub type_has_form : (ty : ℕ) → is_scalar_at types ty ≡ true →
+  pub type_has_form : (ty : ℕ) → is_value_at types ty ≡ true →
       HasForm (λ names. type_tree (names_of types names) ty)
   type_has_form ty is =
-      let t = scalar_there ty is in
-      let w = has_word t.2.scalar t.2.written in
+      let t = value_there ty is in
       record {
-        tree = Named w.word;
-        is = tree_of_scalar ty t.0 t.2.scalar w.word t.1 t.2.same w.is;
-        form = w.itself;
+        tree = t.2.tree;
+        is = tree_of_value ty t.0 t.1 t.2;
+        form = t.2.itself;
       }
 
-  pub pointer_has_form : (ty : ℕ) → is_scalar_at types ty ≡ true →
+  pub pointer_has_form : (ty : ℕ) → is_value_at types ty ≡ true →
       HasForm (λ names. inner_tree (names_of types names) (inner.Pointer ty space.Function))
   pointer_has_form ty is =
-      let t = scalar_there ty is in
-      let w = has_word t.2.scalar t.2.written in
+      let t = value_there ty is in
       record {
-        tree = pointer_to w.word;
+        tree = pointer_to t.2.tree;
         is = λ names. ap (pointer_tree_in (Some (codes "function")) None)
-            (tree_of_scalar ty t.0 t.2.scalar w.word t.1 t.2.same w.is names);
-        form = w.pointer;
+            (tree_of_value ty t.0 t.1 t.2 names);
+        form = pointer_to_is (codes "function") t.2.tree refl t.2.itself;
+      }
+
+  value_has_form : (it : TypeInner) → is_written_value it ≡ true →
+      HasForm (λ names. inner_tree (names_of types names) it)
+  value_has_form it is =
+      let has = has_tree it is in
+      record {
+        tree = has.tree;
+        is = λ names. has.is (names_of types names) (type_tree (names_of types names));
+        form = has.itself;
       }
 
   inner_has_form : (it : TypeInner) → type_is_written types it ≡ true →
       HasForm (λ names. inner_tree (names_of types names) it)
-  inner_has_form (inner.Scalar s) is =
-      let w = has_word s is in
-      record { tree = Named w.word; is = λ names. ap (option_map Named) w.is; form = w.itself }
   inner_has_form (inner.Pointer base space.Function) is = pointer_has_form base is
   inner_has_form (inner.Pointer base _) is = absurd (cc)
+  inner_has_form (inner.Scalar s) is = value_has_form (inner.Scalar s) is
+  inner_has_form (inner.Vector size s) is = value_has_form (inner.Vector size s) is
+  inner_has_form (inner.Matrix columns rows s) is = value_has_form (inner.Matrix columns rows s) is
   inner_has_form _ is = absurd (cc)
 
-  module _ (scalars : IsTrue (list_all is_scalar_type types)) where
+  module _ (values : IsTrue (list_all is_value_type types)) where
     pub is_type_at : (names : NameMap) (ty : ℕ) → ty < length types →
         IsType (type_form (names_of types names) ty)
     is_type_at names ty lt =
-        let h = type_has_form ty (scalars_at types ty scalars lt) in
+        let h = type_has_form ty (values_at types ty values lt) in
         subst (λ o. IsType (unwrap_or o (Named []))) (sym (h.is names)) h.form
 
     -- an expression's type has a form where it is written so far
@@ -169,9 +204,9 @@ module _ (types : List Type_) where
       where
         by : (o : Option Type_) → slice_get types h ≡ o →
             option_map_or (type_is_written types) (option_map (λ t. t.inner) o) false ≡ true →
-            option_map_or is_scalar_type o false ≡ true
+            option_map_or is_value_type o false ≡ true
         by None at is = is
-        by (Some t) at is = list_all_at is_scalar_type types h t scalars at
+        by (Some t) at is = list_all_at is_value_type types h t values at
     resolution_has_form (Value it) is = inner_has_form it is
 
     -- what a `let` tells is a type of the grammar

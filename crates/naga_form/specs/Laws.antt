@@ -39,7 +39,7 @@ use Rattle.module_meaning.specs.Writable.{IsWritable}
 use Rattle.module_meaning.specs.Names.{ItemsAreCounted, ItemsAreTold, NamesAreCounted}
 use Rattle.module_meaning.specs.Names.{TypesAreTold, module_names}
 use Rattle.module_meaning.specs.Ranges.{resolution_fits}
-use Rattle.module_meaning.specs.Part.{function_is_written, is_scalar_type, is_written_so_far}
+use Rattle.module_meaning.specs.Part.{function_is_written, is_value_type, is_written_so_far}
 use Rattle.module_meaning.specs.Premises.{handles_are_counted, scope_holds, ScopesHold}
 use Rattle.module_meaning.specs.Resolution.{ResolvesAs}
 use Rattle.module_meaning.specs.ModuleShapes.{module_shape}
@@ -92,12 +92,13 @@ BindsAsCounted =
     IsTrue (is_written_so_far m info) →
     BindsAs m info explicit (written_program m info explicit)
 
--- what is written of a function that is written so far, of a module of scalar types, in which the
--- types of the function's locals have forms, is read as its shape is written, whatever is known of it
+-- what is written of a function that is written so far, of a module whose types are written so far, in
+-- which the types of the function's locals have forms, is read as its shape is written, whatever is
+-- known of it
 abbrev pub FunctionsAreRead : Type 0
 FunctionsAreRead =
     (explicit : Bool) (m : Module) (info : ModuleInfo) (g : ℕ) (f : Function) →
-    (es : List ExpressionInfo) → IsTrue (list_all is_scalar_type m.types) →
+    (es : List ExpressionInfo) → IsTrue (list_all is_value_type m.types) →
     IsTrue (function_is_written f) → LocalsHaveForms (type_names m) f.local_variables →
     function_read (function_form explicit (module_names m) m info g f es)
     ≡ form_function (function_naming (module_names m) m info g f es)

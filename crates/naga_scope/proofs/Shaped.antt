@@ -272,6 +272,7 @@ module _ (m : Module) (info : ModuleInfo) (f : ir_function.Function) (es : List 
         own (expression.Binary op left right) is may =
             operator_bound shape h (BinarySign op) (left ∷ right ∷ []) ∙ counted_from 2 h
         own (expression.Select condition accept reject) is may = counted_from 2 h
+        own (expression.Splat size value) is may = counted_from 2 h
         own (expression.Math fun arg arg1 arg2 arg3) is may = counted_from 2 h
         own (expression.Relational fun argument) is may = counted_from 2 h
         own (expression.Literal value) is may = absurd cc

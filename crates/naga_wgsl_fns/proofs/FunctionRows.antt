@@ -103,7 +103,7 @@ can_write t info accepted written named here known =
     record {
       named = named;
       function = here;
-      scalars = part.1;
+      values = part.1;
       ranges = function_names_there m info (names_are_there m info accepted) t.handle f here;
       size = one_is_known m info accepted t.handle f t.info.now here known;
       known = list_all_at (list_all (λ k. resolution_is_written m.types k.ty)) info.functions.items t.handle t.info.now part.3 known;

@@ -9,7 +9,7 @@ use Rattle.naga_ir.specs.declared.types.AddressSpace.TheVariants as space
 use Rattle.naga_ir.specs.declared.types.Type_.{Type_}
 use Rattle.naga_ir.specs.declared.types.TypeInner.{TypeInner}
 use Rattle.naga_ir.specs.declared.types.TypeInner.TheVariants as inner
-use Rattle.module_meaning.specs.Part.{is_scalar_at, is_scalar_type, is_written_scalar}
+use Rattle.module_meaning.specs.Part.{is_value_at, is_value_type, is_written_value}
 use Rattle.module_meaning.specs.Part.{resolution_is_written, type_is_written}
 use Rattle.wgsl_text.specs.Types.{TypeSpecifier, Named}
 use Rattle.wgsl_text.proofs.Text.{text-append}
@@ -90,30 +90,37 @@ module _ (types : List Type_) where
   row_of names (resolution.Value i) = inner_tree_row text-append (names_of types names) (λ handle. true) i
 
   -- ---- what a context asks for
-  scalar_before : (i : TypeInner) (h : ℕ) → IsTrue (is_written_scalar i) → end_of_base i ≤ h
-  scalar_before (inner.Scalar s) h is = omega arith
-  scalar_before _ h is = absurd (cc)
+  value_before : (i : TypeInner) (h : ℕ) → IsTrue (is_written_value i) → end_of_base i ≤ h
+  value_before (inner.Scalar s) h is = omega arith
+  value_before (inner.Vector size s) h is = omega arith
+  value_before (inner.Matrix columns rows s) h is = omega arith
+  value_before _ h is = absurd (cc)
 
-  scalar_knows : (c : Context) (i : TypeInner) → IsTrue (is_written_scalar i) → IsTrue (knows_override c i)
-  scalar_knows c (inner.Scalar s) is = refl
-  scalar_knows c _ is = absurd (cc)
+  value_knows : (c : Context) (i : TypeInner) → IsTrue (is_written_value i) → IsTrue (knows_override c i)
+  value_knows c (inner.Scalar s) is = refl
+  value_knows c (inner.Vector size s) is = refl
+  value_knows c (inner.Matrix columns rows s) is = refl
+  value_knows c _ is = absurd (cc)
 
-  pub in_order : (names : NameMap) → list_all is_scalar_type types ≡ true → IsInOrder (names_context types names)
-  in_order names scalars = record {
-    before = λ h t at. scalar_before t.inner h (list_all_at is_scalar_type types h t scalars at);
-    known = λ h t at. scalar_knows (names_context types names) t.inner (list_all_at is_scalar_type types h t scalars at);
+  pub in_order : (names : NameMap) → list_all is_value_type types ≡ true → IsInOrder (names_context types names)
+  in_order names values = record {
+    before = λ h t at. value_before t.inner h (list_all_at is_value_type types h t values at);
+    known = λ h t at. value_knows (names_context types names) t.inner (list_all_at is_value_type types h t values at);
   }
 
-  pub scalar_within : (ty : ℕ) → IsTrue (is_scalar_at types ty) → ty < length types
-  scalar_within ty is = by (slice_get types ty) refl is
+  pub value_within : (ty : ℕ) → IsTrue (is_value_at types ty) → ty < length types
+  value_within ty is = by (slice_get types ty) refl is
     where
-      by : (o : Option Type_) → slice_get types ty ≡ o → option_map_or is_scalar_type o false ≡ true → ty < length types
+      by : (o : Option Type_) → slice_get types ty ≡ o → option_map_or is_value_type o false ≡ true → ty < length types
       by None at is = absurd (cc)
       by (Some t) at is = slice_get_within types ty t at
 
   inner_fits : (names : NameMap) (i : TypeInner) → IsTrue (type_is_written types i) → Fits (names_context types names) i
   inner_fits names (inner.Scalar s) is = record { in_range = omega arith; knows = refl }
-  inner_fits names (inner.Pointer base space.Function) is = let lt = scalar_within base is in record { in_range = omega (arith, lt); knows = refl }
+  inner_fits names (inner.Vector size s) is = record { in_range = omega arith; knows = refl }
+  inner_fits names (inner.Matrix columns rows s) is =
+      record { in_range = omega arith; knows = refl }
+  inner_fits names (inner.Pointer base space.Function) is = let lt = value_within base is in record { in_range = omega (arith, lt); knows = refl }
   inner_fits names (inner.Pointer base _) is = absurd (cc)
   inner_fits names _ is = absurd (cc)
 
@@ -126,16 +133,16 @@ module _ (types : List Type_) where
   resolution_fits names (resolution.Value i) is = inner_fits names i is
 
 -- ---- under the names of a function's module
-pub type_known : (f : FunctionText) (ty : ℕ) → IsTrue (is_scalar_at f.shader.now.types ty) → known_text (type_parts (names_context f.shader.now.types (names_in f.names.now)) ty) ≡ Some (type_text f ty)
+pub type_known : (f : FunctionText) (ty : ℕ) → IsTrue (is_value_at f.shader.now.types ty) → known_text (type_parts (names_context f.shader.now.types (names_in f.names.now)) ty) ≡ Some (type_text f ty)
 unfolding type_text
 type_known f ty scalar =
     let types = f.shader.now.types in
     let names = names_in f.names.now in
     known_of_tree types names (module_names f.shader.now) (type_parts (names_context types names) ty) (λ n. type_tree (names_of types n) ty) (type_row text-append (names_of types names) (λ handle. true) ty) (type_has_form types ty scalar)
 
-pub resolution_known : (f : FunctionText) → list_all is_scalar_type f.shader.now.types ≡ true → (r : TypeResolution) → IsTrue (resolution_is_written f.shader.now.types r) → known_text (resolution_parts (names_context f.shader.now.types (names_in f.names.now)) r) ≡ Some (resolution_text f r)
+pub resolution_known : (f : FunctionText) → list_all is_value_type f.shader.now.types ≡ true → (r : TypeResolution) → IsTrue (resolution_is_written f.shader.now.types r) → known_text (resolution_parts (names_context f.shader.now.types (names_in f.names.now)) r) ≡ Some (resolution_text f r)
 unfolding resolution_text
-resolution_known f scalars r written =
+resolution_known f values r written =
     let types = f.shader.now.types in
     let names = names_in f.names.now in
-    known_of_tree types names (module_names f.shader.now) (resolution_parts (names_context types names) r) (λ n. resolution_tree (names_of types n) r) (row_of types names r) (resolution_has_form types scalars r written)
+    known_of_tree types names (module_names f.shader.now) (resolution_parts (names_context types names) r) (λ n. resolution_tree (names_of types n) r) (row_of types names r) (resolution_has_form types values r written)

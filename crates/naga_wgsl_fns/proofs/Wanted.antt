@@ -19,6 +19,7 @@ use Rattle.naga_ir.specs.declared.operators.BinaryOperator.{BinaryOperator}
 use Rattle.naga_ir.specs.declared.operators.MathFunction.{MathFunction}
 use Rattle.naga_ir.specs.declared.operators.RelationalFunction.{RelationalFunction}
 use Rattle.naga_ir.specs.declared.operators.UnaryOperator.{UnaryOperator}
+use Rattle.naga_ir.specs.declared.types.VectorSize.{VectorSize}
 use Rattle.naga_info.specs.declared.info.ExpressionInfo.{ExpressionInfo}
 use Rattle.module_meaning.proofs.Lists.{list_all_at}
 use Rattle.module_meaning.proofs.ModuleShapes.{points_plainly}
@@ -27,7 +28,7 @@ use Rattle.module_meaning.specs.FunctionShapes.{statement_shape}
 use Rattle.module_meaning.specs.Names.{module_names, numbered_name}
 use Rattle.module_meaning.specs.Numbers.{signature_fits_32_bits}
 use Rattle.module_meaning.specs.OperatorTable.{relational_word}
-use Rattle.module_meaning.specs.Part.{expression_is_written, is_scalar_at, is_written_literal}
+use Rattle.module_meaning.specs.Part.{expression_is_written, is_value_at, is_written_literal}
 use Rattle.module_meaning.specs.Part.{names_nothing, resolution_is_written}
 use Rattle.module_meaning.specs.Ranges.{is_below, local_in_range, names_in_range, signature_fits}
 use Rattle.module_meaning.specs.Ranges.{signature_types_fit}
@@ -39,7 +40,7 @@ use Rattle.naga_form.proofs.AcceptedFunctions.{locals_are_in_range, names_are_in
 use Rattle.naga_form.proofs.Fits.{none_is_given, none_given_by as nothing_given_by}
 use Rattle.naga_form.proofs.Ordered.{operands_stand_before}
 use Rattle.naga_form.proofs.PartFits.{function_parts}
-use Rattle.naga_form.proofs.WrittenTypes.{resolution_has_form, scalars_at}
+use Rattle.naga_form.proofs.WrittenTypes.{resolution_has_form, values_at}
 use Rattle.naga_form.specs.TypeTrees.{resolution_tree}
 use Rattle.naga_form.specs.Types.{told_type}
 use Rattle.wgsl_text.specs.Reading.{type_layout}
@@ -72,22 +73,22 @@ module _ (t : FunctionText) (can : CanWrite t) where
       let types = and_parts (signature_types_fit (length m.types) f) (signature_fits_32_bits f) fits.0 in
       and_parts (list_all (λ a. nat_lt a.ty (length m.types)) f.arguments.items) (is_below (length m.types) (option_map (λ r. r.ty) f.result)) types.0
 
-  is_scalar : (ty : ℕ) → IsTrue (nat_lt ty (length m.types)) → IsTrue (is_scalar_at m.types ty)
-  is_scalar ty below = scalars_at m.types ty can.scalars (ltb-true ty (length m.types) below)
+  is_scalar : (ty : ℕ) → IsTrue (nat_lt ty (length m.types)) → IsTrue (is_value_at m.types ty)
+  is_scalar ty below = values_at m.types ty can.values (ltb-true ty (length m.types) below)
 
-  pub argument_is_scalar : (n : ℕ) (a : argument.FunctionArgument) → slice_get f.arguments.items n ≡ Some a → IsTrue (is_scalar_at m.types a.ty)
-  argument_is_scalar n a here = is_scalar a.ty (list_all_at (λ a. nat_lt a.ty (length m.types)) f.arguments.items n a signature.0 here)
+  pub argument_is_value : (n : ℕ) (a : argument.FunctionArgument) → slice_get f.arguments.items n ≡ Some a → IsTrue (is_value_at m.types a.ty)
+  argument_is_value n a here = is_scalar a.ty (list_all_at (λ a. nat_lt a.ty (length m.types)) f.arguments.items n a signature.0 here)
 
-  pub answer_is_scalar : (r : FunctionResult) → f.result ≡ Some r → IsTrue (is_scalar_at m.types r.ty)
-  answer_is_scalar r is = is_scalar r.ty (ap (λ o. is_below (length m.types) (option_map (λ r. r.ty) o)) (sym is) ∙ signature.1)
+  pub answer_is_value : (r : FunctionResult) → f.result ≡ Some r → IsTrue (is_value_at m.types r.ty)
+  answer_is_value r is = is_scalar r.ty (ap (λ o. is_below (length m.types) (option_map (λ r. r.ty) o)) (sym is) ∙ signature.1)
 
   -- so is a local's, and its first value is one of the function's expressions
   local_is_in_range : (l : ℕ) (v : LocalVariable) → slice_get f.local_variables l ≡ Some v → IsTrue (nat_lt v.ty (length m.types)) × IsTrue (is_below (length f.expressions) v.init)
   local_is_in_range l v here =
       and_parts (nat_lt v.ty (length m.types)) (is_below (length f.expressions) v.init) (list_all_at (local_in_range (length m.types) (length f.expressions)) f.local_variables l v (locals_are_in_range m g f can.ranges) here)
 
-  pub local_is_scalar : (l : ℕ) (v : LocalVariable) → slice_get f.local_variables l ≡ Some v → IsTrue (is_scalar_at m.types v.ty)
-  local_is_scalar l v here = is_scalar v.ty (local_is_in_range l v here).0
+  pub local_is_value : (l : ℕ) (v : LocalVariable) → slice_get f.local_variables l ≡ Some v → IsTrue (is_value_at m.types v.ty)
+  local_is_value l v here = is_scalar v.ty (local_is_in_range l v here).0
 
   pub first_within : (l : ℕ) (v : LocalVariable) → slice_get f.local_variables l ≡ Some v → IsTrue (is_below (length f.expressions) v.init)
   first_within l v here = (local_is_in_range l v here).1
@@ -103,7 +104,7 @@ module _ (t : FunctionText) (can : CanWrite t) where
   pub told_row : (h : ℕ) (k : ExpressionInfo) → slice_get es h ≡ Some k → tells_types t.flags ≡ true → annotation_text t k.ty ≡ told_text t h
   unfolding annotation_text resolution_text told_text
   told_row h k at is =
-      let has = resolution_has_form m.types can.scalars k.ty (known_is_written h k at) in
+      let has = resolution_has_form m.types can.values k.ty (known_is_written h k at) in
       ap (λ o. codes ": " ++ type_layout (unwrap_or o (Named []))) (has.is (module_names m))
       ∙ ap told_type_text (sym (ap (λ b. told_type b (type_names m) es h) is ∙ ap (option_and_then (λ e. resolution_tree (type_names m) e.ty)) at ∙ has.is (module_names m)))
 
@@ -152,7 +153,7 @@ module _ (t : FunctionText) (can : CanWrite t) where
 
   -- it loads and stores no atomic
   pub points_to_none : (h : ℕ) → points_to_atomic (around t) h ≡ false
-  points_to_none h = points_plainly (around t) can.scalars h
+  points_to_none h = points_plainly (around t) can.values h
 
   -- no other expression is written
   pub no_other_expression : (h : ℕ) (e : Expression) → slice_get f.expressions h ≡ Some e →
@@ -163,6 +164,7 @@ module _ (t : FunctionText) (can : CanWrite t) where
       ((op : UnaryOperator) (x : ℕ) → e ≡ expression.Unary op x → ⊥) →
       ((op : BinaryOperator) (l r : ℕ) → e ≡ expression.Binary op l r → ⊥) →
       ((c a r : ℕ) → e ≡ expression.Select c a r → ⊥) →
+      ((size : VectorSize) (x : ℕ) → e ≡ expression.Splat size x → ⊥) →
       ((fun : MathFunction) (x : ℕ) (y z w : Option ℕ) → e ≡ expression.Math fun x y z w → ⊥) →
       ((fun : RelationalFunction) (x : ℕ) → e ≡ expression.Relational fun x → ⊥) →
       ⊥
@@ -176,19 +178,21 @@ module _ (t : FunctionText) (can : CanWrite t) where
           ((op : UnaryOperator) (x : ℕ) → e ≡ expression.Unary op x → ⊥) →
           ((op : BinaryOperator) (l r : ℕ) → e ≡ expression.Binary op l r → ⊥) →
           ((c a r : ℕ) → e ≡ expression.Select c a r → ⊥) →
+          ((size : VectorSize) (x : ℕ) → e ≡ expression.Splat size x → ⊥) →
           ((fun : MathFunction) (x : ℕ) (y z w : Option ℕ) → e ≡ expression.Math fun x y z w → ⊥) →
           ((fun : RelationalFunction) (x : ℕ) → e ≡ expression.Relational fun x → ⊥) →
           ⊥
-      by (expression.Literal v) is literal argument local load unary binary select mathematical relational = literal v refl
-      by (expression.FunctionArgument n) is literal argument local load unary binary select mathematical relational = argument n refl
-      by (expression.LocalVariable v) is literal argument local load unary binary select mathematical relational = local v refl
-      by (expression.Load p) is literal argument local load unary binary select mathematical relational = load p refl
-      by (expression.Unary op x) is literal argument local load unary binary select mathematical relational = unary op x refl
-      by (expression.Binary op l r) is literal argument local load unary binary select mathematical relational = binary op l r refl
-      by (expression.Select c a r) is literal argument local load unary binary select mathematical relational = select c a r refl
-      by (expression.Math fun x y z w) is literal argument local load unary binary select mathematical relational = mathematical fun x y z w refl
-      by (expression.Relational fun x) is literal argument local load unary binary select mathematical relational = relational fun x refl
-      by _ is literal argument local load unary binary select mathematical relational = absurd cc
+      by (expression.Literal v) is literal argument local load unary binary select splat mathematical relational = literal v refl
+      by (expression.FunctionArgument n) is literal argument local load unary binary select splat mathematical relational = argument n refl
+      by (expression.LocalVariable v) is literal argument local load unary binary select splat mathematical relational = local v refl
+      by (expression.Load p) is literal argument local load unary binary select splat mathematical relational = load p refl
+      by (expression.Unary op x) is literal argument local load unary binary select splat mathematical relational = unary op x refl
+      by (expression.Binary op l r) is literal argument local load unary binary select splat mathematical relational = binary op l r refl
+      by (expression.Select c a r) is literal argument local load unary binary select splat mathematical relational = select c a r refl
+      by (expression.Splat size x) is literal argument local load unary binary select splat mathematical relational = splat size x refl
+      by (expression.Math fun x y z w) is literal argument local load unary binary select splat mathematical relational = mathematical fun x y z w refl
+      by (expression.Relational fun x) is literal argument local load unary binary select splat mathematical relational = relational fun x refl
+      by _ is literal argument local load unary binary select splat mathematical relational = absurd cc
 
   -- ---- names of handles
   unnamed : IsTrue (names_nothing f)

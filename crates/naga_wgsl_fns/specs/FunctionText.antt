@@ -3,7 +3,7 @@ use Rattle.std.specs.Prelude.{◌≡◌, ℕ, Bool, List, Option, Some, IsTrue, 
 use Rattle.std.specs.Prelude.{length}
 use Rattle.std.specs.List.{list_all}
 use Rattle.naga_ir.specs.declared.expression.Expression.{Expression}
-use Rattle.module_meaning.specs.Part.{function_is_written, is_scalar_type, resolution_is_written}
+use Rattle.module_meaning.specs.Part.{function_is_written, is_value_type, resolution_is_written}
 use Rattle.module_meaning.specs.Ranges.{function_in_range}
 use Rattle.naga_names.specs.Keys.{names_in}
 use Rattle.shader_runs.specs.Scope.{Naming}
@@ -54,7 +54,7 @@ let_annotation f handle =
 pub record CanWrite (f : FunctionText) : Type 0 where
   pub named : HasNamesOf f.shader.now (names_in f.names.now)
   pub function : slice_get f.shader.now.functions f.handle ≡ Some f.function.now
-  pub scalars : IsTrue (list_all is_scalar_type f.shader.now.types)
+  pub values : IsTrue (list_all is_value_type f.shader.now.types)
   pub ranges : IsTrue (function_in_range f.shader.now f.handle f.function.now)
   pub size : length f.function.now.expressions ≡ length f.info.now
   pub known : IsTrue (list_all (λ k. resolution_is_written f.shader.now.types k.ty) f.info.now)

@@ -21,6 +21,7 @@ use naga_ir::{
     UnaryOperator,
 };
 use naga_scope::{Scope, Standing};
+use naga_words::words::vector_str;
 use naga_words::{Output, TextSink};
 use wgsl_words::TryToWgsl;
 
@@ -68,6 +69,9 @@ impl FunctionText<'_> {
                 self.write_infix(scope, *op, *left, *right, out)
             }
             Expression::Select { .. } => self.write_called(scope, handle, "select", out),
+            Expression::Splat { size, .. } => {
+                self.write_called(scope, handle, vector_str(*size), out)
+            }
             Expression::Math { fun, .. } => {
                 self.write_called(scope, handle, math_function_str(*fun), out)
             }

@@ -1,7 +1,7 @@
 //! Types, spelled under the names of the module's items.
 
 ghost use Rattle.std.specs.Prelude.{◌≡◌, ◌<◌, IsTrue, length};
-ghost use Rattle.module_meaning.specs.Part.{is_scalar_at, resolution_is_written};
+ghost use Rattle.module_meaning.specs.Part.{is_value_at, resolution_is_written};
 ghost use Rattle.naga_words.specs.Output.{Writes};
 ghost use Rattle.naga_wgsl_fns.specs.FunctionText.{CanWrite, tells_types};
 ghost use Rattle.naga_wgsl_fns.specs.Types.{annotation_text, resolution_text, told_text, type_text};
@@ -24,7 +24,7 @@ impl FunctionText<'_> {
         out: &mut Output<'_, W>,
     )
         requires can { CanWrite self.now }
-        requires scalar { IsTrue (is_scalar_at self.now.shader.now.types ty) }
+        requires value { IsTrue (is_value_at self.now.shader.now.types ty) }
         ensures { Writes W.text W.failures out.old out.new (type_text self.now ty) }
     {
         let context = WriterTypeContext {

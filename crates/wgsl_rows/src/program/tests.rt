@@ -11,6 +11,7 @@ use std::process::Abort;
 use std::test::Fail;
 
 mod operators;
+mod values;
 
 /// The program's status on these words.
 fn status<O: Write, E: Write>(

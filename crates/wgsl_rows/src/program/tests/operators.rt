@@ -401,12 +401,12 @@ fn build_relation(sample: &mut Sample, fun: RelationalFunction) -> Result<(), Al
 }
 
 /// Whether the sample is accepted and has this text with either setting of the flags.
-fn is_written(alloc: Global, sample: &Sample, text: &str) -> bool {
+pub(super) fn is_written(alloc: Global, sample: &Sample, text: &str) -> bool {
     is_text(alloc, sample, WriterFlags::empty(), text)
         && is_text(alloc, sample, WriterFlags::EXPLICIT_TYPES, text)
 }
 
-fn is_text(alloc: Global, sample: &Sample, flags: WriterFlags, want: &str) -> bool {
+pub(super) fn is_text(alloc: Global, sample: &Sample, flags: WriterFlags, want: &str) -> bool {
     if !accepts(&sample.module, &sample.info) {
         return false;
     }
@@ -417,7 +417,7 @@ fn is_text(alloc: Global, sample: &Sample, flags: WriterFlags, want: &str) -> bo
 }
 
 /// Whether the sample is accepted, and refused as not yet written.
-fn is_not_yet_written(alloc: Global, sample: &Sample) -> bool {
+pub(super) fn is_not_yet_written(alloc: Global, sample: &Sample) -> bool {
     if !accepts(&sample.module, &sample.info) {
         return false;
     }

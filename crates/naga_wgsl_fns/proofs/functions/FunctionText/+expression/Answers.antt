@@ -57,7 +57,7 @@ write_own-write_infix-requires g t c κs within =
 
 pub write_own-unreachable-requires : goal.write_own-unreachable-requires
 write_own-unreachable-requires g t c =
-    no_other_expression c.args.self.now c.requires.can c.args.handle c.index.result.now c.index.ensures c.in_default.not-Literal c.in_default.not-FunctionArgument c.in_default.not-LocalVariable c.in_default.not-Load c.in_default.not-Unary c.in_default.not-Binary c.in_default.not-Select c.in_default.not-Math c.in_default.not-Relational
+    no_other_expression c.args.self.now c.requires.can c.args.handle c.index.result.now c.index.ensures c.in_default.not-Literal c.in_default.not-FunctionArgument c.in_default.not-LocalVariable c.in_default.not-Load c.in_default.not-Unary c.in_default.not-Binary c.in_default.not-Select c.in_default.not-Splat c.in_default.not-Math c.in_default.not-Relational
 
 pub write_reference-write_local_name-requires-clause-local : goal.write_reference-write_local_name-requires-clause-local
 write_reference-write_local_name-requires-clause-local g t c =
@@ -69,6 +69,13 @@ write_own-returns-in-Select g t c =
     (own_called c.args.self.now c.args.scope.now c.args.handle c.index.result.now _ _ _
     c.requires.can c.index.ensures c.in-Select.is refl refl)
     c.write_called.ensures
+
+pub write_own-returns-in-Splat : goal.write_own-returns-in-Splat
+write_own-returns-in-Splat g t c =
+    writes_as
+    (own_called c.args.self.now c.args.scope.now c.args.handle c.index.result.now _ _ _
+    c.requires.can c.index.ensures c.in-Splat.is c.vector_str.ensures refl)
+    c.write_called-in-Splat.ensures
 
 pub write_own-math_function_str-requires : goal.write_own-math_function_str-requires
 write_own-math_function_str-requires g t c =

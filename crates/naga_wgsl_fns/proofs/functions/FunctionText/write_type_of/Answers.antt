@@ -8,7 +8,7 @@ use Rattle.naga_wgsl_fns.proofs.functions.FunctionText.write_type_of.Goals as go
 pub write_resolution_in-requires-clause-order : goal.write_resolution_in-requires-clause-order
 write_resolution_in-requires-clause-order g c =
     let self = c.args.self.now in
-    in_order self.shader.now.types (names_in self.names.now) c.requires.can.scalars
+    in_order self.shader.now.types (names_in self.names.now) c.requires.can.values
 
 pub write_resolution_in-requires-clause-fits : goal.write_resolution_in-requires-clause-fits
 write_resolution_in-requires-clause-fits g c =
@@ -20,5 +20,5 @@ returns g c =
     let self = c.args.self.now in
     let context = names_context self.shader.now.types (names_in self.names.now) in
     known_wrote (resolution_parts context c.args.ty.now) (resolution_text self c.args.ty.now)
-    (resolution_known self c.requires.can.scalars c.args.ty.now c.requires.written)
+    (resolution_known self c.requires.can.values c.args.ty.now c.requires.written)
     c.write_resolution_in.ensures
