@@ -16,11 +16,18 @@ BINARY = ["+", "-", "*", "/", "%", "==", "!=", "<", "<=", ">", ">=", "&", "^", "
 UNARY = ["-", "!", "~"]
 MATH = [("abs", 1), ("min", 2), ("clamp", 3), ("insertBits", 4), ("dot", 2), ("fma", 3), ("smoothstep", 3), (None, 2)]
 RELATIONAL = ["all", "any", None]
+KINDS = ["bool", "sint", "uint", "sint", "uint", "float", "float"]
+WIDTHS = [1, 4, 4, 8, 8, 4, 8]
 SUFFIX = {1: "i", 2: "u", 3: "li", 4: "lu"}
+INTEGERS = (1, 2, 3, 4)
+# added to the number of a type: a pointer to a value of it
+POINTER = 1000
 RANGES = {1: (-2**31, 2**31 - 1), 2: (0, 2**32 - 1), 3: (-2**63, 2**63 - 1), 4: (0, 2**63 - 1)}
 
 
 def spelled(ty):
+    if ty >= POINTER:
+        return f"ptr<function, {spelled(ty - POINTER)}>"
     scalar = SCALARS[ty % 10]
     columns, rows = ty // 100, ty // 10 % 10
     if columns:
@@ -28,6 +35,18 @@ def spelled(ty):
     if rows:
         return f"vec{rows}<{scalar}>"
     return scalar
+
+
+def parts_of(ty):
+    """How many columns or components a value has, or what is pointed at; 0 where there are none."""
+    whole = ty % POINTER
+    return whole // 100 or whole // 10
+
+
+def part_of(ty):
+    """The type of a column or of a component, or of a pointer to it."""
+    whole = ty % POINTER
+    return ty - whole + whole % (100 if whole >= 100 else 10)
 
 
 def literal_text(scalar, value):
@@ -62,14 +81,26 @@ class Function:
         return out
 
 
+# literals, arguments, locals and zero values: these are not emitted
+LEAVES = (0, 1, 2, 11)
+# parts at a computed index and at a known one
+PARTS = (13, 14)
+
+
 def operands(e):
     kind = e[0]
-    if kind in (0, 1, 2):
+    if kind in LEAVES:
         return []
-    if kind == 3:
+    if kind == 10:
+        return e[3:]
+    if kind in (3, 14):
         return [e[2]]
-    if kind in (4, 8, 9):
+    if kind == 13:
+        return [e[2], e[3]]
+    if kind in (4, 8, 9, 12):
         return [e[3]]
+    if kind == 15:
+        return [e[4]]
     if kind == 5:
         return [e[3], e[4]]
     if kind == 6:
@@ -94,9 +125,9 @@ def generate(r):
 def some_type(r):
     scalar = r.choice([0, 1, 1, 1, 2, 3, 4, 5, 6])
     shape = r.random()
-    if shape < 0.7:
+    if shape < 0.5:
         return scalar
-    if shape < 0.9:
+    if shape < 0.75:
         return 10 * r.randint(2, 4) + scalar
     return 100 * r.randint(2, 4) + 10 * r.randint(2, 4) + r.choice([5, 6])
 
@@ -117,38 +148,56 @@ def generate_function(r):
             low, high = RANGES[scalar]
             value = r.choice([low, high, 0, 1, r.randint(max(low, -9), 9)])
         es.append([0, scalar, scalar, value])
+    for _ in range(r.choice([0, 0, 1])):
+        es.append([11, r.choice(types)])
     literals = [h for h, e in enumerate(es) if e[0] == 0]
     for _ in range(r.randint(0, 3)):
         ty = r.choice(types)
         inits = [h for h in literals if es[h][1] == ty]
         f.locals.append((ty, r.choice(inits) if inits and r.random() < 0.6 else -1))
     for local, (ty, _) in enumerate(f.locals):
-        es.append([2, ty, local])
-    pointers = [h for h, e in enumerate(es) if e[0] == 2]
+        es.append([2, POINTER + ty, local])
     for _ in range(r.randint(0, 12)):
-        e = generate_expression(r, es, pointers)
+        e = generate_expression(r, es)
         if e is not None:
             es.append(e)
-    generate_body(r, f, pointers)
+    generate_body(r, f)
     return f
 
 
 def of_type(es, ty):
-    return [h for h, e in enumerate(es) if e[1] == ty and e[0] != 2]
+    return [h for h, e in enumerate(es) if e[1] == ty]
 
 
-def generate_expression(r, es, pointers):
-    values = [h for h, e in enumerate(es) if e[0] != 2]
-    if pointers and r.random() < 0.35:
-        p = r.choice(pointers)
-        return [3, es[p][1], p]
+def pointers_of(es):
+    return [h for h, e in enumerate(es) if e[1] >= POINTER]
+
+
+def values_of(es):
+    return [h for h, e in enumerate(es) if e[1] < POINTER]
+
+
+def some_pointer(r, pointers):
+    # the last ones are to parts
+    return r.choice(pointers[-3:] if r.random() < 0.5 else pointers)
+
+
+def generate_expression(r, es):
+    values, pointers = values_of(es), pointers_of(es)
+    if r.random() < 0.3:
+        return part(r, es)
+    if pointers and r.random() < 0.3:
+        p = some_pointer(r, pointers)
+        return [3, es[p][1] - POINTER, p]
+    if pointers and r.random() < 0.04:
+        return chosen_pointer(r, es, some_pointer(r, pointers))
     if not values:
         return None
     x = r.choice(values)
     ty = es[x][1]
     y = r.choice(of_type(es, ty))
     what = r.random()
-    if what < 0.5:
+    if what < 0.45:
         op = r.randrange(18)
         given = ty - ty % 10 if 5 <= op <= 10 or op in (14, 15) else ty
         # now and then a type that no operator of this word has
@@ -164,15 +213,73 @@ def generate_expression(r, es, pointers):
         count = MATH[fun][1]
         given = ty % 10 if fun == 4 else ty
         return [7, given, fun, x] + [r.choice(of_type(es, ty)) if i < count - 1 else -1 for i in range(3)]
-    if what < 0.95 and ty < 10:
+    if what < 0.93 and ty < 10:
         size = r.randint(2, 4)
         return [9, 10 * size + ty, size, x]
+    if what < 0.955:
+        return composed(r, es, x)
+    if what < 0.975:
+        return conversion(r, es, x)
+    if what < 0.99 and 10 <= ty < 100:
+        size = r.randint(2, 4)
+        letters = [r.randrange(ty // 10) for _ in range(size)] + [r.randrange(4) for _ in range(4 - size)]
+        return [12, 10 * size + ty % 10, size, x, *letters]
     return [8, 0, r.choice([0, 1, 1, 2]) if r.random() < 0.1 else r.randint(0, 1), x]
 
 
-def generate_body(r, f, pointers):
+def part(r, es):
+    """A part at a computed or a known index; now and then of what has none, where none is, or of a
+    type that it hasn't."""
+    bases = [h for h, e in enumerate(es) if parts_of(e[1]) > 0 or r.random() < 0.002]
+    if not bases:
+        return None
+    signed = [h for h in bases if es[h][0] == 4]
+    base = r.choice(signed if signed and r.random() < 0.6 else bases)
+    # now and then of the newest, which is often a part itself
+    base = bases[-1] if r.random() < 0.3 else base
+    ty = some_type(r) if r.random() < 0.002 else part_of(es[base][1])
+    indexes = [h for h, e in enumerate(es) if e[1] in INTEGERS or r.random() < 0.0005]
+    if indexes and r.random() < 0.4:
+        return [13, ty, base, r.choice(indexes)]
+    count = parts_of(es[base][1])
+    is_there = count > 0 and r.random() < 0.997
+    return [14, ty, base, r.randrange(count) if is_there else count + r.choice([0, 1, 9])]
+
+
+def chosen_pointer(r, es, x):
+    """One of two pointers to scalars or vectors: a pointer to a matrix is always a local's own."""
+    ty = es[x][1]
+    conditions = of_type(es, 0)
+    if not conditions or ty % POINTER >= 100:
+        return None
+    return [6, ty, r.choice(conditions), x, some_pointer(r, of_type(es, ty))]
+
+
+def conversion(r, es, x):
+    """To a scalar of this kind, of its width, or with bits kept, of the operand's."""
+    scalar, bits = r.randrange(7), r.randint(0, 1)
+    x = r.choice(pointers_of(es)) if pointers_of(es) and r.random() < 0.01 else x
+    to = converted(es[x][1], scalar, bits)
+    # what is known of the type of a conversion is asked by no clause but that operators agree
+    return [15, some_type(r) if to is None or r.random() < 0.01 else to, scalar, bits, x]
+
+
+def composed(r, es, x):
+    """A vector of scalars, a matrix of vectors, or a value of the same type."""
+    ty = es[x][1]
+    alike = of_type(es, ty)
+    count = r.randint(2, 4)
+    if ty < 10:
+        return [10, 10 * count + ty, count] + [r.choice(alike) for _ in range(count)]
+    if ty < 100 and ty % 10 in (5, 6):
+        return [10, 100 * count + ty, count] + [r.choice(alike) for _ in range(count)]
+    return [10, ty, 1, x]
+
+
+def generate_body(r, f):
     es = f.expressions
-    emitted = [h for h, e in enumerate(es) if e[0] >= 3]
+    pointers = pointers_of(es)
+    emitted = [h for h, e in enumerate(es) if e[0] not in LEAVES]
     at = 0
     while at < len(emitted):
         # a run of handles that follow one another
@@ -183,14 +290,15 @@ def generate_body(r, f, pointers):
             f.body.append([0, emitted[at], emitted[end - 1]])
         at = end
         if pointers and r.random() < 0.5:
-            p = r.choice(pointers)
-            values = [h for h in of_type(es, es[p][1]) if h < emitted[end - 1] + 1 or r.random() < 0.05]
+            given = [h for h in range(len(es)) if h <= emitted[end - 1] or r.random() < 0.05]
+            p = some_pointer(r, [h for h in given if h in pointers])
+            values = [h for h in given if es[h][1] == es[p][1] - POINTER]
             if values:
                 f.body.append([1, p, r.choice(values)])
     if r.random() < 0.05 and emitted:
         h = r.choice(emitted)
         f.body.append([0, h, h])
-    values = [h for h, e in enumerate(es) if e[0] != 2]
+    values = values_of(es)
     if values:
         h = r.choice(values[-4:])
         f.result = es[h][1]
@@ -199,7 +307,21 @@ def generate_body(r, f, pointers):
 
 # ---- acceptance, beyond what the generator keeps
 def is_accepted(functions):
-    return agrees(functions) and logical_types_are_kept(functions)
+    return parts_are_there(functions) and agrees(functions) and logical_types_are_kept(functions)
+
+
+def parts_are_there(functions):
+    return all(part_is_there(f, e) for f in functions for e in f.expressions if e[0] in PARTS)
+
+
+def part_is_there(f, e):
+    """A computed index is an integer and of what has parts; a known one is below their number."""
+    base = type_of(f, e[2])
+    if parts_of(base) == 0:
+        # a known part of what has none is accepted, of any type, and not written
+        return e[0] == 14
+    has_index = type_of(f, e[3]) in INTEGERS if e[0] == 13 else e[3] < parts_of(base)
+    return has_index and e[1] == part_of(base)
 
 
 def logical_types_are_kept(functions):
@@ -210,7 +332,36 @@ def logical_types_are_kept(functions):
         if e[0] == 5 and e[2] in (14, 15) and type_of(f, e[3]) == 0)
 
 
-def key_of(e):
+def part_word(base, index):
+    """A component has a letter, and a column its number; a part of what has none has no word."""
+    whole = base[1] % POINTER
+    # so has a component of a vector that is pointed at by another pointer than a local's own
+    has_number = whole >= 100 or (base[1] >= POINTER and base[0] != 2)
+    if parts_of(whole) == 0:
+        return f" [{index}]"
+    return f"[{index}]" if has_number else "." + "xyzw"[index]
+
+
+def converted(ty, scalar, bits):
+    """The type that a value is converted to, if that has a form."""
+    if ty >= POINTER:
+        return None
+    width = WIDTHS[ty % 10] if bits else WIDTHS[scalar]
+    for to in range(7):
+        if KINDS[to] == KINDS[scalar] and WIDTHS[to] == width:
+            return ty - ty % 10 + to
+    return None
+
+
+def conversion_word(ty, scalar, bits):
+    to = converted(ty, scalar, bits)
+    if to is None:
+        return f" {KINDS[scalar]} {0 if bits else WIDTHS[scalar]}"
+    # the components of a matrix are converted in any case
+    return f"bitcast<{spelled(to)}>" if bits and to < 100 else spelled(to)
+
+
+def key_of(f, e):
     kind = e[0]
     if kind == 4:
         return (UNARY[e[2]], 1)
@@ -224,6 +375,16 @@ def key_of(e):
         return (RELATIONAL[e[2]] or " isNan", 1)
     if kind == 9:
         return (f"vec{e[2]}", 1)
+    if kind == 10:
+        return (spelled(e[1]), e[2])
+    if kind == 12:
+        return ("." + "".join("xyzw"[c] for c in e[4:4 + e[2]]), 1)
+    if kind == 13:
+        return ("[_]", 2)
+    if kind == 14:
+        return (part_word(f.expressions[e[2]], e[3]), 1)
+    if kind == 15:
+        return (conversion_word(type_of(f, e[4]), e[2], e[3]), 1)
     return None
 
 
@@ -232,21 +393,17 @@ def agrees(functions):
     seen = {}
     for f in functions:
         for e in f.expressions:
-            key = key_of(e)
+            key = key_of(f, e)
             if key is None:
                 continue
             over = (key, tuple(type_of(f, h) for h in written_operands(e)))
-            if seen.setdefault(over, type_of_expression(f, e)) != type_of_expression(f, e):
+            if seen.setdefault(over, e[1]) != e[1]:
                 return False
     return True
 
 
-def type_of_expression(f, e):
-    return ("pointer", e[1]) if e[0] == 2 else e[1]
-
-
 def type_of(f, h):
-    return type_of_expression(f, f.expressions[h])
+    return f.expressions[h][1]
 
 
 # ---- names
@@ -287,6 +444,9 @@ def uses_of(f):
 
 
 def binds(e, uses):
+    # a part is written wherever it is used
+    if e[0] in PARTS:
+        return False
     return uses >= (1 if e[0] == 3 else 2)
 
 
@@ -297,19 +457,19 @@ class Writer:
         self.constant = []
         for e in f.expressions:
             kids = operands(e)
-            self.constant.append(e[0] == 0 or (e[0] > 3 and all(self.constant[h] for h in kids)))
+            self.constant.append(e[0] in (0, 11) or (e[0] > 3 and all(self.constant[h] for h in kids)))
         # where an emitted expression stands: a name, written where it is used, or never
         self.standing = {}
 
     def usable(self, h):
         e = self.f.expressions[h]
-        if e[0] in (0, 1, 2):
+        if e[0] in LEAVES:
             return True
         return self.standing.get(h) in ("named", "inline") or (self.constant[h] and h not in self.standing)
 
     def emit(self, h, lines):
         e = self.f.expressions[h]
-        if e[0] < 3 or h in self.standing:
+        if e[0] in LEAVES or h in self.standing:
             raise Refused
         ready = all(self.usable(k) for k in operands(e))
         if binds(e, self.uses[h]):
@@ -331,10 +491,23 @@ class Writer:
         return f"_e{h}" if self.standing.get(h) == "named" else self.own(h)
 
     def reference(self, h):
+        if not self.usable(h):
+            raise Refused
         e = self.f.expressions[h]
         if e[0] == 2:
             return self.names[2][e[2]]
+        if e[0] in PARTS:
+            return self.reference(e[2]) + self.ending(e)
         return f"(*{self.value(h)})"
+
+    # what a part's text has behind that of its base
+    def ending(self, e):
+        return f"[{self.value(e[3])}]" if e[0] == 13 else key_of(self.f, e)[0]
+
+    # what a part is taken of: in parentheses where it starts with the sign of an operator
+    def base(self, h):
+        signed = self.f.expressions[h][0] == 4 and self.standing.get(h) != "named"
+        return f"({self.value(h)})" if signed else self.value(h)
 
     def own(self, h):
         e = self.f.expressions[h]
@@ -343,15 +516,21 @@ class Writer:
             return literal_text(e[2], e[3])
         if kind == 1:
             return self.names[1][e[2]]
-        if kind == 2:
-            return f"(&{self.names[2][e[2]]})"
+        if kind == 2 or (kind in PARTS and e[1] >= POINTER):
+            return f"(&{self.reference(h)})"
+        if kind in PARTS:
+            return self.base(e[2]) + self.ending(e)
         if kind == 3:
             return self.reference(e[2])
         if kind == 4:
             return f"{UNARY[e[2]]}({self.value(e[3])})"
         if kind == 5:
             return f"({self.value(e[3])} {BINARY[e[2]]} {self.value(e[4])})"
-        return f"{key_of(e)[0]}({', '.join(self.value(h) for h in written_operands(e))})"
+        if kind == 11:
+            return f"{spelled(e[1])}()"
+        if kind == 12:
+            return self.base(e[3]) + key_of(self.f, e)[0]
+        return f"{key_of(self.f, e)[0]}({', '.join(self.value(h) for h in written_operands(e))})"
 
     def write(self):
         f = self.f
@@ -380,7 +559,7 @@ class Writer:
 def is_written(functions):
     for f in functions:
         for e in f.expressions:
-            if key_of(e) is not None and key_of(e)[0].startswith(" "):
+            if key_of(f, e) is not None and key_of(f, e)[0].startswith(" "):
                 return False
     return True
 
@@ -399,8 +578,12 @@ def text_of(functions, explicit):
 
 # ---- runs
 def run_module(f):
-    """The stores and the result, over terms."""
-    memory = {}
+    """The first values, loads and stores in their order, and the result, over terms.
+
+    A place is a local or a part of a place. What a load gives is told by the number of events
+    before it, since places overlap.
+    """
+    uses = uses_of(f)
     values = {}
     events = []
 
@@ -412,6 +595,8 @@ def run_module(f):
             return ("argument", e[2])
         if e[0] == 2:
             return ("local", e[2])
+        if e[0] == 11:
+            return (spelled(e[1]),)
         if h in values:
             return values[h]
         # what no `Emit` gave is a tree of constants, or is never used
@@ -421,24 +606,26 @@ def run_module(f):
 
     def applied(h):
         e = f.expressions[h]
-        return (key_of(e)[0], *[leaf(k) for k in written_operands(e)])
+        return (key_of(f, e)[0], *[leaf(k) for k in written_operands(e)])
 
     for local, (_, init) in enumerate(f.locals):
-        memory[local] = leaf(init) if init >= 0 else ("zero", local)
+        events.append(("first", ("local", local), leaf(init) if init >= 0 else None))
     for s in f.body:
         if s[0] == 0:
             for h in range(s[1], s[2] + 1):
                 e = f.expressions[h]
                 if e[0] == 3:
-                    values[h] = memory[leaf(e[2])[1]]
+                    # a load that nobody uses is not made
+                    if uses[h] > 0:
+                        values[h] = ("loaded", len(events))
+                        events.append(("load", leaf(e[2])))
                 else:
                     try:
                         values[h] = applied(h)
                     except KeyError:
                         pass
         elif s[0] == 1:
-            memory[leaf(s[1])[1]] = leaf(s[2])
-            events.append((leaf(s[1]), leaf(s[2])))
+            events.append(("store", leaf(s[1]), leaf(s[2])))
         else:
             return events, leaf(s[1])
     return events, None
@@ -451,33 +638,26 @@ class Reader:
         self.lines = [line.strip() for line in text.split("\n")[1:] if line.strip() not in ("", "}")]
         self.places = {x: ("local", i) for i, x in enumerate(names[2])}
         self.known = {x: ("argument", i) for i, x in enumerate(names[1])}
-        self.memory = {}
+        self.events = []
 
     def run(self):
-        events = []
         for line in self.lines:
             if line.startswith("var "):
                 name, rest = line[4:-1].split(":", 1)
-                place = self.places[name]
                 has = rest.split(" = ", 1)
-                self.memory[place] = self.expression(has[1]) if len(has) > 1 else ("zero", place[1])
+                first = self.expression(has[1]) if len(has) > 1 else None
+                self.events.append(("first", self.places[name], first))
             elif line.startswith("let "):
                 name, value = line[4:-1].split(" = ", 1)
                 term = self.expression(value)
                 self.known[name.split(":")[0]] = term
             elif line.startswith("return "):
-                return events, self.expression(line[7:-1])
+                return self.events, self.expression(line[7:-1])
             else:
-                place, value = line[:-1].split(" = ", 1)
-                target, term = self.place(place), self.expression(value)
-                self.memory[target] = term
-                events.append((target, term))
-        return events, None
-
-    def place(self, text):
-        if text.startswith("(*"):
-            return self.expression(text[2:-1])
-        return self.places[text]
+                place, rest = self.read_place(line[:-1])
+                assert rest.startswith(" = "), (line, rest)
+                self.events.append(("store", place, self.expression(rest[3:])))
+        return self.events, None
 
     def expression(self, text):
         term, rest = self.read(text)
@@ -485,24 +665,50 @@ class Reader:
         return term
 
     def read(self, s):
-        if s.startswith("(&"):
-            name, rest = s[2:].split(")", 1)
-            return self.places[name], rest
+        if s.startswith("(*") or word_of(s) in self.places:
+            place, rest = self.read_place(s)
+            self.events.append(("load", place))
+            return ("loaded", len(self.events) - 1), rest
+        # a sign is of all that follows it, with the parts that are taken of that
+        if s[0] in "-!~" and s[1] == "(":
+            term, rest = self.read(s[1:])
+            return (s[0], term), rest
+        return self.read_parts(*self.read_base(s))
+
+    def read_place(self, s):
         if s.startswith("(*"):
             place, rest = self.read(s[2:])
-            return self.memory[place], rest[1:]
-        if s[0] in "-!~" and s[1] == "(":
-            term, rest = self.read(s[2:])
-            return (s[0], term), rest[1:]
+            return self.read_parts(place, closed(rest))
+        word = word_of(s)
+        return self.read_parts(self.places[word], s[len(word):])
+
+    # the parts that are taken of what was read
+    def read_parts(self, term, rest):
+        while rest.startswith((".", "[")):
+            if rest.startswith("."):
+                word = word_of(rest[1:])
+                term, rest = ("." + word, term), rest[1 + len(word):]
+            elif rest[1:rest.index("]")].isdigit():
+                word, rest = rest.split("]", 1)
+                term = (word + "]", term)
+            else:
+                index, rest = self.read(rest[1:])
+                term, rest = ("[_]", term, index), closed(rest, "]")
+        return term, rest
+
+    def read_base(self, s):
+        if s.startswith("(&"):
+            place, rest = self.read_place(s[2:])
+            return place, closed(rest)
         if s[0] == "(":
             left, rest = self.read(s[1:])
+            if rest.startswith(")"):
+                return left, rest[1:]
             op, rest = rest[1:].split(" ", 1)
             right, rest = self.read(rest)
-            return (op, left, right), rest[1:]
-        end = 0
-        while end < len(s) and (s[end].isalnum() or s[end] == "_" or (end == 0 and s[0] == "-")):
-            end += 1
-        word, rest = s[:end], s[end:]
+            return (op, left, right), closed(rest)
+        word = word_of(s)
+        rest = s[len(word):]
         if word in ("i32", "i64") and rest.startswith("(-"):
             inner, rest = rest.split(")", 1)
             return ("literal", word + inner + ")"), rest
@@ -515,16 +721,28 @@ class Reader:
             return (word, *terms), rest[1:]
         if word in self.known:
             return self.known[word], rest
-        if word in self.places:
-            return self.memory[self.places[word]], rest
         return ("literal", word), rest
+
+
+def word_of(s):
+    """The name, the number or the type that a text begins with."""
+    end = 0
+    while end < len(s) and (s[end].isalnum() or s[end] in "_<>" or (end == 0 and s[0] == "-")):
+        end += 1
+    return s[:end]
+
+
+def closed(s, bracket=")"):
+    assert s.startswith(bracket), s
+    return s[1:]
 
 
 # ---- comparison
 def main():
     program, modules, seed = sys.argv[1], int(sys.argv[2]), int(sys.argv[3])
     r = random.Random(seed)
-    tally = {"written": 0, "out of scope": 0, "not yet written": 0, "invalid": 0, "functions run": 0}
+    answers = ["written", "of these with parts", "out of scope", "not yet written", "invalid"]
+    tally = dict.fromkeys([*answers, "functions run"], 0)
     batch = 5000
     for start in range(0, modules, batch):
         samples = [generate(r) for _ in range(min(batch, modules - start))]
@@ -560,6 +778,7 @@ def count(tally, functions, wanted, number):
         tally["not yet written"] += 1
     else:
         tally["written"] += 1
+        tally["of these with parts"] += any(e[0] in PARTS for f in functions for e in f.expressions)
         for text in wanted:
             run_texts(functions, text, number)
         tally["functions run"] += len(functions)
