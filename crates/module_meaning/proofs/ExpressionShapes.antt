@@ -21,7 +21,7 @@ use Rattle.naga_ir.specs.declared.types.CooperativeRole.{CooperativeRole}
 use Rattle.naga_ir.specs.declared.types.CooperativeSize.{CooperativeSize}
 use Rattle.naga_ir.specs.declared.types.ScalarKind.{ScalarKind}
 use Rattle.naga_info.specs.declared.info.TypeResolution.{TypeResolution}
-use Rattle.module_meaning.specs.ExpressionOperators.{Surroundings, constructor, cast_to}
+use Rattle.module_meaning.specs.ExpressionOperators.{Surroundings, cast, cast_to, constructor}
 use Rattle.module_meaning.specs.ExpressionOperators.{points_to_atomic, query_operator}
 use Rattle.module_meaning.specs.ExpressionShapes.{Declared, shape_of, applied_shape, applied_or}
 use Rattle.module_meaning.specs.ExpressionShapes.{asking, part_shape, part_selector, own_selector}
@@ -59,6 +59,10 @@ cast_among : (bits : Bool) (k : ScalarKind) (width : Option ℕ) (o : Option (Li
 cast_among converts k width None = refl
 cast_among true k width (Some w) = refl
 cast_among false k width (Some w) = refl
+
+pub cast_asks : (a : Surroundings) (k : ScalarKind) (width : Option ℕ) (operand : Option TypeInner) →
+    asks (cast a k width operand) ≡ false
+cast_asks a k width operand = cast_among _ k width _
 
 load_among : (columns rows : CooperativeSize) (role : CooperativeRole) (row_major : Bool)
     (o : Option (List ℕ)) →
@@ -120,7 +124,7 @@ shape_kinds d es h (expression.Load pointer) = by (points_to_atomic d.around poi
 shape_kinds d es h (expression.ImageQuery image query) = request_kind _ _ (query_asks query)
 shape_kinds d es h (expression.Binary op left right) =
     pure_kind (BinarySign op) (left ∷ right ∷ []) refl
-shape_kinds d es h (expression.As expr k convert) = pure_kind _ _ (cast_among _ k convert _)
+shape_kinds d es h (expression.As expr k convert) = pure_kind _ _ (cast_asks d.around k convert _)
 shape_kinds d es h (expression.CooperativeLoad columns rows role place) =
     request_kind _ _ (load_among columns rows role place.row_major _)
 shape_kinds d es h _ = refl

@@ -1,12 +1,15 @@
 -- What is known of a module that is of the part written so far.
-use Rattle.std.proofs.Common.{[], List, ◌∷◌, ◌&&◌}
+use Rattle.std.proofs.Common.{[], List, ◌∷◌, ◌&&◌, ℕ, ◌≡◌, Some, slice_get}
 use Rattle.std.specs.Prelude.{IsTrue}
 use Rattle.std.specs.List.{list_all}
 use Rattle.std.proofs.lemmas.Bool.{and_parts, and_from}
 use Rattle.naga_ir.specs.declared.module.Function.{Function}
 use Rattle.naga_ir.specs.declared.module.Module.{Module}
+use Rattle.naga_info.specs.declared.info.ExpressionInfo.{ExpressionInfo}
 use Rattle.naga_info.specs.declared.info.ModuleInfo.{ModuleInfo}
-use Rattle.module_meaning.specs.Part.{is_value_type, declares_functions}
+use Rattle.module_meaning.proofs.SideBySide.{paired_at}
+use Rattle.module_meaning.specs.InfoSizes.{all_paired}
+use Rattle.module_meaning.specs.Part.{is_value_type, declares_functions, types_allow_all}
 use Rattle.module_meaning.specs.Part.{is_written_so_far, function_is_written, local_is_written}
 use Rattle.module_meaning.specs.Part.{names_nothing, is_unbound, expression_is_written}
 use Rattle.module_meaning.specs.Part.{block_is_written, known_types_are_written}
@@ -27,18 +30,26 @@ written_parts f written =
 pub written_so_far_parts : (m : Module) (info : ModuleInfo) → IsTrue (is_written_so_far m info)
     → IsTrue (declares_functions m) × IsTrue (list_all is_value_type m.types)
     × IsTrue (list_all function_is_written m.functions) × IsTrue (known_types_are_written m.types info)
+    × IsTrue (all_paired (types_allow_all m.types) m.functions info.functions.items)
 unfolding is_written_so_far
 written_so_far_parts m info written =
     let types = list_all is_value_type m.types in
     let functions = list_all function_is_written m.functions in
     let known = known_types_are_written m.types info in
-    let one = and_parts (declares_functions m) (types && (functions && known)) written in
-    let two = and_parts types (functions && known) one.1 in
-    let three = and_parts functions known two.1 in
-    (one.0, two.0, three.0, three.1)
+    let allowed = all_paired (types_allow_all m.types) m.functions info.functions.items in
+    let one = and_parts (declares_functions m) (types && (functions && (known && allowed))) written in
+    let two = and_parts types (functions && (known && allowed)) one.1 in
+    let three = and_parts functions (known && allowed) two.1 in
+    let four = and_parts known allowed three.1 in
+    (one.0, two.0, three.0, four.0, four.1)
 
 pub functions_are_written : (m : Module) (info : ModuleInfo) → IsTrue (is_written_so_far m info) → IsTrue (list_all function_is_written m.functions)
 functions_are_written m info written = (written_so_far_parts m info written).2
+
+-- the types of each function let its expressions be written
+pub functions_allow : (m : Module) (info : ModuleInfo) → IsTrue (is_written_so_far m info) → (g : ℕ) (f : Function) (es : List ExpressionInfo) → slice_get m.functions g ≡ Some f → slice_get info.functions.items g ≡ Some es → IsTrue (types_allow_all m.types f es)
+functions_allow m info written =
+    paired_at (types_allow_all m.types) m.functions info.functions.items (written_so_far_parts m info written).4
 
 -- front ends name nothing in a module that is written so far
 pub functions_name_nothing : (m : Module) (info : ModuleInfo) → IsTrue (is_written_so_far m info) → IsTrue (list_all names_nothing m.functions)

@@ -14,6 +14,7 @@ use Rattle.naga_ir.specs.declared.expression.SampleLevel.{SampleLevel}
 use Rattle.naga_ir.specs.declared.expression.SampleLevel.TheVariants as level
 use Rattle.naga_ir.specs.declared.expression.SwizzleComponent.{SwizzleComponent}
 use Rattle.naga_ir.specs.declared.expression.SwizzleComponent.TheVariants as component
+use Rattle.naga_ir.specs.declared.types.VectorSize.{VectorSize}
 use Rattle.naga_ir.specs.declared.types.TypeInner.{TypeInner}
 use Rattle.naga_ir.specs.declared.types.TypeInner.TheVariants as inner
 use Rattle.naga_info.specs.declared.info.TypeResolution.{TypeResolution}
@@ -133,6 +134,10 @@ letter component.Y = codes "y"
 letter component.Z = codes "z"
 letter component.W = codes "w"
 
+-- those that a swizzle chooses: as many of the first ones as its vector has components
+abbrev pub swizzle_letters : VectorSize → List SwizzleComponent → List ℕ
+swizzle_letters size pattern = flat_map letter (take (vector_number size) pattern)
+
 -- The part at an index of a type's values: a component by its letter, a member by its name, a
 -- column or an element by its number. `whole` is the type's handle, if it has one. Others have no
 -- parts.
@@ -204,7 +209,7 @@ shape_of d es h (expression.Access base index) = Access base index
 shape_of d es h (expression.AccessIndex base index) =
     part_shape base index (part_selector d base index)
 shape_of d es h (expression.Swizzle size vector pattern) =
-    Swizzle (flat_map letter (take (vector_number size) pattern)) vector
+    Swizzle (swizzle_letters size pattern) vector
 shape_of d es h (expression.Load pointer) =
     applied_or (Load pointer) (pointer ∷ []) (load_operator d.around pointer)
 shape_of d es h

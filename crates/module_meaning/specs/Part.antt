@@ -12,9 +12,11 @@ use Rattle.naga_ir.specs.StatementTree.{emit, store, return, StatementTree, simp
 use Rattle.naga_ir.specs.StatementTree.{no_statements, statement}
 use Rattle.naga_ir.specs.declared.expression.Expression.{Expression}
 use Rattle.naga_ir.specs.declared.expression.Expression.TheVariants.{Literal, FunctionArgument}
+use Rattle.naga_ir.specs.declared.expression.Expression.TheVariants.{ZeroValue, Compose}
 use Rattle.naga_ir.specs.declared.expression.Expression.TheVariants.{LocalVariable, Load, Unary}
 use Rattle.naga_ir.specs.declared.expression.Expression.TheVariants.{Binary, Select, Math}
-use Rattle.naga_ir.specs.declared.expression.Expression.TheVariants.{Relational, Splat}
+use Rattle.naga_ir.specs.declared.expression.Expression.TheVariants.{Relational, Splat, Swizzle}
+use Rattle.naga_ir.specs.declared.expression.Expression.TheVariants.{Access, AccessIndex, As}
 use Rattle.naga_ir.specs.declared.expression.Literal.{Literal as LiteralValue}
 use Rattle.naga_ir.specs.declared.expression.Literal.TheVariants as literal
 use Rattle.naga_ir.specs.declared.module.Function.{Function}
@@ -28,8 +30,12 @@ use Rattle.naga_ir.specs.declared.types.Type_.{Type_}
 use Rattle.naga_ir.specs.declared.types.TypeInner.{TypeInner}
 use Rattle.naga_ir.specs.declared.types.TypeInner.TheVariants as inner
 use Rattle.naga_info.specs.Resolution.{inner_of}
+use Rattle.naga_info.specs.declared.info.ExpressionInfo.{ExpressionInfo}
 use Rattle.naga_info.specs.declared.info.ModuleInfo.{ModuleInfo}
 use Rattle.naga_info.specs.declared.info.TypeResolution.{TypeResolution}
+use Rattle.module_meaning.specs.Conversions.{conversion_target}
+use Rattle.module_meaning.specs.ExpressionOperators.{has_parts}
+use Rattle.module_meaning.specs.InfoSizes.{all_paired}
 use Rattle.module_meaning.specs.OperatorTable.{relational_word}
 use Rattle.wgsl_words.specs.Words.{math_word}
 
@@ -66,9 +72,11 @@ is_value_type t = is_written_value t.inner
 abbrev pub is_value_at : List Type_ → (handle : ℕ) → Bool
 is_value_at types handle = option_map_or is_value_type (slice_get types handle) false
 
--- the type is such a value's, or that of a pointer to a local of one
+-- the type is such a value's, or that of a pointer to a local of one, or to a component or a column
+-- of that
 abbrev pub type_is_written : List Type_ → TypeInner → Bool
 type_is_written types (inner.Pointer base OfFunction) = is_value_at types base
+type_is_written types (inner.ValuePointer size s OfFunction) = scalar_is_written s
 type_is_written types it = is_written_value it
 
 -- so is what is known of an expression's type
@@ -76,7 +84,7 @@ abbrev pub resolution_is_written : List Type_ → TypeResolution → Bool
 resolution_is_written types r = option_map_or (type_is_written types) (inner_of r types) false
 
 -- ---- functions
--- the literal is of one of these scalar types
+-- the literal is of `bool` or of one of these integer types
 abbrev pub is_written_literal : LiteralValue → Bool
 is_written_literal (literal.Bool value) = true
 is_written_literal (literal.I32 value) = true
@@ -85,11 +93,16 @@ is_written_literal (literal.I64 value) = true
 is_written_literal (literal.U64 value) = true
 is_written_literal _ = false
 
--- a literal of `bool` or of an integer type, an argument, a local, a load, an operator with a sign,
--- the choice of one of two values, a vector of one value, or a function of mathematics or a relation
--- that has a word
+-- a literal of `bool` or of an integer type, the zero value of a type, a value of a type from its
+-- parts, a part at an index, an argument, a local, a load, an operator with a sign, the choice of
+-- one of two values, a vector of one value, components of a vector, a conversion, or a function of
+-- mathematics or a relation that has a word
 abbrev pub expression_is_written : Expression → Bool
 expression_is_written (Literal value) = is_written_literal value
+expression_is_written (ZeroValue ty) = true
+expression_is_written (Compose ty components) = true
+expression_is_written (Access base index) = true
+expression_is_written (AccessIndex base index) = true
 expression_is_written (FunctionArgument number) = true
 expression_is_written (LocalVariable handle) = true
 expression_is_written (Load pointer) = true
@@ -97,9 +110,34 @@ expression_is_written (Unary op expr) = true
 expression_is_written (Binary op left right) = true
 expression_is_written (Select condition accept reject) = true
 expression_is_written (Splat size value) = true
+expression_is_written (Swizzle size vector pattern) = true
+expression_is_written (As expr kind convert) = true
 expression_is_written (Math fun arg arg1 arg2 arg3) = is_some (math_word fun)
 expression_is_written (Relational fun argument) = is_some (relational_word fun)
 expression_is_written _ = false
+
+-- the type that is known of the expression with this handle passes a test
+abbrev pub known_passes : List Type_ → List ExpressionInfo → (test : TypeInner → Bool) →
+    (handle : ℕ) → Bool
+known_passes types es test h =
+    option_map_or (λ k. option_map_or test (inner_of k.ty types) false) (slice_get es h) false
+
+-- a value of this type is converted to one of a type that is written so far
+abbrev pub converts_to_written : ScalarKind → (convert : Option ℕ) → TypeInner → Bool
+converts_to_written kind convert it =
+    option_map_or is_written_value (conversion_target it kind convert) false
+
+-- The types of its operands let an expression be written: a known index is that of what has parts,
+-- and a conversion is to such a type.
+abbrev pub types_allow : List Type_ → List ExpressionInfo → Expression → Bool
+types_allow types es (AccessIndex base index) = known_passes types es (has_parts types) base
+types_allow types es (As expr kind convert) =
+    known_passes types es (converts_to_written kind convert) expr
+types_allow types es _ = true
+
+-- so they do in a function
+abbrev pub types_allow_all : List Type_ → Function → List ExpressionInfo → Bool
+types_allow_all types f es = list_all (types_allow types es) f.expressions
 
 -- a literal, where there is an expression
 abbrev pub is_literal : Option Expression → Bool
@@ -142,9 +180,10 @@ abbrev pub known_types_are_written : List Type_ → ModuleInfo → Bool
 known_types_are_written types info =
     list_all (list_all (λ k. resolution_is_written types k.ty)) info.functions.items
 
--- such types of values and such functions, of whose expressions such types are known, and pointers to
--- them
+-- such types of values and such functions, of whose expressions such types are known, and pointers
+-- to them, that let these be written
 unfoldable pub is_written_so_far : Module → ModuleInfo → Bool
 is_written_so_far m info =
     declares_functions m && (list_all is_value_type m.types &&
-    (list_all function_is_written m.functions && known_types_are_written m.types info))
+    (list_all function_is_written m.functions && (known_types_are_written m.types info &&
+    all_paired (types_allow_all m.types) m.functions info.functions.items)))

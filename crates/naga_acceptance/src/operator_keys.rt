@@ -75,7 +75,8 @@ fn formless_key(kind: ScalarKind, convert: Option<u8>) -> Key
     Key::Word(level_of(1, kind_number(kind), width_number(convert), 0, 0, 0))
 }
 
-fn converted_scalar(scalar: Scalar, kind: ScalarKind, convert: Option<u8>) -> Scalar
+/// The scalar that one is converted to: of this kind, and of the width that is told or its own.
+pub(crate) fn converted_scalar(scalar: Scalar, kind: ScalarKind, convert: Option<u8>) -> Scalar
     ensures { result ≡ converted_scalar scalar kind convert }
 {
     Scalar {

@@ -1,25 +1,31 @@
 //! The part of the modules that is written so far.
 
-ghost use Rattle.std.specs.Prelude.{◌≡◌, slice_get};
+ghost use Rattle.std.specs.Prelude.{◌≡◌, false, slice_get};
 ghost use Rattle.std.specs.List.{list_all};
-ghost use Rattle.std.specs.Option.{is_none, is_some};
+ghost use Rattle.std.specs.Option.{is_none, is_some, option_map_or};
 ghost use Rattle.naga_ir.specs.StatementViews.{tree_of};
+ghost use Rattle.naga_info.specs.Resolution.{inner_of};
+ghost use Rattle.module_meaning.specs.ExpressionOperators.{has_parts, is_composite};
+ghost use Rattle.module_meaning.specs.InfoSizes.{all_paired};
 ghost use Rattle.module_meaning.specs.OperatorTable.{relational_word};
-ghost use Rattle.module_meaning.specs.Part.{block_is_written, expression_is_written};
+ghost use Rattle.module_meaning.specs.Part.{block_is_written, converts_to_written};
+ghost use Rattle.module_meaning.specs.Part.{expression_is_written};
 ghost use Rattle.module_meaning.specs.Part.{function_is_written, is_literal, is_unbound};
 ghost use Rattle.module_meaning.specs.Part.{is_written_so_far, local_is_written};
 ghost use Rattle.module_meaning.specs.Part.{declares_functions, is_value_at, is_value_type};
 ghost use Rattle.module_meaning.specs.Part.{is_written_literal, is_written_value};
 ghost use Rattle.module_meaning.specs.Part.{known_types_are_written, names_nothing};
 ghost use Rattle.module_meaning.specs.Part.{resolution_is_written, scalar_is_written};
-ghost use Rattle.module_meaning.specs.Part.{statement_is_written, type_is_written};
+ghost use Rattle.module_meaning.specs.Part.{statement_is_written, type_is_written, types_allow};
+ghost use Rattle.module_meaning.specs.Part.{types_allow_all};
 
+use crate::operator_keys::converted_scalar;
 use crate::parts::{inner_at, inner_of};
 use naga_info::{ExpressionInfo, FunctionInfo, ModuleInfo, TypeResolution};
 use naga_ir::{
     AddressSpace, Arena, Block, Expression, Function, FunctionArgument, Handle, Literal,
-    LocalVariable, Module, RelationalFunction, Scalar, ScalarKind, Statement, Type_, TypeInner,
-    UniqueArena,
+    LocalVariable, Module, Place, RelationalFunction, Scalar, ScalarKind, Statement, Type_,
+    TypeInner, UniqueArena,
 };
 use wgsl_words::TryToWgsl;
 
@@ -27,10 +33,12 @@ use wgsl_words::TryToWgsl;
 /// `f32`, `i64`, `u64` and `f64`, vectors and matrices of these, and functions without names of
 /// their expressions, whose arguments and result are bound to nothing, whose locals have a literal
 /// as first value or none, whose expressions are arguments, locals, literals of `bool` and of the
-/// integer types, loads, operators with a sign, choices, vectors of one value, and calls of
-/// functions of mathematics that have a word, of `all` and of `any`, and whose statements are
-/// `Emit`s, `Store`s and `Return`s. And whether nothing else is known of these expressions' types
-/// than such a type, or a pointer to a local of one.
+/// integer types, zero values, values of a type composed of others, loads, operators with a sign,
+/// choices, vectors of one value, swizzles, parts at an index, conversions, and calls of functions
+/// of mathematics that have a word, of `all` and of `any`, and whose statements are `Emit`s,
+/// `Store`s and `Return`s. And whether nothing else is known of these expressions' types than such
+/// a type, or a pointer to a local of one or to its components and columns, a known index is that
+/// of what has parts, and a conversion is to such a type.
 #[tactic(auto, unfolding(module_meaning::specs::Part::is_written_so_far))]
 pub fn is_written_so_far(module: &Module, info: &ModuleInfo) -> bool
     ensures { result ≡ is_written_so_far «module».now info.now }
@@ -39,6 +47,7 @@ pub fn is_written_so_far(module: &Module, info: &ModuleInfo) -> bool
         && types_are_values(&module.types)
         && functions_are_written(&module.functions)
         && known_types_are_written(&module.types, info)
+        && types_allow_functions(&module.types, &module.functions, info.functions.as_slice())
 }
 
 fn declares_functions(module: &Module) -> bool
@@ -96,7 +105,8 @@ fn is_value_at(types: &UniqueArena<Type_>, handle: Handle<Type_>) -> bool
     }
 }
 
-/// Whether a type is such a value's, or a pointer to a local of one.
+/// Whether a type is such a value's, or a pointer to a local of one, or to its components or
+/// columns.
 fn type_is_written(types: &UniqueArena<Type_>, inner: &TypeInner) -> bool
     ensures { result ≡ type_is_written types.now inner.now }
 {
@@ -105,6 +115,11 @@ fn type_is_written(types: &UniqueArena<Type_>, inner: &TypeInner) -> bool
             base,
             space: AddressSpace::Function,
         } => is_value_at(types, *base),
+        TypeInner::ValuePointer {
+            scalar,
+            space: AddressSpace::Function,
+            ..
+        } => scalar_is_written(*scalar),
         _ => is_written_value(inner),
     }
 }
@@ -205,16 +220,141 @@ fn expression_is_written(expression: &Expression) -> bool
     ensures { result ≡ expression_is_written expression.now }
 {
     match expression {
-        Expression::FunctionArgument(_)
+        Expression::ZeroValue(_)
+        | Expression::Compose { .. }
+        | Expression::Access { .. }
+        | Expression::AccessIndex { .. }
+        | Expression::FunctionArgument(_)
         | Expression::LocalVariable(_)
         | Expression::Load { .. }
         | Expression::Unary { .. }
         | Expression::Binary { .. }
         | Expression::Select { .. }
-        | Expression::Splat { .. } => true,
+        | Expression::Splat { .. }
+        | Expression::Swizzle { .. }
+        | Expression::As { .. } => true,
         Expression::Math { fun, .. } => fun.try_to_wgsl().is_some(),
         Expression::Relational { fun, .. } => has_word(*fun),
         Expression::Literal(literal) => is_written_literal(*literal),
+        _ => false,
+    }
+}
+
+/// Whether the types of operands let the expressions of each function be written, where all of
+/// these are known.
+fn types_allow_functions(
+    types: &UniqueArena<Type_>,
+    functions: &Arena<Function>,
+    infos: &[FunctionInfo],
+) -> bool
+    ensures { result ≡ all_paired (types_allow_all types.now) functions.now infos.now }
+{
+    if functions.len() != infos.len() {
+        return false;
+    }
+    for (index, info) in infos.iter().enumerate() {
+        let handle = Place::from_index(index);
+        if !types_allow_all(types, &functions[handle], info) {
+            return false;
+        }
+    }
+    true
+}
+
+fn types_allow_all(types: &UniqueArena<Type_>, function: &Function, info: &FunctionInfo) -> bool
+    ensures { result ≡ types_allow_all types.now function.now info.now }
+{
+    for (_, expression) in function.expressions.iter() {
+        if !types_allow(types, info, expression) {
+            return false;
+        }
+    }
+    true
+}
+
+/// Whether the types of its operands let an expression be written: a known index is that of what
+/// has parts, and a conversion is to a type that is written so far.
+fn types_allow(types: &UniqueArena<Type_>, info: &FunctionInfo, expression: &Expression) -> bool
+    ensures { result ≡ types_allow types.now info.now expression.now }
+{
+    match expression {
+        Expression::AccessIndex { base, .. } => match info.expressions.get(base.index()) {
+            Some(known) => resolution_has_parts(types, &known.ty),
+            None => false,
+        },
+        Expression::As {
+            expr,
+            kind,
+            convert,
+        } => match info.expressions.get(expr.index()) {
+            Some(known) => resolution_converts(types, &known.ty, *kind, *convert),
+            None => false,
+        },
+        _ => true,
+    }
+}
+
+fn resolution_has_parts(types: &UniqueArena<Type_>, ty: &TypeResolution) -> bool
+    ensures { result ≡ option_map_or (has_parts types.now) (inner_of ty.now types.now) false }
+{
+    match inner_of(types, ty) {
+        Some(inner) => has_parts(types, inner),
+        None => false,
+    }
+}
+
+fn resolution_converts(
+    types: &UniqueArena<Type_>,
+    ty: &TypeResolution,
+    kind: ScalarKind,
+    convert: Option<u8>,
+) -> bool
+    ensures { result ≡ option_map_or (converts_to_written kind convert)
+        (inner_of ty.now types.now) false }
+{
+    match inner_of(types, ty) {
+        Some(inner) => converts_to_written(inner, kind, convert),
+        None => false,
+    }
+}
+
+/// Whether a value of a type is converted to one of a type that is written so far.
+fn converts_to_written(inner: &TypeInner, kind: ScalarKind, convert: Option<u8>) -> bool
+    ensures { result ≡ converts_to_written kind convert inner.now }
+{
+    match inner {
+        TypeInner::Scalar(scalar)
+        | TypeInner::Vector { scalar, .. }
+        | TypeInner::Matrix { scalar, .. } => {
+            scalar_is_written(converted_scalar(*scalar, kind, convert))
+        }
+        _ => false,
+    }
+}
+
+/// Whether a type, or what it points to, is made of parts.
+fn has_parts(types: &UniqueArena<Type_>, inner: &TypeInner) -> bool
+    ensures { result ≡ has_parts types.now inner.now }
+{
+    match inner {
+        TypeInner::Pointer { base, .. } => match inner_at(types, *base) {
+            Some(inner) => is_composite(inner),
+            None => false,
+        },
+        TypeInner::ValuePointer { size, .. } => size.is_some(),
+        _ => is_composite(inner),
+    }
+}
+
+fn is_composite(inner: &TypeInner) -> bool
+    ensures { result ≡ is_composite inner.now }
+{
+    match inner {
+        TypeInner::Vector { .. }
+        | TypeInner::Matrix { .. }
+        | TypeInner::Array { .. }
+        | TypeInner::BindingArray { .. }
+        | TypeInner::Struct { .. } => true,
         _ => false,
     }
 }

@@ -5,7 +5,22 @@ use Rattle.std.proofs.Common.{◌≡◌, ℕ, suc, Bool, true, false, List, [], 
 use Rattle.std.proofs.Common.{sym, ap, ◌∙◌, arith, zero, ◌+◌, pos, negsuc, map, Option, Some, None}
 use Rattle.std.proofs.Common.{add-one, add-zero, zero-add, ◌-◌}
 use Rattle.std.specs.Prelude.{codes, IsTrue, slice_get, unwrap_or}
-use Rattle.std.specs.Option.{option_map_or, option_map}
+use Rattle.std.specs.Option.{option_map_or, option_map, is_some}
+use Rattle.std.proofs.lemmas.Option.{slice_get_within}
+use Rattle.naga_names.proofs.Refusal.{element}
+use Rattle.naga_info.specs.declared.info.TypeResolution.{TypeResolution}
+use Rattle.naga_info.specs.declared.info.TypeResolution.TheVariants.{Handle}
+use Rattle.module_meaning.specs.ExpressionOperators.{constructor}
+use Rattle.module_meaning.specs.ExpressionShapes.{constant_shape, swizzle_letters}
+use Rattle.shader_runs.specs.Text.{PartOf}
+use Rattle.shader_runs.specs.Value.{MemberNamed}
+use Rattle.module_meaning.specs.OperatorTable.{run_word}
+use Rattle.shader_runs.specs.Program.{Constructed, no_constant}
+use Rattle.naga_form.specs.Expressions.{operator_type}
+use Rattle.naga_form.proofs.Operators.{SpellsIf, SpellsTypes, constructor_spelled, operator_spelled}
+use Rattle.naga_form.proofs.Operators.{untyped, zero_read}
+use Rattle.naga_form.proofs.TypeTrees.{resolution_row}
+use Rattle.std.proofs.Common.{subst, ◌<◌}
 use Rattle.std.proofs.lemmas.Bool.{and_from, and_parts, ltb-true}
 use Rattle.std.proofs.Common.{nat_lt}
 use Rattle.std.proofs.lemmas.List.{map-append}
@@ -22,7 +37,17 @@ use Rattle.naga_ir.specs.declared.module.LocalVariable.{LocalVariable}
 use Rattle.naga_ir.specs.declared.module.Module.{Module}
 use Rattle.naga_ir.specs.declared.types.AddressSpace.TheVariants as space
 use Rattle.naga_ir.specs.declared.types.Type_.{Type_}
+use Rattle.naga_ir.specs.declared.types.TypeInner.{TypeInner}
 use Rattle.naga_ir.specs.declared.types.TypeInner.TheVariants as inner
+use Rattle.naga_info.specs.Resolution.{inner_of}
+use Rattle.std.specs.Prelude.{if◌then◌else◌}
+use Rattle.std.specs.Str.{bytes_eq}
+use Rattle.std.specs.Option.{option_and_then}
+use Rattle.wgsl_text.specs.Words.{stands_in}
+use Rattle.module_meaning.specs.Types.{integer_words, type_of_values, values_of, word_of_values}
+use Rattle.module_meaning.specs.ExpressionShapes.{part_selector, part_shape}
+use Rattle.module_meaning.specs.OperatorTable.{WithoutForm, PartAt}
+use Rattle.naga_form.specs.Expressions.{is_pointer, part_plain, points, selected_part}
 use Rattle.naga_info.specs.declared.info.TypeResolution.TheVariants.{Value}
 use Rattle.naga_info.specs.declared.info.ExpressionInfo.{ExpressionInfo}
 use Rattle.naga_info.specs.declared.info.ModuleInfo.{ModuleInfo}
@@ -34,7 +59,9 @@ use Rattle.naga_names.specs.Keys.{NameMap}
 use Rattle.wgsl_text.specs.Reading.{type_layout}
 use Rattle.wgsl_text.specs.Types.{TypeSpecifier, Named, pointer_tree}
 use Rattle.wgsl_text.proofs.Text.{text-append}
-use Rattle.shader_runs.specs.Value.{ValueType}
+use Rattle.shader_runs.specs.Value.{ValueType, BooleanType, IntegerType, OtherType, PointerType}
+use Rattle.shader_runs.specs.Value.{Selector, ElementAt, type_at}
+use Rattle.shader_runs.specs.Text.{Tree, Index}
 use Rattle.shader_runs.specs.Program as shapes
 use Rattle.shader_runs.specs.Program.{binds, from, handle_type, expression_of}
 use Rattle.shader_runs.specs.Scope.{Standing, Named, Handles, Naming, bound_name, at_start}
@@ -125,68 +152,203 @@ loop_reads body continuing None = refl
 loop_reads body continuing (Some e) = refl
 
 -- ---- expressions
-module _ (n : Naming) (d : Declared) (all : List ir.Expression) where
+-- a value of this type is a place
+abbrev pub is_place : ValueType → Bool
+is_place (PointerType spelling) = true
+is_place _ = false
+
+-- the values of a type are places where it is a pointer
+inner_place : (it : TypeInner) (w : List ℕ) → is_place (values_of it w) ≡ is_pointer it
+inner_place (inner.Scalar s) w = by (bytes_eq w (codes "bool")) (stands_in integer_words w)
+  where
+    by : (truth integer : Bool) →
+        is_place (if truth then BooleanType else (if integer then IntegerType w else OtherType w)) ≡ false
+    by true integer = refl
+    by false true = refl
+    by false false = refl
+inner_place (inner.Pointer base space) w = refl
+inner_place (inner.ValuePointer size s space) w = refl
+inner_place _ w = refl
+
+places_in : (m : Module) (es : List ExpressionInfo) (h : ℕ) →
+    is_place (type_at (map (λ e. type_of_values m e.ty) es) h) ≡
+    option_map_or is_pointer
+    (option_and_then (λ r. inner_of r m.types) (slice_get (map (λ e. e.ty) es) h)) false
+places_in m [] h = refl
+places_in m (e ∷ es) zero = by (inner_of e.ty m.types)
+  where
+    by : (o : Option TypeInner) →
+        is_place
+        (option_map_or (λ it. values_of it (word_of_values m e.ty)) o
+        (OtherType (word_of_values m e.ty))) ≡
+        option_map_or is_pointer o false
+    by (Some it) = inner_place it (word_of_values m e.ty)
+    by None = refl
+places_in m (e ∷ es) (suc h) = places_in m es h
+
+-- a part is read as a part, whether it is one of a value or of a place
+module _ (part : tree_expressions.Expression → tree_expressions.Expression) (like : Tree → Tree)
+    (same : (e : tree_expressions.Expression) → expression_read (part e) ≡ like (expression_read e)) where
+  value_part : (base : PlainForm) (b : Plain) → plain_read base ≡ b →
+      plain_read (part_plain false part base) ≡ AsValue (like (runs.value_form b))
+  value_part base b is =
+      ap AsValue (same (as_value base) ∙ ap like (value_is base ∙ ap runs.value_form is))
+
+  place_part : (base : PlainForm) (b : Plain) → plain_read base ≡ b →
+      plain_read (part_plain true part base) ≡ AsPlace (like (runs.place_form b))
+  place_part base b is =
+      ap AsPlace (same (as_reference base) ∙ ap like (place_is base ∙ ap runs.place_form is))
+
+selected_read : (x : Selector) (e : tree_expressions.Expression) →
+    expression_read (selected_part x e) ≡ PartOf x (expression_read e)
+selected_read (MemberNamed word) e = refl
+selected_read (ElementAt index) e = refl
+
+part_read : (k : ValueType) (pointer : Bool) → is_place k ≡ pointer → (x : Selector) →
+    (base : PlainForm) (b : Plain) → plain_read base ≡ b →
+    plain_read (part_plain pointer (selected_part x) base) ≡ runs.part_form k x b
+part_read (PointerType spelling) true is x base b same =
+    place_part (selected_part x) (PartOf x) (selected_read x) base b same
+part_read (PointerType spelling) false is x base b same = absurd cc
+part_read _ false is x base b same =
+    value_part (selected_part x) (PartOf x) (selected_read x) base b same
+part_read _ true is x base b same = absurd cc
+
+index_read : (k : ValueType) (pointer : Bool) → is_place k ≡ pointer →
+    (index : tree_expressions.Expression) (i : Plain) → expression_read index ≡ runs.value_form i →
+    (base : PlainForm) (b : Plain) → plain_read base ≡ b →
+    plain_read (part_plain pointer (λ e. tree_expressions.Index e index) base) ≡ runs.access_form k b i
+index_read (PointerType spelling) true is index i read base b same =
+    place_part (λ e. tree_expressions.Index e index) (λ e. Index e (runs.value_form i))
+    (λ e. ap (Index (expression_read e)) read) base b same
+index_read (PointerType spelling) false is index i read base b same = absurd cc
+index_read _ false is index i read base b same =
+    value_part (λ e. tree_expressions.Index e index) (λ e. Index e (runs.value_form i))
+    (λ e. ap (Index (expression_read e)) read) base b same
+index_read _ true is index i read base b same = absurd cc
+
+module _ (n : Naming) (code : Source) (spells : SpellsTypes code.declared.around code.type_names)
+    (places : (h : ℕ) → is_place (handle_type n.function h) ≡ points code.declared.around h)
+    (all : List ir.Expression) where
   -- an operator where one is applied, and what stands there where none is
   applied_reads : (operand : ℕ → PlainForm) (like : ℕ → Plain) →
       ((x : ℕ) → plain_read (operand x) ≡ like x) → (k : ValueType) (otherwise : PlainForm) →
       (other : shapes.Expression) → plain_read otherwise ≡ runs.own_form n like k (Some other) →
-      (hs : List ℕ) (o : Option Operator) →
-      plain_read (applied_plain otherwise operand hs o) ≡
+      (type : Option TypeSpecifier) (hs : List ℕ) (o : Option Operator) → SpellsIf type o →
+      plain_read (applied_plain otherwise type operand hs o) ≡
       runs.own_form n like k (Some (applied_or other hs o))
-  applied_reads operand like same k otherwise other none hs None = none
-  applied_reads operand like same k otherwise other none hs (Some op) =
-      applied_read operand like (λ h. value_is (operand h) ∙ ap runs.value_form (same h)) n k op hs
+  applied_reads operand like same k otherwise other none type hs None spelled = none
+  applied_reads operand like same k otherwise other none type hs (Some op) spelled =
+      applied_read operand like (λ h. value_is (operand h) ∙ ap runs.value_form (same h)) n k type op
+      spelled hs
 
   applies : (operand : ℕ → PlainForm) (like : ℕ → Plain) →
       ((x : ℕ) → plain_read (operand x) ≡ like x) → (k : ValueType) (e : ir.Expression) →
       plain_read
-      (applied_plain no_form operand (expression_operands e) (applied_operator d.around e)) ≡
+      (applied_plain no_form (operator_type code.declared.around code.type_names e) operand (expression_operands e)
+      (applied_operator code.declared.around e)) ≡
       runs.own_form n like k
-      (Some (applied_or shapes.Result (expression_operands e) (applied_operator d.around e)))
+      (Some (applied_or shapes.Result (expression_operands e) (applied_operator code.declared.around e)))
   applies operand like same k e =
-      applied_reads operand like same k no_form shapes.Result refl (expression_operands e)
-      (applied_operator d.around e)
+      applied_reads operand like same k no_form shapes.Result refl
+      (operator_type code.declared.around code.type_names e)
+      (expression_operands e) (applied_operator code.declared.around e)
+      (operator_spelled code.declared.around code.type_names spells e)
+
+  -- a zero value, where the type of its handle is known
+  zero_reads : (operand : ℕ → PlainForm) (like : ℕ → Plain) (k : ValueType) (ty : ℕ) →
+      (o : Option TypeResolution) → is_some o ≡ true →
+      plain_read
+      (own_plain n code operand (expression.ZeroValue ty)) ≡
+      runs.own_form n like k
+      (Some
+      (constant_shape
+      (option_map
+      (λ r. Constructed (run_word (constructor code.declared.around (Handle ty) 0)) (code.declared.value_type r) no_constant)
+      o)))
+  zero_reads operand like k ty (Some r) known =
+      ap AsValue
+      (zero_read operand (λ h. plain_read (operand h)) (λ h. value_is (operand h))
+      (type_tree code.type_names ty)
+      (constructor code.declared.around (Handle ty) 0)
+      (constructor_spelled code.declared.around (Handle ty) 0 (type_tree code.type_names ty) (spells (Handle ty))))
+  zero_reads operand like k ty None known = absurd cc
 
   own_reads : (operand : ℕ → PlainForm) (like : ℕ → Plain) →
       ((x : ℕ) → plain_read (operand x) ≡ like x) → (k : ValueType) (h : ℕ) (e : ir.Expression) →
-      expression_is_written e ≡ true →
-      plain_read (own_plain n d operand e) ≡ runs.own_form n like k (Some (shape_of d all h e))
-  own_reads operand like same k h (expression.Literal value) w =
+      expression_is_written e ≡ true → is_some (code.declared.around.known h) ≡ true →
+      plain_read (own_plain n code operand e) ≡ runs.own_form n like k (Some (shape_of code.declared all h e))
+  own_reads operand like same k h (expression.Literal value) w known =
       ap (λ v. AsValue (LiteralOf v)) (literal_read value w)
-  own_reads operand like same k h (expression.Load pointer) w =
+  own_reads operand like same k h (expression.ZeroValue ty) w known =
+      zero_reads operand like k ty (code.declared.around.known h) known
+  own_reads operand like same k h (expression.Compose ty components) w known =
+      applies operand like same k (expression.Compose ty components)
+  own_reads operand like same k h (expression.As e kind convert) w known =
+      applies operand like same k (expression.As e kind convert)
+  own_reads operand like same k h (expression.Access base index) w known =
+      index_read (handle_type n.function base) (points code.declared.around base) (places base)
+      (as_value (operand index)) (like index)
+      (value_is (operand index) ∙ ap runs.value_form (same index))
+      (operand base) (like base) (same base)
+  own_reads operand like same k h (expression.AccessIndex base index) w known =
+      by (part_selector code.declared base index)
+    where
+      without : Operator
+      without = WithoutForm (PartAt index)
+
+      by : (o : Option Selector) →
+          plain_read
+          (option_map_or
+          (λ x. part_plain (points code.declared.around base) (selected_part x) (operand base)) o
+          (applied_plain no_form None operand (base ∷ []) (Some without))) ≡
+          runs.own_form n like k (Some (part_shape base index o))
+      by (Some x) =
+          part_read (handle_type n.function base) (points code.declared.around base) (places base) x
+          (operand base) (like base) (same base)
+      by None =
+          applied_reads operand like same k no_form shapes.Result refl None (base ∷ [])
+          (Some without) tt
+  own_reads operand like same k h (expression.Swizzle size vector pattern) w known =
+      ap (λ v. AsValue (PartOf (MemberNamed (swizzle_letters size pattern)) v))
+      (value_is (operand vector) ∙ ap runs.value_form (same vector))
+  own_reads operand like same k h (expression.Load pointer) w known =
       applied_reads operand like same k (ValueForm (as_reference (operand pointer)))
       (shapes.Load pointer)
       (ap AsValue (place_is (operand pointer) ∙ ap runs.place_form (same pointer)))
-      (pointer ∷ []) (load_operator d.around pointer)
-  own_reads operand like same k h (expression.FunctionArgument number) w = refl
-  own_reads operand like same k h (expression.LocalVariable handle) w = refl
-  own_reads operand like same k h (expression.Unary op expr) w =
+      None (pointer ∷ []) (load_operator code.declared.around pointer)
+      (untyped (load_operator code.declared.around pointer))
+  own_reads operand like same k h (expression.FunctionArgument number) w known = refl
+  own_reads operand like same k h (expression.LocalVariable handle) w known = refl
+  own_reads operand like same k h (expression.Unary op expr) w known =
       applies operand like same k (expression.Unary op expr)
-  own_reads operand like same k h (expression.Binary op left right) w =
+  own_reads operand like same k h (expression.Binary op left right) w known =
       applies operand like same k (expression.Binary op left right)
-  own_reads operand like same k h (expression.Select condition accept reject) w =
+  own_reads operand like same k h (expression.Select condition accept reject) w known =
       applies operand like same k (expression.Select condition accept reject)
-  own_reads operand like same k h (expression.Splat size value) w =
+  own_reads operand like same k h (expression.Splat size value) w known =
       applies operand like same k (expression.Splat size value)
-  own_reads operand like same k h (expression.Math fun arg arg1 arg2 arg3) w =
+  own_reads operand like same k h (expression.Math fun arg arg1 arg2 arg3) w known =
       applies operand like same k (expression.Math fun arg arg1 arg2 arg3)
-  own_reads operand like same k h (expression.Relational fun argument) w =
+  own_reads operand like same k h (expression.Relational fun argument) w known =
       applies operand like same k (expression.Relational fun argument)
-  own_reads operand like same k h _ w = absurd cc
+  own_reads operand like same k h _ w known = absurd cc
 
   own_if_reads : (operand : ℕ → PlainForm) (like : ℕ → Plain) →
       ((x : ℕ) → plain_read (operand x) ≡ like x) → (k : ValueType) (h : ℕ) →
       (e : Option ir.Expression) → option_map_or expression_is_written e true ≡ true →
-      plain_read (own_if n d operand e) ≡
-      runs.own_form n like k (option_map (shape_of d all h) e)
-  own_if_reads operand like same k h (Some e) w = own_reads operand like same k h e w
-  own_if_reads operand like same k h None w = refl
+      ((x : ir.Expression) → e ≡ Some x → is_some (code.declared.around.known h) ≡ true) →
+      plain_read (own_if n code operand e) ≡
+      runs.own_form n like k (option_map (shape_of code.declared all h) e)
+  own_if_reads operand like same k h (Some e) w known =
+      own_reads operand like same k h e w (known e refl)
+  own_if_reads operand like same k h None w known = refl
 
-  standing_reads : (s : Standing) (p : PlainForm) (q : Plain) → plain_read p ≡ q → plain_read (standing_plain s p) ≡ runs.standing_form s q
-  standing_reads (Named x) p q e = refl
-  standing_reads _ p q e = e
+standing_reads : (s : Standing) (p : PlainForm) (q : Plain) → plain_read p ≡ q → plain_read (standing_plain s p) ≡ runs.standing_form s q
+standing_reads (Named x) p q e = refl
+standing_reads _ p q e = e
 
-module _ (names : NameMap) (m : Module) (info : ModuleInfo) (g : ℕ) (f : ir_function.Function) (es : List ExpressionInfo) (values : IsTrue (list_all is_value_type m.types)) (written : IsTrue (list_all expression_is_written f.expressions)) where
+module _ (names : NameMap) (m : Module) (info : ModuleInfo) (g : ℕ) (f : ir_function.Function) (es : List ExpressionInfo) (values : IsTrue (list_all is_value_type m.types)) (size : length f.expressions ≡ length es) (written : IsTrue (list_all expression_is_written f.expressions)) where
   abbrev own : Naming
   own = function_naming names m info g f es
 
@@ -203,17 +365,33 @@ module _ (names : NameMap) (m : Module) (info : ModuleInfo) (g : ℕ) (f : ir_fu
       by None at = refl
       by (Some e) at = list_all_at expression_is_written f.expressions h e written at
 
+  -- types are spelled as their trees are
+  types_spelled : SpellsTypes d.around source.type_names
+  types_spelled r = resolution_row text-append (type_names m) (λ handle. true) r
+
+  known_at : (h : ℕ) (e : ir.Expression) → slice_get f.expressions h ≡ Some e →
+      is_some (d.around.known h) ≡ true
+  known_at h e at =
+      let lt = subst (λ n. h < n) size (slice_get_within f.expressions h e at) in
+      let types = map (λ k. k.ty) es in
+      let below = subst (λ n. h < n) (sym (mapped_length (λ k. k.ty) es)) lt in
+      ap is_some (element types h below).1
+
+  -- what is known to be a pointer has places for values
+  places_are : (h : ℕ) → is_place (handle_type own.function h) ≡ points d.around h
+  places_are h = places_in m es h
+
   -- a handle's expression, over operands that are read so
   handle_reads : (operand : ℕ → PlainForm) (like : ℕ → Plain) → ((x : ℕ) → plain_read (operand x) ≡ like x) → (h : ℕ) →
-      plain_read (own_if own d operand (slice_get f.expressions h)) ≡ runs.own_form own like (handle_type own.function h) (expression_of own.function h)
+      plain_read (own_if own source operand (slice_get f.expressions h)) ≡ runs.own_form own like (handle_type own.function h) (expression_of own.function h)
   handle_reads operand like same h =
-      own_if_reads own d f.expressions operand like same (handle_type own.function h) h (slice_get f.expressions h) (written_at h)
+      own_if_reads own source types_spelled places_are f.expressions operand like same (handle_type own.function h) h (slice_get f.expressions h) (written_at h) (λ e. known_at h e)
       ∙ ap (runs.own_form own like (handle_type own.function h)) (sym (expression_is m info f es h))
 
   below_reads : (s : Handles) (k h : ℕ) → plain_read (plain_below own source s k h) ≡ written_below own s k h
   below_reads s zero h = refl
   below_reads s (suc k) h =
-      standing_reads own d f.expressions (s h) (own_if own d (plain_below own source s k) (slice_get f.expressions h)) (runs.own_form own (written_below own s k) (handle_type own.function h) (expression_of own.function h))
+      standing_reads (s h) (own_if own source (plain_below own source s k) (slice_get f.expressions h)) (runs.own_form own (written_below own s k) (handle_type own.function h) (expression_of own.function h))
       (handle_reads (plain_below own source s k) (written_below own s k) (below_reads s k) h)
 
   plain_reads : (s : Handles) (h : ℕ) → plain_read (plain_form own source s h) ≡ runs.written_form own s h
@@ -317,7 +495,7 @@ pointer_reads m ty t at =
     (inner_tree_row text-append (type_names m) (λ handle. true) (inner.Pointer ty space.Function)
     ∙ ap (λ o. option_map type_layout (option_map (pointer_tree (codes "function") None) o)) at))
 
-module _ (m : Module) (info : ModuleInfo) (g : ℕ) (f : ir_function.Function) (es : List ExpressionInfo) (values : IsTrue (list_all is_value_type m.types)) (written : IsTrue (list_all expression_is_written f.expressions)) where
+module _ (m : Module) (info : ModuleInfo) (g : ℕ) (f : ir_function.Function) (es : List ExpressionInfo) (values : IsTrue (list_all is_value_type m.types)) (size : length f.expressions ≡ length es) (written : IsTrue (list_all expression_is_written f.expressions)) where
   abbrev own_names : Naming
   own_names = function_naming (module_names m) m info g f es
 
@@ -329,7 +507,7 @@ module _ (m : Module) (info : ModuleInfo) (g : ℕ) (f : ir_function.Function) (
       let pointer = pointer_reads m v.ty t.0 t.1 ∙ sym (mapped_at (λ l. local_pointer m l.ty) [] f.local_variables l v here) in
       let rest = locals_read formed (l + 1) vs later in
       λ i.
-      record { name = own_names.names.local_ l; pointer = pointer i; first_value = value_if_reads (module_names m) m info g f es values written (at_start own_names.function) v.init i }
+      record { name = own_names.names.local_ l; pointer = pointer i; first_value = value_if_reads (module_names m) m info g f es values size written (at_start own_names.function) v.init i }
       ∷ (rest ∙ ap (λ k. variables_from own_names k (map (λ v. v.init) vs)) (add-one l)) i
     where
       later : (k : ℕ) → slice_get vs k ≡ slice_get f.local_variables (k + (l + 1))
@@ -344,14 +522,14 @@ locals_have_forms m f count values ranges l v at =
     let form = type_has_form m.types v.ty (values_at m.types v.ty values (ltb-true v.ty (length m.types) parts.0)) in
     (form.tree, form.is (module_names m))
 
-pub function_reads : (explicit : Bool) (m : Module) (info : ModuleInfo) (g : ℕ) (f : ir_function.Function) (es : List ExpressionInfo) → IsTrue (list_all is_value_type m.types) → IsTrue (function_is_written f) → LocalsHaveForms (type_names m) f.local_variables → function_read (function_form explicit (module_names m) m info g f es) ≡ form_function (function_naming (module_names m) m info g f es)
-function_reads explicit m info g f es values written formed =
+pub function_reads : (explicit : Bool) (m : Module) (info : ModuleInfo) (g : ℕ) (f : ir_function.Function) (es : List ExpressionInfo) → IsTrue (list_all is_value_type m.types) → IsTrue (function_is_written f) → length f.expressions ≡ length es → LocalsHaveForms (type_names m) f.local_variables → function_read (function_form explicit (module_names m) m info g f es) ≡ form_function (function_naming (module_names m) m info g f es)
+function_reads explicit m info g f es values written size formed =
     let names = module_names m in
     let parts = function_parts f written in
-    let locals = locals_read m info g f es values parts.expressions formed 0 f.local_variables (λ k. ap (slice_get f.local_variables) (sym (add-zero k))) in
+    let locals = locals_read m info g f es values size parts.expressions formed 0 f.local_variables (λ k. ap (slice_get f.local_variables) (sym (add-zero k))) in
     λ i. record {
       name = function_name names g;
       parameters = (names_counted names m.types g 0 f.arguments.items ∙ ap (names_from (argument_name names g) 0) (sym (mapped_length (λ a. declared_type m a.ty) f.arguments.items))) i;
       variables = locals i;
-      lines = lines_read names m info g f es values parts.expressions (told_type explicit (type_names m) es) 0 f.body (at_start (function_shape m info f es)) (written_have_forms f.body parts.body) i;
+      lines = lines_read names m info g f es values size parts.expressions (told_type explicit (type_names m) es) 0 f.body (at_start (function_shape m info f es)) (written_have_forms f.body parts.body) i;
     }

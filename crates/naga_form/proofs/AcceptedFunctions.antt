@@ -155,7 +155,7 @@ module _ (m : Module) (info : ModuleInfo) (accepted : IsTrue (is_accepted m info
   sound_parts =
       let one = and_parts _ _ accepted_parts.1 in let two = and_parts _ _ one.1 in (two.0, two.1)
 
-  functions_paired : all_paired function_size_fits m.functions info.functions.items ≡ true
+  pub functions_paired : all_paired function_size_fits m.functions info.functions.items ≡ true
   functions_paired = (and_parts _ _ ranges_parts.0).0
 
   pub functions_counted : length m.functions ≡ length info.functions.items

@@ -2,8 +2,6 @@
 -- Of types alike one name is of one number, so that parts and swizzles of one word are of one type.
 use Rattle.std.proofs.Common.{◌≡◌, ◌<◌, ◌≤◌, ℕ, zero, suc, Bool, true, false, List, [], ◌∷◌, ◌++◌, refl, sym, ap, ◌∙◌, subst, length}
 use Rattle.std.proofs.Common.{Option, Some, None, slice_get, get_or, if◌then◌else◌, nat_eq, nat_lt, ◌&&◌, arith, unwrap_or}
-use Rattle.std.specs.Prelude.{take}
-use Rattle.std.specs.List.{flat_map}
 use Rattle.std.specs.Option.{option_map, option_map_or, option_and_then, is_some}
 use Rattle.std.proofs.lemmas.Bool.{ltb-true, true≢false}
 use Rattle.std.proofs.lemmas.Option.{same_Some}
@@ -30,7 +28,7 @@ use Rattle.shader_runs.specs.Value.{Selector, MemberNamed, ElementAt}
 use Rattle.wgsl_words.specs.Words.{scalar_word}
 use Rattle.module_meaning.specs.AgreeingOperators.{Group, word_key, swizzle_key}
 use Rattle.module_meaning.specs.AlikeTypes.{type_form, type_identity, handle_form, form_within, found_form_by, named_form_by, pointer_form, over_scalar}
-use Rattle.module_meaning.specs.ExpressionShapes.{own_selector, selector, component_letters, letter}
+use Rattle.module_meaning.specs.ExpressionShapes.{own_selector, selector, component_letters, letter, swizzle_letters}
 use Rattle.module_meaning.specs.InfoSizes.{resolution_is_fit}
 use Rattle.module_meaning.specs.Names.{module_names, name_in, ItemsAreTold}
 use Rattle.module_meaning.specs.Ranges.{parts_before}
@@ -251,7 +249,7 @@ module _ (m : Module) (info : ModuleInfo) where
           ∙ vector_told n scalar (Handle h))
 
 -- the byte of a letter, and which it is
-abbrev byte : SwizzleComponent → ℕ
+abbrev pub byte : SwizzleComponent → ℕ
 byte component.X = 120
 byte component.Y = 121
 byte component.Z = 122
@@ -260,7 +258,7 @@ byte component.W = 119
 abbrev which : ℕ → ℕ
 which b = if nat_eq b 120 then 0 else (if nat_eq b 121 then 1 else (if nat_eq b 122 then 2 else 3))
 
-letter_is : (c : SwizzleComponent) → letter c ≡ byte c ∷ []
+pub letter_is : (c : SwizzleComponent) → letter c ≡ byte c ∷ []
 letter_is component.X = refl
 letter_is component.Y = refl
 letter_is component.Z = refl
@@ -275,15 +273,11 @@ which_is component.W = refl
 abbrev which_at : List ℕ → ℕ → ℕ
 which_at w place = option_map_or which (slice_get w place) 0
 
--- the letters of a swizzle
-abbrev pub letters : VectorSize → List SwizzleComponent → List ℕ
-letters size pattern = flat_map letter (take (vector_number size) pattern)
-
 abbrev pub key_read : List ℕ → List ℕ
 key_read w = word_key 5 (length w) (which_at w 0) (which_at w 1) (which_at w 2) (which_at w 3)
 
 -- they tell its key
-pub swizzle_told : (size : VectorSize) (pattern : List SwizzleComponent) → length pattern ≡ 4 → key_read (letters size pattern) ≡ swizzle_key size pattern
+pub swizzle_told : (size : VectorSize) (pattern : List SwizzleComponent) → length pattern ≡ 4 → key_read (swizzle_letters size pattern) ≡ swizzle_key size pattern
 swizzle_told size [] four = absurd cc
 swizzle_told size (a ∷ []) four = absurd (omega (arith, four))
 swizzle_told size (a ∷ b ∷ []) four = absurd (omega (arith, four))
@@ -296,14 +290,14 @@ swizzle_told vector.Quad (a ∷ b ∷ c ∷ d ∷ rest) four =
     (λ i. key_read (letter_is a i ++ (letter_is b i ++ (letter_is c i ++ (letter_is d i ++ []))))) ∙ (λ i. word_key 5 4 (which_is a i) (which_is b i) (which_is c i) (which_is d i))
 
 -- they are two or more
-pub letters_are_several : (size : VectorSize) (pattern : List SwizzleComponent) → length pattern ≡ 4 → 2 ≤ length (letters size pattern)
+pub letters_are_several : (size : VectorSize) (pattern : List SwizzleComponent) → length pattern ≡ 4 → 2 ≤ length (swizzle_letters size pattern)
 letters_are_several size [] four = absurd cc
 letters_are_several size (a ∷ []) four = absurd (omega (arith, four))
 letters_are_several size (a ∷ b ∷ []) four = absurd (omega (arith, four))
 letters_are_several size (a ∷ b ∷ c ∷ []) four = absurd (omega (arith, four))
 letters_are_several vector.Bi (a ∷ b ∷ c ∷ d ∷ rest) four =
-    let long : length (letters vector.Bi (a ∷ b ∷ c ∷ d ∷ rest)) ≡ 2 = λ i. length (letter_is a i ++ (letter_is b i ++ [])) in omega (arith, long)
+    let long : length (swizzle_letters vector.Bi (a ∷ b ∷ c ∷ d ∷ rest)) ≡ 2 = λ i. length (letter_is a i ++ (letter_is b i ++ [])) in omega (arith, long)
 letters_are_several vector.Tri (a ∷ b ∷ c ∷ d ∷ rest) four =
-    let long : length (letters vector.Tri (a ∷ b ∷ c ∷ d ∷ rest)) ≡ 3 = λ i. length (letter_is a i ++ (letter_is b i ++ (letter_is c i ++ []))) in omega (arith, long)
+    let long : length (swizzle_letters vector.Tri (a ∷ b ∷ c ∷ d ∷ rest)) ≡ 3 = λ i. length (letter_is a i ++ (letter_is b i ++ (letter_is c i ++ []))) in omega (arith, long)
 letters_are_several vector.Quad (a ∷ b ∷ c ∷ d ∷ rest) four =
-    let long : length (letters vector.Quad (a ∷ b ∷ c ∷ d ∷ rest)) ≡ 4 = λ i. length (letter_is a i ++ (letter_is b i ++ (letter_is c i ++ (letter_is d i ++ [])))) in omega (arith, long)
+    let long : length (swizzle_letters vector.Quad (a ∷ b ∷ c ∷ d ∷ rest)) ≡ 4 = λ i. length (letter_is a i ++ (letter_is b i ++ (letter_is c i ++ (letter_is d i ++ [])))) in omega (arith, long)

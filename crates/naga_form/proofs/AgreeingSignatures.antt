@@ -24,7 +24,7 @@ use Rattle.shader_runs.specs.Value.{Spelled, PartWord, IndexWord, Selector, Memb
 use Rattle.module_meaning.specs.Accepted.{is_accepted}
 use Rattle.module_meaning.specs.AgreeingOperators.{operator_key, identity_at, one_key, swizzle_key}
 use Rattle.module_meaning.specs.AlikeTypes.{type_identity}
-use Rattle.module_meaning.specs.ExpressionShapes.{part_selector, selector}
+use Rattle.module_meaning.specs.ExpressionShapes.{part_selector, selector, swizzle_letters}
 use Rattle.module_meaning.specs.InfoSizes.{resolution_is_fit}
 use Rattle.module_meaning.specs.OperandDemands.{operands_fit, is_swizzled}
 use Rattle.module_meaning.specs.Ranges.{parts_before}
@@ -32,7 +32,7 @@ use Rattle.module_meaning.specs.TypeParts.{is_part_number}
 use Rattle.module_meaning.proofs.Lists.{placed_at}
 use Rattle.naga_form.proofs.AcceptedGroups.{types_range}
 use Rattle.naga_form.proofs.AgreeingExpressions.{operands_are, same_operands, by_key}
-use Rattle.naga_form.proofs.AgreeingParts.{Named, part_named, one_number, no_part, vector_is_none, struct_told, letters, key_read, swizzle_told, letters_are_several}
+use Rattle.naga_form.proofs.AgreeingParts.{Named, part_named, one_number, no_part, vector_is_none, struct_told, key_read, swizzle_told, letters_are_several}
 use Rattle.naga_form.proofs.AgreeingWords.{Call, Composed, Zeroed, Applied, Indexed, Selected, Lettered, call, both_values, both_applied, composed_applied, zeroed_applied}
 use Rattle.naga_form.proofs.AgreeingUses.{AreKnown}
 use Rattle.naga_form.proofs.SameValues.{IsFit}
@@ -122,13 +122,13 @@ module _ (m : Module) (info : ModuleInfo) (accepted : IsTrue (is_accepted m info
         by_key m info accepted told.types a b operands (one_key 4 k) (one_key 4 l) (key_of a _ _ one refl) (key_of b _ _ two refl) (ap (one_key 4) same)
 
     -- a part is not a swizzle
-    part_swizzle : (i j k : ℕ) (s : Selector) (size : VectorSize) (pattern : List SwizzleComponent) → a.expression ≡ expression.AccessIndex i k → b.expression ≡ expression.Swizzle size j pattern → part_selector (declared_for m info a.group) i k ≡ Some s → s ≡ MemberNamed (letters size pattern) → ⊥
+    part_swizzle : (i j k : ℕ) (s : Selector) (size : VectorSize) (pattern : List SwizzleComponent) → a.expression ≡ expression.AccessIndex i k → b.expression ≡ expression.Swizzle size j pattern → part_selector (declared_for m info a.group) i k ≡ Some s → s ≡ MemberNamed (swizzle_letters size pattern) → ⊥
     part_swizzle i j k s size pattern one two selected is =
         let p = base_of a i (ap expression_operands one) in let q = base_of b j (ap expression_operands two) in
-        no_part m info p.r q.r k s (letters size pattern) (bases_alike i j p q) (swizzled_is_none b size j pattern two q) is
+        no_part m info p.r q.r k s (swizzle_letters size pattern) (bases_alike i j p q) (swizzled_is_none b size j pattern two q) is
         (letters_are_several size pattern (four b size j pattern two)) (part_is a i k s one selected p)
 
-    both_swizzles : (i j : ℕ) (n k : VectorSize) (v w : List SwizzleComponent) → a.expression ≡ expression.Swizzle n i v → b.expression ≡ expression.Swizzle k j w → letters n v ≡ letters k w → x.result ≡ y.result
+    both_swizzles : (i j : ℕ) (n k : VectorSize) (v w : List SwizzleComponent) → a.expression ≡ expression.Swizzle n i v → b.expression ≡ expression.Swizzle k j w → swizzle_letters n v ≡ swizzle_letters k w → x.result ≡ y.result
     both_swizzles i j n k v w one two e =
         by_key m info accepted told.types a b operands (swizzle_key n v) (swizzle_key k w) (key_of a _ _ one refl) (key_of b _ _ two refl)
         (sym (swizzle_told n v (four a n i v one)) ∙ (ap key_read e ∙ swizzle_told k w (four b k j w two)))

@@ -28,14 +28,13 @@ use Rattle.naga_form.specs.Statements.{loop_form, label_form, line_form, lines_f
 use Rattle.naga_form.specs.Functions.{functions_form}
 use Rattle.naga_form.specs.Declarations.{written_program}
 use Rattle.wgsl_text.proofs.Text.{text-append}
-use Rattle.naga_form.proofs.TypeTrees.{type_row, inner_tree_row}
+use Rattle.naga_form.proofs.TypeTrees.{resolution_row}
 use Rattle.wgsl_text.specs.Expressions as tree_expressions
 use Rattle.wgsl_text.specs.Functions as tree_functions
 use Rattle.wgsl_text.specs.Statements as tree
 use Rattle.wgsl_text.specs.Reading.{type_layout}
 use Rattle.std.specs.Option.{option_map, option_and_then}
 use Rattle.naga_info.specs.declared.info.TypeResolution.{TypeResolution}
-use Rattle.naga_info.specs.declared.info.TypeResolution.TheVariants as resolution
 use Rattle.naga_form.specs.TypeTrees.{resolution_tree}
 use Rattle.naga_form.specs.Types.{told_type}
 use Rattle.module_meaning.specs.Types.{told_spelling, spelled_resolution}
@@ -150,8 +149,7 @@ told_spells false t es h = refl
 told_spells true t es h = by (slice_get es h)
   where
     row : (r : TypeResolution) → option_map type_layout (resolution_tree t r) ≡ spelled_resolution t r
-    row (resolution.Handle ty) = sym (type_row text-append t (λ handle. true) ty)
-    row (resolution.Value it) = sym (inner_tree_row text-append t (λ handle. true) it)
+    row r = sym (resolution_row text-append t (λ handle. true) r)
 
     by : (e : Option ExpressionInfo) → option_map type_layout (option_and_then (λ k. resolution_tree t k.ty) e) ≡ option_and_then (λ k. spelled_resolution t k.ty) e
     by None = refl

@@ -10,6 +10,7 @@ pub mod AlikeLaw
 pub mod AlikeNumbers
 pub mod AlikeParts
 pub mod AlikeTypes
+pub mod AllowedParts
 pub mod Bindings
 pub mod ConsistentModules
 pub mod ConstantInitialisers
@@ -24,6 +25,7 @@ pub mod FreeWords
 pub mod FunctionsFit
 pub mod Interface
 pub mod Leaves
+pub mod Letters
 pub mod LiteralTypes
 pub mod Literals
 pub mod Meanings
@@ -34,6 +36,7 @@ pub mod Names
 pub mod OperatorEvents
 pub mod OperatorKeys
 pub mod OperatorTable
+pub mod OperatingWords
 pub mod Operators
 pub mod Ordered
 pub mod PartFits

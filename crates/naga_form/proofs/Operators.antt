@@ -1,9 +1,9 @@
 -- The tree of an operator over operands: it is called by the operator's word, and is of the
 -- grammar.
 use Rattle.std.proofs.Common.{◌≡◌, ℕ, Bool, true, false, List, [], ◌∷◌, Option, Some, None}
-use Rattle.std.proofs.Common.{refl, sym, ap, ◌∙◌}
+use Rattle.std.proofs.Common.{refl, sym, ap, subst, ◌∙◌, length, codes, ◌++◌}
 use Rattle.std.specs.Prelude.{IsTrue, if◌then◌else◌, unwrap_or}
-use Rattle.std.specs.Option.{is_some}
+use Rattle.std.specs.Option.{is_some, option_map, option_map_or, option_and_then}
 use Rattle.naga_ir.specs.declared.expression.Expression as ir
 use Rattle.naga_ir.specs.declared.expression.Expression.TheVariants as expression
 use Rattle.naga_ir.specs.declared.operators.BinaryOperator.{BinaryOperator}
@@ -11,8 +11,24 @@ use Rattle.naga_ir.specs.declared.operators.BinaryOperator.TheVariants as operat
 use Rattle.naga_ir.specs.declared.operators.RelationalFunction.TheVariants as relational
 use Rattle.naga_ir.specs.declared.operators.UnaryOperator.{UnaryOperator}
 use Rattle.naga_ir.specs.declared.operators.UnaryOperator.TheVariants as unary
-use Rattle.module_meaning.specs.ExpressionOperators.{Surroundings, applied_operator}
-use Rattle.module_meaning.specs.ExpressionOperators.{points_to_atomic}
+use Rattle.module_meaning.specs.Conversions.{conversion_target, keeps_bits}
+use Rattle.module_meaning.specs.ExpressionOperators.{Surroundings, applied_operator, cast, cast_to}
+use Rattle.module_meaning.specs.ExpressionOperators.{type_known}
+use Rattle.module_meaning.specs.ExpressionOperators.{points_to_atomic, constructor, load_operator}
+use Rattle.naga_info.specs.declared.info.TypeResolution.{TypeResolution}
+use Rattle.naga_info.specs.declared.info.TypeResolution.TheVariants.{Handle, Value}
+use Rattle.naga_words.specs.Contexts.{Names as TypeNames}
+use Rattle.naga_form.specs.Expressions.{cast_tree, conversion_tree, operator_type}
+use Rattle.naga_form.specs.TypeTrees.{inner_tree, resolution_tree, type_tree}
+use Rattle.naga_ir.specs.declared.types.ScalarKind.{ScalarKind}
+use Rattle.naga_ir.specs.declared.types.TypeInner.{TypeInner}
+use Rattle.naga_ir.specs.declared.operators.RelationalFunction.{RelationalFunction}
+use Rattle.naga_ir.specs.declared.types.VectorSize.{VectorSize}
+use Rattle.module_meaning.specs.OperatorTable.{Choice, Splat, Relation, Mathematical, Construct}
+use Rattle.module_meaning.specs.OperatorTable.{WithoutForm, ValueOf, relational_word, Cast}
+use Rattle.module_meaning.specs.OperatorTable.{with_type}
+use Rattle.wgsl_text.specs.Expressions.{IsCallee}
+use Rattle.wgsl_text.specs.Types.{IsType}
 use Rattle.module_meaning.specs.ExpressionShapes.{applied_shape, asking}
 use Rattle.module_meaning.specs.OperatorTable.{Operator, BinarySign, UnarySign, AtomicLoad, asks}
 use Rattle.module_meaning.specs.OperatorTable.{own_math_word, run_word}
@@ -20,12 +36,12 @@ use Rattle.module_meaning.specs.Part.{expression_is_written}
 use Rattle.module_meaning.specs.Shapes.{operator_shape}
 use Rattle.naga_ir.specs.Operands.{expression_operands}
 use Rattle.naga_ir.specs.declared.types.VectorSize.TheVariants.{Bi, Tri, Quad}
-use Rattle.wgsl_text.specs.Types.{TypeSpecifier, Named}
+use Rattle.wgsl_text.specs.Types.{TypeSpecifier, Named, NoParts, has_gaps, of_one}
 use Rattle.wgsl_text.specs.Expressions.{Call, operands, binary_pieces, unary_mark, IsExpression}
 use Rattle.naga_form.specs.Expressions.{PlainForm, as_value, value_forms}
 use Rattle.wgsl_text.specs.Functions.{Each}
 use Rattle.wgsl_text.proofs.Building.{called_words}
-use Rattle.wgsl_text.proofs.Types.{named_text}
+use Rattle.wgsl_text.proofs.Types.{named_text, type_part_text}
 use Rattle.wgsl_text.proofs.ValueWords.{value_words}
 use Rattle.naga_form.specs.Operators.{operator_form, unary_form, Notation, Infix, Prefix, Called}
 use Rattle.naga_form.specs.Operators.{notation, callee, applied_form}
@@ -70,13 +86,92 @@ unary_row unary.Negate = refl
 unary_row unary.LogicalNot = refl
 unary_row unary.BitwiseNot = refl
 
+-- the type by which an operator is called, if it is called by one, is spelled by the operator's word
+abbrev Spells : Option TypeSpecifier → Operator → Type 0
+Spells None op = Unit {0}
+Spells (Some t) op = type_layout t ≡ run_word op
+
+abbrev pub SpellsIf : Option TypeSpecifier → Option Operator → Type 0
+SpellsIf type None = Unit {0}
+SpellsIf type (Some op) = Spells type op
+
+called_word : (type : Option TypeSpecifier) (op : Operator) → Spells type op →
+    type_layout (unwrap_or type (Named (run_word op))) ≡ run_word op
+called_word None op spelled = named_text (run_word op)
+called_word (Some t) op spelled = spelled
+
 -- what is called is spelled by the operator's word
-pub callee_word : (op : Operator) → type_layout (callee (notation op)) ≡ run_word op
-callee_word (BinarySign op) =
+pub callee_word : (type : Option TypeSpecifier) (op : Operator) → Spells type op →
+    type_layout (callee (notation type op)) ≡ run_word op
+callee_word type (BinarySign op) spelled =
     named_text (text (binary_pieces (operator_form op))) ∙ sym (operator_row op)
-callee_word (UnarySign op) =
+callee_word type (UnarySign op) spelled =
     named_text (mark_text (unary_mark (unary_form op))) ∙ sym (unary_row op)
-callee_word op = named_text (run_word op)
+callee_word type op spelled = called_word type op spelled
+
+-- types are spelled as their trees are
+abbrev pub SpellsTypes : Surroundings → TypeNames → Type 0
+SpellsTypes a t = (r : TypeResolution) → a.spelled r ≡ option_map type_layout (resolution_tree t r)
+
+-- what is spelled by a type is spelled by the tree of that
+spelled_by : (spelled : List ℕ → Operator) (other : Operator)
+    (callee_of : TypeSpecifier → TypeSpecifier) →
+    ((t : TypeSpecifier) → type_layout (callee_of t) ≡ run_word (spelled (type_layout t))) →
+    (o : Option (List ℕ)) (type : Option TypeSpecifier) → o ≡ option_map type_layout type →
+    Spells (option_map callee_of type) (option_map_or spelled o other)
+spelled_by spelled other callee_of row o None e = tt
+spelled_by spelled other callee_of row o (Some t) e =
+    row t ∙ sym (ap (λ o. run_word (option_map_or spelled o other)) e)
+
+-- a value of a type is made by what spells the type
+pub constructor_spelled : (a : Surroundings) (r : TypeResolution) (components : ℕ) →
+    (type : Option TypeSpecifier) → a.spelled r ≡ option_map type_layout type →
+    Spells type (constructor a r components)
+constructor_spelled a r components None e = tt
+constructor_spelled a r components (Some t) e =
+    spelled_by (λ spelling. Construct spelling components)
+    (WithoutForm (ValueOf (a.numbers r) components)) (λ t. t) (λ t. refl) (a.spelled r) (Some t) e
+
+pub bits_text : (t : TypeSpecifier) →
+    type_layout (of_one (codes "bitcast") t) ≡ with_type (codes "bitcast") (type_layout t)
+bits_text t =
+    ap (λ w. codes "bitcast" ++ (codes "<" ++ w))
+    (type_part_text t NoParts (has_gaps (codes "bitcast")))
+
+cast_text : (bits : Bool) (t : TypeSpecifier) →
+    type_layout (cast_tree bits t) ≡ run_word (cast_to bits (type_layout t))
+cast_text false t = refl
+cast_text true t = bits_text t
+
+cast_spelled : (a : Surroundings) (t : TypeNames) → SpellsTypes a t → (kind : ScalarKind)
+    (convert : Option ℕ) (operand : Option TypeInner) →
+    Spells (option_and_then (conversion_tree t kind convert) operand) (cast a kind convert operand)
+cast_spelled a t spells kind convert None = tt
+cast_spelled a t spells kind convert (Some it) = by (conversion_target it kind convert)
+  where
+    bits : Bool
+    bits = keeps_bits it convert
+
+    by : (new : Option TypeInner) →
+        Spells (option_map (cast_tree bits) (option_and_then (inner_tree t) new))
+        (option_map_or (cast_to bits) (option_and_then (λ it. a.spelled (Value it)) new)
+        (WithoutForm (Cast kind convert)))
+    by None = tt
+    by (Some new) =
+        spelled_by (cast_to bits) (WithoutForm (Cast kind convert)) (cast_tree bits)
+        (cast_text bits) (a.spelled (Value new)) (inner_tree t new) (spells (Value new))
+
+pub untyped : (o : Option Operator) → SpellsIf None o
+untyped None = tt
+untyped (Some op) = tt
+
+pub operator_spelled : (a : Surroundings) (t : TypeNames) → SpellsTypes a t → (e : ir.Expression) →
+    SpellsIf (operator_type a t e) (applied_operator a e)
+operator_spelled a t spells (expression.Compose ty components) =
+    constructor_spelled a (Handle ty) (length components.items) (type_tree t ty) (spells (Handle ty))
+operator_spelled a t spells (expression.As operand kind convert) =
+    cast_spelled a t spells kind convert (type_known a operand)
+operator_spelled a t spells e = untyped (applied_operator a e)
 
 -- ---- what is read
 -- a call whose operands are all expressions is its word over them
@@ -94,65 +189,77 @@ module _ (operand : ℕ → PlainForm) (like : ℕ → runs.Plain)
   call_read t (h ∷ hs) = ap (Apply (type_layout t)) (operands_read (h ∷ hs))
 
   -- an operator in its notation is read as the operator over its operands
-  called_read : (op : Operator) (hs : List ℕ) →
-      expression_read (Call (callee (notation op)) (operands (value_forms operand hs))) ≡
+  called_read : (type : Option TypeSpecifier) (op : Operator) → Spells type op → (hs : List ℕ) →
+      expression_read (Call (callee (notation type op)) (operands (value_forms operand hs))) ≡
       Apply (run_word op) (runs.value_forms like hs)
-  called_read op hs =
-      call_read (callee (notation op)) hs
-      ∙ ap (λ w. Apply w (runs.value_forms like hs)) (callee_word op)
+  called_read type op spelled hs =
+      call_read (callee (notation type op)) hs
+      ∙ ap (λ w. Apply w (runs.value_forms like hs)) (callee_word type op spelled)
 
-  pub operator_read : (n : Naming) (k : ValueType) (op : Operator) (hs : List ℕ) →
-      runs.AsValue (expression_read (applied_form (notation op) (value_forms operand hs))) ≡
+  operator_read : (n : Naming) (k : ValueType) (type : Option TypeSpecifier) (op : Operator) →
+      Spells type op → (hs : List ℕ) →
+      runs.AsValue (expression_read (applied_form (notation type op) (value_forms operand hs))) ≡
       runs.own_form n like k (Some (operator_shape op hs))
-  operator_read n k (BinarySign operator.LogicalAnd) (l ∷ r ∷ []) =
+  operator_read n k type (BinarySign operator.LogicalAnd) spelled (l ∷ r ∷ []) =
       λ i. runs.AsValue (LogicalOf ShortCircuitAnd (same l i) (same r i))
-  operator_read n k (BinarySign operator.LogicalOr) (l ∷ r ∷ []) =
+  operator_read n k type (BinarySign operator.LogicalOr) spelled (l ∷ r ∷ []) =
       λ i. runs.AsValue (LogicalOf ShortCircuitOr (same l i) (same r i))
-  operator_read n k (BinarySign op) (l ∷ r ∷ []) =
+  operator_read n k type (BinarySign op) spelled (l ∷ r ∷ []) =
       λ i. runs.AsValue
       (Apply (sym (operator_row op) i) (more (same l i) (more (same r i) no_more)))
-  operator_read n k (UnarySign op) (h ∷ []) =
+  operator_read n k type (UnarySign op) spelled (h ∷ []) =
       λ i. runs.AsValue (Apply (sym (unary_row op) i) (more (same h i) no_more))
-  operator_read n k op hs = ap runs.AsValue (called_read op hs)
+  operator_read n k type op spelled hs = ap runs.AsValue (called_read type op spelled hs)
 
   -- no constants behind the operands
   none_behind : (hs : List ℕ) → runs.value_forms like hs ≡ runs.value_forms_then like hs no_more
   none_behind [] = refl
   none_behind (h ∷ hs) = ap (more (runs.value_form (like h))) (none_behind hs)
 
-  request_read : (op : Operator) (hs : List ℕ) → asks op ≡ true →
-      runs.AsValue (expression_read (applied_form (notation op) (value_forms operand hs))) ≡
+  request_read : (type : Option TypeSpecifier) (op : Operator) → Spells type op → (hs : List ℕ) →
+      asks op ≡ true →
+      runs.AsValue (expression_read (applied_form (notation type op) (value_forms operand hs))) ≡
       runs.AsValue (Apply (run_word op) (runs.value_forms_then like hs no_more))
-  request_read (BinarySign op) hs is = absurd cc
-  request_read (UnarySign op) hs is = absurd cc
-  request_read op hs is =
-      ap runs.AsValue (called_read op hs ∙ ap (Apply (run_word op)) (none_behind hs))
+  request_read type (BinarySign op) spelled hs is = absurd cc
+  request_read type (UnarySign op) spelled hs is = absurd cc
+  request_read type op spelled hs is =
+      ap runs.AsValue
+      (called_read type op spelled hs ∙ ap (Apply (run_word op)) (none_behind hs))
 
   -- so is one that asks for an event
-  pub applied_read : (n : Naming) (k : ValueType) (op : Operator) (hs : List ℕ) →
-      runs.AsValue (expression_read (applied_form (notation op) (value_forms operand hs))) ≡
+  pub applied_read : (n : Naming) (k : ValueType) (type : Option TypeSpecifier) (op : Operator) →
+      Spells type op → (hs : List ℕ) →
+      runs.AsValue (expression_read (applied_form (notation type op) (value_forms operand hs))) ≡
       runs.own_form n like k (Some (applied_shape op hs))
-  applied_read n k op hs = by (asks op) refl
+  applied_read n k type op spelled hs = by (asks op) refl
     where
       by : (b : Bool) → asks op ≡ b →
-          runs.AsValue (expression_read (applied_form (notation op) (value_forms operand hs))) ≡
+          runs.AsValue
+          (expression_read (applied_form (notation type op) (value_forms operand hs))) ≡
           runs.own_form n like k
           (Some
           (if b then Request (asking op) (run_word op) hs no_constant else operator_shape op hs))
-      by true is = request_read op hs is
-      by false is = operator_read n k op hs
+      by true is = request_read type op spelled hs is
+      by false is = operator_read n k type op spelled hs
+
+  -- a zero value is called without operands
+  pub zero_read : (type : Option TypeSpecifier) (op : Operator) → Spells type op →
+      expression_read (applied_form (notation type op) []) ≡ Apply (run_word op) no_more
+  zero_read type (BinarySign op) spelled = called_read type (BinarySign op) spelled []
+  zero_read type (UnarySign op) spelled = called_read type (UnarySign op) spelled []
+  zero_read type op spelled = called_read type op spelled []
 
 -- ---- what is of the grammar
--- the notation takes so many operands, and what is called is a built-in word
-abbrev notation_fits : Notation → List ℕ → Bool
-notation_fits (Infix op) (l ∷ r ∷ []) = true
-notation_fits (Prefix op) (h ∷ []) = true
-notation_fits (Called (Named w)) hs = is_builtin w
-notation_fits n hs = false
+-- the notation takes so many operands, and what is called may be called
+abbrev NotationFits : Notation → List ℕ → Type 0
+NotationFits (Infix op) (l ∷ r ∷ []) = Unit {0}
+NotationFits (Prefix op) (h ∷ []) = Unit {0}
+NotationFits (Called t) hs = IsCallee t
+NotationFits n hs = ⊥
 
-abbrev pub is_notated : List ℕ → Option Operator → Bool
-is_notated hs (Some op) = notation_fits (notation op) hs
-is_notated hs None = true
+abbrev pub IsNotated : (type : Option TypeSpecifier) → List ℕ → Option Operator → Type 0
+IsNotated type hs (Some op) = NotationFits (notation type op) hs
+IsNotated type hs None = Unit {0}
 
 -- a word, where there is one and it is a built-in word
 word_is_builtin : (word : Option (List ℕ)) (own : List ℕ) →
@@ -161,42 +268,159 @@ word_is_builtin : (word : Option (List ℕ)) (own : List ℕ) →
 word_is_builtin (Some w) own builtin written = builtin w refl
 word_is_builtin None own builtin written = absurd cc
 
--- each expression that is written and applies an operator has its operands
-pub notated : (a : Surroundings) (e : ir.Expression) → expression_is_written e ≡ true →
-    is_notated (expression_operands e) (applied_operator a e) ≡ true
-unfolding is_builtin builtin_words
-notated a (expression.Unary op expr) written = refl
-notated a (expression.Binary op left right) written = refl
-notated a (expression.Select condition accept reject) written = refl
-notated a (expression.Splat Bi value) written = refl
-notated a (expression.Splat Tri value) written = refl
-notated a (expression.Splat Quad value) written = refl
-notated a (expression.Math fun arg arg1 arg2 arg3) written =
-    word_is_builtin (math_word fun) (own_math_word fun) (value_words.functions fun) written
-notated a (expression.Relational relational.All argument) written = refl
-notated a (expression.Relational relational.Any argument) written = refl
-notated a (expression.Relational _ argument) written = absurd cc
-notated a (expression.Literal value) written = refl
-notated a (expression.FunctionArgument number) written = refl
-notated a (expression.LocalVariable handle) written = refl
-notated a (expression.Load pointer) written = by (points_to_atomic a pointer)
+-- an operator that is no sign is called, by the type where it is spelled by one
+abbrev pub IsCalled : Operator → Type 0
+IsCalled op =
+    (type : Option TypeSpecifier) → notation type op ≡ Called (unwrap_or type (Named (run_word op)))
+
+either_called : (spelled : List ℕ → Operator) (other : Operator) →
+    ((w : List ℕ) → IsCalled (spelled w)) → IsCalled other → (o : Option (List ℕ)) →
+    IsCalled (option_map_or spelled o other)
+either_called spelled other called alone (Some w) = called w
+either_called spelled other called alone None = alone
+
+pub constructor_called : (a : Surroundings) (r : TypeResolution) (components : ℕ) →
+    IsCalled (constructor a r components)
+constructor_called a r components =
+    either_called (λ spelling. Construct spelling components)
+    (WithoutForm (ValueOf (a.numbers r) components)) (λ w type. refl) (λ type. refl) (a.spelled r)
+
+pub cast_called : (a : Surroundings) (kind : ScalarKind) (convert : Option ℕ)
+    (operand : Option TypeInner) → IsCalled (cast a kind convert operand)
+cast_called a kind convert operand =
+    either_called (cast_to bits) (WithoutForm (Cast kind convert)) (by bits) (λ type. refl)
+    (option_and_then (λ it. a.spelled (Value it))
+    (option_and_then (λ it. conversion_target it kind convert) operand))
   where
-    by : (b : Bool) →
-        is_notated (pointer ∷ []) (if b then Some AtomicLoad else None) ≡ true
-    by true = refl
-    by false = refl
-notated a _ written = absurd cc
+    bits : Bool
+    bits = option_map_or (λ it. keeps_bits it convert) operand false
+
+    by : (b : Bool) (w : List ℕ) → IsCalled (cast_to b w)
+    by true w type = refl
+    by false w type = refl
+
+pub typed_notation : (op : Operator) → IsCalled op → (type : Option TypeSpecifier)
+    (t : TypeSpecifier) → type ≡ Some t → notation type op ≡ Called t
+typed_notation op called type t is =
+    called type ∙ ap (λ o. Called (unwrap_or o (Named (run_word op)))) is
+
+-- a value of a type that has a form
+pub constructor_notated : (a : Surroundings) (r : TypeResolution) (components : ℕ) (hs : List ℕ) →
+    (type : Option TypeSpecifier) (t : TypeSpecifier) → type ≡ Some t → IsType t →
+    NotationFits (notation type (constructor a r components)) hs
+constructor_notated a r components hs type t is well =
+    subst (λ n. NotationFits n hs)
+    (sym (typed_notation _ (constructor_called a r components) type t is)) (called_words.type t well)
+
+-- what a conversion is called by, where its type is known and has this tree
+pub conversion_is : (a : Surroundings) (t : TypeNames) (operand : ℕ) (kind : ScalarKind)
+    (convert : Option ℕ) (from to : TypeInner) (tree : TypeSpecifier) →
+    type_known a operand ≡ Some from → conversion_target from kind convert ≡ Some to →
+    inner_tree t to ≡ Some tree →
+    operator_type a t (expression.As operand kind convert) ≡
+    Some (cast_tree (keeps_bits from convert) tree)
+conversion_is a t operand kind convert from to tree known target is =
+    ap (option_and_then (conversion_tree t kind convert)) known
+    ∙ ap (option_map (cast_tree (keeps_bits from convert)))
+    (ap (option_and_then (inner_tree t)) target ∙ is)
+
+-- the type to which bits are cast, and the type of a conversion, may be called
+pub cast_callee : (bits : Bool) (t : TypeSpecifier) → IsType t → IsCallee (cast_tree bits t)
+cast_callee false t is = called_words.type t is
+cast_callee true t is = called_words.taking_type (codes "bitcast") t refl is
+
+-- a built-in word may be called
+callee_of : (w : List ℕ) → is_builtin w ≡ true → IsCallee (Named w)
+callee_of w is = called_words.builtin w is
+
+choice_called : IsCallee (Named (run_word Choice))
+unfolding is_builtin builtin_words
+choice_called = callee_of (run_word Choice) refl
+
+splat_called : (size : VectorSize) → IsCallee (Named (run_word (Splat size)))
+unfolding is_builtin builtin_words
+splat_called Bi = callee_of (run_word (Splat Bi)) refl
+splat_called Tri = callee_of (run_word (Splat Tri)) refl
+splat_called Quad = callee_of (run_word (Splat Quad)) refl
+
+relation_called : (fun : RelationalFunction) → is_some (relational_word fun) ≡ true →
+    IsCallee (Named (run_word (Relation fun)))
+unfolding is_builtin builtin_words
+relation_called relational.All written = callee_of (run_word (Relation relational.All)) refl
+relation_called relational.Any written = callee_of (run_word (Relation relational.Any)) refl
+relation_called _ written = absurd cc
+
+atomic_called : IsCallee (Named (run_word AtomicLoad))
+unfolding is_builtin builtin_words
+atomic_called = callee_of (run_word AtomicLoad) refl
+
+-- so may the load of an atomic
+pub load_notated : (a : Surroundings) (pointer : ℕ) →
+    IsNotated None (pointer ∷ []) (load_operator a pointer)
+load_notated a pointer = by (points_to_atomic a pointer)
+  where
+    by : (b : Bool) → IsNotated None (pointer ∷ []) (if b then Some AtomicLoad else None)
+    by true = atomic_called
+    by false = tt
+
+-- the type of which an expression makes a value has a form, a type of the grammar
+abbrev pub HasFormAt : TypeNames → (ty : ℕ) → Type 0
+HasFormAt t ty = (tree : TypeSpecifier) × (type_tree t ty ≡ Some tree) × IsType tree
+
+-- what an operator that is spelled by a type is called by is a callee of the grammar
+abbrev pub TypeIsFormed : Surroundings → TypeNames → ir.Expression → Type 0
+TypeIsFormed a t (expression.ZeroValue ty) = HasFormAt t ty
+TypeIsFormed a t (expression.Compose ty components) = HasFormAt t ty
+TypeIsFormed a t (expression.As operand kind convert) =
+    (tree : TypeSpecifier)
+    × (operator_type a t (expression.As operand kind convert) ≡ Some tree) × IsCallee tree
+TypeIsFormed a t _ = Unit {0}
+
+-- A part at a known index applies an operator only where there is none, and that has no notation.
+abbrev pub HasNotation : ir.Expression → Type 0
+HasNotation (expression.AccessIndex base index) = ⊥
+HasNotation e = Unit {0}
+
+-- each expression that is written and applies an operator has its operands
+pub notated : (a : Surroundings) (t : TypeNames) (e : ir.Expression) →
+    expression_is_written e ≡ true → HasNotation e → TypeIsFormed a t e →
+    IsNotated (operator_type a t e) (expression_operands e) (applied_operator a e)
+notated a t (expression.Unary op expr) written has formed = tt
+notated a t (expression.Binary op left right) written has formed = tt
+notated a t (expression.Select condition accept reject) written has formed = choice_called
+notated a t (expression.Splat size value) written has formed = splat_called size
+notated a t (expression.Math fun arg arg1 arg2 arg3) written has formed =
+    callee_of (run_word (Mathematical fun))
+    (word_is_builtin (math_word fun) (own_math_word fun) (value_words.functions fun) written)
+notated a t (expression.Relational fun argument) written has formed = relation_called fun written
+notated a t (expression.Compose ty parts) written has formed =
+    constructor_notated a (Handle ty) (length parts.items) parts.items (type_tree t ty)
+    formed.0 formed.1 formed.2
+notated a t (expression.As operand kind convert) written has formed =
+    subst (λ n. NotationFits n (operand ∷ []))
+    (sym
+    (typed_notation _ (cast_called a kind convert (type_known a operand))
+    (operator_type a t (expression.As operand kind convert)) formed.0 formed.1))
+    formed.2
+notated a t (expression.Swizzle size vector pattern) written has formed = tt
+notated a t (expression.Access base index) written has formed = tt
+notated a t (expression.Literal value) written has formed = tt
+notated a t (expression.ZeroValue ty) written has formed = tt
+notated a t (expression.FunctionArgument number) written has formed = tt
+notated a t (expression.LocalVariable handle) written has formed = tt
+notated a t (expression.Load pointer) written has formed = load_notated a pointer
+notated a t (expression.AccessIndex base index) written has formed = absurd has
+notated a t _ written has formed = absurd cc
 
 module _ (operand : ℕ → PlainForm) (all : (h : ℕ) → IsExpression (as_value (operand h))) where
   operands_are : (hs : List ℕ) → Each IsExpression (value_forms operand hs)
   operands_are [] = tt
   operands_are (h ∷ hs) = (all h, operands_are hs)
 
-  pub applied_is : (n : Notation) (hs : List ℕ) → notation_fits n hs ≡ true →
+  pub applied_is : (n : Notation) (hs : List ℕ) → NotationFits n hs →
       IsExpression (applied_form n (value_forms operand hs))
   applied_is (Infix op) (l ∷ r ∷ []) fit = (all l, all r)
   applied_is (Prefix op) (h ∷ []) fit = all h
-  applied_is (Called (Named w)) hs fit =
-      called_words.expression (Named w) (value_forms operand hs) (called_words.builtin w fit)
-      (operands_are hs)
-  applied_is n hs fit = absurd (cc)
+  applied_is (Called t) hs fit =
+      called_words.expression t (value_forms operand hs) fit (operands_are hs)
+  applied_is n hs fit = absurd fit

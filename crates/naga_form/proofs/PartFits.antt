@@ -3,8 +3,8 @@
 use Rattle.std.proofs.Common.{[], ◌≡◌, ◌≢◌, ℕ, suc, zero, Bool, true, false, ◌<◌, List, ◌∷◌}
 use Rattle.std.proofs.Common.{length, Some, refl, sym, ap, subst, ◌∙◌, arith}
 use Rattle.std.proofs.Common.{take, nat_eq, true≢false}
-use Rattle.std.specs.Prelude.{IsTrue, slice_get, get_or, not}
-use Rattle.std.specs.Prelude.{◌&&◌, ◌||◌, if◌then◌else◌}
+use Rattle.std.specs.Prelude.{IsTrue, slice_get, get_or, not, Option, None}
+use Rattle.std.specs.Prelude.{◌&&◌, ◌||◌}
 use Rattle.std.proofs.lemmas.Bool.{and_parts}
 use Rattle.naga_ir.specs.StatementTree.{emit, store, return, StatementTree, simple}
 use Rattle.naga_ir.specs.StatementTree.{BlockTree, no_statements, statement}
@@ -12,9 +12,27 @@ use Rattle.naga_ir.specs.declared.expression.Expression as ir
 use Rattle.naga_ir.specs.declared.module.Function as ir_function
 use Rattle.naga_info.specs.declared.info.ExpressionInfo.{ExpressionInfo}
 use Rattle.naga_info.specs.declared.info.ModuleInfo.{ModuleInfo}
-use Rattle.module_meaning.specs.ExpressionShapes.{Declared, shape_of}
+use Rattle.module_meaning.specs.Conversions.{keeps_bits}
+use Rattle.module_meaning.specs.ExpressionOperators.{cast, cast_to, constructor}
+use Rattle.module_meaning.specs.ExpressionShapes.{Declared, shape_of, applied_shape, constant_shape}
 use Rattle.module_meaning.specs.OperatorTable.{BinarySign, UnarySign, Choice, Mathematical}
-use Rattle.module_meaning.specs.OperatorTable.{Relation, Splat, relational_word, run_word}
+use Rattle.module_meaning.specs.OperatorTable.{Relation, Splat, run_word, Operator, Construct}
+use Rattle.module_meaning.specs.OperatorTable.{WithoutForm, ValueOf, Cast, with_type}
+use Rattle.module_meaning.specs.Ranges.{function_in_range, names_in_range}
+use Rattle.module_meaning.specs.Types.{type_names}
+use Rattle.naga_info.specs.declared.info.TypeResolution.{TypeResolution}
+use Rattle.naga_info.specs.declared.info.TypeResolution.TheVariants.{Handle, Value}
+use Rattle.shader_runs.specs.Program.{Constructed, no_constant}
+use Rattle.std.specs.Option.{option_map, option_map_or, option_and_then}
+use Rattle.std.specs.Prelude.{codes}
+use Rattle.std.proofs.lemmas.Bool.{ltb-true}
+use Rattle.wgsl_text.specs.Reading.{type_layout}
+use Rattle.wgsl_text.proofs.Text.{text-append}
+use Rattle.naga_form.proofs.AcceptedFunctions.{names_are_in_range}
+use Rattle.naga_form.proofs.OperatingWords.{operates_freely, unary_free, binary_free, choice_free}
+use Rattle.naga_form.proofs.OperatingWords.{bits_free, splat_free, math_free, relation_free}
+use Rattle.naga_form.proofs.TypeTrees.{resolution_row}
+use Rattle.naga_form.proofs.WrittenTypes.{free_form, values_at}
 use Rattle.module_meaning.specs.Surroundings.{declared, types_known}
 use Rattle.module_meaning.proofs.ExpressionShapes.{plain_load, plain_store}
 use Rattle.module_meaning.proofs.ModuleShapes.{points_plainly}
@@ -44,32 +62,22 @@ use Rattle.module_meaning.specs.Types.{declared_type}
 use Rattle.module_meaning.specs.FunctionShapes.{function_shape, statement_shape, statements_shape}
 use Rattle.module_meaning.specs.Namings.{outer_names, function_naming}
 use Rattle.naga_ir.specs.declared.expression.Expression.TheVariants as expression
-use Rattle.naga_ir.specs.declared.operators.BinaryOperator.{BinaryOperator}
-use Rattle.naga_ir.specs.declared.operators.BinaryOperator.TheVariants as operator
-use Rattle.naga_ir.specs.declared.operators.MathFunction.{MathFunction}
-use Rattle.naga_ir.specs.declared.operators.MathFunction.TheVariants as math
-use Rattle.naga_ir.specs.declared.operators.RelationalFunction.{RelationalFunction}
-use Rattle.naga_ir.specs.declared.operators.RelationalFunction.TheVariants as relational
-use Rattle.naga_ir.specs.declared.operators.UnaryOperator.{UnaryOperator}
-use Rattle.naga_ir.specs.declared.operators.UnaryOperator.TheVariants as unary
 use Rattle.naga_ir.specs.declared.module.Module.{Module}
-use Rattle.naga_ir.specs.declared.types.VectorSize.{VectorSize}
-use Rattle.naga_ir.specs.declared.types.VectorSize.TheVariants.{Bi, Tri, Quad}
 use Rattle.naga_keywords.specs.Plain.{is_word}
 use Rattle.naga_names.specs.declared.key.NameKey.TheVariants as key
 use Rattle.naga_names.proofs.NameShapes.{name_after_is_word}
 use Rattle.naga_names.proofs.NamedItems.{Stands, local_stands}
-use Rattle.wgsl_text.specs.Keywords.{builtin_words}
 use Rattle.wgsl_text.specs.Requests.{is_request}
 use Rattle.wgsl_text.specs.Words.{is_builtin}
-use Rattle.wgsl_words.specs.Words.{math_word}
-use Rattle.std.specs.Option.{is_some}
 use Rattle.naga_form.proofs.Fits.{local_item, mapped_length, none_given_by_all}
 use Rattle.naga_form.proofs.WellFormed.{any_shape}
 use Rattle.naga_form.proofs.FunctionsFit.{IsLeft}
 use Rattle.naga_form.proofs.Regular.{AreWorded, IsWorded}
 use Rattle.module_meaning.specs.Writable.{only_empty_fall, only_empty_fall_in}
-use Rattle.module_meaning.specs.Part.{function_is_written, block_is_written, statement_is_written, is_value_type, is_unbound, expression_is_written, local_is_written}
+use Rattle.module_meaning.specs.Part.{function_is_written, block_is_written, statement_is_written, is_value_type, is_unbound, expression_is_written, local_is_written, types_allow, types_allow_all}
+use Rattle.module_meaning.specs.ExpressionShapes.{part_shape}
+use Rattle.naga_form.proofs.AllowedParts.{conversion, selected}
+use Rattle.naga_form.specs.TypeTrees.{type_tree}
 use Rattle.module_meaning.proofs.Lists.{list_all_at}
 use Rattle.std.proofs.lemmas.Bool.{and_from}
 use Rattle.std.specs.List.{list_all}
@@ -119,77 +127,11 @@ sign_not_numbered : (h c : ℕ) (rest : List ℕ) → nat_eq c 95 ≡ false → 
 unfolding numbered_name
 sign_not_numbered h c rest one two e = not_numbered _ h c rest one two e
 
--- it asks for nothing and is no name: a sign, or a built-in word, that begins like no numbered name
-abbrev operates_freely : List ℕ → Bool
-operates_freely [] = false
-operates_freely (c ∷ rest) =
-    not (is_request (c ∷ rest)) &&
-    (not (nat_eq c 95) &&
-    (not (nat_eq c 32) && (not (is_word (c ∷ rest)) || is_builtin (c ∷ rest))))
-
--- as are the signs and the words of the operators that are written so far
-unary_free : (op : UnaryOperator) → operates_freely (run_word (UnarySign op)) ≡ true
-unfolding is_request is_builtin builtin_words
-unary_free unary.Negate = refl
-unary_free unary.LogicalNot = refl
-unary_free unary.BitwiseNot = refl
-
-binary_free : (op : BinaryOperator) → operates_freely (run_word (BinarySign op)) ≡ true
-unfolding is_request is_builtin builtin_words
-binary_free operator.Add = refl
-binary_free operator.Subtract = refl
-binary_free operator.Multiply = refl
-binary_free operator.Divide = refl
-binary_free operator.Modulo = refl
-binary_free operator.Equal = refl
-binary_free operator.NotEqual = refl
-binary_free operator.Less = refl
-binary_free operator.LessEqual = refl
-binary_free operator.Greater = refl
-binary_free operator.GreaterEqual = refl
-binary_free operator.And = refl
-binary_free operator.ExclusiveOr = refl
-binary_free operator.InclusiveOr = refl
-binary_free operator.LogicalAnd = refl
-binary_free operator.LogicalOr = refl
-binary_free operator.ShiftLeft = refl
-binary_free operator.ShiftRight = refl
-
-choice_free : operates_freely (run_word Choice) ≡ true
-unfolding is_request is_builtin builtin_words
-choice_free = refl
-
-splat_free : (size : VectorSize) → operates_freely (run_word (Splat size)) ≡ true
-unfolding is_request is_builtin builtin_words
-splat_free Bi = refl
-splat_free Tri = refl
-splat_free Quad = refl
-
--- as are the words of functions of mathematics and of relations
-math_row : (fun : MathFunction) →
-    (if is_some (math_word fun) then operates_freely (run_word (Mathematical fun)) else true) ≡ true
-unfolding is_request is_builtin builtin_words
-math_row math.Abs = refl
-math_row _ = refl
-
-math_free : (fun : MathFunction) → is_some (math_word fun) ≡ true →
-    operates_freely (run_word (Mathematical fun)) ≡ true
-math_free fun written =
-    sym (ap (λ b. if b then operates_freely (run_word (Mathematical fun)) else true) written)
-    ∙ math_row fun
-
-relation_free : (fun : RelationalFunction) → is_some (relational_word fun) ≡ true →
-    operates_freely (run_word (Relation fun)) ≡ true
-unfolding is_request is_builtin builtin_words
-relation_free relational.All written = refl
-relation_free relational.Any written = refl
-relation_free _ written = absurd cc
-
 none_listed : (i : ℕ) (ts : List ValueType) → ts ≡ [] → i < length ts → ⊥
 none_listed i ts e lt = let none : i < 0 = subst (λ ts. i < length ts) e lt in omega (arith, none)
 
 -- ---- one function
-module _ (m : Module) (info : ModuleInfo) (values : IsTrue (list_all is_value_type m.types)) (g : ℕ) (f : ir_function.Function) (found : slice_get m.functions g ≡ Some f) (es : List ExpressionInfo) (written : IsTrue (function_is_written f)) (p : shapes.Module) (constants : p.constant_types ≡ []) (globals : p.global_types ≡ []) (counted : length p.functions ≡ length m.functions) where
+module _ (m : Module) (info : ModuleInfo) (values : IsTrue (list_all is_value_type m.types)) (g : ℕ) (f : ir_function.Function) (found : slice_get m.functions g ≡ Some f) (es : List ExpressionInfo) (callees : ℕ) (ranges : function_in_range m callees f ≡ true) (written : IsTrue (function_is_written f)) (allowed : IsTrue (types_allow_all m.types f es)) (p : shapes.Module) (constants : p.constant_types ≡ []) (globals : p.global_types ≡ []) (counted : length p.functions ≡ length m.functions) where
   abbrev own : Naming
   own = function_naming (module_names m) m info g f es
 
@@ -258,31 +200,101 @@ module _ (m : Module) (info : ModuleInfo) (values : IsTrue (list_all is_value_ty
             (is_no (nat_eq c 95) two.0) (is_no (nat_eq c 32) three.0) three.1,
       )
 
+  -- what makes a value of a type of the module is called by the type
+  called_type : (ty : ℕ) → ty < length m.types →
+      (word : List ℕ) × (d.around.spelled (Handle ty) ≡ Some word) × OperatesBy p own word
+  called_type ty lt =
+      let form = free_form m.types ty (values_at m.types ty values lt) (module_names m) in (
+        type_layout form.0,
+        resolution_row text-append (type_names m) (λ handle. true) (Handle ty)
+            ∙ ap (option_map type_layout) form.1,
+        operates (type_layout form.0) form.2,
+      )
+
+  made_words : (components : ℕ) (ty : ℕ) → ty < length m.types → (P : Operator → Type 0) →
+      ((word : List ℕ) → OperatesBy p own word → P (Construct word components)) →
+      P (constructor d.around (Handle ty) components)
+  made_words components ty lt P makes =
+      let called = called_type ty lt in
+      subst
+      (λ o. P
+      (option_map_or (λ spelling. Construct spelling components) o
+      (WithoutForm (ValueOf (d.around.numbers (Handle ty)) components))))
+      (sym called.1) (makes called.0 called.2)
+
+  cast_words : (bits : Bool) (word : List ℕ) (operand : ℕ) → operates_freely word ≡ true →
+      WordFits p own (Some (applied_shape (cast_to bits word) (operand ∷ [])))
+  cast_words false word operand free = operates word free
+  cast_words true word operand free = operates (with_type (codes "bitcast") word) (bits_free word)
+
+  zero_words : (word : List ℕ) → OperatesBy p own word → (o : Option TypeResolution) →
+      WordFits p own
+      (Some
+      (constant_shape (option_map (λ r. Constructed word (d.value_type r) no_constant) o)))
+  zero_words word operates (Some r) = (operates, tt)
+  zero_words word operates None = tt
+
   words : (h : ℕ) (e : ir.Expression) → expression_is_written e ≡ true →
+      types_allow m.types es e ≡ true →
+      names_in_range m callees (length f.arguments.items) (length f.local_variables) e ≡ true →
       WordFits p own (Some (shape_of d f.expressions h e))
-  words h (expression.FunctionArgument number) is = tt
-  words h (expression.LocalVariable handle) is = tt
-  words h (expression.Load pointer) is =
+  words h (expression.ZeroValue ty) is may range =
+      made_words 0 ty (ltb-true ty (length m.types) range)
+      (λ op. WordFits p own
+      (Some
+      (constant_shape
+      (option_map (λ r. Constructed (run_word op) (d.value_type r) no_constant)
+      (d.around.known h)))))
+      (λ word operates. zero_words word operates (d.around.known h))
+  words h (expression.Compose ty components) is may range =
+      made_words (length components.items) ty (ltb-true ty (length m.types) range)
+      (λ op. WordFits p own (Some (applied_shape op components.items)))
+      (λ word operates. operates)
+  words h (expression.As operand kind convert) is may range =
+      let c = conversion m info es operand kind convert may in
+      let tree = c.has.is (type_names m) (type_tree (type_names m)) in
+      let spelled = resolution_row text-append (type_names m) (λ handle. true) (Value c.to)
+      ∙ ap (option_map type_layout) tree in
+      subst (λ o. WordFits p own (Some (applied_shape (cast d.around kind convert o) (operand ∷ []))))
+      (sym c.known)
+      (subst
+      (λ o. WordFits p own
+      (Some
+      (applied_shape
+      (option_map_or (cast_to (keeps_bits c.from convert)) o (WithoutForm (Cast kind convert)))
+      (operand ∷ []))))
+      (sym (ap (option_and_then (λ it. d.around.spelled (Value it))) c.target ∙ spelled))
+      (cast_words (keeps_bits c.from convert) (type_layout c.has.tree) operand c.has.free))
+  words h (expression.Access base index) is may range = tt
+  words h (expression.AccessIndex base index) is may range =
+      let x = selected m info es base index may in
+      subst (λ o. WordFits p own (Some (part_shape base index o))) (sym x.1) tt
+  words h (expression.FunctionArgument number) is may range = tt
+  words h (expression.LocalVariable handle) is may range = tt
+  words h (expression.Swizzle size vector pattern) is may range = tt
+  words h (expression.Load pointer) is may range =
       subst (λ s. WordFits p own (Some s))
       (sym (plain_load d f.expressions h pointer (points_plainly d.around values pointer))) tt
-  words h (expression.Literal value) is = tt
-  words h (expression.Unary op expr) is = operates (run_word (UnarySign op)) (unary_free op)
-  words h (expression.Binary op left right) is =
+  words h (expression.Literal value) is may range = tt
+  words h (expression.Unary op expr) is may range = operates (run_word (UnarySign op)) (unary_free op)
+  words h (expression.Binary op left right) is may range =
       operator_any (λ s. WordFits p own (Some s)) (BinarySign op) (left ∷ right ∷ [])
       (λ j l r. tt) (operates (run_word (BinarySign op)) (binary_free op))
-  words h (expression.Select condition accept reject) is = operates (run_word Choice) choice_free
-  words h (expression.Splat size value) is = operates (run_word (Splat size)) (splat_free size)
-  words h (expression.Math fun arg arg1 arg2 arg3) is =
+  words h (expression.Select condition accept reject) is may range = operates (run_word Choice) choice_free
+  words h (expression.Splat size value) is may range = operates (run_word (Splat size)) (splat_free size)
+  words h (expression.Math fun arg arg1 arg2 arg3) is may range =
       operates (run_word (Mathematical fun)) (math_free fun is)
-  words h (expression.Relational fun argument) is =
+  words h (expression.Relational fun argument) is may range =
       operates (run_word (Relation fun)) (relation_free fun is)
-  words h _ is = absurd cc
+  words h _ is may range = absurd cc
 
   words_at : (h : ℕ) (e : ir.Expression) → slice_get f.expressions h ≡ Some e →
       WordFits p own (Some (shape_of d f.expressions h e))
   words_at h e at =
       words h e
       (list_all_at expression_is_written f.expressions h e (function_parts f written).expressions at)
+      (list_all_at (types_allow m.types es) f.expressions h e allowed at)
+      (names_are_in_range m callees f ranges h e at)
 
   -- ---- statements
   line_worded : (st : StatementTree) → statement_is_written st ≡ true →
@@ -356,8 +368,8 @@ module _ (m : Module) (info : ModuleInfo) (values : IsTrue (list_all is_value_ty
       apart x (FixedKey (GlobalName i)) la lb e = absurd (none_listed i p.global_types globals lb)
 
   -- so nothing is left where its handles are in scope
-  pub is_left : (callees : List shapes.Function) → length callees ≡ g → NamesAreCounted m → IsTrue (fits_function own) → IsLeft p (outer_names (module_names m)) callees own
-  is_left callees earlier counted scope = record {
+  pub is_left : (behind : List shapes.Function) → length behind ≡ g → NamesAreCounted m → IsTrue (fits_function own) → IsLeft p (outer_names (module_names m)) behind own
+  is_left behind earlier counted scope = record {
     outer = refl;
     earlier = sym earlier;
     words = λ h. any_shape m info f es h (λ o. WordFits p own o) tt (words_at h);

@@ -2,6 +2,16 @@
 use Rattle.module_meaning.specs.Accepted.{is_accepted}
 use Rattle.module_meaning.specs.Numbers.{signature_fits_32_bits}
 use Rattle.module_meaning.specs.Part.{block_is_written, statement_is_written, function_is_written, expression_is_written, is_written_so_far}
+use Rattle.module_meaning.specs.Part.{types_allow, types_allow_all}
+use Rattle.module_meaning.specs.ExpressionShapes.{part_selector}
+use Rattle.module_meaning.specs.OperatorTable.{WithoutForm, PartAt}
+use Rattle.naga_form.proofs.AllowedParts.{IsWellSelected, selected, selected_well}
+use Rattle.naga_form.specs.Expressions.{part_plain, points, selected_part}
+use Rattle.shader_runs.specs.Value.{Selector, MemberNamed, ElementAt}
+use Rattle.wgsl_text.specs.Expressions.{Index}
+use Rattle.std.specs.Prelude.{◌==◌}
+use Rattle.std.specs.List.{zip}
+use Rattle.std.specs.Option.{option_map_or}
 use Rattle.module_meaning.specs.Ranges.{function_in_range, local_in_range, signature_fits, signature_types_fit}
 use Rattle.module_meaning.proofs.Lists.{list_all_at}
 use Rattle.module_meaning.proofs.Part.{written_so_far_parts}
@@ -67,7 +77,19 @@ use Rattle.module_meaning.specs.OperatorTable.{Operator}
 use Rattle.module_meaning.specs.StatementShapes.{store_shape}
 use Rattle.naga_ir.specs.Operands.{expression_operands}
 use Rattle.naga_form.specs.Operators.{notation}
-use Rattle.naga_form.proofs.Operators.{is_notated, notated, applied_is}
+use Rattle.naga_form.proofs.Operators.{HasFormAt, IsNotated, TypeIsFormed, applied_is}
+use Rattle.naga_form.proofs.Operators.{cast_callee, constructor_notated, conversion_is}
+use Rattle.naga_form.proofs.Operators.{load_notated, notated}
+use Rattle.module_meaning.specs.Conversions.{keeps_bits}
+use Rattle.naga_form.proofs.AllowedParts.{conversion}
+use Rattle.naga_form.specs.Expressions.{cast_tree, operator_type}
+use Rattle.naga_form.proofs.Letters.{letters_are_a_word}
+use Rattle.std.proofs.lemmas.Bool.{eqb-true}
+use Rattle.naga_form.specs.TypeTrees.{type_tree}
+use Rattle.naga_info.specs.declared.info.TypeResolution.TheVariants.{Handle}
+use Rattle.module_meaning.specs.ExpressionOperators.{constructor}
+use Rattle.module_meaning.specs.Ranges.{names_in_range}
+use Rattle.naga_form.proofs.WrittenTypes.{type_has_form, values_at}
 use Rattle.naga_form.proofs.Facts.{further, from_start}
 use Rattle.naga_form.proofs.Literals.{literal_is}
 use Rattle.naga_form.proofs.Names.{item_is_identifier, function_item, argument_item, function_there}
@@ -203,6 +225,23 @@ abbrev mutual
   CasesFit (case value body falls cs) = LabelFits value × AllFit body × CasesFit cs
 
 -- of statements with blocks none is written so far
+-- a part of a value or of a place, where the part of an expression is one
+part_is : (pointer : Bool) (part : tree_expressions.Expression → tree_expressions.Expression) →
+    (base : PlainForm) → IsPlainForm base →
+    ((e : tree_expressions.Expression) → IsExpression e → IsExpression (part e)) →
+    ((e : tree_expressions.Expression) → IsTrue (is_reference e) → IsTrue (is_reference (part e))) →
+    IsPlainForm (part_plain pointer part base)
+part_is true part base is well kept =
+    let r = reference_is_one base is in (well (as_reference base) r.0, kept (as_reference base) r.1)
+part_is false part base is well kept = well (as_value base) (value_is_one base is)
+
+selected_is : (pointer : Bool) (x : Selector) → IsWellSelected x → (base : PlainForm) →
+    IsPlainForm base → IsPlainForm (part_plain pointer (selected_part x) base)
+selected_is pointer (MemberNamed word) well base is =
+    part_is pointer (selected_part (MemberNamed word)) base is (λ e is. (is, well)) (λ e is. is)
+selected_is pointer (ElementAt index) well base is =
+    part_is pointer (selected_part (ElementAt index)) base is (λ e is. (is, well)) (λ e is. is)
+
 statements_fit : (b : BlockTree) → block_is_written b ≡ true → AllFit b
 statements_fit no_statements is = tt
 statements_fit (statement st b) is =
@@ -215,7 +254,7 @@ statements_fit (statement st b) is =
     by (simple (return value)) is = refl
     by _ is = absurd (cc)
 
-module _ (m : Module) (info : ModuleInfo) (g : ℕ) (f : ir_function.Function) (found : slice_get m.functions g ≡ Some f) (es : List ExpressionInfo) (callees : ℕ) (ranges : function_in_range m callees f ≡ true) (written : IsTrue (function_is_written f)) (known : list_all (λ k. resolution_is_written m.types k.ty) es ≡ true) (values : list_all is_value_type m.types ≡ true) (few : length f.expressions ≤ 2 ^ 64) where
+module _ (m : Module) (info : ModuleInfo) (g : ℕ) (f : ir_function.Function) (found : slice_get m.functions g ≡ Some f) (es : List ExpressionInfo) (callees : ℕ) (ranges : function_in_range m callees f ≡ true) (written : IsTrue (function_is_written f)) (allowed : IsTrue (types_allow_all m.types f es)) (known : list_all (λ k. resolution_is_written m.types k.ty) es ≡ true) (values : list_all is_value_type m.types ≡ true) (few : length f.expressions ≤ 2 ^ 64) where
   abbrev own : Naming
   own = function_naming (module_names m) m info g f es
 
@@ -226,13 +265,36 @@ module _ (m : Module) (info : ModuleInfo) (g : ℕ) (f : ir_function.Function) (
   d = source.declared
 
   application_is : (otherwise : PlainForm) → IsPlainForm otherwise → (operand : ℕ → PlainForm) →
-      ((x : ℕ) → IsPlainForm (operand x)) → (hs : List ℕ) (o : Option Operator) →
-      is_notated hs o ≡ true → IsPlainForm (applied_plain otherwise operand hs o)
-  application_is otherwise plain operand all hs None is = plain
-  application_is otherwise plain operand all hs (Some op) is =
-      applied_is operand (λ h. value_is_one (operand h) (all h)) (notation op) hs is
+      ((x : ℕ) → IsPlainForm (operand x)) → (type : Option TypeSpecifier) (hs : List ℕ) →
+      (o : Option Operator) → IsNotated type hs o →
+      IsPlainForm (applied_plain otherwise type operand hs o)
+  application_is otherwise plain operand all type hs None is = plain
+  application_is otherwise plain operand all type hs (Some op) is =
+      applied_is operand (λ h. value_is_one (operand h) (all h)) (notation type op) hs is
 
-  own_is : (operand : ℕ → PlainForm) → ((x : ℕ) → IsPlainForm (operand x)) → (h : ℕ) (e : ir.Expression) → slice_get f.expressions h ≡ Some e → IsPlainForm (own_plain own d operand e)
+  -- the type of which an expression makes a value has a form
+  type_at : (ty : ℕ) → nat_lt ty (length m.types) ≡ true → HasFormAt (type_names m) ty
+  type_at ty range =
+      let form =
+      type_has_form m.types ty (values_at m.types ty values (ltb-true ty (length m.types) range)) in
+      (form.tree, form.is (module_names m), form.form)
+
+  type_formed : (e : ir.Expression) → types_allow m.types es e ≡ true →
+      names_in_range m callees (length f.arguments.items) (length f.local_variables) e ≡ true →
+      TypeIsFormed d.around (type_names m) e
+  type_formed (expression.ZeroValue ty) may range = type_at ty range
+  type_formed (expression.Compose ty components) may range = type_at ty range
+  type_formed (expression.As operand kind convert) may range =
+      let c = conversion m info es operand kind convert may in
+      let tree = c.has.is (type_names m) (type_tree (type_names m)) in (
+        cast_tree (keeps_bits c.from convert) c.has.tree,
+        conversion_is d.around (type_names m) operand kind convert c.from c.to c.has.tree c.known
+            c.target tree,
+        cast_callee (keeps_bits c.from convert) c.has.tree c.has.itself,
+      )
+  type_formed _ may range = tt
+
+  own_is : (operand : ℕ → PlainForm) → ((x : ℕ) → IsPlainForm (operand x)) → (h : ℕ) (e : ir.Expression) → slice_get f.expressions h ≡ Some e → IsPlainForm (own_plain own source operand e)
   own_is operand all h (expression.Literal v) at =
       literal_is v (list_all_at expression_is_written f.expressions h (expression.Literal v) (function_parts f written).expressions at)
       (names_are_in_range m callees f ranges h (expression.Literal v) at)
@@ -242,15 +304,47 @@ module _ (m : Module) (info : ModuleInfo) (g : ℕ) (f : ir_function.Function) (
   own_is operand all h (expression.LocalVariable v) at =
       let l = element f.local_variables v (ltb-true v (length f.local_variables) (names_are_in_range m callees f ranges h (expression.LocalVariable v) at)) in
       (item_is_identifier m (local_item g v l.0) (local_stands wgsl_names m g f v l.0 found l.1), refl)
+  own_is operand all h (expression.ZeroValue ty) at =
+      let form = type_at ty (names_are_in_range m callees f ranges h (expression.ZeroValue ty) at) in
+      applied_is operand (λ x. value_is_one (operand x) (all x))
+      (notation (type_tree (type_names m) ty) (constructor d.around (Handle ty) 0)) []
+      (constructor_notated d.around (Handle ty) 0 [] (type_tree (type_names m) ty) form.0 form.1 form.2)
+  own_is operand all h (expression.Access base index) at =
+      part_is (points d.around base) (λ e. Index e (as_value (operand index))) (operand base) (all base)
+      (λ e is. (is, value_is_one (operand index) (all index))) (λ e is. is)
+  own_is operand all h (expression.AccessIndex base index) at = by (selected m info es base index may)
+    where
+      may : types_allow m.types es (expression.AccessIndex base index) ≡ true
+      may = list_all_at (types_allow m.types es) f.expressions h (expression.AccessIndex base index) allowed at
+
+      by : (x : Selector) × (part_selector d base index ≡ Some x) →
+          IsPlainForm (own_plain own source operand (expression.AccessIndex base index))
+      by s =
+          let lt = ltb-true index (2 ^ 32) (names_are_in_range m callees f ranges h (expression.AccessIndex base index) at) in
+          subst
+          (λ o. IsPlainForm
+          (option_map_or
+          (λ x. part_plain (points d.around base) (selected_part x) (operand base)) o
+          (applied_plain no_form None operand (base ∷ []) (Some (WithoutForm (PartAt index))))))
+          (sym s.1)
+          (selected_is (points d.around base) s.0 (selected_well m info es base index may known lt s.0 s.1) (operand base) (all base))
+  own_is operand all h (expression.Swizzle size v pattern) at =
+      let whole =
+      names_are_in_range m callees f ranges h (expression.Swizzle size v pattern) at in
+      (value_is_one (operand v) (all v), letters_are_a_word size pattern (eqb-true (length pattern) 4 whole))
   own_is operand all h (expression.Load q) at =
       application_is (ValueForm (as_reference (operand q))) (reference_is_one (operand q) (all q)).0
-      operand all (q ∷ []) (load_operator d.around q) (notated d.around (expression.Load q) refl)
+      operand all None (q ∷ []) (load_operator d.around q) (load_notated d.around q)
   own_is operand all h e at =
-      application_is no_form tt operand all (expression_operands e) (applied_operator d.around e)
-      (notated d.around e
-      (list_all_at expression_is_written f.expressions h e (function_parts f written).expressions at))
+      application_is no_form tt operand all (operator_type d.around (type_names m) e) (expression_operands e)
+      (applied_operator d.around e)
+      (notated d.around (type_names m) e
+      (list_all_at expression_is_written f.expressions h e (function_parts f written).expressions at)
+      tt
+      (type_formed e (list_all_at (types_allow m.types es) f.expressions h e allowed at)
+      (names_are_in_range m callees f ranges h e at)))
 
-  own_if_is : (operand : ℕ → PlainForm) → ((x : ℕ) → IsPlainForm (operand x)) → (h : ℕ) (o : Option ir.Expression) → slice_get f.expressions h ≡ o → IsPlainForm (own_if own d operand o)
+  own_if_is : (operand : ℕ → PlainForm) → ((x : ℕ) → IsPlainForm (operand x)) → (h : ℕ) (o : Option ir.Expression) → slice_get f.expressions h ≡ o → IsPlainForm (own_if own source operand o)
   own_if_is operand all h None at = tt
   own_if_is operand all h (Some e) at = own_is operand all h e at
 
@@ -260,7 +354,7 @@ module _ (m : Module) (info : ModuleInfo) (g : ℕ) (f : ir_function.Function) (
 
   below_is : (s : Handles) → NamesAre s → (k h : ℕ) → IsPlainForm (plain_below own source s k h)
   below_is s well zero h = tt
-  below_is s well (suc k) h = standing_is (s h) (own_if own d (plain_below own source s k) (slice_get f.expressions h)) (well h) (own_if_is (plain_below own source s k) (below_is s well k) h (slice_get f.expressions h) refl)
+  below_is s well (suc k) h = standing_is (s h) (own_if own source (plain_below own source s k) (slice_get f.expressions h)) (well h) (own_if_is (plain_below own source s k) (below_is s well k) h (slice_get f.expressions h) refl)
 
   plain_is : (s : Handles) → NamesAre s → (h : ℕ) → IsPlainForm (plain_form own source s h)
   plain_is s well h = below_is s well (length f.expressions) h
@@ -467,20 +561,21 @@ module _ (m : Module) (info : ModuleInfo) (g : ℕ) (f : ir_function.Function) (
 
 module _ (explicit : Bool) (m : Module) (info : ModuleInfo) (accepted : IsTrue (is_accepted m info)) (values : list_all is_value_type m.types ≡ true) where
   functions_are : (g : ℕ) (fs : List ir_function.Function) (ess : List (List ExpressionInfo)) → ((i : ℕ) (f : ir_function.Function) → slice_get fs i ≡ Some f → slice_get m.functions (g + i) ≡ Some f) → IsTrue (list_all function_is_written fs) →
-      IsTrue (list_all (list_all (λ k. resolution_is_written m.types k.ty)) ess) → IsTrue (list_all (λ f. nat_le (length f.expressions) (2 ^ 64)) fs) → Each IsFunction (functions_form explicit (module_names m) m info g fs ess)
-  functions_are g [] [] there written known few = tt
-  functions_are g [] (es ∷ ess) there written known few = tt
-  functions_are g (f ∷ fs) [] there written known few = tt
-  functions_are g (f ∷ fs) (es ∷ ess) there written known few =
+      IsTrue (list_all (list_all (λ k. resolution_is_written m.types k.ty)) ess) → IsTrue (list_all (λ p. types_allow_all m.types p.0 p.1) (zip fs ess)) → IsTrue (list_all (λ f. nat_le (length f.expressions) (2 ^ 64)) fs) → Each IsFunction (functions_form explicit (module_names m) m info g fs ess)
+  functions_are g [] [] there written known allowed few = tt
+  functions_are g [] (es ∷ ess) there written known allowed few = tt
+  functions_are g (f ∷ fs) [] there written known allowed few = tt
+  functions_are g (f ∷ fs) (es ∷ ess) there written known allowed few =
       let here : g + 0 ≡ g = omega arith in
       let found = subst (λ h. slice_get m.functions h ≡ Some f) here (there 0 f refl) in
       let at = known_function m info accepted g f found in
       let is = accepted_at m info accepted g f at.0 at.1 in
       let all = and_parts (function_is_written f) (list_all function_is_written fs) written in
       let types = and_parts (list_all (λ k. resolution_is_written m.types k.ty) es) (list_all (list_all (λ k. resolution_is_written m.types k.ty)) ess) known in
+      let may = and_parts (types_allow_all m.types f es) (list_all (λ p. types_allow_all m.types p.0 p.1) (zip fs ess)) allowed in
       let counted = and_parts (nat_le (length f.expressions) (2 ^ 64)) (list_all (λ f. nat_le (length f.expressions) (2 ^ 64)) fs) few in (
-        function_is m info g f found es is.callees is.ranges all.0 types.0 values (leb-true (length f.expressions) (2 ^ 64) counted.0) explicit,
-        functions_are (g + 1) fs ess (further m.functions g f fs there) all.1 types.1 counted.1,
+        function_is m info g f found es is.callees is.ranges all.0 may.0 types.0 values (leb-true (length f.expressions) (2 ^ 64) counted.0) explicit,
+        functions_are (g + 1) fs ess (further m.functions g f fs there) all.1 types.1 may.1 counted.1,
       )
 
 pub is_program : (m : Module) (info : ModuleInfo) (explicit : Bool) → IsTrue (is_accepted m info) → IsTrue (is_written_so_far m info) → IsTrue (handles_are_counted m) → IsProgram (written_program m info explicit)
@@ -492,6 +587,6 @@ is_program m info explicit accepted written few =
       constants = tt;
       overrides = tt;
       globals = tt;
-      functions = functions_are explicit m info accepted parts.1 0 m.functions info.functions.items (from_start m.functions) parts.2 parts.3 few;
+      functions = functions_are explicit m info accepted parts.1 0 m.functions info.functions.items (from_start m.functions) parts.2 parts.3 (and_parts (length m.functions == length info.functions.items) _ parts.4).1 few;
       entry_points = tt;
     }

@@ -23,6 +23,9 @@ use Rattle.naga_info.specs.declared.info.ModuleInfo.{ModuleInfo}
 use Rattle.naga_form.specs.Functions.{functions_form}
 use Rattle.naga_form.specs.Declarations.{written_program}
 use Rattle.naga_form.proofs.Abstraction.{locals_have_forms, function_reads}
+use Rattle.naga_form.proofs.AcceptedFunctions.{functions_paired}
+use Rattle.module_meaning.specs.InfoSizes.{function_size_fits}
+use Rattle.module_meaning.proofs.SideBySide.{paired_at}
 use Rattle.naga_form.proofs.ToldItems.{written_are_told}
 use Rattle.naga_form.proofs.Names.{items_tell, function_item, function_there}
 use Rattle.naga_names.proofs.Refusal.{element}
@@ -53,7 +56,8 @@ use Rattle.naga_form.proofs.ConstantTrees.{trees_are}
 use Rattle.naga_form.proofs.Leaves.{ConstantsAreTyped}
 use Rattle.module_meaning.specs.Accepted.{is_accepted}
 use Rattle.module_meaning.specs.AgreeingOperators.{function_group}
-use Rattle.module_meaning.specs.Part.{function_is_written}
+use Rattle.module_meaning.specs.Part.{function_is_written, types_allow_all}
+use Rattle.std.specs.List.{zip}
 use Rattle.module_meaning.proofs.Lists.{list_all_at}
 use Rattle.naga_ir.specs.declared.module.EntryPoint.{EntryPoint}
 use Rattle.std.proofs.lemmas.List.{nil_from_length}
@@ -70,15 +74,16 @@ shapes_counted m info [] ess paired = refl
 shapes_counted m info (f ∷ fs) [] paired = absurd (omega (arith, paired))
 shapes_counted m info (f ∷ fs) (es ∷ ess) paired = ap suc (shapes_counted m info fs ess (omega (arith, paired)))
 
-functions_read : (explicit : Bool) (m : Module) (info : ModuleInfo) → IsTrue (list_all is_value_type m.types) → (g : ℕ) (fs : List ir_function.Function) (ess : List (List ExpressionInfo)) → IsTrue (list_all function_is_written fs) → ((i : ℕ) (f : ir_function.Function) → slice_get fs i ≡ Some f → LocalsHaveForms (type_names m) f.local_variables) →
+functions_read : (explicit : Bool) (m : Module) (info : ModuleInfo) → IsTrue (list_all is_value_type m.types) → (g : ℕ) (fs : List ir_function.Function) (ess : List (List ExpressionInfo)) → IsTrue (list_all function_is_written fs) → ((i : ℕ) (f : ir_function.Function) (es : List ExpressionInfo) → slice_get fs i ≡ Some f → slice_get ess i ≡ Some es → length f.expressions ≡ length es) → ((i : ℕ) (f : ir_function.Function) → slice_get fs i ≡ Some f → LocalsHaveForms (type_names m) f.local_variables) →
     map function_read (functions_form explicit (module_names m) m info g fs ess) ≡ map form_function (namings_from (module_names m) g (function_shapes m info fs ess))
-functions_read explicit m info values g [] [] is spelled = refl
-functions_read explicit m info values g [] (es ∷ ess) is spelled = refl
-functions_read explicit m info values g (f ∷ fs) [] is spelled = refl
-functions_read explicit m info values g (f ∷ fs) (es ∷ ess) is spelled =
+functions_read explicit m info values g [] [] is sizes spelled = refl
+functions_read explicit m info values g [] (es ∷ ess) is sizes spelled = refl
+functions_read explicit m info values g (f ∷ fs) [] is sizes spelled = refl
+functions_read explicit m info values g (f ∷ fs) (es ∷ ess) is sizes spelled =
     let all = and_parts (function_is_written f) (list_all function_is_written fs) is in
     let own = spelled 0 f refl in
-    λ i. function_reads explicit m info g f es values all.0 own i ∷ functions_read explicit m info values (g + 1) fs ess all.1 (λ i f there. spelled (suc i) f there) i
+    let size = sizes 0 f es refl refl in
+    λ i. function_reads explicit m info g f es values all.0 size own i ∷ functions_read explicit m info values (g + 1) fs ess all.1 (λ i f es here known. sizes (suc i) f es here known) (λ i f there. spelled (suc i) f there) i
 
 -- what holds of all of a list that is turned round onto another holds of all of both
 behind_all : {X : Type 0} (test : X → Bool) (xs behind : List X) → IsTrue (list_all test (reverse_aux xs behind)) → IsTrue (list_all test behind)
@@ -93,7 +98,7 @@ all_reversed test (x ∷ xs) behind all = and_from (test x) (list_all test xs) (
 pub program_reads : (m : Module) (info : ModuleInfo) (explicit : Bool) → IsTrue (is_accepted m info) → IsTrue (is_written_so_far m info) → program_read (written_program m info explicit) ≡ form_module (functions_alone m info) (outer_names (module_names m)) (namings (module_names m) m info)
 program_reads m info explicit accepted written =
     let listed = namings_from (module_names m) 0 (function_shapes m info m.functions info.functions.items) in
-    let each = functions_read explicit m info (written_so_far_parts m info written).1 0 m.functions info.functions.items (functions_are_written m info written) formed in
+    let each = functions_read explicit m info (written_so_far_parts m info written).1 0 m.functions info.functions.items (functions_are_written m info written) sized formed in
     λ i. record {
       constants = [];
       overrides = [];
@@ -101,6 +106,9 @@ program_reads m info explicit accepted written =
       functions = (ap reverse (append-nil (map function_read (functions_form explicit (module_names m) m info 0 m.functions info.functions.items)) ∙ each) ∙ sym (form_functions-map (reverse listed) ∙ map-reverse form_function listed)) i;
     }
   where
+    sized : (i : ℕ) (f : ir_function.Function) (es : List ExpressionInfo) → slice_get m.functions i ≡ Some f → slice_get info.functions.items i ≡ Some es → length f.expressions ≡ length es
+    sized i f es here known = eqb-true (length f.expressions) (length es) (paired_at function_size_fits m.functions info.functions.items (functions_paired m info accepted) i f es here known)
+
     formed : (i : ℕ) (f : ir_function.Function) → slice_get m.functions i ≡ Some f → LocalsHaveForms (type_names m) f.local_variables
     formed i f at =
         let known = function_there_known m info accepted i f at in
@@ -154,6 +162,9 @@ module _ (m : Module) (info : ModuleInfo) (accepted : IsTrue (is_accepted m info
       by (AsFunction here known) = list_all_at function_is_written m.functions k f (functions_are_written m info written) here
       by (AsEntryPoint j e number here known of) = absurd (none m.entry_points.items j e no_entry_points here)
 
+  all_allowed : IsTrue (list_all (λ p. types_allow_all m.types p.0 p.1) (zip m.functions info.functions.items))
+  all_allowed = (and_parts (length m.functions == length info.functions.items) _ (written_so_far_parts m info written).4).1
+
   -- no struct and no override is named
   told : TypesAreTold m
   told = (written_are_told m info written).types
@@ -169,18 +180,21 @@ module _ (m : Module) (info : ModuleInfo) (accepted : IsTrue (is_accepted m info
         }
 
     -- nothing is left of each function, behind those before it
-    all_left : (g : ℕ) (fs : List ir_function.Function) (ess : List (List ExpressionInfo)) → ((i : ℕ) (f : ir_function.Function) → slice_get fs i ≡ Some f → slice_get m.functions (g + i) ≡ Some f) → IsTrue (list_all function_is_written fs) → IsTrue (list_all fits_function (namings_from (module_names m) g (function_shapes m info fs ess))) →
+    all_left : (g : ℕ) (fs : List ir_function.Function) (ess : List (List ExpressionInfo)) → ((i : ℕ) (f : ir_function.Function) → slice_get fs i ≡ Some f → slice_get m.functions (g + i) ≡ Some f) → IsTrue (list_all function_is_written fs) → IsTrue (list_all (λ p. types_allow_all m.types p.0 p.1) (zip fs ess)) → IsTrue (list_all fits_function (namings_from (module_names m) g (function_shapes m info fs ess))) →
         (behind : List Naming) → length behind ≡ g → AllBehind (IsLeft p (outer_names (module_names m))) behind → AllBehind (IsLeft p (outer_names (module_names m))) (reverse_aux (namings_from (module_names m) g (function_shapes m info fs ess)) behind)
-    all_left g [] ess there is scoped behind at so_far = so_far
-    all_left g (f ∷ fs) [] there is scoped behind at so_far = so_far
-    all_left g (f ∷ fs) (es ∷ ess) there is scoped behind at so_far =
+    all_left g [] ess there is allowed scoped behind at so_far = so_far
+    all_left g (f ∷ fs) [] there is allowed scoped behind at so_far = so_far
+    all_left g (f ∷ fs) (es ∷ ess) there is allowed scoped behind at so_far =
         let here : g + 0 ≡ g = omega arith in
         let found = subst (λ h. slice_get m.functions h ≡ Some f) here (there 0 f refl) in
         let own = function_naming (module_names m) m info g f es in
         let all = and_parts (function_is_written f) (list_all function_is_written fs) is in
+        let may = and_parts (types_allow_all m.types f es) (list_all (λ p. types_allow_all m.types p.0 p.1) (zip fs ess)) allowed in
         let scopes = and_parts (fits_function own) (list_all fits_function (namings_from (module_names m) (g + 1) (function_shapes m info fs ess))) scoped in
-        let this = is_left m info (written_so_far_parts m info written).1 g f found es all.0 p no_constant_types no_global_types all_counted (functions_of behind) (length-functions_of behind ∙ at) counted scopes.0 in
-        all_left (g + 1) fs ess (further m.functions g f fs there) all.1 scopes.1 (own ∷ behind) (ap suc at ∙ sym (add-one g)) (this, so_far)
+        let at_function = function_there_known m info accepted g f found in
+        let fits = accepted_at m info accepted g f at_function.0 at_function.1 in
+        let this = is_left m info (written_so_far_parts m info written).1 g f found es fits.callees fits.ranges all.0 may.0 p no_constant_types no_global_types all_counted (functions_of behind) (length-functions_of behind ∙ at) counted scopes.0 in
+        all_left (g + 1) fs ess (further m.functions g f fs there) all.1 may.1 scopes.1 (own ∷ behind) (ap suc at ∙ sym (add-one g)) (this, so_far)
 
     no_constants : ConstantsFit (functions_alone m info) (outer_names (module_names m))
     no_constants = record {
@@ -206,7 +220,7 @@ module _ (m : Module) (info : ModuleInfo) (accepted : IsTrue (is_accepted m info
           };
           constants = subst (λ p. ConstantsFit p (outer_names (module_names m))) (sym same) no_constants;
           all = all_fit m info accepted told constants_typed (λ k f es at. no_case_falls f (written_at k f es at)) (outer_names (module_names m)) (namings (module_names m) m info) (same_functions m info accepted written)
-              (all_left 0 m.functions info.functions.items (from_start m.functions) (functions_are_written m info written) (all_reversed fits_function listed [] scope) [] refl tt);
+              (all_left 0 m.functions info.functions.items (from_start m.functions) (functions_are_written m info written) all_allowed (all_reversed fits_function listed [] scope) [] refl tt);
         }
 
     runs : (explicit : Bool) → RunsAs m info (written_program m info explicit)

@@ -55,7 +55,7 @@ use Rattle.naga_form.proofs.AlikeLaw.{form_apart, told_by_itself, each_named, by
 use Rattle.naga_form.proofs.AlikeNumbers.{AreTold, InnerIsTold, LengthIsTold, ResolutionIsTold, named_numbers, form_is_told, tree_numbers}
 use Rattle.naga_form.proofs.AlikeTypes.{form_read, form_is_read}
 use Rattle.naga_form.proofs.Names.{item_is_identifier}
-use Rattle.naga_form.proofs.TypeTrees.{resolution_is, type_row, inner_tree_row}
+use Rattle.naga_form.proofs.TypeTrees.{resolution_is, resolution_row}
 use Rattle.wgsl_text.proofs.Text.{text-append}
 use Rattle.naga_form.proofs.TypedWords.{no_blank}
 
@@ -274,8 +274,7 @@ module _ (m : Module) (are : TypesAreCounted m) where
 
   -- the spelling by the tree
   pub spelling_of : (r : TypeResolution) → spelled_resolution names r ≡ option_map type_layout (resolution_tree names r)
-  spelling_of (Handle h) = type_row text-append names (λ handle. true) h
-  spelling_of (Value it) = inner_tree_row text-append names (λ handle. true) it
+  spelling_of r = resolution_row text-append names (λ handle. true) r
 
   pub tree_is : (r : TypeResolution) → IsFit m r → (t : TypeSpecifier) → resolution_tree names r ≡ Some t → IsType t
   tree_is r fit t at = resolution_is names (length m.overrides) are_named r (is_within r fit) t at

@@ -42,7 +42,7 @@ use Rattle.naga_words.specs.Values.{value_pointer_parts, access_parts, storage_i
 use Rattle.naga_words.specs.Values.{image_parts}
 use Rattle.naga_words.specs.Spelling.{length_parts, inner_parts, pointer_parts, array_parts}
 use Rattle.naga_words.specs.Spelling.{is_struct, inner_parts_by, found_parts_by, parts_within}
-use Rattle.naga_words.specs.Spelling.{type_parts}
+use Rattle.naga_words.specs.Spelling.{resolution_parts, type_parts}
 use Rattle.naga_form.specs.TypeTrees.{type_tree, value_tree, pointer_tree_in, value_pointer_tree_in}
 use Rattle.naga_form.specs.TypeTrees.{array_tree, image_tree, ray_tree, inner_tree, inner_tree_by}
 use Rattle.naga_form.specs.TypeTrees.{found_tree_by, tree_within, scalar_tree, resolution_tree}
@@ -232,6 +232,10 @@ module _ (text_of_appended : (first second : List Piece) → text (first ++ seco
 
   pub inner_tree_row : (n : Names) (knows : ℕ → Bool) (it : TypeInner) → known_text (inner_parts (writer_context n knows) it) ≡ option_map type_layout (inner_tree n it)
   inner_tree_row n knows it = inner_row n knows (type_parts (writer_context n knows)) (type_tree n) (type_row n knows) it
+
+  pub resolution_row : (n : Names) (knows : ℕ → Bool) (r : TypeResolution) → known_text (resolution_parts (writer_context n knows) r) ≡ option_map type_layout (resolution_tree n r)
+  resolution_row n knows (resolution.Handle ty) = type_row n knows ty
+  resolution_row n knows (resolution.Value it) = inner_tree_row n knows it
 
 -- What is spelled is a type of the grammar.
 

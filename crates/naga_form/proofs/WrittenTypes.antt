@@ -12,6 +12,7 @@ use Rattle.naga_info.specs.declared.info.TypeResolution.TheVariants.{Handle, Val
 use Rattle.naga_ir.specs.declared.types.AddressSpace.TheVariants as space
 use Rattle.naga_ir.specs.declared.types.Scalar.{Scalar}
 use Rattle.naga_ir.specs.declared.types.ScalarKind.{ScalarKind}
+use Rattle.naga_ir.specs.declared.types.VectorSize.{VectorSize}
 use Rattle.naga_ir.specs.declared.types.ScalarKind.TheVariants as kind
 use Rattle.naga_ir.specs.declared.types.Type_.{Type_}
 use Rattle.naga_ir.specs.declared.types.TypeInner.{TypeInner}
@@ -32,6 +33,10 @@ use Rattle.wgsl_text.specs.Types.{rule_among, type_templates}
 use Rattle.wgsl_text.specs.Words.{stands_in}
 use Rattle.wgsl_words.specs.Words.{scalar_word, scalar_word_of}
 use Rattle.naga_form.proofs.TypeTrees.{matrix_rule, of_scalar_is, vector_rule}
+use Rattle.wgsl_text.specs.Reading.{type_layout}
+use Rattle.wgsl_text.proofs.Words.{passes}
+use Rattle.naga_form.proofs.OperatingWords.{operates_freely, scalars_free, vectors_free}
+use Rattle.naga_form.proofs.OperatingWords.{matrices_free}
 use Rattle.naga_form.specs.TypeTrees.{inner_tree, inner_tree_by, named_tree_by, pointer_tree_in}
 use Rattle.naga_form.specs.TypeTrees.{found_tree_by, scalar_tree}
 use Rattle.naga_form.specs.TypeTrees.{tree_within, type_tree, resolution_tree}
@@ -66,12 +71,13 @@ record HasWord (s : Scalar) : Type 0 where
   pub word : List ℕ
   pub is : scalar_word s ≡ Some word
   pub itself : IsType (Named word)
+  pub known : stands_in scalar_words word ≡ true
 
 has_word : (s : Scalar) → scalar_is_written s ≡ true → HasWord s
 has_word s written =
     let w = width_has_word s.kind s.width written in
     let stands : stands_in scalar_words w.0 ≡ true = value_words.scalars.each s w.0 w.1 in
-    record { word = w.0; is = w.1; itself = scalar_word_is w.0 stands }
+    record { word = w.0; is = w.1; itself = scalar_word_is w.0 stands; known = stands }
 
 -- ---- types
 -- A type has a form, whatever its names are, and that is a type of the grammar.
@@ -81,11 +87,12 @@ pub record HasForm (under : NameMap → Option TypeSpecifier) : Type 0 where
   pub form : IsType tree
 
 -- the tree of a type of values, whatever its names are, and that one points at locals of it
-record HasTree (it : TypeInner) : Type 0 where
+pub record HasTree (it : TypeInner) : Type 0 where
   pub tree : TypeSpecifier
   pub is : (n : Names) (f : ℕ → Option TypeSpecifier) → inner_tree_by n f it ≡ Some tree
   pub named : (n : Names) (f : ℕ → Option TypeSpecifier) (h : ℕ) → named_tree_by n f h it ≡ Some tree
   pub itself : IsType tree
+  pub free : operates_freely (type_layout tree) ≡ true
 
 -- a template over the word of a scalar
 over_scalar : (w : List ℕ) → rule_among type_templates w ≡ TakesScalar → (s : Scalar) →
@@ -96,11 +103,11 @@ over_scalar w rule s found =
     let is = ap (λ o. option_map (of_one w) (option_map Named o)) found.is in
     (is, of_scalar_is w rule s (of_one w (Named found.word)) is)
 
-has_tree : (it : TypeInner) → is_written_value it ≡ true → HasTree it
+pub has_tree : (it : TypeInner) → is_written_value it ≡ true → HasTree it
 has_tree (inner.Scalar s) written =
     let w = has_word s written in
     let is = ap (option_map Named) w.is in
-    record { tree = Named w.word; is = λ n f. is; named = λ n f h. is; itself = w.itself }
+    record { tree = Named w.word; is = λ n f. is; named = λ n f h. is; itself = w.itself; free = passes (λ v. operates_freely (type_layout (Named v))) scalar_words w.word scalars_free w.known }
 has_tree (inner.Vector size s) written =
     let w = has_word s written in
     let over = over_scalar (vector_word size) (vector_rule size) s w in
@@ -109,6 +116,7 @@ has_tree (inner.Vector size s) written =
       is = λ n f. over.0;
       named = λ n f h. over.0;
       itself = over.1;
+      free = passes (λ v. operates_freely (type_layout (of_one (vector_word size) (Named v)))) scalar_words w.word (vectors_free size) w.known;
     }
 has_tree (inner.Matrix columns rows s) written =
     let w = has_word s written in
@@ -118,6 +126,7 @@ has_tree (inner.Matrix columns rows s) written =
       is = λ n f. over.0;
       named = λ n f h. over.0;
       itself = over.1;
+      free = passes (λ v. operates_freely (type_layout (of_one (matrix_word columns rows) (Named v)))) scalar_words w.word (matrices_free columns rows) w.known;
     }
 has_tree _ written = absurd (cc)
 
@@ -160,6 +169,23 @@ module _ (types : List Type_) where
         form = t.2.itself;
       }
 
+  -- and it is spelled as no name is
+  pub free_form : (ty : ℕ) → is_value_at types ty ≡ true → (names : NameMap) →
+      (tree : TypeSpecifier) × (type_tree (names_of types names) ty ≡ Some tree)
+      × (operates_freely (type_layout tree) ≡ true)
+  free_form ty is names =
+      let t = value_there ty is in (t.2.tree, tree_of_value ty t.0 t.1 t.2 names, t.2.free)
+
+  -- a pointer to a local of a type by itself
+  pointed_form : {it : TypeInner} → (has : HasTree it) →
+      HasForm (λ names. pointer_tree_in (Some (codes "function")) None (inner_tree (names_of types names) it))
+  pointed_form has = record {
+    tree = pointer_to has.tree;
+    is = λ names. ap (pointer_tree_in (Some (codes "function")) None)
+        (has.is (names_of types names) (type_tree (names_of types names)));
+    form = pointer_to_is (codes "function") has.tree refl has.itself;
+  }
+
   pub pointer_has_form : (ty : ℕ) → is_value_at types ty ≡ true →
       HasForm (λ names. inner_tree (names_of types names) (inner.Pointer ty space.Function))
   pointer_has_form ty is =
@@ -170,6 +196,11 @@ module _ (types : List Type_) where
             (tree_of_value ty t.0 t.1 t.2 names);
         form = pointer_to_is (codes "function") t.2.tree refl t.2.itself;
       }
+
+  value_pointer_has_form : (size : Option VectorSize) (s : Scalar) → scalar_is_written s ≡ true →
+      HasForm (λ names. inner_tree (names_of types names) (inner.ValuePointer size s space.Function))
+  value_pointer_has_form None s is = pointed_form (has_tree (inner.Scalar s) is)
+  value_pointer_has_form (Some size) s is = pointed_form (has_tree (inner.Vector size s) is)
 
   value_has_form : (it : TypeInner) → is_written_value it ≡ true →
       HasForm (λ names. inner_tree (names_of types names) it)
@@ -185,6 +216,8 @@ module _ (types : List Type_) where
       HasForm (λ names. inner_tree (names_of types names) it)
   inner_has_form (inner.Pointer base space.Function) is = pointer_has_form base is
   inner_has_form (inner.Pointer base _) is = absurd (cc)
+  inner_has_form (inner.ValuePointer size s space.Function) is = value_pointer_has_form size s is
+  inner_has_form (inner.ValuePointer size s _) is = absurd (cc)
   inner_has_form (inner.Scalar s) is = value_has_form (inner.Scalar s) is
   inner_has_form (inner.Vector size s) is = value_has_form (inner.Vector size s) is
   inner_has_form (inner.Matrix columns rows s) is = value_has_form (inner.Matrix columns rows s) is

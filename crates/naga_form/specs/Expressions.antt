@@ -3,20 +3,33 @@
 -- of a function's shape.
 --
 -- Throughout, n is a function with its names, s are the handles in scope, h is a handle, e an
--- expression, d what stands around it, and op an operator.
-use Rattle.std.specs.Prelude.{ℕ, List, [], ◌∷◌, Option, false, suc, None, Some, slice_get, zero}
-use Rattle.std.specs.Prelude.{length, map}
-use Rattle.std.specs.Option.{option_map_or}
+-- expression, op an operator, and t are the names that types are spelled with.
+use Rattle.std.specs.Prelude.{ℕ, List, [], ◌∷◌, Option, Bool, true, false, suc, None, Some}
+use Rattle.std.specs.Prelude.{slice_get, zero}
+use Rattle.std.specs.Prelude.{length, map, codes}
+use Rattle.std.specs.Option.{option_map, option_map_or, option_and_then}
 use Rattle.naga_ir.specs.declared.expression.Expression as ir
 use Rattle.naga_ir.specs.declared.expression.Expression.TheVariants as expression
-use Rattle.wgsl_text.specs.Expressions.{Expression, Constant, Name, AddressOf, Dereference}
+use Rattle.naga_ir.specs.declared.types.ScalarKind.{ScalarKind}
+use Rattle.naga_ir.specs.declared.types.TypeInner.{TypeInner}
+use Rattle.naga_ir.specs.declared.types.TypeInner.TheVariants as inner
+use Rattle.wgsl_text.specs.Expressions.{Expression, Constant, Name, Member, AddressOf, Dereference}
+use Rattle.wgsl_text.specs.Expressions.{Index, IndexAt}
 use Rattle.wgsl_text.specs.Literals.{Truth}
 use Rattle.naga_form.specs.Literals.{literal_form}
 use Rattle.shader_runs.specs.Scope.{Standing, Named, Handles, Naming}
-use Rattle.module_meaning.specs.ExpressionOperators.{applied_operator, load_operator}
-use Rattle.module_meaning.specs.ExpressionShapes.{Declared}
-use Rattle.module_meaning.specs.OperatorTable.{Operator}
+use Rattle.shader_runs.specs.Value.{Selector, MemberNamed, ElementAt}
+use Rattle.module_meaning.specs.Conversions.{conversion_target, keeps_bits}
+use Rattle.module_meaning.specs.ExpressionOperators.{Surroundings, applied_operator, constructor}
+use Rattle.module_meaning.specs.ExpressionOperators.{load_operator, type_known}
+use Rattle.module_meaning.specs.ExpressionShapes.{Declared, part_selector, swizzle_letters}
+use Rattle.module_meaning.specs.OperatorTable.{Operator, WithoutForm, PartAt}
 use Rattle.module_meaning.specs.Surroundings.{declared, types_known}
+use Rattle.module_meaning.specs.Types.{type_names}
+use Rattle.naga_words.specs.Contexts.{Names as TypeNames}
+use Rattle.wgsl_text.specs.Types.{TypeSpecifier, of_one}
+use Rattle.naga_form.specs.TypeTrees.{inner_tree, type_tree}
+use Rattle.naga_info.specs.declared.info.TypeResolution.TheVariants.{Handle}
 use Rattle.naga_info.specs.declared.info.ExpressionInfo.{ExpressionInfo}
 use Rattle.naga_info.specs.declared.info.ModuleInfo.{ModuleInfo}
 use Rattle.naga_ir.specs.Operands.{expression_operands}
@@ -45,54 +58,116 @@ value_forms operand hs = map (λ h. as_value (operand h)) hs
 
 -- an operator in its notation, where one is applied, and this where none is
 abbrev pub applied_plain :
-    (otherwise : PlainForm) → (ℕ → PlainForm) → List ℕ → Option Operator → PlainForm
-applied_plain otherwise operand hs (Some op) =
-    ValueForm (applied_form (notation op) (value_forms operand hs))
-applied_plain otherwise operand hs None = otherwise
+    (otherwise : PlainForm) → (type : Option TypeSpecifier) → (ℕ → PlainForm) → List ℕ →
+    Option Operator → PlainForm
+applied_plain otherwise type operand hs (Some op) =
+    ValueForm (applied_form (notation type op) (value_forms operand hs))
+applied_plain otherwise type operand hs None = otherwise
+
+-- what a conversion to this type is called by: the type, or `bitcast` to it where bits are kept
+abbrev pub cast_tree : (bits : Bool) → TypeSpecifier → TypeSpecifier
+cast_tree false t = t
+cast_tree true t = of_one (codes "bitcast") t
+
+-- the same of a value of this type, if that is converted to what has a form
+abbrev pub conversion_tree : TypeNames → ScalarKind → (convert : Option ℕ) → TypeInner →
+    Option TypeSpecifier
+conversion_tree t kind convert it =
+    option_map (cast_tree (keeps_bits it convert))
+    (option_and_then (inner_tree t) (conversion_target it kind convert))
+
+-- the type by which the operator of an expression is spelled, if it is one that has a form
+abbrev pub operator_type : Surroundings → TypeNames → ir.Expression → Option TypeSpecifier
+operator_type a t (expression.Compose ty components) = type_tree t ty
+operator_type a t (expression.As operand kind convert) =
+    option_and_then (conversion_tree t kind convert) (type_known a operand)
+operator_type a t _ = None
 
 -- what has no form so far, and a handle without an expression
 abbrev pub no_form : PlainForm
 no_form = ValueForm (Constant (Truth false))
 
+-- a pointer to a type of the module, or to a scalar or a vector that has no type there
+abbrev pub is_pointer : TypeInner → Bool
+is_pointer (inner.Pointer base space) = true
+is_pointer (inner.ValuePointer size s space) = true
+is_pointer _ = false
+
+-- the expression with this handle has such a type
+abbrev pub points : Surroundings → ℕ → Bool
+points a h = option_map_or is_pointer (type_known a h) false
+
+-- Through a pointer a part is a reference, over the reference that the base is written as;
+-- otherwise it is a value.
+abbrev pub part_plain : (pointer : Bool) → (Expression → Expression) → PlainForm → PlainForm
+part_plain true part base = ReferenceForm (part (as_reference base))
+part_plain false part base = ValueForm (part (as_value base))
+
+-- a component or a member by its word, and an element or a column by its number
+abbrev pub selected_part : Selector → Expression → Expression
+selected_part (MemberNamed word) base = Member base word
+selected_part (ElementAt index) base = IndexAt base index
+
+-- a function's expressions, what stands around them, and the names that types are spelled with
+pub record Source : Type 0 where
+  pub expressions : List ir.Expression
+  pub declared : Declared
+  pub type_names : TypeNames
+
+-- those of a function of a module, with what is known of them
+abbrev pub function_source :
+    Module → ModuleInfo → ir_function.Function → List ExpressionInfo → Source
+function_source m info f es =
+    record {
+      expressions = f.expressions;
+      declared = declared m info (types_known es);
+      type_names = type_names m;
+    }
+
 -- an expression that isn't named, over its operands' forms
-abbrev pub own_plain : Naming → Declared → (ℕ → PlainForm) → ir.Expression → PlainForm
-own_plain n d operand (expression.Literal value) = ValueForm (Constant (literal_form value))
-own_plain n d operand (expression.FunctionArgument number) =
+abbrev pub own_plain : Naming → Source → (ℕ → PlainForm) → ir.Expression → PlainForm
+own_plain n source operand (expression.Literal value) = ValueForm (Constant (literal_form value))
+own_plain n source operand (expression.ZeroValue ty) =
+    applied_plain no_form (type_tree source.type_names ty) operand []
+    (Some (constructor source.declared.around (Handle ty) 0))
+own_plain n source operand (expression.FunctionArgument number) =
     ValueForm (Name (n.names.argument number))
-own_plain n d operand (expression.LocalVariable handle) =
+own_plain n source operand (expression.LocalVariable handle) =
     ReferenceForm (Name (n.names.local_ handle))
-own_plain n d operand (expression.Load pointer) =
-    applied_plain (ValueForm (as_reference (operand pointer))) operand (pointer ∷ [])
-    (load_operator d.around pointer)
-own_plain n d operand e =
-    applied_plain no_form operand (expression_operands e) (applied_operator d.around e)
+own_plain n source operand (expression.Access base index) =
+    part_plain (points source.declared.around base) (λ e. Index e (as_value (operand index)))
+    (operand base)
+own_plain n source operand (expression.AccessIndex base index) =
+    let without = Some (WithoutForm (PartAt index)) in
+    option_map_or
+    (λ x. part_plain (points source.declared.around base) (selected_part x) (operand base))
+    (part_selector source.declared base index)
+    (applied_plain no_form None operand (base ∷ []) without)
+own_plain n source operand (expression.Swizzle size vector pattern) =
+    ValueForm (Member (as_value (operand vector)) (swizzle_letters size pattern))
+own_plain n source operand (expression.Load pointer) =
+    applied_plain (ValueForm (as_reference (operand pointer))) None operand (pointer ∷ [])
+    (load_operator source.declared.around pointer)
+own_plain n source operand e =
+    let a = source.declared.around in
+    applied_plain no_form (operator_type a source.type_names e) operand (expression_operands e)
+    (applied_operator a e)
 
 -- the same, if there is such an expression
-abbrev pub own_if : Naming → Declared → (ℕ → PlainForm) → Option ir.Expression → PlainForm
-own_if n d operand e = option_map_or (own_plain n d operand) e no_form
+abbrev pub own_if : Naming → Source → (ℕ → PlainForm) → Option ir.Expression → PlainForm
+own_if n source operand e = option_map_or (own_plain n source operand) e no_form
 
 -- a bound handle is written as its name
 abbrev pub standing_plain : Standing → PlainForm → PlainForm
 standing_plain (Named x) own = ValueForm (Name x)
 standing_plain _ own = own
 
--- a function's expressions, and what stands around them
-pub record Source : Type 0 where
-  pub expressions : List ir.Expression
-  pub declared : Declared
-
--- those of a function of a module, with what is known of them
-abbrev pub function_source :
-    Module → ModuleInfo → ir_function.Function → List ExpressionInfo → Source
-function_source m info f es =
-    record { expressions = f.expressions; declared = declared m info (types_known es) }
-
 -- the form of a handle below the bound
 abbrev pub plain_below : Naming → Source → Handles → ℕ → ℕ → PlainForm
 plain_below n source s zero h = no_form
 plain_below n source s (suc k) h =
     standing_plain (s h)
-    (own_if n source.declared (plain_below n source s k) (slice_get source.expressions h))
+    (own_if n source (plain_below n source s k) (slice_get source.expressions h))
 
 -- a handle's form: its name where that is in scope, else its expression over its operands' forms
 abbrev pub plain_form : Naming → Source → Handles → ℕ → PlainForm
@@ -104,4 +179,4 @@ value_form n source s h = as_value (plain_form n source s h)
 -- a handle's expression, whether it has a name or not
 abbrev pub unnamed_form : Naming → Source → Handles → ℕ → PlainForm
 unnamed_form n source s h =
-    own_if n source.declared (plain_form n source s) (slice_get source.expressions h)
+    own_if n source (plain_form n source s) (slice_get source.expressions h)

@@ -93,13 +93,14 @@ BindsAsCounted =
     BindsAs m info explicit (written_program m info explicit)
 
 -- what is written of a function that is written so far, of a module whose types are written so far, in
--- which the types of the function's locals have forms, is read as its shape is written, whatever is
--- known of it
+-- which the types of the function's locals have forms, is read as its shape is written, whatever type
+-- is known of each of its expressions
 abbrev pub FunctionsAreRead : Type 0
 FunctionsAreRead =
     (explicit : Bool) (m : Module) (info : ModuleInfo) (g : ℕ) (f : Function) →
     (es : List ExpressionInfo) → IsTrue (list_all is_value_type m.types) →
-    IsTrue (function_is_written f) → LocalsHaveForms (type_names m) f.local_variables →
+    IsTrue (function_is_written f) → length f.expressions ≡ length es →
+    LocalsHaveForms (type_names m) f.local_variables →
     function_read (function_form explicit (module_names m) m info g f es)
     ≡ form_function (function_naming (module_names m) m info g f es)
 

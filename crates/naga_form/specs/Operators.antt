@@ -1,5 +1,5 @@
 -- Operators over their operands, as they are written.
-use Rattle.std.specs.Prelude.{List, [], ◌∷◌}
+use Rattle.std.specs.Prelude.{List, [], ◌∷◌, Option, unwrap_or}
 use Rattle.naga_ir.specs.declared.operators.BinaryOperator as ir
 use Rattle.naga_ir.specs.declared.operators.BinaryOperator.TheVariants as operator
 use Rattle.naga_ir.specs.declared.operators.UnaryOperator as ir_unary
@@ -47,11 +47,11 @@ pub data Notation : Type 0 where
   Called : TypeSpecifier → Notation
 
 -- The notation of an operator whose operands are all expressions, as those are that ask for no
--- event. One that takes a type is called by its whole word, as no such operator is written so far.
-abbrev pub notation : Operator → Notation
-notation (BinarySign op) = Infix (operator_form op)
-notation (UnarySign op) = Prefix (unary_form op)
-notation op = Called (Named (run_word op))
+-- event. One that is spelled by a type is called by that type, and any other by its word.
+abbrev pub notation : (type : Option TypeSpecifier) → Operator → Notation
+notation type (BinarySign op) = Infix (operator_form op)
+notation type (UnarySign op) = Prefix (unary_form op)
+notation type op = Called (unwrap_or type (Named (run_word op)))
 
 -- what is called, where a sign is not between two operands or before one, as it is in no module
 abbrev pub callee : Notation → TypeSpecifier

@@ -137,8 +137,9 @@ abbrev mutual
       Handles → Statements
   lines_form n told source k no_statements s = NoStatements
   lines_form n told source k (statement st b) s =
-      let behind = given_by n.function (statement_shape source.declared.around st) k in
-      line_form n told source k st s (lines_form n told source behind b (after n k (statement_shape source.declared.around st) s))
+      let shape = statement_shape source.declared.around st in
+      let behind = given_by n.function shape k in
+      line_form n told source k st s (lines_form n told source behind b (after n k shape s))
 
   -- a case that falls through has no lines, and gives its label to the next one: these wait for one
   pub cases_form :

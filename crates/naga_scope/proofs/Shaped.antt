@@ -1,7 +1,7 @@
 -- The shapes of a function's expressions have the kinds and the operands of these, and a `let` binds
 -- what is used as often as its kind asks.
 use Rattle.std.proofs.Common.{◌≡◌, ℕ, Bool, ◌||◌, true, false, List, [], ◌∷◌, map}
-use Rattle.std.proofs.Common.{get_or, nat_le, nat_lt, Option, Some, None, refl, sym, ap, ◌∙◌}
+use Rattle.std.proofs.Common.{length, get_or, nat_le, nat_lt, Option, Some, None, refl, sym, ap, ◌∙◌}
 use Rattle.std.specs.Prelude.{IsTrue, slice_get, if◌then◌else◌}
 use Rattle.std.specs.Option.{option_map_or}
 use Rattle.naga_ir.specs.Kinds.{kind_of}
@@ -22,12 +22,22 @@ use Rattle.shader_runs.specs.Program.{Function, expression_of, is_counted, binds
 use Rattle.shader_runs.specs.Scope.{Handles, Standing, is_present, is_constant_leaf, is_emittable}
 use Rattle.shader_runs.specs.Scope.{is_pure, usable, usable_as}
 use Rattle.shader_runs.specs.Value.{Selector}
-use Rattle.module_meaning.specs.ExpressionOperators.{Surroundings, points_to_atomic}
+use Rattle.naga_info.specs.declared.info.TypeResolution.TheVariants.{Handle}
+use Rattle.module_meaning.specs.ExpressionOperators.{Surroundings, cast, constructor, type_known}
+use Rattle.module_meaning.specs.ExpressionOperators.{points_to_atomic}
+use Rattle.module_meaning.specs.ExpressionShapes.{asking}
+use Rattle.module_meaning.specs.Shapes.{operator_shape}
+use Rattle.module_meaning.specs.OperatorTable.{asks, run_word}
+use Rattle.shader_runs.specs.Program.{no_constant}
+use Rattle.module_meaning.proofs.ExpressionShapes.{cast_asks, constructor_asks}
 use Rattle.module_meaning.specs.ExpressionShapes.{Declared, shape_of, applied_or, applied_shape}
 use Rattle.module_meaning.specs.ExpressionShapes.{part_selector, part_shape}
 use Rattle.module_meaning.specs.FunctionShapes.{function_shape}
 use Rattle.module_meaning.specs.OperatorTable.{Operator as TableOperator, AtomicLoad, BinarySign}
-use Rattle.module_meaning.specs.Part.{expression_is_written, function_is_written}
+use Rattle.module_meaning.specs.Part.{expression_is_written, function_is_written, types_allow}
+use Rattle.module_meaning.specs.Part.{types_allow_all}
+use Rattle.naga_form.proofs.AllowedParts.{selected}
+use Rattle.shader_runs.specs.Program.{greatest_count}
 use Rattle.module_meaning.specs.ShapeKinds.{shape_kind}
 use Rattle.module_meaning.specs.Surroundings.{declared, types_known}
 use Rattle.module_meaning.specs.Types.{declared_type}
@@ -143,19 +153,13 @@ module _ (m : Module) (info : ModuleInfo) (f : ir_function.Function) (es : List 
       is_emittable (expression_of shape h) ≡ is_emittable_kind (kind_at f.expressions h)
   emittable_at h = emittable_shape (expression_of shape h) ∙ tested is_emittable_kind refl h
 
-  -- an operator has its expression's operands
-  pub pure_operands : (h : ℕ) → is_pure_kind (kind_at f.expressions h) ≡ true →
+  -- a shape has the operands of its expression, where it has them by itself
+  operands_by : (h : ℕ) →
+      ((e : ir.Expression) → slice_get f.expressions h ≡ Some e →
+      operands_of (Some (shape_of d f.expressions h e)) ≡ expression_operands e) →
       operands_of (expression_of shape h) ≡ operands_at f.expressions h
-  pure_operands h pure = by (slice_get f.expressions h) refl
+  operands_by h own = by (slice_get f.expressions h) refl
     where
-      pure_own : (e : ir.Expression) → is_pure_kind (kind_of e) ≡ true →
-          operands_of (Some (shape_of d f.expressions h e)) ≡ expression_operands e
-      pure_own
-          (expression.ImageSample
-          image sampler gather coordinate array_index offset level depth_ref clamp) is =
-          absurd cc
-      pure_own e is = shape_operands d f.expressions h e refl
-
       by : (o : Option ir.Expression) → slice_get f.expressions h ≡ o →
           operands_of (expression_of shape h) ≡ operands_at f.expressions h
       by None at =
@@ -163,8 +167,23 @@ module _ (m : Module) (info : ModuleInfo) (f : ir_function.Function) (es : List 
           ∙ sym (ap (λ o. option_map_or expression_operands o []) at)
       by (Some e) at =
           ap operands_of (expression_at m info f es h e at)
-          ∙ (pure_own e (sym (ap (λ o. is_pure_kind (option_map_or kind_of o kind.Result)) at) ∙ pure)
-          ∙ sym (ap (λ o. option_map_or expression_operands o []) at))
+          ∙ (own e at ∙ sym (ap (λ o. option_map_or expression_operands o []) at))
+
+  -- an operator has its expression's operands
+  pub pure_operands : (h : ℕ) → is_pure_kind (kind_at f.expressions h) ≡ true →
+      operands_of (expression_of shape h) ≡ operands_at f.expressions h
+  pure_operands h pure =
+      operands_by h
+      (λ e at. own e
+      (sym (ap (λ o. is_pure_kind (option_map_or kind_of o kind.Result)) at) ∙ pure))
+    where
+      own : (e : ir.Expression) → is_pure_kind (kind_of e) ≡ true →
+          operands_of (Some (shape_of d f.expressions h e)) ≡ expression_operands e
+      own
+          (expression.ImageSample
+          image sampler gather coordinate array_index offset level depth_ref clamp) is =
+          absurd cc
+      own e is = shape_operands d f.expressions h e refl
 
   -- ---- what is in scope
   applied_usable : (op : TableOperator) (xs : List ℕ) (s : Standing) →
@@ -220,7 +239,7 @@ module _ (m : Module) (info : ModuleInfo) (f : ir_function.Function) (es : List 
 
     -- every expression has its own operands
     pub operands_are : (h : ℕ) → operands_of (expression_of shape h) ≡ operands_at f.expressions h
-    operands_are h = by (slice_get f.expressions h) refl
+    operands_are h = operands_by h (λ e at. own e (written_at h e at))
       where
         own : (e : ir.Expression) → expression_is_written e ≡ true →
             operands_of (Some (shape_of d f.expressions h e)) ≡ expression_operands e
@@ -229,16 +248,6 @@ module _ (m : Module) (info : ModuleInfo) (f : ir_function.Function) (es : List 
             image sampler gather coordinate array_index offset level depth_ref clamp) is =
             absurd cc
         own e is = shape_operands d f.expressions h e refl
-
-        by : (o : Option ir.Expression) → slice_get f.expressions h ≡ o →
-            operands_of (expression_of shape h) ≡ operands_at f.expressions h
-        by None at =
-            ap operands_of (no_expression_at m info f es h at)
-            ∙ sym (ap (λ o. option_map_or expression_operands o []) at)
-        by (Some e) at =
-            ap operands_of (expression_at m info f es h e at)
-            ∙ (own e (written_at h e at)
-            ∙ sym (ap (λ o. option_map_or expression_operands o []) at))
 
     -- how often a handle is used
     abbrev count : ℕ → ℕ
@@ -249,16 +258,32 @@ module _ (m : Module) (info : ModuleInfo) (f : ir_function.Function) (es : List 
         ap (λ b. b || nat_le least (count h))
         (none_is_given m info f es (function_parts f written).unnamed h)
 
+    -- an operator that asks for nothing is bound from the second use on
+    silent_binds : (h : ℕ) (op : TableOperator) (xs : List ℕ) → asks op ≡ false →
+        binds_as shape h (Some (applied_shape op xs)) ≡ is_counted shape 2 h
+    silent_binds h op xs silent =
+        ap
+        (λ b. binds_as shape h
+        (Some
+        (if b then Request (asking op) (run_word op) xs no_constant else operator_shape op xs)))
+        silent
+        ∙ operator_bound shape h op xs
+
     -- what an Emit may give is bound from its number of uses on
-    pub emitted_binds : (h : ℕ) (e : ir.Expression) → slice_get f.expressions h ≡ Some e →
+    pub emitted_binds : IsTrue (types_allow_all m.types f es) → (h : ℕ) (e : ir.Expression) →
+        slice_get f.expressions h ≡ Some e →
         is_emittable_kind (kind_of e) ≡ true → nat_le (count_to_bind e) (count h) ≡ binds shape h
-    emitted_binds h e at may =
-        sym (ap (binds_as shape h) (expression_at m info f es h e at) ∙ own e (written_at h e at) may)
+    emitted_binds allowed h e at may =
+        sym
+        (ap (binds_as shape h) (expression_at m info f es h e at)
+        ∙ own e (written_at h e at)
+        (list_all_at (types_allow m.types es) f.expressions h e allowed at) may)
       where
         own : (e : ir.Expression) → expression_is_written e ≡ true →
+            types_allow m.types es e ≡ true →
             is_emittable_kind (kind_of e) ≡ true →
             binds_as shape h (Some (shape_of d f.expressions h e)) ≡ nat_le (count_to_bind e) (count h)
-        own (expression.Load pointer) is may = by (points_to_atomic d.around pointer)
+        own (expression.Load pointer) is types may = by (points_to_atomic d.around pointer)
           where
             by : (atomic : Bool) →
                 binds_as shape h
@@ -268,17 +293,32 @@ module _ (m : Module) (info : ModuleInfo) (f : ir_function.Function) (es : List 
                 nat_le 1 (count h)
             by true = counted_from 1 h
             by false = counted_from 1 h
-        own (expression.Unary op expr) is may = counted_from 2 h
-        own (expression.Binary op left right) is may =
+        own (expression.Unary op expr) is types may = counted_from 2 h
+        own (expression.Binary op left right) is types may =
             operator_bound shape h (BinarySign op) (left ∷ right ∷ []) ∙ counted_from 2 h
-        own (expression.Select condition accept reject) is may = counted_from 2 h
-        own (expression.Splat size value) is may = counted_from 2 h
-        own (expression.Math fun arg arg1 arg2 arg3) is may = counted_from 2 h
-        own (expression.Relational fun argument) is may = counted_from 2 h
-        own (expression.Literal value) is may = absurd cc
-        own (expression.FunctionArgument number) is may = absurd cc
-        own (expression.LocalVariable handle) is may = absurd cc
-        own _ is may = absurd cc
+        own (expression.Compose ty components) is types may =
+            let op = constructor d.around (Handle ty) (length components.items) in
+            silent_binds h op components.items (constructor_asks d.around (Handle ty) _)
+            ∙ counted_from 2 h
+        own (expression.ZeroValue ty) is types may = absurd cc
+        own (expression.Access base index) is types may = counted_from greatest_count h
+        own (expression.AccessIndex base index) is types may =
+            ap (λ o. binds_as shape h (Some (part_shape base index o)))
+            (selected m info es base index types).1
+            ∙ counted_from greatest_count h
+        own (expression.Select condition accept reject) is types may = counted_from 2 h
+        own (expression.Splat size value) is types may = counted_from 2 h
+        own (expression.Swizzle size vector pattern) is types may = counted_from 2 h
+        own (expression.As operand kind convert) is types may =
+            let op = cast d.around kind convert (type_known d.around operand) in
+            silent_binds h op (operand ∷ []) (cast_asks d.around kind convert _)
+            ∙ counted_from 2 h
+        own (expression.Math fun arg arg1 arg2 arg3) is types may = counted_from 2 h
+        own (expression.Relational fun argument) is types may = counted_from 2 h
+        own (expression.Literal value) is types may = absurd cc
+        own (expression.FunctionArgument number) is types may = absurd cc
+        own (expression.LocalVariable handle) is types may = absurd cc
+        own _ is types may = absurd cc
 
     -- and nothing else is
     pub others_bind : (h : ℕ) → is_emittable_kind (kind_at f.expressions h) ≡ false →

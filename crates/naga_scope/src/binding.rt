@@ -4,7 +4,7 @@
 ghost use Rattle.std.specs.Prelude.{◌≡◌, List, get_or, map, slice_get, IsTrue};
 ghost use Rattle.std.specs.Option.{option_map};
 ghost use Rattle.module_meaning.specs.FunctionShapes.{function_shape};
-ghost use Rattle.module_meaning.specs.Part.{function_is_written};
+ghost use Rattle.module_meaning.specs.Part.{function_is_written, types_allow_all};
 ghost use Rattle.naga_info.specs.declared.info.ModuleInfo.{ModuleInfo};
 ghost use Rattle.naga_ir.specs.declared.module.Module.{Module};
 ghost use Rattle.shader_runs.specs.Program.{binds};
@@ -83,6 +83,7 @@ pub(crate) fn is_constant_leaf(kind: ExpressionKind) -> bool
 pub fn binds(function: &Function, info: &FunctionInfo, handle: Handle<Expression>) -> bool
     requires written { IsTrue (function_is_written function.now) }
     ensures { (m : Module) (known : ModuleInfo) →
+        IsTrue (types_allow_all m.types function.now info.now) →
         result ≡ binds (function_shape m known function.now info.now) handle }
 {
     match expression_at(function, handle) {

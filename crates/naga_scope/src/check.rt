@@ -4,6 +4,7 @@ ghost use Rattle.std.specs.Prelude.{◌≡◌, ◌-◌, ℕ, List, length, IsTru
 ghost use Rattle.module_meaning.specs.FunctionShapes.{function_shape, statement_shape};
 ghost use Rattle.module_meaning.specs.Namings.{function_naming};
 ghost use Rattle.module_meaning.specs.Part.{function_is_written, statement_is_written};
+ghost use Rattle.module_meaning.specs.Part.{types_allow_all};
 ghost use Rattle.module_meaning.specs.Surroundings.{declared, types_known};
 ghost use Rattle.naga_info.specs.declared.info.ExpressionInfo.{ExpressionInfo};
 ghost use Rattle.naga_ir.specs.StatementViews.{tree_of};
@@ -83,10 +84,12 @@ fn emit_holds(scope: &mut Scope, function: &Function, info: &FunctionInfo, range
     requires written { IsTrue (function_is_written function.now) }
     requires size { length scope.old ≡ length function.now.expressions }
     ensures fits { (names : NameMap) (m : Module) (known : ModuleInfo) (g k : ℕ) →
+        IsTrue (types_allow_all m.types function.now info.now) →
         let n = function_naming names m known g function.now info.now in
         result
         ≡ may_emit_all n k (from range.first (range.end - range.first)) (handles_of scope.old) }
-    ensures after { (names : NameMap) (m : Module) (known : ModuleInfo) (g k : ℕ) → IsTrue result →
+    ensures after { (names : NameMap) (m : Module) (known : ModuleInfo) (g k : ℕ) →
+        IsTrue (types_allow_all m.types function.now info.now) → IsTrue result →
         let n = function_naming names m known g function.now info.now in
         handles_of scope.new
         ≡ after_emit n k (from range.first (range.end - range.first)) (handles_of scope.old) }
@@ -114,10 +117,12 @@ fn statement_holds(
     requires written { IsTrue (function_is_written function.now) }
     requires size { length scope.old ≡ length function.now.expressions }
     ensures fits { (names : NameMap) (m : Module) (known : ModuleInfo) (g k : ℕ) →
+        IsTrue (types_allow_all m.types function.now info.now) →
         let n = function_naming names m known g function.now info.now in
         let around = (declared m known (types_known info.now)).around in
         result ≡ fits n k (statement_shape around (tree_of statement.now)) (handles_of scope.old) }
-    ensures after { (names : NameMap) (m : Module) (known : ModuleInfo) (g k : ℕ) → IsTrue result →
+    ensures after { (names : NameMap) (m : Module) (known : ModuleInfo) (g k : ℕ) →
+        IsTrue (types_allow_all m.types function.now info.now) → IsTrue result →
         let n = function_naming names m known g function.now info.now in
         let around = (declared m known (types_known info.now)).around in
         handles_of scope.new
@@ -142,6 +147,7 @@ pub(crate) fn function_holds(scope: &mut Scope, function: &Function, info: &Func
         handles_of scope.old ≡ at_start (function_shape m known function.now info.now) }
     requires size { length scope.old ≡ length function.now.expressions }
     ensures scope { (names : NameMap) (m : Module) (known : ModuleInfo) (g : ℕ) →
+        IsTrue (types_allow_all m.types function.now info.now) →
         result ≡ fits_function (function_naming names m known g function.now info.now) }
     ensures size { length scope.new ≡ length scope.old }
 {

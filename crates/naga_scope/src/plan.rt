@@ -4,6 +4,7 @@ ghost use Rattle.std.specs.Prelude.{◌≡◌, ◌<◌, List, IfErr, IfOk, IsTru
 ghost use Rattle.module_meaning.specs.Accepted.{is_accepted};
 ghost use Rattle.module_meaning.specs.FunctionShapes.{function_shape};
 ghost use Rattle.module_meaning.specs.Part.{function_is_written, is_written_so_far};
+ghost use Rattle.module_meaning.specs.Part.{types_allow_all};
 ghost use Rattle.module_meaning.specs.Premises.{OperandsStandBefore};
 ghost use Rattle.naga_info.specs.declared.info.ModuleInfo.{ModuleInfo};
 ghost use Rattle.naga_ir.specs.declared.module.Module.{Module};
@@ -85,8 +86,10 @@ impl Plan {
         requires ordered { OperandsStandBefore function.now.expressions }
         requires written { IsTrue (function_is_written function.now) }
         ensures ok { (m : Module) (known : ModuleInfo) →
+            IsTrue (types_allow_all m.types function.now info.now) →
             IfOk result (IsPlan (function_shape m known function.now info.now)) }
         ensures err { (m : Module) (known : ModuleInfo) →
+            IsTrue (types_allow_all m.types function.now info.now) →
             IfErr result (IsRefusalToPlan (function_shape m known function.now info.now)) }
     {
         let mut scope = Scope::start(alloc, function)?;

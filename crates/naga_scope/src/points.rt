@@ -5,7 +5,7 @@ ghost use Rattle.std.specs.Prelude.{IsTrue, IfOk, Some};
 ghost use Rattle.std.specs.Option.{option_map};
 ghost use Rattle.module_meaning.specs.FunctionShapes.{function_shape};
 ghost use Rattle.module_meaning.specs.Namings.{function_naming};
-ghost use Rattle.module_meaning.specs.Part.{function_is_written};
+ghost use Rattle.module_meaning.specs.Part.{function_is_written, types_allow_all};
 ghost use Rattle.module_meaning.specs.Premises.{OperandsStandBefore};
 ghost use Rattle.naga_info.specs.declared.info.ExpressionInfo.{ExpressionInfo};
 ghost use Rattle.naga_ir.specs.Operands.{expression_operands};
@@ -251,6 +251,7 @@ impl Scope {
     ) -> bool
         requires written { IsTrue (function_is_written function.now) }
         ensures { (m : Module) (known : ModuleInfo) →
+            IsTrue (types_allow_all m.types function.now info.now) →
             result ≡ may_emit (function_shape m known function.now info.now) handle
             (handles_of self.now) }
     {
@@ -269,6 +270,7 @@ impl Scope {
     ) -> Standing
         requires written { IsTrue (function_is_written function.now) }
         ensures { (m : Module) (known : ModuleInfo) →
+            IsTrue (types_allow_all m.types function.now info.now) →
             let shape = function_shape m known function.now info.now in
             let evaluated = expression_of shape handle in
             result ≡ emitted_standing (binds shape handle) (is_pure evaluated)
@@ -294,6 +296,7 @@ impl Scope {
         requires written { IsTrue (function_is_written function.now) }
         requires size { length self.old ≡ length function.now.expressions }
         ensures handles { (names : NameMap) (m : Module) (known : ModuleInfo) (g k : ℕ) →
+            IsTrue (types_allow_all m.types function.now info.now) →
             handles_of self.new ≡
             after_one (function_naming names m known g function.now info.now) k handle
             (handles_of self.old) }

@@ -3,7 +3,7 @@
 use Rattle.std.proofs.Common.{ap₂}
 use Rattle.std.proofs.Common.{◌≡◌, ℕ, zero, suc, ◌<◌, Bool, true, false, List, [], ◌∷◌, length, Option, Some}
 use Rattle.std.proofs.Common.{None, codes, refl, sym, ap, ◌∙◌, arith, get_or}
-use Rattle.std.specs.Prelude.{slice_get, if◌then◌else◌}
+use Rattle.std.specs.Prelude.{IsTrue, slice_get, if◌then◌else◌, unwrap_or}
 use Rattle.std.specs.Option.{option_map_or}
 use Rattle.naga_ir.specs.Operands.{expression_operands}
 use Rattle.naga_ir.specs.declared.expression.Expression as ir
@@ -13,16 +13,32 @@ use Rattle.naga_ir.specs.declared.operators.UnaryOperator as ir_unary
 use Rattle.shader_runs.specs.Premises.{AllBelow}
 use Rattle.shader_runs.specs.Scope.{Handles, Naming}
 use Rattle.wgsl_words.specs.Words.{operator_text, unary_text}
-use Rattle.naga_form.proofs.Operators.{operator_row, unary_row}
+use Rattle.naga_form.proofs.Operators.{constructor_called, operator_row, typed_notation}
+use Rattle.naga_form.proofs.Operators.{unary_row}
 use Rattle.module_meaning.specs.Names.{numbered_name}
-use Rattle.module_meaning.specs.ExpressionOperators.{applied_operator, load_operator}
+use Rattle.module_meaning.specs.ExpressionOperators.{applied_operator, constructor}
+use Rattle.module_meaning.specs.ExpressionOperators.{load_operator}
+use Rattle.module_meaning.specs.Part.{is_value_at}
+use Rattle.naga_info.specs.declared.info.TypeResolution.TheVariants.{Handle}
+use Rattle.module_meaning.specs.Names.{module_names}
+use Rattle.naga_form.proofs.WrittenTypes.{type_has_form}
+use Rattle.naga_form.specs.Expressions.{operator_type}
+use Rattle.naga_form.specs.TypeTrees.{type_tree}
+use Rattle.wgsl_text.specs.Types.{TypeSpecifier}
+use Rattle.wgsl_text.specs.Expressions.{Call}
+use Rattle.naga_wgsl_fns.specs.Types.{type_text}
+use Rattle.naga_wgsl_fns.specs.Expressions.{made_text, made_type}
+use Rattle.naga_wgsl_fns.specs.FunctionText.{type_names_of}
 use Rattle.module_meaning.specs.ExpressionOperators.{points_to_atomic}
-use Rattle.module_meaning.specs.ExpressionShapes.{Declared}
 use Rattle.module_meaning.specs.OperatorTable.{AtomicLoad, Operator}
-use Rattle.naga_form.specs.Operators.{Called, Infix, Prefix, applied_form, notation}
+use Rattle.module_meaning.specs.OperatorTable.{WithoutForm}
+use Rattle.naga_form.specs.Operators.{Called, Infix, Notation, Prefix, applied_form, notation}
 use Rattle.naga_form.specs.Operators.{operator_form}
 use Rattle.naga_form.specs.Operators.{unary_form}
 use Rattle.module_meaning.specs.Premises.{OperandsStandBefore}
+use Rattle.module_meaning.specs.ExpressionShapes.{swizzle_letters}
+use Rattle.naga_wgsl_fns.specs.Expressions.{member_text}
+use Rattle.wgsl_text.specs.Expressions.{Member}
 use Rattle.wgsl_text.specs.Expressions.{Constant, Expression, Name, Dereference}
 use Rattle.wgsl_text.specs.Expressions.{operands as arguments_of}
 use Rattle.wgsl_text.specs.Literals.{Truth}
@@ -50,14 +66,18 @@ use Rattle.naga_wgsl_fns.specs.Expressions.{address_text, applied_text, called_t
 use Rattle.naga_wgsl_fns.specs.Expressions.{next_operand_text, operands_at, operands_left}
 use Rattle.naga_wgsl_fns.specs.Expressions.{operands_text, own_form, own_text}
 use Rattle.naga_wgsl_fns.specs.Expressions.{pointed_text, reference_text, value_text}
+use Rattle.naga_wgsl_fns.proofs.PartForms.{part_form, referred_part, valued_part}
 use Rattle.naga_wgsl_fns.proofs.Wanted.{ordered, points_to_none}
+use Rattle.naga_wgsl_fns.specs.Expressions.{base_of, part_reference_text, part_value_text}
+use Rattle.naga_wgsl_fns.specs.Expressions.{plain_address_text, plain_text, plain_tree}
+use Rattle.naga_form.specs.Expressions.{part_plain, points, selected_part}
+use Rattle.module_meaning.specs.ExpressionShapes.{part_selector}
+use Rattle.module_meaning.specs.OperatorTable.{PartAt}
+use Rattle.wgsl_text.specs.Expressions.{Index}
 use Rattle.wgsl_text.proofs.Types.{named_text}
 
 -- ---- a handle's form by its operands' forms, where operands stand before it
 module _ (n : Naming) (code : Source) (before : OperandsStandBefore code.expressions) (s : Handles) where
-  abbrev d : Declared
-  d = code.declared
-
   operands_same : (a b : ℕ → PlainForm) (h : ℕ) (hs : List ℕ) → AllBelow h hs →
       ((x : ℕ) → x < h → a x ≡ b x) → value_forms a hs ≡ value_forms b hs
   operands_same a b h [] below same = refl
@@ -65,29 +85,42 @@ module _ (n : Naming) (code : Source) (before : OperandsStandBefore code.express
       λ i. as_value (same x below.0 i) ∷ operands_same a b h xs below.1 same i
 
   applied_same : (a b : ℕ → PlainForm) (h : ℕ) → ((x : ℕ) → x < h → a x ≡ b x) →
-      (one other : PlainForm) → one ≡ other → (hs : List ℕ) → AllBelow h hs →
-      (o : Option Operator) → applied_plain one a hs o ≡ applied_plain other b hs o
-  applied_same a b h same one other alike hs below None = alike
-  applied_same a b h same one other alike hs below (Some op) =
-      ap (λ es. ValueForm (applied_form (notation op) es)) (operands_same a b h hs below same)
+      (one other : PlainForm) → one ≡ other → (type : Option TypeSpecifier) (hs : List ℕ) →
+      AllBelow h hs → (o : Option Operator) →
+      applied_plain one type a hs o ≡ applied_plain other type b hs o
+  applied_same a b h same one other alike type hs below None = alike
+  applied_same a b h same one other alike type hs below (Some op) =
+      ap (λ es. ValueForm (applied_form (notation type op) es)) (operands_same a b h hs below same)
 
   own_same : (a b : ℕ → PlainForm) (h : ℕ) (e : ir.Expression) →
       AllBelow h (expression_operands e) → ((x : ℕ) → x < h → a x ≡ b x) →
-      own_plain n d a e ≡ own_plain n d b e
+      own_plain n code a e ≡ own_plain n code b e
   own_same a b h (expression.Load p) below same =
       applied_same a b h same (ValueForm (as_reference (a p))) (ValueForm (as_reference (b p)))
-      (ap (λ q. ValueForm (as_reference q)) (same p below.0)) (p ∷ []) below
-      (load_operator d.around p)
+      (ap (λ q. ValueForm (as_reference q)) (same p below.0)) None (p ∷ []) below
+      (load_operator code.declared.around p)
+  own_same a b h (expression.ZeroValue ty) below same = refl
+  own_same a b h (expression.Access base index) below same =
+      λ i. part_plain (points code.declared.around base)
+      (λ e. Index e (as_value (same index below.1.0 i))) (same base below.0 i)
+  own_same a b h (expression.AccessIndex base index) below same =
+      λ i. option_map_or
+      (λ x. part_plain (points code.declared.around base) (selected_part x) (same base below.0 i))
+      (part_selector code.declared base index)
+      (applied_same a b h same no_form no_form refl None (base ∷ []) below
+      (Some (WithoutForm (PartAt index))) i)
+  own_same a b h (expression.Swizzle size v pattern) below same =
+      ap (λ q. ValueForm (Member (as_value q) (swizzle_letters size pattern))) (same v below.0)
   own_same a b h (expression.Literal value) below same = refl
   own_same a b h (expression.FunctionArgument number) below same = refl
   own_same a b h (expression.LocalVariable handle) below same = refl
   own_same a b h e below same =
-      applied_same a b h same no_form no_form refl (expression_operands e) below
-      (applied_operator d.around e)
+      applied_same a b h same no_form no_form refl (operator_type code.declared.around code.type_names e)
+      (expression_operands e) below (applied_operator code.declared.around e)
 
   own_if_same : (a b : ℕ → PlainForm) (h : ℕ) (o : Option ir.Expression) →
       slice_get code.expressions h ≡ o → ((x : ℕ) → x < h → a x ≡ b x) →
-      own_if n d a o ≡ own_if n d b o
+      own_if n code a o ≡ own_if n code b o
   own_if_same a b h None at same = refl
   own_if_same a b h (Some e) at same = own_same a b h e (before h e at) same
 
@@ -109,7 +142,7 @@ module _ (n : Naming) (code : Source) (before : OperandsStandBefore code.express
       by : (k : ℕ) → h < k →
           plain_below n code s k h ≡
           standing_plain (s h)
-          (own_if n d (plain_below n code s k) (slice_get code.expressions h))
+          (own_if n code (plain_below n code s k) (slice_get code.expressions h))
       by zero lt = absurd (omega (arith, lt))
       by (suc k) lt =
           ap (standing_plain (s h))
@@ -119,7 +152,7 @@ module _ (n : Naming) (code : Source) (before : OperandsStandBefore code.express
 
 -- ---- rows
 -- a handle's form, by its cell in the table
-cell_form : (f : FunctionText) (table : List Standing) (handle : ℕ) → CanWrite f → handle < length (expressions f)
+pub cell_form : (f : FunctionText) (table : List Standing) (handle : ℕ) → CanWrite f → handle < length (expressions f)
     → plain_form (naming f) (source f) (handles_of table) handle ≡ standing_plain (standing_of (numbered_name handle) (get_or table handle Absent)) (own_form f table handle)
 cell_form f table handle can lt = plain_level (naming f) (source f) (ordered f can) (handles_of table) handle lt
 
@@ -141,80 +174,119 @@ value_row f table handle can lt = ap (λ form. expression_layout (as_value form)
 
 -- what is applied, in its notation
 abbrev pub application_at :
-    FunctionText → (table : List Standing) → List ℕ → Option Operator → List ℕ
-application_at f table hs (Some op) = applied_text f table (notation op) hs
-application_at f table hs None = expression_layout (as_value no_form)
+    FunctionText → (table : List Standing) → (type : Option TypeSpecifier) → List ℕ →
+    Option Operator → List ℕ
+application_at f table type hs (Some op) = applied_text f table (notation type op) hs
+application_at f table type hs None = expression_layout (as_value no_form)
 
 -- what an expression is made of, by its kind
-abbrev pub own_at : FunctionText → (table : List Standing) → Option ir.Expression → List ℕ
-own_at f table (Some (expression.Literal value)) = literal_text value
-own_at f table (Some (expression.FunctionArgument number)) = name_of_argument f number
-own_at f table (Some (expression.LocalVariable local)) = address_text f local
-own_at f table (Some (expression.Load pointer)) = reference_text f table pointer
-own_at f table (Some e) =
-    application_at f table (expression_operands e) (applied_operator (around f) e)
-own_at f table None = expression_layout (as_value no_form)
+abbrev pub own_at : FunctionText → (table : List Standing) → (handle : ℕ) → Option ir.Expression →
+    List ℕ
+own_at f table handle (Some (expression.Literal value)) = literal_text value
+own_at f table handle (Some (expression.ZeroValue ty)) =
+    applied_text f table
+    (notation (type_tree (type_names_of f) ty) (constructor (around f) (Handle ty) 0)) []
+own_at f table handle (Some (expression.Access base index)) =
+    part_value_text f table handle base
+own_at f table handle (Some (expression.AccessIndex base index)) =
+    part_value_text f table handle base
+own_at f table handle (Some (expression.FunctionArgument number)) = name_of_argument f number
+own_at f table handle (Some (expression.LocalVariable local)) = address_text f local
+own_at f table handle (Some (expression.Swizzle size vector pattern)) =
+    member_text f table vector (swizzle_letters size pattern)
+own_at f table handle (Some (expression.Load pointer)) = reference_text f table pointer
+own_at f table handle (Some e) =
+    application_at f table (operator_type (around f) (type_names_of f) e) (expression_operands e)
+    (applied_operator (around f) e)
+own_at f table handle None = expression_layout (as_value no_form)
 
 pub own_row : (f : FunctionText) (table : List Standing) (handle : ℕ) → CanWrite f →
-    own_text f table handle ≡ own_at f table (slice_get (expressions f) handle)
-unfolding own_text literal_text name_of_argument address_text reference_text applied_text
-own_row f table handle can = by (slice_get (expressions f) handle)
+    own_text f table handle ≡ own_at f table handle (slice_get (expressions f) handle)
+unfolding own_text literal_text name_of_argument address_text reference_text applied_text member_text part_value_text plain_address_text plain_text
+own_row f table handle can = by (slice_get (expressions f) handle) refl
   where
     operand : ℕ → PlainForm
     operand = plain_form (naming f) (source f) (handles_of table)
 
-    applied : (hs : List ℕ) (o : Option Operator) →
-        expression_layout (as_value (applied_plain no_form operand hs o)) ≡
-        application_at f table hs o
-    applied hs None = refl
-    applied hs (Some op) = refl
+    applied : (type : Option TypeSpecifier) (hs : List ℕ) (o : Option Operator) →
+        expression_layout (as_value (applied_plain no_form type operand hs o)) ≡
+        application_at f table type hs o
+    applied type hs None = refl
+    applied type hs (Some op) = refl
 
     loaded : (pointer : ℕ) (atomic : Bool) → atomic ≡ false →
         expression_layout
         (as_value
-        (applied_plain (ValueForm (as_reference (operand pointer))) operand (pointer ∷ [])
+        (applied_plain (ValueForm (as_reference (operand pointer))) None operand (pointer ∷ [])
         (if atomic then Some AtomicLoad else None))) ≡
         expression_layout (as_reference (operand pointer))
     loaded pointer false plain = refl
     loaded pointer true plain = absurd cc
 
-    by : (e : Option ir.Expression) →
-        expression_layout (as_value (own_if (naming f) (source f).declared operand e)) ≡
-        own_at f table e
-    by (Some (expression.Literal value)) = refl
-    by (Some (expression.FunctionArgument number)) = name_text (name_of_argument f number)
-    by (Some (expression.LocalVariable local)) = refl
-    by (Some (expression.Load pointer)) =
+    parted : (e : Option ir.Expression) → slice_get (expressions f) handle ≡ e → (base : ℕ) →
+        base_of e ≡ Some base →
+        expression_layout (as_value (own_if (naming f) (source f) operand e)) ≡
+        part_value_text f table handle base
+    parted e at base is =
+        let p = part_form f table can handle e at base is in
+        let same = ap (own_if (naming f) (source f) operand) at in
+        ap (λ q. expression_layout (as_value q)) (sym same)
+        ∙ valued_part (points (around f) base) p.part (operand base) (own_form f table handle)
+        (same ∙ p.is)
+
+    by : (e : Option ir.Expression) → slice_get (expressions f) handle ≡ e →
+        expression_layout (as_value (own_if (naming f) (source f) operand e)) ≡
+        own_at f table handle e
+    by (Some (expression.Access base index)) at =
+        parted (Some (expression.Access base index)) at base refl
+    by (Some (expression.AccessIndex base index)) at =
+        parted (Some (expression.AccessIndex base index)) at base refl
+    by (Some (expression.Literal value)) at = refl
+    by (Some (expression.FunctionArgument number)) at = name_text (name_of_argument f number)
+    by (Some (expression.LocalVariable local)) at = refl
+    by (Some (expression.Load pointer)) at =
         loaded pointer (points_to_atomic (around f) pointer) (points_to_none f can pointer)
-    by (Some e) = applied (expression_operands e) (applied_operator (around f) e)
-    by None = refl
+    by (Some (expression.ZeroValue ty)) at = refl
+    by (Some (expression.Swizzle size vector pattern)) at = refl
+    by (Some e) at =
+        applied (operator_type (around f) (type_names_of f) e) (expression_operands e)
+        (applied_operator (around f) e)
+    by None at = refl
 
--- a reference, by its cell and its kind and by what its value points at
-abbrev local_or : FunctionText → (pointed : List ℕ) → Option ir.Expression → List ℕ
-local_or f pointed (Some (expression.LocalVariable local)) = name_of_local f local
-local_or f pointed _ = pointed
+-- a reference, by its cell and its kind
+abbrev reference_by : FunctionText → (table : List Standing) → (handle : ℕ) → Option ir.Expression →
+    List ℕ
+reference_by f table handle (Some (expression.LocalVariable local)) = name_of_local f local
+reference_by f table handle (Some (expression.Access base index)) =
+    part_reference_text f table handle base
+reference_by f table handle (Some (expression.AccessIndex base index)) =
+    part_reference_text f table handle base
+reference_by f table handle _ = pointed_text f table handle
 
-abbrev pub reference_at : FunctionText → (pointed : List ℕ) → (cell : Standing) → Option ir.Expression → List ℕ
-reference_at f pointed Named e = pointed
-reference_at f pointed _ e = local_or f pointed e
+abbrev pub reference_at : FunctionText → (table : List Standing) → (handle : ℕ) → (cell : Standing) →
+    Option ir.Expression → List ℕ
+reference_at f table handle Named e = pointed_text f table handle
+reference_at f table handle _ e = reference_by f table handle e
 
-pub reference_row : (f : FunctionText) (table : List Standing) (handle : ℕ) → CanWrite f → handle < length (expressions f)
-    → reference_text f table handle ≡ reference_at f (pointed_text f table handle) (get_or table handle Absent) (slice_get (expressions f) handle)
-unfolding reference_text pointed_text name_of_local
+pub reference_row : (f : FunctionText) (table : List Standing) (handle : ℕ) → CanWrite f →
+    handle < length (expressions f) →
+    reference_text f table handle ≡
+    reference_at f table handle (get_or table handle Absent) (slice_get (expressions f) handle)
+unfolding reference_text pointed_text name_of_local part_reference_text plain_text
 reference_row f table handle can lt =
-    ap (λ form. expression_layout (as_reference form)) is ∙ by cell ∙ ap (λ pointed. reference_at f pointed cell e) (ap (λ form. expression_layout (Dereference (as_value form))) (sym is))
+    ap (λ form. expression_layout (as_reference form)) is ∙ by cell is
   where
     cell : Standing
     cell = get_or table handle Absent
-
-    e : Option ir.Expression
-    e = slice_get (expressions f) handle
 
     operand : ℕ → PlainForm
     operand = plain_form (naming f) (source f) (handles_of table)
 
     own : Option ir.Expression → PlainForm
-    own o = own_if (naming f) (source f).declared operand o
+    own o = own_if (naming f) (source f) operand o
+
+    e : Option ir.Expression
+    e = slice_get (expressions f) handle
 
     form : Standing → PlainForm
     form c = standing_plain (standing_of (numbered_name handle) c) (own e)
@@ -222,30 +294,64 @@ reference_row f table handle can lt =
     is : plain_form (naming f) (source f) (handles_of table) handle ≡ form cell
     is = cell_form f table handle can lt
 
-    valued : (one : Expression) (hs : List ℕ) (o : Option Operator) →
-        as_reference (applied_plain (ValueForm one) operand hs o) ≡
-        Dereference (as_value (applied_plain (ValueForm one) operand hs o))
-    valued one hs None = refl
-    valued one hs (Some op) = refl
+    valued : (one : Expression) (type : Option TypeSpecifier) (hs : List ℕ) (o : Option Operator) →
+        as_reference (applied_plain (ValueForm one) type operand hs o) ≡
+        Dereference (as_value (applied_plain (ValueForm one) type operand hs o))
+    valued one type hs None = refl
+    valued one type hs (Some op) = refl
 
-    kind : (o : Option ir.Expression) → expression_layout (as_reference (own o)) ≡ local_or f (expression_layout (Dereference (as_value (own o)))) o
-    kind (Some (expression.LocalVariable local)) = name_text (name_of_local f local)
-    kind (Some (expression.Literal value)) = refl
-    kind (Some (expression.FunctionArgument number)) = refl
-    kind (Some (expression.Load pointer)) =
-        ap expression_layout
-        (valued (as_reference (operand pointer)) (pointer ∷ []) (load_operator (around f) pointer))
-    kind (Some e) =
-        ap expression_layout
-        (valued (Constant (Truth false)) (expression_operands e) (applied_operator (around f) e))
-    kind None = refl
+    -- where the handle's form is its own
+    pointed : form_at f table handle ≡ own e →
+        expression_layout (Dereference (as_value (own e))) ≡ pointed_text f table handle
+    pointed mine = ap (λ q. expression_layout (Dereference (as_value q))) (sym mine)
 
-    by : (c : Standing) → expression_layout (as_reference (form c)) ≡ reference_at f (expression_layout (Dereference (as_value (form c)))) c e
-    by Named = refl
-    by Absent = kind e
-    by Barred = kind e
-    by Everywhere = kind e
-    by Inline = kind e
+    pointed_by : form_at f table handle ≡ own e → (o : Option ir.Expression) → e ≡ o →
+        as_reference (own o) ≡ Dereference (as_value (own o)) →
+        expression_layout (as_reference (own o)) ≡ pointed_text f table handle
+    pointed_by mine o at value =
+        ap expression_layout value
+        ∙ (ap (λ o. expression_layout (Dereference (as_value (own o)))) (sym at) ∙ pointed mine)
+
+    parted : form_at f table handle ≡ own e → (o : Option ir.Expression) → e ≡ o → (base : ℕ) → base_of o ≡ Some base →
+        expression_layout (as_reference (own o)) ≡ part_reference_text f table handle base
+    parted mine o at base here =
+        let p = part_form f table can handle o at base here in
+        let b = points (around f) base in
+        ap (λ o. expression_layout (as_reference (own o))) (sym at)
+        ∙ (referred_part b p.part (operand base) (own e) (ap own at ∙ p.is)
+        ∙ ap (λ w. if b then expression_layout (plain_tree (own e)) else w) (pointed mine))
+
+    kind : form_at f table handle ≡ own e → (o : Option ir.Expression) → e ≡ o →
+        expression_layout (as_reference (own o)) ≡ reference_by f table handle o
+    kind mine (Some (expression.LocalVariable local)) at = name_text (name_of_local f local)
+    kind mine (Some (expression.Access base index)) at =
+        parted mine (Some (expression.Access base index)) at base refl
+    kind mine (Some (expression.AccessIndex base index)) at =
+        parted mine (Some (expression.AccessIndex base index)) at base refl
+    kind mine (Some (expression.Literal value)) at =
+        pointed_by mine (Some (expression.Literal value)) at refl
+    kind mine (Some (expression.ZeroValue ty)) at = pointed_by mine (Some (expression.ZeroValue ty)) at refl
+    kind mine (Some (expression.Swizzle size vector pattern)) at =
+        pointed_by mine (Some (expression.Swizzle size vector pattern)) at refl
+    kind mine (Some (expression.FunctionArgument number)) at =
+        pointed_by mine (Some (expression.FunctionArgument number)) at refl
+    kind mine (Some (expression.Load pointer)) at =
+        pointed_by mine (Some (expression.Load pointer)) at
+        (valued (as_reference (operand pointer)) None (pointer ∷ [])
+        (load_operator (around f) pointer))
+    kind mine (Some x) at =
+        pointed_by mine (Some x) at
+        (valued (Constant (Truth false)) (operator_type (around f) (type_names_of f) x)
+        (expression_operands x) (applied_operator (around f) x))
+    kind mine None at = pointed_by mine None at refl
+
+    by : (c : Standing) → form_at f table handle ≡ form c →
+        expression_layout (as_reference (form c)) ≡ reference_at f table handle c e
+    by Named mine = ap (λ q. expression_layout (Dereference (as_value q))) (sym mine)
+    by Absent mine = kind mine e refl
+    by Barred mine = kind mine e refl
+    by Everywhere mine = kind mine e refl
+    by Inline mine = kind mine e refl
 
 pub prefix_row : (f : FunctionText) (table : List Standing) (op : ir_unary.UnaryOperator)
     (operand : ℕ)
@@ -282,6 +388,48 @@ called_row f table word handle =
     call_row_text (NamedType word) (arguments_of (value_forms (form_at f table) (operands_at f handle)))
     ∙ ap (λ w. joined_texts w (joined_texts (codes "(") (operands_left f table true (operands_at f handle)))) (named_text word)
 
+pub made_row : (f : FunctionText) (table : List Standing) (ty handle : ℕ)
+    → made_text f table (made_type f ty) handle ≡
+    joined_texts (type_text f ty) (joined_texts (codes "(") (operands_text f table handle))
+unfolding made_text type_text operands_text joined_texts
+made_row f table ty handle =
+    call_row_text (made_type f ty) (arguments_of (value_forms (form_at f table) (operands_at f handle)))
+
+-- what an expression is made of whose operator is called by a type
+pub own_typed : (f : FunctionText) (table : List Standing) (handle : ℕ) (e own : ir.Expression)
+    (t : TypeSpecifier) (n : Notation) → CanWrite f → n ≡ Called t →
+    slice_get (expressions f) handle ≡ Some e → e ≡ own →
+    own_at f table handle (Some own) ≡ applied_text f table n (expression_operands own) →
+    made_text f table t handle ≡ own_text f table handle
+unfolding made_text applied_text
+own_typed f table handle e own t n can called here is made =
+    let there = here ∙ ap Some is in
+    let es : List Expression = value_forms (form_at f table) (expression_operands own) in
+    ap
+    (λ o. expression_layout
+    (Call t (arguments_of (value_forms (form_at f table) (option_map_or expression_operands o [])))))
+    there
+    ∙ sym (ap (λ n. expression_layout (applied_form n es)) called)
+    ∙ sym (own_row f table handle can ∙ (ap (own_at f table handle) there ∙ made))
+
+-- or makes a value of a type of the module
+pub own_made : (f : FunctionText) (table : List Standing) (handle ty components : ℕ)
+    (e own : ir.Expression) → CanWrite f → IsTrue (is_value_at f.shader.now.types ty) →
+    slice_get (expressions f) handle ≡ Some e → e ≡ own →
+    own_at f table handle (Some own) ≡
+    applied_text f table
+    (notation (type_tree (type_names_of f) ty) (constructor (around f) (Handle ty) components))
+    (expression_operands own) →
+    made_text f table (made_type f ty) handle ≡ own_text f table handle
+own_made f table handle ty components e own can value here is made =
+    let form = type_has_form f.shader.now.types ty value in
+    let tree = form.is (module_names f.shader.now) in
+    ap (λ o. made_text f table (unwrap_or o (NamedType [])) handle) tree
+    ∙ own_typed f table handle e own form.tree _ can
+    (typed_notation _ (constructor_called (around f) (Handle ty) components)
+    (type_tree (type_names_of f) ty) form.tree tree)
+    here is made
+
 pub next_operand_row : (f : FunctionText) (table : List Standing) (first : Bool) (operand : ℕ)
     → next_operand_text f table first operand ≡
     joined_texts (if first then [] else codes ", ") (value_text f table operand)
@@ -313,7 +461,7 @@ operands_start f table handle = refl
 pub own_called : (f : FunctionText) (table : List Standing) (handle : ℕ) (e own : ir.Expression)
     (word its : List ℕ) → CanWrite f → slice_get (expressions f) handle ≡ Some e → e ≡ own →
     word ≡ its →
-    own_at f table (Some own) ≡
+    own_at f table handle (Some own) ≡
     applied_text f table (Called (NamedType its)) (expression_operands own) →
     called_text f table word handle ≡ own_text f table handle
 unfolding called_text
@@ -322,7 +470,7 @@ own_called f table handle e own word its can here is named called =
     ap₂
     (λ w o. applied_text f table (Called (NamedType w)) (option_map_or expression_operands o []))
     named there
-    ∙ sym (own_row f table handle can ∙ (ap (own_at f table) there ∙ called))
+    ∙ sym (own_row f table handle can ∙ (ap (own_at f table handle) there ∙ called))
 
 pub address_row : (f : FunctionText) (local : ℕ) → address_text f local ≡ joined_texts (codes "(&") (joined_texts (name_of_local f local) (codes ")"))
 unfolding address_text name_of_local joined_texts

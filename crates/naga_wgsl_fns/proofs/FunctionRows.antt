@@ -41,7 +41,7 @@ use Rattle.wgsl_text.proofs.Functions.{function_text as function_row_text}
 use Rattle.naga_names.specs.Keys.{names_in}
 use Rattle.shader_runs.specs.Scope.{Handles}
 use Rattle.module_meaning.specs.Names.{HasNamesOf, module_names}
-use Rattle.module_meaning.proofs.Part.{written_so_far_parts}
+use Rattle.module_meaning.proofs.Part.{functions_allow, written_so_far_parts}
 use Rattle.naga_scope.specs.declared.points.Standing.{Standing}
 use Rattle.naga_words.specs.declared.error.TypeTextError.{TypeTextError}
 use Rattle.naga_words.specs.declared.error.TypeTextError.TheVariants.{Sink, Memory, NoForm}
@@ -108,6 +108,7 @@ can_write t info accepted written named here known =
       size = one_is_known m info accepted t.handle f t.info.now here known;
       known = list_all_at (list_all (λ k. resolution_is_written m.types k.ty)) info.functions.items t.handle t.info.now part.3 known;
       written = list_all_at function_is_written m.functions t.handle f part.2 here;
+      allowed = functions_allow m info written t.handle f t.info.now here known;
     }
 
 -- the text of a function that there is

@@ -1,8 +1,11 @@
 pub mod Appending
+pub mod ConversionRows
 pub mod ExpressionRows
 pub mod FunctionRows
 pub mod Literals
 pub mod NameRows
+pub mod PartForms
+pub mod PartRows
 pub mod StatementRows
 pub mod TypeRows
 pub mod Wanted

@@ -122,6 +122,9 @@ module _ (types : List Type_) where
       record { in_range = omega arith; knows = refl }
   inner_fits names (inner.Pointer base space.Function) is = let lt = value_within base is in record { in_range = omega (arith, lt); knows = refl }
   inner_fits names (inner.Pointer base _) is = absurd (cc)
+  inner_fits names (inner.ValuePointer size s space.Function) is =
+      record { in_range = omega arith; knows = refl }
+  inner_fits names (inner.ValuePointer size s _) is = absurd (cc)
   inner_fits names _ is = absurd (cc)
 
   pub resolution_fits : (names : NameMap) (r : TypeResolution) → IsTrue (resolution_is_written types r) → FitsResolution (names_context types names) r

@@ -1,12 +1,32 @@
 -- The texts of expressions, by the table of what is in scope where they are written.
 use Rattle.std.specs.Prelude.{ℕ, Bool, true, false, List, [], ◌++◌, codes, slice_get}
-use Rattle.std.specs.Prelude.{if◌then◌else◌}
+use Rattle.std.specs.Prelude.{if◌then◌else◌, nat_lt, decimal, Option, Some, None, unwrap_or}
+use Rattle.naga_ir.specs.declared.expression.Expression as ir
+use Rattle.naga_ir.specs.declared.expression.Expression.TheVariants as expression
+use Rattle.naga_form.specs.Expressions.{ValueForm, ReferenceForm, points}
+use Rattle.module_meaning.specs.ExpressionOperators.{type_known, type_with}
+use Rattle.module_meaning.specs.ExpressionShapes.{part_selector}
+use Rattle.naga_ir.specs.declared.types.Type_.{Type_}
+use Rattle.naga_ir.specs.declared.types.TypeInner.{TypeInner}
+use Rattle.naga_ir.specs.declared.types.TypeInner.TheVariants as inner
+use Rattle.naga_wgsl_fns.specs.FunctionText.{around}
+use Rattle.shader_runs.specs.Value.{Selector, MemberNamed, ElementAt}
 use Rattle.std.specs.Option.{option_map_or}
 use Rattle.naga_ir.specs.Operands.{expression_operands}
-use Rattle.wgsl_text.specs.Expressions.{Name, AddressOf, Dereference, arguments_pieces}
+use Rattle.wgsl_text.specs.Expressions.{Expression, Name, AddressOf, Call, Dereference, Member}
+use Rattle.wgsl_text.specs.Expressions.{Unary, arguments_pieces, base_pieces, expression_pieces}
+use Rattle.module_meaning.specs.ExpressionShapes.{letter}
+use Rattle.module_meaning.specs.TypeIdentity.{vector_number}
+use Rattle.naga_ir.specs.declared.expression.SwizzleComponent.{SwizzleComponent}
+use Rattle.naga_ir.specs.declared.types.VectorSize.{VectorSize}
 use Rattle.wgsl_text.specs.Expressions.{more_arguments_pieces, operands as arguments_of}
 use Rattle.wgsl_text.specs.Text.{text}
-use Rattle.wgsl_text.specs.Types.{Named}
+use Rattle.wgsl_text.specs.Types.{Named, TypeSpecifier}
+use Rattle.wgsl_text.specs.Reading.{type_layout}
+use Rattle.naga_form.specs.Expressions.{operator_type}
+use Rattle.naga_info.specs.declared.info.TypeResolution.{TypeResolution}
+use Rattle.naga_ir.specs.declared.types.ScalarKind.{ScalarKind}
+use Rattle.naga_wgsl_fns.specs.Types.{resolution_text}
 use Rattle.naga_form.specs.Expressions.{PlainForm, as_value, as_reference, value_forms}
 use Rattle.naga_form.specs.Expressions.{plain_form, unnamed_form}
 use Rattle.naga_form.specs.Operators.{Notation, Called, applied_form}
@@ -14,7 +34,8 @@ use Rattle.naga_scope.specs.declared.points.Standing.{Standing}
 use Rattle.naga_scope.specs.Standings.{handles_of}
 use Rattle.wgsl_text.specs.Reading.{expression_layout}
 use Rattle.naga_wgsl_fns.specs.declared.functions.FunctionText.{FunctionText}
-use Rattle.naga_wgsl_fns.specs.FunctionText.{expressions, naming, source}
+use Rattle.naga_form.specs.Types.{type_form}
+use Rattle.naga_wgsl_fns.specs.FunctionText.{expressions, naming, source, type_names_of}
 
 -- the form of a handle
 abbrev pub form_at : FunctionText → (table : List Standing) → (handle : ℕ) → PlainForm
@@ -73,8 +94,154 @@ unfoldable pub applied_text : FunctionText → (table : List Standing) → Notat
 applied_text f table notation operands =
     expression_layout (applied_form notation (value_forms (form_at f table) operands))
 
+-- a value of a type, made of the operands of an expression
+unfoldable pub made_text : FunctionText → (table : List Standing) → (type : TypeSpecifier) →
+    (handle : ℕ) → List ℕ
+made_text f table type handle =
+    expression_layout
+    (Call type (arguments_of (value_forms (form_at f table) (operands_at f handle))))
+
+-- a type of the module, where a value of it is made
+abbrev pub made_type : FunctionText → (ty : ℕ) → TypeSpecifier
+made_type f ty = type_form (type_names_of f) ty
+
+-- what a conversion is called by: the type of its value, or `bitcast` to that
+abbrev pub conversion_callee : FunctionText → (operand : ℕ) → ScalarKind → (convert : Option ℕ) →
+    TypeSpecifier
+conversion_callee f operand kind convert =
+    unwrap_or
+    (operator_type (around f) (type_names_of f) (expression.As operand kind convert)) (Named [])
+
+unfoldable pub callee_text : FunctionText → (operand : ℕ) → ScalarKind → (convert : Option ℕ) →
+    List ℕ
+callee_text f operand kind convert = type_layout (conversion_callee f operand kind convert)
+
+unfoldable pub bitcast_text : FunctionText → TypeResolution → List ℕ
+bitcast_text f ty = codes "bitcast<" ++ (resolution_text f ty ++ codes ">")
+
+unfoldable pub cast_text : FunctionText → (bits : Bool) → TypeResolution → List ℕ
+cast_text f bits ty = if bits then bitcast_text f ty else resolution_text f ty
+
 -- a word that is called with the operands of an expression
 unfoldable pub called_text : FunctionText → (table : List Standing) → (word : List ℕ) →
     (handle : ℕ) → List ℕ
 called_text f table word handle =
     applied_text f table (Called (Named word)) (operands_at f handle)
+
+-- ---- parts
+-- an operator before its operand
+abbrev pub is_signed : Expression → Bool
+is_signed (Unary op e) = true
+is_signed _ = false
+
+-- what a member or an index follows: in parentheses where it starts with an operator
+unfoldable pub base_text : FunctionText → (table : List Standing) → (handle : ℕ) → List ℕ
+base_text f table handle =
+    let base = as_value (form_at f table handle) in text (base_pieces base (expression_pieces base))
+
+-- What a part is taken of: a reference where it points, so that the part is one too, else a value.
+abbrev pub part_base : FunctionText → (table : List Standing) → (base : ℕ) → Expression
+part_base f table base =
+    if points (around f) base then as_reference (form_at f table base)
+    else as_value (form_at f table base)
+
+-- the same where a part follows
+unfoldable pub part_base_text : FunctionText → (table : List Standing) → (base : ℕ) → List ℕ
+part_base_text f table base =
+    let e = part_base f table base in text (base_pieces e (expression_pieces e))
+
+-- the type is that of a vector
+abbrev pub is_vector : TypeInner → Bool
+is_vector (inner.Vector size s) = true
+is_vector _ = false
+
+abbrev pub is_vector_at : List Type_ → (ty : ℕ) → Bool
+is_vector_at types ty = option_map_or is_vector (type_with types ty) false
+
+-- or of a pointer to one
+abbrev pub is_of_components : List Type_ → TypeInner → Bool
+is_of_components types (inner.Pointer base space) = is_vector_at types base
+is_of_components types it = is_vector it
+
+-- the expression with this handle has such a type
+abbrev pub has_components : FunctionText → ℕ → Bool
+has_components f handle =
+    option_map_or (is_of_components f.shader.now.types) (type_known (around f) handle) false
+
+-- an index, in brackets
+unfoldable pub index_text : FunctionText → (table : List Standing) → (index : ℕ) → List ℕ
+index_text f table index = codes "[" ++ (value_text f table index ++ codes "]")
+
+-- a known index: a component or a member by its word, and any other part by its number
+unfoldable pub word_text : List ℕ → List ℕ
+word_text word = codes "." ++ word
+
+unfoldable pub number_text : ℕ → List ℕ
+number_text index = codes "[" ++ (decimal index ++ codes "]")
+
+abbrev pub selector_end : Selector → List ℕ
+selector_end (MemberNamed word) = word_text word
+selector_end (ElementAt index) = number_text index
+
+unfoldable pub selector_text : FunctionText → (base index : ℕ) → List ℕ
+selector_text f base index =
+    option_map_or selector_end (part_selector (source f).declared base index) []
+
+-- a component by its letter, where it has one, else the part with this number
+abbrev pub selector_of : (letter : Option (List ℕ)) → (index : ℕ) → Selector
+selector_of letter index = option_map_or MemberNamed letter (ElementAt index)
+
+-- what stands behind the base of a part at an index
+abbrev pub part_end : FunctionText → (table : List Standing) → Option ir.Expression → List ℕ
+part_end f table (Some (expression.Access base index)) = index_text f table index
+part_end f table (Some (expression.AccessIndex base index)) = selector_text f base index
+part_end f table _ = []
+
+unfoldable pub part_end_text : FunctionText → (table : List Standing) → (handle : ℕ) → List ℕ
+part_end_text f table handle = part_end f table (slice_get (expressions f) handle)
+
+-- the tree of a form, a value or a reference
+abbrev pub plain_tree : PlainForm → Expression
+plain_tree (ValueForm e) = e
+plain_tree (ReferenceForm e) = e
+
+-- what an expression is made of, in its plain form, and a pointer to what that refers to
+unfoldable pub plain_text : FunctionText → (table : List Standing) → (handle : ℕ) → List ℕ
+plain_text f table handle = expression_layout (plain_tree (own_form f table handle))
+
+unfoldable pub plain_address_text : FunctionText → (table : List Standing) → (handle : ℕ) → List ℕ
+plain_address_text f table handle =
+    expression_layout (AddressOf (plain_tree (own_form f table handle)))
+
+-- a part of this base as a value, and as a reference where it has no name
+unfoldable pub part_value_text : FunctionText → (table : List Standing) → (handle base : ℕ) → List ℕ
+part_value_text f table handle base =
+    if points (around f) base then plain_address_text f table handle
+    else plain_text f table handle
+
+unfoldable pub part_reference_text : FunctionText → (table : List Standing) → (handle base : ℕ) →
+    List ℕ
+part_reference_text f table handle base =
+    if points (around f) base then plain_text f table handle else pointed_text f table handle
+
+-- what an expression takes a part of, if it is a part at an index
+abbrev pub base_of : Option ir.Expression → Option ℕ
+base_of (Some (expression.Access base index)) = Some base
+base_of (Some (expression.AccessIndex base index)) = Some base
+base_of _ = None
+
+-- a value in parentheses
+unfoldable pub parenthesized_text : FunctionText → (table : List Standing) → (handle : ℕ) → List ℕ
+parenthesized_text f table handle = codes "(" ++ (value_text f table handle ++ codes ")")
+
+-- a member of a value
+unfoldable pub member_text : FunctionText → (table : List Standing) → (handle : ℕ) →
+    (word : List ℕ) → List ℕ
+member_text f table handle word =
+    expression_layout (Member (as_value (form_at f table handle)) word)
+
+-- the letter at a place of a swizzle, if it is chosen
+abbrev pub letter_at : VectorSize → List SwizzleComponent → (place : ℕ) → List ℕ
+letter_at size pattern place =
+    if nat_lt place (vector_number size) then option_map_or letter (slice_get pattern place) []
+    else []

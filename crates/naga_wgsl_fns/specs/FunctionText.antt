@@ -4,6 +4,7 @@ use Rattle.std.specs.Prelude.{length}
 use Rattle.std.specs.List.{list_all}
 use Rattle.naga_ir.specs.declared.expression.Expression.{Expression}
 use Rattle.module_meaning.specs.Part.{function_is_written, is_value_type, resolution_is_written}
+use Rattle.module_meaning.specs.Part.{types_allow_all}
 use Rattle.module_meaning.specs.Ranges.{function_in_range}
 use Rattle.naga_names.specs.Keys.{names_in}
 use Rattle.shader_runs.specs.Scope.{Naming}
@@ -50,7 +51,7 @@ let_annotation f handle =
 
 -- It is a function of its module, one of those that are written so far, and has its names. All that
 -- it names is there, if it may call the functions before it, and of each of its expressions one
--- type is known, which is written so far.
+-- type is known, which is written so far and lets it be written.
 pub record CanWrite (f : FunctionText) : Type 0 where
   pub named : HasNamesOf f.shader.now (names_in f.names.now)
   pub function : slice_get f.shader.now.functions f.handle ≡ Some f.function.now
@@ -59,3 +60,4 @@ pub record CanWrite (f : FunctionText) : Type 0 where
   pub size : length f.function.now.expressions ≡ length f.info.now
   pub known : IsTrue (list_all (λ k. resolution_is_written f.shader.now.types k.ty) f.info.now)
   pub written : IsTrue (function_is_written f.function.now)
+  pub allowed : IsTrue (types_allow_all f.shader.now.types f.function.now f.info.now)

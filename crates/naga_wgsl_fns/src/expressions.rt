@@ -4,11 +4,18 @@ ghost use Rattle.std.specs.Prelude.{[], ◌∷◌, ◌<◌, ◌≡◌, length, I
 ghost use Rattle.std.specs.Option.{is_some};
 ghost use Rattle.module_meaning.specs.OperatorTable.{Mathematical, Relation, relational_word};
 ghost use Rattle.module_meaning.specs.OperatorTable.{run_word};
+ghost use Rattle.module_meaning.specs.ExpressionShapes.{letter, swizzle_letters};
+ghost use Rattle.module_meaning.specs.Part.{is_value_at};
+ghost use Rattle.naga_form.specs.Expressions.{as_value};
 ghost use Rattle.naga_form.specs.Operators.{Infix, Prefix, operator_form, unary_form};
 ghost use Rattle.naga_words.specs.Output.{Writes};
 ghost use Rattle.naga_wgsl_fns.specs.FunctionText.{CanWrite};
 ghost use Rattle.naga_wgsl_fns.specs.Expressions.{address_text, applied_text, called_text};
-ghost use Rattle.naga_wgsl_fns.specs.Expressions.{next_operand_text, operands_text, own_text};
+ghost use Rattle.naga_wgsl_fns.specs.Expressions.{made_text, made_type, next_operand_text};
+ghost use Rattle.naga_wgsl_fns.specs.Expressions.{operands_text};
+ghost use Rattle.naga_wgsl_fns.specs.Expressions.{base_text, form_at, is_signed, letter_at};
+ghost use Rattle.naga_wgsl_fns.specs.Expressions.{member_text, own_text, parenthesized_text};
+ghost use Rattle.naga_wgsl_fns.specs.Expressions.{base_of};
 ghost use Rattle.naga_wgsl_fns.specs.Expressions.{pointed_text, reference_text, value_text};
 ghost use Rattle.wgsl_words.specs.Words.{math_word, unary_text};
 
@@ -17,12 +24,13 @@ use crate::literal::write_literal;
 use crate::names::write_bound_name;
 use naga_back::binary_operation_str;
 use naga_ir::{
-    BinaryOperator, Expression, Handle, LocalVariable, MathFunction, RelationalFunction,
+    BinaryOperator, Expression, Handle, LocalVariable, MathFunction, RelationalFunction, Type_,
     UnaryOperator,
 };
 use naga_scope::{Scope, Standing};
 use naga_words::words::vector_str;
 use naga_words::{Output, TextSink};
+use std::alloc::Global;
 use wgsl_words::TryToWgsl;
 
 impl FunctionText<'_> {
@@ -32,6 +40,7 @@ impl FunctionText<'_> {
     #[tactic(auto, using(crate::proofs::ExpressionRows::value_row))]
     pub(crate) fn write_value<W: TextSink>(
         &self,
+        alloc: Global,
         scope: &Scope,
         handle: Handle<Expression>,
         out: &mut Output<'_, W>,
@@ -42,7 +51,7 @@ impl FunctionText<'_> {
     {
         match scope.standing(handle) {
             Standing::Named => write_bound_name(handle, out),
-            _ => self.write_own(scope, handle, out),
+            _ => self.write_own(alloc, scope, handle, out),
         }
     }
 
@@ -51,6 +60,7 @@ impl FunctionText<'_> {
     #[tactic(auto, using(crate::proofs::ExpressionRows::own_row))]
     pub(crate) fn write_own<W: TextSink>(
         &self,
+        alloc: Global,
         scope: &Scope,
         handle: Handle<Expression>,
         out: &mut Output<'_, W>,
@@ -61,32 +71,52 @@ impl FunctionText<'_> {
     {
         match &self.function.expressions[handle] {
             Expression::Literal(literal) => write_literal(*literal, out),
+            Expression::ZeroValue(ty) => self.write_made(alloc, scope, handle, *ty, out),
+            Expression::Compose { ty, .. } => self.write_made(alloc, scope, handle, *ty, out),
+            Expression::Access { base, .. } => {
+                self.write_part_value(alloc, scope, handle, *base, out)
+            }
+            Expression::AccessIndex { base, .. } => {
+                self.write_part_value(alloc, scope, handle, *base, out)
+            }
             Expression::FunctionArgument(number) => self.write_argument_name(*number, out),
             Expression::LocalVariable(local) => self.write_address(*local, out),
-            Expression::Load { pointer } => self.write_reference(scope, *pointer, out),
-            Expression::Unary { op, expr } => self.write_prefix(scope, *op, *expr, out),
+            Expression::Load { pointer } => self.write_reference(alloc, scope, *pointer, out),
+            Expression::Unary { op, expr } => self.write_prefix(alloc, scope, *op, *expr, out),
             Expression::Binary { op, left, right } => {
-                self.write_infix(scope, *op, *left, *right, out)
+                self.write_infix(alloc, scope, *op, *left, *right, out)
             }
-            Expression::Select { .. } => self.write_called(scope, handle, "select", out),
+            Expression::Select { .. } => self.write_called(alloc, scope, handle, "select", out),
             Expression::Splat { size, .. } => {
-                self.write_called(scope, handle, vector_str(*size), out)
+                self.write_called(alloc, scope, handle, vector_str(*size), out)
             }
+            Expression::Swizzle {
+                size,
+                vector,
+                pattern,
+            } => self.write_swizzle(alloc, scope, *size, *vector, pattern, out),
+            Expression::As {
+                expr,
+                kind,
+                convert,
+            } => self.write_conversion(alloc, scope, handle, *expr, *kind, *convert, out),
             Expression::Math { fun, .. } => {
-                self.write_called(scope, handle, math_function_str(*fun), out)
+                self.write_called(alloc, scope, handle, math_function_str(*fun), out)
             }
             Expression::Relational { fun, .. } => {
-                self.write_called(scope, handle, relational_function_str(*fun), out)
+                self.write_called(alloc, scope, handle, relational_function_str(*fun), out)
             }
             _ => unreachable!(),
         }
     }
 
-    /// An expression as a reference: a local's name, or a value with `*`.
+    /// An expression as a reference: a local's name, a part of what is pointed at, or a value with
+    /// `*`.
     #[cycle(expression)]
     #[tactic(auto, using(crate::proofs::ExpressionRows::reference_row))]
     pub(crate) fn write_reference<W: TextSink>(
         &self,
+        alloc: Global,
         scope: &Scope,
         handle: Handle<Expression>,
         out: &mut Output<'_, W>,
@@ -97,10 +127,16 @@ impl FunctionText<'_> {
             (reference_text self.now scope.now handle) }
     {
         match scope.standing(handle) {
-            Standing::Named => self.write_dereference(scope, handle, out),
+            Standing::Named => self.write_dereference(alloc, scope, handle, out),
             _ => match &self.function.expressions[handle] {
                 Expression::LocalVariable(local) => self.write_local_name(*local, out),
-                _ => self.write_dereference(scope, handle, out),
+                Expression::Access { base, .. } => {
+                    self.write_part_reference(alloc, scope, handle, *base, out)
+                }
+                Expression::AccessIndex { base, .. } => {
+                    self.write_part_reference(alloc, scope, handle, *base, out)
+                }
+                _ => self.write_dereference(alloc, scope, handle, out),
             },
         }
     }
@@ -108,8 +144,9 @@ impl FunctionText<'_> {
     /// What the value of an expression points at.
     #[cycle(expression)]
     #[tactic(auto, using(naga_words::proofs::Writing::writes_then, crate::proofs::ExpressionRows::pointed_row))]
-    fn write_dereference<W: TextSink>(
+    pub(crate) fn write_dereference<W: TextSink>(
         &self,
+        alloc: Global,
         scope: &Scope,
         handle: Handle<Expression>,
         out: &mut Output<'_, W>,
@@ -120,7 +157,7 @@ impl FunctionText<'_> {
             (pointed_text self.now scope.now handle) }
     {
         out.put("(*");
-        self.write_value(scope, handle, out);
+        self.write_value(alloc, scope, handle, out);
         out.put(")");
     }
 
@@ -129,6 +166,7 @@ impl FunctionText<'_> {
     #[tactic(auto, using(naga_words::proofs::Writing::writes_then, crate::proofs::ExpressionRows::prefix_row))]
     fn write_prefix<W: TextSink>(
         &self,
+        alloc: Global,
         scope: &Scope,
         op: UnaryOperator,
         operand: Handle<Expression>,
@@ -141,7 +179,7 @@ impl FunctionText<'_> {
     {
         out.put(unary_operation_str(op));
         out.put("(");
-        self.write_value(scope, operand, out);
+        self.write_value(alloc, scope, operand, out);
         out.put(")");
     }
 
@@ -150,6 +188,7 @@ impl FunctionText<'_> {
     #[tactic(auto, using(naga_words::proofs::Writing::writes_then, crate::proofs::ExpressionRows::infix_row))]
     fn write_infix<W: TextSink>(
         &self,
+        alloc: Global,
         scope: &Scope,
         op: BinaryOperator,
         left: Handle<Expression>,
@@ -163,11 +202,11 @@ impl FunctionText<'_> {
             (applied_text self.now scope.now (Infix (operator_form op)) (left ∷ right ∷ [])) }
     {
         out.put("(");
-        self.write_value(scope, left, out);
+        self.write_value(alloc, scope, left, out);
         out.put(" ");
         out.put(binary_operation_str(op));
         out.put(" ");
-        self.write_value(scope, right, out);
+        self.write_value(alloc, scope, right, out);
         out.put(")");
     }
 
@@ -176,6 +215,7 @@ impl FunctionText<'_> {
     #[tactic(auto, using(naga_words::proofs::Writing::writes_then, crate::proofs::ExpressionRows::called_row))]
     fn write_called<W: TextSink>(
         &self,
+        alloc: Global,
         scope: &Scope,
         handle: Handle<Expression>,
         word: &str,
@@ -188,13 +228,36 @@ impl FunctionText<'_> {
     {
         out.put(word);
         out.put("(");
-        self.write_operands(scope, handle, out);
+        self.write_operands(alloc, scope, handle, out);
+    }
+
+    /// A value of a type, made of the operands of the expression with this handle.
+    #[cycle(expression)]
+    #[tactic(auto, using(naga_words::proofs::Writing::writes_then, crate::proofs::ExpressionRows::made_row))]
+    fn write_made<W: TextSink>(
+        &self,
+        alloc: Global,
+        scope: &Scope,
+        handle: Handle<Expression>,
+        ty: Handle<Type_>,
+        out: &mut Output<'_, W>,
+    )
+        requires can { CanWrite self.now }
+        requires handle { handle < length self.now.function.now.expressions }
+        requires value { IsTrue (is_value_at self.now.shader.now.types ty) }
+        ensures { Writes W.text W.failures out.old out.new
+            (made_text self.now scope.now (made_type self.now ty) handle) }
+    {
+        self.write_type(alloc, ty, out);
+        out.put("(");
+        self.write_operands(alloc, scope, handle, out);
     }
 
     /// The operands of the expression with this handle, up to the `)` behind them.
     #[cycle(expression)]
-    fn write_operands<W: TextSink>(
+    pub(crate) fn write_operands<W: TextSink>(
         &self,
+        alloc: Global,
         scope: &Scope,
         handle: Handle<Expression>,
         out: &mut Output<'_, W>,
@@ -206,7 +269,7 @@ impl FunctionText<'_> {
     {
         let mut is_first = true;
         for operand in self.function.expressions[handle].operands() {
-            self.write_next_operand(scope, is_first, operand, out);
+            self.write_next_operand(alloc, scope, is_first, operand, out);
             is_first = false;
         }
         out.put(")");
@@ -217,6 +280,7 @@ impl FunctionText<'_> {
     #[tactic(auto, using(naga_words::proofs::Writing::writes_then, crate::proofs::ExpressionRows::next_operand_row))]
     fn write_next_operand<W: TextSink>(
         &self,
+        alloc: Global,
         scope: &Scope,
         is_first: bool,
         operand: Handle<Expression>,
@@ -228,7 +292,7 @@ impl FunctionText<'_> {
             (next_operand_text self.now scope.now is_first operand) }
     {
         out.put(if is_first { "" } else { ", " });
-        self.write_value(scope, operand, out);
+        self.write_value(alloc, scope, operand, out);
     }
 
     /// A pointer to a local.

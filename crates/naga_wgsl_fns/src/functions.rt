@@ -237,13 +237,14 @@ impl FunctionText<'_> {
         self.write_local_name(handle, out);
         out.put(": ");
         self.write_type(alloc, local.ty, out);
-        self.write_first_value(scope, local.init, out);
+        self.write_first_value(alloc, scope, local.init, out);
     }
 
     /// What stands behind the type of a local.
     #[tactic(auto, using(crate::proofs::FunctionRows::first_row))]
     fn write_first_value<W: TextSink>(
         &self,
+        alloc: Global,
         scope: &Scope,
         value: Option<Handle<Expression>>,
         out: &mut Output<'_, W>,
@@ -254,7 +255,7 @@ impl FunctionText<'_> {
         ensures { Writes W.text W.failures out.old out.new (first_text self.now value) }
     {
         match value {
-            Some(value) => self.write_first(scope, value, out),
+            Some(value) => self.write_first(alloc, scope, value, out),
             None => out.put(";\n"),
         }
     }
@@ -262,6 +263,7 @@ impl FunctionText<'_> {
     #[tactic(auto, using(naga_words::proofs::Writing::writes_then, crate::proofs::FunctionRows::first_value_row))]
     fn write_first<W: TextSink>(
         &self,
+        alloc: Global,
         scope: &Scope,
         value: Handle<Expression>,
         out: &mut Output<'_, W>,
@@ -272,7 +274,7 @@ impl FunctionText<'_> {
         ensures { Writes W.text W.failures out.old out.new (first_value_text self.now value) }
     {
         out.put(" = ");
-        self.write_value(scope, value, out);
+        self.write_value(alloc, scope, value, out);
         out.put(";\n");
     }
 }

@@ -4,12 +4,14 @@
 //! Users take these through the crate `naga_wgsl_out`.
 #![tactic(auto)]
 
+mod conversions;
 pub mod error;
 mod expressions;
 pub mod functions;
 pub mod implemented;
 pub mod literal;
 mod names;
+mod parts;
 pub mod sinks;
 mod statements;
 mod types;

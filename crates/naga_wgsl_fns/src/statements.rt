@@ -75,9 +75,9 @@ impl FunctionText<'_> {
         match statement {
             Statement::Emit(range) => self.write_emit(alloc, level, *range, scope, out),
             Statement::Store { pointer, value } => {
-                self.write_store(level, scope, *pointer, *value, out)
+                self.write_store(alloc, level, scope, *pointer, *value, out)
             }
-            Statement::Return { value } => self.write_return(level, scope, *value, out),
+            Statement::Return { value } => self.write_return(alloc, level, scope, *value, out),
             _ => unreachable!(),
         }
     }
@@ -148,13 +148,14 @@ impl FunctionText<'_> {
         write_bound_name(handle, out);
         self.write_told_type(alloc, handle, out);
         out.put(" = ");
-        self.write_own(scope, handle, out);
+        self.write_own(alloc, scope, handle, out);
         out.put(";\n");
     }
 
     #[tactic(auto, using(naga_words::proofs::Writing::writes_then, crate::proofs::StatementRows::store_row))]
     fn write_store<W: TextSink>(
         &self,
+        alloc: Global,
         level: Level,
         scope: &Scope,
         pointer: Handle<Expression>,
@@ -168,15 +169,16 @@ impl FunctionText<'_> {
             (store_text self.now scope.now level.0 pointer value) }
     {
         write_line_start(level, "", out);
-        self.write_reference(scope, pointer, out);
+        self.write_reference(alloc, scope, pointer, out);
         out.put(" = ");
-        self.write_value(scope, value, out);
+        self.write_value(alloc, scope, value, out);
         out.put(";\n");
     }
 
     #[tactic(auto, using(crate::proofs::StatementRows::return_row))]
     fn write_return<W: TextSink>(
         &self,
+        alloc: Global,
         level: Level,
         scope: &Scope,
         value: Option<Handle<Expression>>,
@@ -188,7 +190,7 @@ impl FunctionText<'_> {
             (return_text self.now scope.now level.0 value) }
     {
         match value {
-            Some(value) => self.write_return_value(level, scope, value, out),
+            Some(value) => self.write_return_value(alloc, level, scope, value, out),
             None => write_line_start(level, "return;\n", out),
         }
     }
@@ -196,6 +198,7 @@ impl FunctionText<'_> {
     #[tactic(auto, using(naga_words::proofs::Writing::writes_then, crate::proofs::StatementRows::return_value_row))]
     fn write_return_value<W: TextSink>(
         &self,
+        alloc: Global,
         level: Level,
         scope: &Scope,
         value: Handle<Expression>,
@@ -207,7 +210,7 @@ impl FunctionText<'_> {
             (return_value_text self.now scope.now level.0 value) }
     {
         write_line_start(level, "return ", out);
-        self.write_value(scope, value, out);
+        self.write_value(alloc, scope, value, out);
         out.put(";\n");
     }
 }

@@ -51,7 +51,7 @@ impl FunctionText<'_> {
     }
 
     /// The type of an expression.
-    fn write_type_of<W: TextSink>(
+    pub(crate) fn write_type_of<W: TextSink>(
         &self,
         alloc: Global,
         ty: &TypeResolution,

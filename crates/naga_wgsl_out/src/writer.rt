@@ -89,10 +89,12 @@ impl<W: TextSink> Writer<W> {
     /// So far a module is refused as `Unimplemented`, `not yet written`, unless it declares nothing
     /// but types and functions: the types `bool`, `i32`, `u32`, `f32`, `i64`, `u64` and `f64`, and
     /// vectors and matrices of these; functions whose locals have a literal as first value or none,
-    /// whose expressions are arguments, locals, literals of `bool` and of the integer types, loads,
-    /// choices, operators with a sign, vectors of one value and calls of functions of mathematics
-    /// that have a word, of `all` and of `any`, without names of their own, and whose statements
-    /// are `Emit`s, `Store`s and `Return`s.
+    /// whose expressions are arguments, locals, literals of `bool` and of the integer types, zero
+    /// values, values of a type composed of others, loads, choices, operators with a sign, vectors
+    /// of one value, swizzles, parts at an index of vectors, of matrices and of what is pointed at,
+    /// conversions to such types, and calls of functions of mathematics that have a word, of `all`
+    /// and of `any`, without names of their own, and whose statements are `Emit`s, `Store`s and
+    /// `Return`s.
     ///
     /// An emitted expression is bound by a `let` where it is a `Load` that is used at all or an
     /// operator that is used at least twice; `EXPLICIT_TYPES` has each `let` tell its type.

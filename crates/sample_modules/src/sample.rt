@@ -106,7 +106,8 @@ impl Sample {
         self.resolved(expression, TypeResolution::Handle(ty), ref_count)
     }
 
-    fn resolved(
+    /// Adds an expression of a type that may be none of the module's, with this count of uses.
+    pub fn resolved(
         &mut self,
         expression: Expression,
         ty: TypeResolution,

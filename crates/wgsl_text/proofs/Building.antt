@@ -15,7 +15,9 @@ use Rattle.wgsl_text.specs.Types.{plain_type_words, is_type, TakesScalar, TakesE
 use Rattle.wgsl_text.specs.Types.{type_templates, IsType}
 use Rattle.wgsl_text.specs.Tables.{scalar_words, depth_image_words, sampler_words, ray_words}
 use Rattle.wgsl_text.specs.Tables.{address_space_words, format_words, gather_words, level_words}
+use Rattle.wgsl_text.specs.Tables.{type_taking_words}
 use Rattle.wgsl_text.specs.Words.{stands_in, is_builtin, IsWord, IsIdentifier, is_reserved}
+use Rattle.wgsl_text.proofs.Expressions.{type_called}
 use Rattle.wgsl_text.proofs.Words.{all_words, is_free, table_word, address_spaces_free}
 use Rattle.wgsl_text.specs.Keywords.{builtin_words}
 
@@ -134,5 +136,10 @@ level_is w e es more levels all last = (
   or_right (are_expressions (operands_with_level es more)) (stands_in level_words w && have_a_zero (operands_with_level es more)) (and_from (stands_in level_words w) (have_a_zero (operands_with_level es more)) levels (has_level es more)),
 )
 
+-- a word that takes a type
+
+taking_type_is : (w : List ℕ) (t : TypeSpecifier) → stands_in type_taking_words w ≡ true → IsType t → IsCallee (Template w (TypePart t NoParts))
+taking_type_is w t taking is = (rw taking is.whole, (is.part, tt))
+
 pub called_words : CalledWordsAreExpressions
-called_words = record { builtin = builtin_is_word; expression = call_is; statement = call_statement_is; gather = gather_is; level = level_is }
+called_words = record { builtin = builtin_is_word; type = type_called; taking_type = taking_type_is; expression = call_is; statement = call_statement_is; gather = gather_is; level = level_is }

@@ -12,6 +12,7 @@ use Rattle.wgsl_text.specs.Expressions.{operands_with_level, IsCallee, IsExpress
 use Rattle.wgsl_text.specs.Statements.{CallStatement, IsStatement}
 use Rattle.wgsl_text.specs.Functions.{Each}
 use Rattle.wgsl_text.specs.Tables.{scalar_words, address_space_words, gather_words, level_words}
+use Rattle.wgsl_text.specs.Tables.{type_taking_words}
 use Rattle.wgsl_text.specs.Words.{IsIdentifier, stands_in, is_builtin}
 
 -- types of a word alone, and of a word with parts
@@ -35,6 +36,10 @@ pub record WordsAreTypes : Type 0 where
 -- calls of what may be called, a word that is not reserved or a type, with expressions as operands
 pub record CalledWordsAreExpressions : Type 0 where
   pub builtin : (w : List ℕ) → IsTrue (is_builtin w) → IsCallee (Named w)
+  pub type : (t : TypeSpecifier) → IsType t → IsCallee t
+  -- `bitcast` and the like, with a type
+  pub taking_type : (w : List ℕ) (t : TypeSpecifier) → IsTrue (stands_in type_taking_words w) →
+      IsType t → IsCallee (Template w (TypePart t NoParts))
   pub expression : (t : TypeSpecifier) (es : List Expression) → IsCallee t →
       Each IsExpression es → IsExpression (Call t (operands es))
   pub statement : (t : TypeSpecifier) (es : List Expression) → IsCallee t →

@@ -80,7 +80,7 @@ pub fn words_are_types()
 {}
 
 /// A call of what may be called, a word that is not reserved or a type, is an expression where its
-/// operands are, and a statement; each built-in word may be called.
+/// operands are, and a statement; each built-in word may be called, and each type.
 pub fn called_words_are_expressions()
     ensures { CalledWordsAreExpressions }
 {}

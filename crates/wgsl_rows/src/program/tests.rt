@@ -10,7 +10,11 @@ use std::io::Write;
 use std::process::Abort;
 use std::test::Fail;
 
+mod converted;
+mod indexed;
+mod made;
 mod operators;
+mod parts;
 mod values;
 
 /// The program's status on these words.

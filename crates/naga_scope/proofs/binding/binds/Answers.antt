@@ -7,15 +7,15 @@ use Rattle.naga_scope.proofs.Shaped.{emitted_binds, others_bind}
 use Rattle.naga_scope.proofs.binding.binds.Goals as goal
 
 pub returns-then-is_emittable : goal.returns-then-is_emittable
-returns-then-is_emittable c m known =
+returns-then-is_emittable c m known allowed =
     let at = sym c.expression_at.ensures ∙ ap (option_map (λ e. e.now)) c.in-Some.is in
     ap₂ nat_le c.bake_ref_count.ensures c.count_of.ensures
-    ∙ emitted_binds m known c.args.function.now c.args.info.now c.requires.written c.args.handle
+    ∙ emitted_binds m known c.args.function.now c.args.info.now c.requires.written allowed c.args.handle
     c.in-Some.expression.now at
     (sym (c.is_emittable.ensures ∙ ap is_emittable_kind c.kind.ensures) ∙ c.if-is_emittable.true)
 
 pub returns-else-is_emittable : goal.returns-else-is_emittable
-returns-else-is_emittable c m known =
+returns-else-is_emittable c m known allowed =
     let at = sym c.expression_at.ensures ∙ ap (option_map (λ e. e.now)) c.in-Some.is in
     c.if-is_emittable.false
     ∙ others_bind m known c.args.function.now c.args.info.now c.requires.written c.args.handle
@@ -23,7 +23,7 @@ returns-else-is_emittable c m known =
     ∙ (sym (c.is_emittable.ensures ∙ ap is_emittable_kind c.kind.ensures) ∙ c.if-is_emittable.false))
 
 pub returns-in-None : goal.returns-in-None
-returns-in-None c m known =
+returns-in-None c m known allowed =
     let at = sym c.expression_at.ensures ∙ ap (option_map (λ e. e.now)) c.in-None.is in
     others_bind m known c.args.function.now c.args.info.now c.requires.written c.args.handle
     (ap (λ o. is_emittable_kind (option_map_or kind_of o Result)) at)

@@ -7,11 +7,11 @@ use Rattle.naga_scope.proofs.Emitting.{range_none, range_holds, range_behind, ra
 use Rattle.naga_scope.proofs.check.emit_holds.Goals as goal
 
 pub returns-then-not-may_emit-clause-fits : goal.returns-then-not-may_emit-clause-fits
-returns-then-not-may_emit-clause-fits c names m known g k =
+returns-then-not-may_emit-clause-fits c names m known g k allowed =
     let s = handles_of c.loop-index.scope in
-    let may = sym (c.may_emit.ensures m known ∙ ap (λ h. may_emit (function_shape m known c.args.function.now c.args.info.now) h s) c.from_index-handle.ensures) ∙ c.if-not-may_emit.true in
+    let may = sym (c.may_emit.ensures m known allowed ∙ ap (λ h. may_emit (function_shape m known c.args.function.now c.args.info.now) h s) c.from_index-handle.ensures) ∙ c.if-not-may_emit.true in
     range_refused names m known g c.args.function.now c.args.info.now c.requires.written k c.loop-index.index c.args.range.end s c.loop-index-test.true may
-    ∙ c.loop-index.invariant.holds names m known g k
+    ∙ c.loop-index.invariant.holds names m known g k allowed
 
 pub loop-index-preserved : goal.loop-index-preserved
 loop-index-preserved c =
@@ -20,23 +20,23 @@ loop-index-preserved c =
     let s = handles_of c.loop-index.scope in
     record {
       size = c.emit.ensures.size ∙ c.loop-index.invariant.size;
-      holds = λ names m known g k.
-          let may = sym (c.may_emit.ensures m known ∙ ap (λ h. may_emit (function_shape m known f es) h s) c.from_index-handle.ensures) ∙ c.if-not-may_emit.false in
-          let next = c.emit.ensures.handles names m known g k ∙ ap (λ h. after_one (function_naming names m known g f es) k h s) c.from_index-handle.ensures in
+      holds = λ names m known g k allowed.
+          let may = sym (c.may_emit.ensures m known allowed ∙ ap (λ h. may_emit (function_shape m known f es) h s) c.from_index-handle.ensures) ∙ c.if-not-may_emit.false in
+          let next = c.emit.ensures.handles names m known g k allowed ∙ ap (λ h. after_one (function_naming names m known g f es) k h s) c.from_index-handle.ensures in
           range_holds names m known g f es c.requires.written k c.loop-index.index c.args.range.end s (handles_of c.emit.new.self) c.loop-index-test.true may next
-          ∙ c.loop-index.invariant.holds names m known g k;
-      behind = λ names m known g k.
-          let next = c.emit.ensures.handles names m known g k ∙ ap (λ h. after_one (function_naming names m known g f es) k h s) c.from_index-handle.ensures in
+          ∙ c.loop-index.invariant.holds names m known g k allowed;
+      behind = λ names m known g k allowed.
+          let next = c.emit.ensures.handles names m known g k allowed ∙ ap (λ h. after_one (function_naming names m known g f es) k h s) c.from_index-handle.ensures in
           range_behind names m known g f es c.requires.written k c.loop-index.index c.args.range.end s (handles_of c.emit.new.self) c.loop-index-test.true next
-          ∙ c.loop-index.invariant.behind names m known g k;
+          ∙ c.loop-index.invariant.behind names m known g k allowed;
     }
 
 pub returns-clause-fits : goal.returns-clause-fits
-returns-clause-fits c names m known g k =
+returns-clause-fits c names m known g k allowed =
     ap (λ hs. may_emit_all (function_naming names m known g c.args.function.now c.args.info.now) k hs (handles_of c.loop-index.scope)) (sym (range_none c.loop-index.index c.args.range.end c.loop-index-test.false))
-    ∙ c.loop-index.invariant.holds names m known g k
+    ∙ c.loop-index.invariant.holds names m known g k allowed
 
 pub returns-clause-after : goal.returns-clause-after
-returns-clause-after c names m known g k holds =
+returns-clause-after c names m known g k allowed holds =
     ap (λ hs. after_emit (function_naming names m known g c.args.function.now c.args.info.now) k hs (handles_of c.loop-index.scope)) (sym (range_none c.loop-index.index c.args.range.end c.loop-index-test.false))
-    ∙ c.loop-index.invariant.behind names m known g k
+    ∙ c.loop-index.invariant.behind names m known g k allowed

@@ -10,7 +10,7 @@ use Rattle.naga_scope.proofs.Holding.{written_at, lines_hold, lines_refused, lin
 use Rattle.naga_scope.proofs.check.function_holds.Goals as goal
 
 pub returns-then-not-first_values_hold-clause-scope : goal.returns-then-not-first_values_hold-clause-scope
-returns-then-not-first_values_hold-clause-scope c names m known g =
+returns-then-not-first_values_hold-clause-scope c names m known g allowed =
     let f = c.args.function.now in
     let es = c.args.info.now in
     let first = sym (c.first_values_hold.ensures m known es (c.requires.start m known)) ∙ c.if-not-first_values_hold.true in
@@ -24,34 +24,34 @@ statement_holds-requires-clause-line c =
 pub loop-statement-init : goal.loop-statement-init
 loop-statement-init c = record {
   size = c.requires.size;
-  holds = λ names m known g. λ i. fits_all (function_naming names m known g c.args.function.now c.args.info.now) 0 (statements_shape (declared m known (types_known c.args.info.now)).around (c.as_slice-statement-items.ensures i)) (c.requires.start m known i);
+  holds = λ names m known g allowed. λ i. fits_all (function_naming names m known g c.args.function.now c.args.info.now) 0 (statements_shape (declared m known (types_known c.args.info.now)).around (c.as_slice-statement-items.ensures i)) (c.requires.start m known i);
 }
 
 pub returns-then-not-statement_holds-clause-scope : goal.returns-then-not-statement_holds-clause-scope
-returns-then-not-statement_holds-clause-scope c names m known g =
+returns-then-not-statement_holds-clause-scope c names m known g allowed =
     let f = c.args.function.now in
     let es = c.args.info.now in
     let first = sym (c.first_values_hold.ensures m known es (c.requires.start m known)) ∙ c.if-not-first_values_hold.false in
     lines_refused names m known g f es c.requires.written c.loop-statement.statement-index c.as_slice-statement-items.result.now c.statement-item.result (handles_of c.loop-statement.scope) c.loop-statement-test.true c.statement-item.is
-    (sym (c.statement_holds.ensures.fits names m known g 0) ∙ c.if-not-statement_holds.true)
-    ∙ c.loop-statement.invariant.holds names m known g
+    (sym (c.statement_holds.ensures.fits names m known g 0 allowed) ∙ c.if-not-statement_holds.true)
+    ∙ c.loop-statement.invariant.holds names m known g allowed
     ∙ ap (λ b. b && fits_all (function_naming names m known g f es) 0 (statements_shape (declared m known (types_known es)).around f.body) (at_start (function_shape m known f es))) (sym first)
 
 pub loop-statement-preserved : goal.loop-statement-preserved
 loop-statement-preserved c = record {
   size = c.statement_holds.ensures.size ∙ c.loop-statement.invariant.size;
-  holds = λ names m known g.
+  holds = λ names m known g allowed.
       lines_hold names m known g c.args.function.now c.args.info.now c.requires.written c.loop-statement.statement-index c.as_slice-statement-items.result.now c.statement-item.result (handles_of c.loop-statement.scope) (handles_of c.statement_holds.new.scope) c.loop-statement-test.true c.statement-item.is
-      (sym (c.statement_holds.ensures.fits names m known g 0) ∙ c.if-not-statement_holds.false)
-      (c.statement_holds.ensures.after names m known g 0 c.if-not-statement_holds.false)
-      ∙ c.loop-statement.invariant.holds names m known g;
+      (sym (c.statement_holds.ensures.fits names m known g 0 allowed) ∙ c.if-not-statement_holds.false)
+      (c.statement_holds.ensures.after names m known g 0 allowed c.if-not-statement_holds.false)
+      ∙ c.loop-statement.invariant.holds names m known g allowed;
 }
 
 pub returns-clause-scope : goal.returns-clause-scope
-returns-clause-scope c names m known g =
+returns-clause-scope c names m known g allowed =
     let f = c.args.function.now in
     let es = c.args.info.now in
     let first = sym (c.first_values_hold.ensures m known es (c.requires.start m known)) ∙ c.if-not-first_values_hold.false in
     lines_end names m known g f es c.requires.written c.as_slice-statement-items.result.now c.loop-statement.statement-index (handles_of c.loop-statement.scope) c.loop-statement-test.false
-    ∙ c.loop-statement.invariant.holds names m known g
+    ∙ c.loop-statement.invariant.holds names m known g allowed
     ∙ ap (λ b. b && fits_all (function_naming names m known g f es) 0 (statements_shape (declared m known (types_known es)).around f.body) (at_start (function_shape m known f es))) (sym first)

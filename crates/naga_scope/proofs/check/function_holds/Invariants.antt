@@ -6,6 +6,8 @@ use Rattle.naga_names.specs.Keys.{NameMap}
 use Rattle.shader_runs.specs.Scope.{at_start, fits_all}
 use Rattle.module_meaning.specs.FunctionShapes.{function_shape, statements_shape}
 use Rattle.module_meaning.specs.Namings.{function_naming}
+use Rattle.module_meaning.specs.Part.{types_allow_all}
+use Rattle.std.specs.Prelude.{IsTrue}
 use Rattle.module_meaning.specs.Surroundings.{declared, types_known}
 use Rattle.naga_scope.specs.Standings.{handles_of}
 use Rattle.naga_scope.proofs.check.function_holds.Given as goal
@@ -14,6 +16,7 @@ abbrev pub invariant-loop-statement : goal.invariant-loop-statement
 invariant-loop-statement l = record {
   size : length l.scope ≡ length l.function.expressions;
   holds : (names : NameMap) (m : Module) (known : ModuleInfo) (g : ℕ) →
+      IsTrue (types_allow_all m.types l.function l.info) →
       fits_all (function_naming names m known g l.function l.info) 0 (statements_shape (declared m known (types_known l.info)).around (block_of (drop l.statement-index l.statement-items))) (handles_of l.scope)
       ≡ fits_all (function_naming names m known g l.function l.info) 0 (statements_shape (declared m known (types_known l.info)).around l.function.body) (at_start (function_shape m known l.function l.info));
 }

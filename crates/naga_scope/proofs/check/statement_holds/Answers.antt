@@ -9,17 +9,17 @@ use Rattle.naga_scope.proofs.Holding.{no_other, store_fits}
 use Rattle.naga_scope.proofs.check.statement_holds.Goals as goal
 
 pub returns-in-Emit-clause-fits : goal.returns-in-Emit-clause-fits
-returns-in-Emit-clause-fits c names m known g k =
-    c.emit_holds.ensures.fits names m known g k
+returns-in-Emit-clause-fits c names m known g k allowed =
+    c.emit_holds.ensures.fits names m known g k allowed
     ∙ ap (λ st. fits (function_naming names m known g c.args.function.now c.args.info.now) k (statement_shape (declared m known (types_known c.args.info.now)).around (tree_of st)) (handles_of c.args.scope.now)) (sym c.in-Emit.is)
 
 pub returns-in-Emit-clause-after : goal.returns-in-Emit-clause-after
-returns-in-Emit-clause-after c names m known g k holds =
-    c.emit_holds.ensures.after names m known g k holds
+returns-in-Emit-clause-after c names m known g k allowed holds =
+    c.emit_holds.ensures.after names m known g k allowed holds
     ∙ ap (λ st. after (function_naming names m known g c.args.function.now c.args.info.now) k (statement_shape (declared m known (types_known c.args.info.now)).around (tree_of st)) (handles_of c.args.scope.now)) (sym c.in-Emit.is)
 
 pub returns-then-is_usable-clause-fits : goal.returns-then-is_usable-clause-fits
-returns-then-is_usable-clause-fits c names m known g k =
+returns-then-is_usable-clause-fits c names m known g k allowed =
     let s = handles_of c.args.scope.now in
     let es = c.args.info.now in
     let n = function_naming names m known g c.args.function.now es in
@@ -29,7 +29,7 @@ returns-then-is_usable-clause-fits c names m known g k =
     ∙ ap (λ st. fits n k (statement_shape around (tree_of st)) s) (sym c.in-Store.is)
 
 pub returns-else-is_usable-clause-fits : goal.returns-else-is_usable-clause-fits
-returns-else-is_usable-clause-fits c names m known g k =
+returns-else-is_usable-clause-fits c names m known g k allowed =
     let s = handles_of c.args.scope.now in
     let es = c.args.info.now in
     let n = function_naming names m known g c.args.function.now es in
@@ -40,7 +40,7 @@ returns-else-is_usable-clause-fits c names m known g k =
     ∙ ap (λ st. fits n k (statement_shape around (tree_of st)) s) (sym c.in-Store.is)
 
 pub returns-in-Return-clause-fits : goal.returns-in-Return-clause-fits
-returns-in-Return-clause-fits c names m known g k =
+returns-in-Return-clause-fits c names m known g k allowed =
     c.is_usable_if.ensures m known c.args.info.now
     ∙ ap (λ st. fits (function_naming names m known g c.args.function.now c.args.info.now) k (statement_shape (declared m known (types_known c.args.info.now)).around (tree_of st)) (handles_of c.args.scope.now)) (sym c.in-Return.is)
 

@@ -13,7 +13,7 @@ use std::test::Fail;
 
 /// A type of values.
 #[derive(Clone, Copy)]
-enum Value {
+pub(super) enum Value {
     Scalar(Scalar),
     Vector(VectorSize, Scalar),
     Matrix(VectorSize, VectorSize, Scalar),
@@ -33,15 +33,15 @@ impl Value {
     }
 }
 
-const VEC2_I32: Value = Value::Vector(VectorSize::Bi, Scalar::I32);
+pub(super) const VEC2_I32: Value = Value::Vector(VectorSize::Bi, Scalar::I32);
 
-const VEC2_F32: Value = Value::Vector(VectorSize::Bi, Scalar::F32);
+pub(super) const VEC2_F32: Value = Value::Vector(VectorSize::Bi, Scalar::F32);
 
-const VEC3_F32: Value = Value::Vector(VectorSize::Tri, Scalar::F32);
+pub(super) const VEC3_F32: Value = Value::Vector(VectorSize::Tri, Scalar::F32);
 
-const VEC4_BOOL: Value = Value::Vector(VectorSize::Quad, Scalar::BOOL);
+pub(super) const VEC4_BOOL: Value = Value::Vector(VectorSize::Quad, Scalar::BOOL);
 
-const MAT3X2_F32: Value = Value::Matrix(VectorSize::Tri, VectorSize::Bi, Scalar::F32);
+pub(super) const MAT3X2_F32: Value = Value::Matrix(VectorSize::Tri, VectorSize::Bi, Scalar::F32);
 
 /// What is made of two arguments.
 #[derive(Clone, Copy)]
@@ -118,7 +118,7 @@ const OF_ONE: &[(VectorSize, Scalar, &str)] = &[
 ];
 
 /// The unnamed type.
-fn add_type(sample: &mut Sample, value: Value) -> Result<Handle<Type_>, AllocError> {
+pub(super) fn add_type(sample: &mut Sample, value: Value) -> Result<Handle<Type_>, AllocError> {
     sample.module.types.insert(Type_ {
         name: None,
         inner: value.inner(),
@@ -126,7 +126,7 @@ fn add_type(sample: &mut Sample, value: Value) -> Result<Handle<Type_>, AllocErr
 }
 
 /// An argument of the type, which the function takes next, and its use.
-fn build_argument(
+pub(super) fn build_argument(
     sample: &mut Sample,
     label: &str,
     number: u32,
@@ -137,7 +137,7 @@ fn build_argument(
 }
 
 /// The end of a function that returns what the expression gives, of this type.
-fn build_return(
+pub(super) fn build_return(
     sample: &mut Sample,
     expression: Expression,
     given: Value,

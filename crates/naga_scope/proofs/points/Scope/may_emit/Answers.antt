@@ -9,7 +9,7 @@ use Rattle.naga_scope.proofs.points.Scope.may_emit.Goals as goal
 use Rattle.naga_scope.proofs.points.Scope.may_emit.Goals.{then-is_new, else-is_new}
 
 pub returns-then-not-binds : goal.returns-then-not-binds
-returns-then-not-binds c m known =
+returns-then-not-binds c m known allowed =
     let h = c.args.handle in
     let s = handles_of c.args.self.now in
     let shape = function_shape m known c.args.function.now c.args.info.now in
@@ -19,12 +19,12 @@ returns-then-not-binds c m known =
       | then-is_new w ↦
           let new = sym (c.is_new.ensures (numbered_name h) ∙ ap (λ t. is_new (standing_of (numbered_name h) t)) c.standing.ensures) ∙ w.if-is_new.true in
           let kind = sym (w.is_emittable.ensures ∙ ap is_emittable_kind w.kind_at.ensures) ∙ (sym w.value-is ∙ c.if-is_emittable.true) in
-          same ∙ allowed_by m known c.args.function.now c.args.info.now c.requires.written h s c.binds.result u new kind (c.binds.ensures m known) refl
+          same ∙ allowed_by m known c.args.function.now c.args.info.now c.requires.written h s c.binds.result u new kind (c.binds.ensures m known allowed) refl
       | else-is_new w ↦ absurd (true≢false (sym c.if-is_emittable.true ∙ (w.value-is ∙ w.if-is_new.false)))
     ]
 
 pub returns-else-not-binds : goal.returns-else-not-binds
-returns-else-not-binds c m known =
+returns-else-not-binds c m known allowed =
     let h = c.args.handle in
     let s = handles_of c.args.self.now in
     let shape = function_shape m known c.args.function.now c.args.info.now in
@@ -34,12 +34,12 @@ returns-else-not-binds c m known =
       | then-is_new w ↦
           let new = sym (c.is_new.ensures (numbered_name h) ∙ ap (λ t. is_new (standing_of (numbered_name h) t)) c.standing.ensures) ∙ w.if-is_new.true in
           let kind = sym (w.is_emittable.ensures ∙ ap is_emittable_kind w.kind_at.ensures) ∙ (sym w.value-is ∙ c.if-is_emittable.true) in
-          same ∙ allowed_by m known c.args.function.now c.args.info.now c.requires.written h s c.binds.result u new kind (c.binds.ensures m known) (c.has_operands.ensures m known c.args.info.now)
+          same ∙ allowed_by m known c.args.function.now c.args.info.now c.requires.written h s c.binds.result u new kind (c.binds.ensures m known allowed) (c.has_operands.ensures m known c.args.info.now)
       | else-is_new w ↦ absurd (true≢false (sym c.if-is_emittable.true ∙ (w.value-is ∙ w.if-is_new.false)))
     ]
 
 pub returns-else-is_emittable : goal.returns-else-is_emittable
-returns-else-is_emittable c m known =
+returns-else-is_emittable c m known allowed =
     let h = c.args.handle in
     let s = handles_of c.args.self.now in
     elim c.if-is_new.branch [

@@ -3,12 +3,19 @@ use Rattle.std.specs.Option.{option_map_or}
 use Rattle.naga_ir.specs.Operands.{expression_operands}
 use Rattle.shader_runs.specs.Premises.{AllBelow}
 use Rattle.naga_words.proofs.Writing.{leaves_as, leaves_last, leaves_more, leaves_start}
-use Rattle.naga_words.proofs.Writing.{writes_as}
+use Rattle.naga_words.proofs.Writing.{writes_as, writes_then}
+use Rattle.naga_wgsl_fns.proofs.PartRows.{base_pointed, base_signed, base_unpointed, base_unsigned}
+use Rattle.naga_wgsl_fns.proofs.PartRows.{element_end, plain_row, reference_pointed}
+use Rattle.naga_wgsl_fns.proofs.PartRows.{reference_unpointed, selected_end, value_pointed}
+use Rattle.naga_wgsl_fns.proofs.PartRows.{value_unpointed}
+use Rattle.naga_wgsl_fns.proofs.Wanted.{base_before, base_there, no_other_part, part_allowed}
 use Rattle.naga_wgsl_fns.specs.Expressions.{operands_left, operands_text}
 use Rattle.naga_wgsl_fns.proofs.ExpressionRows.{operands_more, operands_none, operands_start}
-use Rattle.naga_wgsl_fns.proofs.ExpressionRows.{own_called}
+use Rattle.naga_wgsl_fns.proofs.ExpressionRows.{own_called, own_made}
+use Rattle.naga_wgsl_fns.proofs.ConversionRows.{conversion_row, own_conversion}
+use Rattle.naga_wgsl_fns.proofs.Wanted.{conversion_allowed}
 use Rattle.naga_wgsl_fns.proofs.Wanted.{all_before, argument_within, literal_is_written, local_within}
-use Rattle.naga_wgsl_fns.proofs.Wanted.{math_is_written, no_other_expression, operands_before}
+use Rattle.naga_wgsl_fns.proofs.Wanted.{made_value, math_is_written, no_other_expression, operands_before}
 use Rattle.naga_wgsl_fns.proofs.Wanted.{relation_is_written}
 use Rattle.naga_wgsl_fns.proofs.functions.FunctionText.+expression.Goals as goal
 
@@ -29,6 +36,14 @@ write_own-write_reference-requires g t c κs within =
     let before =
     (operands_before c.args.self.now c.requires.can c.args.handle c.index.result.now _
     c.index.ensures c.in-Load.is).0 in
+    let bound : c.args.handle < length c.args.self.now.function.now.expressions = c.requires.handle in
+    (omega (arith, before, c.decreases), (within, (c.requires.can, omega (arith, before, bound))))
+
+pub write_own-write_swizzle-requires : goal.write_own-write_swizzle-requires
+write_own-write_swizzle-requires g t c κs within =
+    let before =
+    (operands_before c.args.self.now c.requires.can c.args.handle c.index.result.now _
+    c.index.ensures c.in-Swizzle.is).0 in
     let bound : c.args.handle < length c.args.self.now.function.now.expressions = c.requires.handle in
     (omega (arith, before, c.decreases), (within, (c.requires.can, omega (arith, before, bound))))
 
@@ -57,11 +72,45 @@ write_own-write_infix-requires g t c κs within =
 
 pub write_own-unreachable-requires : goal.write_own-unreachable-requires
 write_own-unreachable-requires g t c =
-    no_other_expression c.args.self.now c.requires.can c.args.handle c.index.result.now c.index.ensures c.in_default.not-Literal c.in_default.not-FunctionArgument c.in_default.not-LocalVariable c.in_default.not-Load c.in_default.not-Unary c.in_default.not-Binary c.in_default.not-Select c.in_default.not-Splat c.in_default.not-Math c.in_default.not-Relational
+    no_other_expression c.args.self.now c.requires.can c.args.handle c.index.result.now c.index.ensures c.in_default.not-Literal c.in_default.not-ZeroValue c.in_default.not-Compose c.in_default.not-Access c.in_default.not-AccessIndex c.in_default.not-FunctionArgument c.in_default.not-LocalVariable c.in_default.not-Load c.in_default.not-Unary c.in_default.not-Binary c.in_default.not-Select c.in_default.not-Splat c.in_default.not-Swizzle c.in_default.not-As c.in_default.not-Math c.in_default.not-Relational
 
 pub write_reference-write_local_name-requires-clause-local : goal.write_reference-write_local_name-requires-clause-local
 write_reference-write_local_name-requires-clause-local g t c =
     local_within c.args.self.now c.requires.can c.args.handle c.index.result.now c.in-LocalVariable.local c.index.ensures c.in-LocalVariable.is
+
+pub write_own-write_made-requires : goal.write_own-write_made-requires
+write_own-write_made-requires g t c κs within =
+    let value =
+    made_value c.args.self.now c.requires.can c.args.handle c.index.result.now _ _ c.index.ensures
+    c.in-ZeroValue.is refl in
+    (omega (arith, c.decreases), (within, (c.requires.can, (c.requires.handle, value))))
+
+pub write_own-write_made-requires-in-Compose : goal.write_own-write_made-requires-in-Compose
+write_own-write_made-requires-in-Compose g t c κs within =
+    let value =
+    made_value c.args.self.now c.requires.can c.args.handle c.index.result.now _ _ c.index.ensures
+    c.in-Compose.is refl in
+    (omega (arith, c.decreases), (within, (c.requires.can, (c.requires.handle, value))))
+
+pub write_own-returns-in-ZeroValue : goal.write_own-returns-in-ZeroValue
+write_own-returns-in-ZeroValue g t c =
+    let value =
+    made_value c.args.self.now c.requires.can c.args.handle c.index.result.now _ _ c.index.ensures
+    c.in-ZeroValue.is refl in
+    writes_as
+    (own_made c.args.self.now c.args.scope.now c.args.handle _ _ c.index.result.now _
+    c.requires.can value c.index.ensures c.in-ZeroValue.is refl)
+    c.write_made.ensures
+
+pub write_own-returns-in-Compose : goal.write_own-returns-in-Compose
+write_own-returns-in-Compose g t c =
+    let value =
+    made_value c.args.self.now c.requires.can c.args.handle c.index.result.now _ _ c.index.ensures
+    c.in-Compose.is refl in
+    writes_as
+    (own_made c.args.self.now c.args.scope.now c.args.handle _ _ c.index.result.now _
+    c.requires.can value c.index.ensures c.in-Compose.is refl)
+    c.write_made-in-Compose.ensures
 
 pub write_own-returns-in-Select : goal.write_own-returns-in-Select
 write_own-returns-in-Select g t c =
@@ -146,3 +195,143 @@ write_operands-returns g t c =
     (sym (ap (operands_left self scope first) c.in-None.ensures.steps.0
     ∙ operands_none self scope first))
     c.put.ensures)
+
+pub write_base-returns-then-is_signed : goal.write_base-returns-then-is_signed
+write_base-returns-then-is_signed g t c =
+    writes_as
+    (base_signed c.args.self.now c.args.scope.now c.args.handle
+    (sym c.if-is_signed.true ∙ c.is_signed.ensures))
+    c.write_in_parentheses.ensures
+
+pub write_base-returns-else-is_signed : goal.write_base-returns-else-is_signed
+write_base-returns-else-is_signed g t c =
+    writes_as
+    (base_unsigned c.args.self.now c.args.scope.now c.args.handle
+    (sym c.if-is_signed.false ∙ c.is_signed.ensures))
+    c.write_value.ensures
+
+pub write_part_value-points-requires-clause-handle : goal.write_part_value-points-requires-clause-handle
+write_part_value-points-requires-clause-handle g t c =
+    (base_there c.args.self.now c.requires.can c.args.handle c.args.base c.requires.part).1
+
+pub write_part_value-returns-then-points : goal.write_part_value-returns-then-points
+write_part_value-returns-then-points g t c =
+    writes_as
+    (value_pointed c.args.self.now c.args.scope.now c.args.handle c.args.base
+    (sym c.points.ensures ∙ c.if-points.true))
+    c.write_part_address.ensures
+
+pub write_part_value-returns-else-points : goal.write_part_value-returns-else-points
+write_part_value-returns-else-points g t c =
+    writes_as
+    (value_unpointed c.args.self.now c.args.scope.now c.args.handle c.args.base
+    (sym c.points.ensures ∙ c.if-points.false))
+    c.write_part.ensures
+
+pub write_part_reference-points-requires-clause-handle : goal.write_part_reference-points-requires-clause-handle
+write_part_reference-points-requires-clause-handle g t c =
+    (base_there c.args.self.now c.requires.can c.args.handle c.args.base c.requires.part).1
+
+pub write_part_reference-write_dereference-requires : goal.write_part_reference-write_dereference-requires
+write_part_reference-write_dereference-requires g t c κs within =
+    let there = (base_before c.args.self.now c.requires.can c.args.handle c.args.base c.requires.part).1 in
+    (omega (arith, c.decreases), (within, (c.requires.can, there)))
+
+pub write_part_reference-returns-then-points : goal.write_part_reference-returns-then-points
+write_part_reference-returns-then-points g t c =
+    writes_as
+    (reference_pointed c.args.self.now c.args.scope.now c.args.handle c.args.base
+    (sym c.points.ensures ∙ c.if-points.true))
+    c.write_part.ensures
+
+pub write_part_reference-returns-else-points : goal.write_part_reference-returns-else-points
+write_part_reference-returns-else-points g t c =
+    writes_as
+    (reference_unpointed c.args.self.now c.args.scope.now c.args.handle c.args.base
+    (sym c.points.ensures ∙ c.if-points.false))
+    c.write_dereference.ensures
+
+pub write_part-write_part_base-requires : goal.write_part-write_part_base-requires
+write_part-write_part_base-requires g t c κs within =
+    let before = (base_before c.args.self.now c.requires.can c.args.handle c.args.base c.requires.part).0 in
+    let there = (base_there c.args.self.now c.requires.can c.args.handle c.args.base c.requires.part).0 in
+    (omega (arith, before, c.decreases), (within, (c.requires.can, there)))
+
+pub write_part-returns : goal.write_part-returns
+write_part-returns g t c =
+    writes_as
+    (sym
+    (plain_row c.args.self.now c.args.scope.now c.args.handle c.args.base c.requires.can
+    c.requires.part))
+    (writes_then c.write_part_base.ensures c.write_part_end.ensures)
+
+pub write_part_base-returns-then-points : goal.write_part_base-returns-then-points
+write_part_base-returns-then-points g t c =
+    writes_as
+    (base_pointed c.args.self.now c.args.scope.now c.args.base
+    (sym c.points.ensures ∙ c.if-points.true))
+    c.write_reference.ensures
+
+pub write_part_base-returns-else-points : goal.write_part_base-returns-else-points
+write_part_base-returns-else-points g t c =
+    writes_as
+    (base_unpointed c.args.self.now c.args.scope.now c.args.base
+    (sym c.points.ensures ∙ c.if-points.false))
+    c.write_base.ensures
+
+pub write_part_end-write_index-requires : goal.write_part_end-write_index-requires
+write_part_end-write_index-requires g t c κs within =
+    let before =
+    (operands_before c.args.self.now c.requires.can c.args.handle c.index.result.now _
+    c.index.ensures c.in-Access.is).1.0 in
+    let bound = (base_before c.args.self.now c.requires.can c.args.handle c.args.base c.requires.part).1 in
+    (omega (arith, before, c.decreases), (within, (c.requires.can, omega (arith, before, bound))))
+
+pub write_part_end-write_selector-requires-clause-allowed : goal.write_part_end-write_selector-requires-clause-allowed
+write_part_end-write_selector-requires-clause-allowed g t c =
+    part_allowed c.args.self.now c.requires.can c.args.handle c.args.base c.index.result.now _ _
+    c.index.ensures c.in-AccessIndex.is c.requires.part
+
+pub write_part_end-returns-in-Access : goal.write_part_end-returns-in-Access
+write_part_end-returns-in-Access g t c =
+    writes_as
+    (element_end c.args.self.now c.args.scope.now c.args.handle c.index.result.now _ _
+    c.index.ensures c.in-Access.is)
+    c.write_index.ensures
+
+pub write_part_end-returns-in-AccessIndex : goal.write_part_end-returns-in-AccessIndex
+write_part_end-returns-in-AccessIndex g t c =
+    writes_as
+    (selected_end c.args.self.now c.args.scope.now c.args.handle c.args.base c.index.result.now _ _
+    c.index.ensures c.in-AccessIndex.is c.requires.part)
+    c.write_selector.ensures
+
+pub write_part_end-unreachable-requires : goal.write_part_end-unreachable-requires
+write_part_end-unreachable-requires g t c =
+    no_other_part c.args.self.now c.requires.can c.args.handle c.args.base c.index.result.now
+    c.index.ensures c.requires.part c.in_default.not-Access c.in_default.not-AccessIndex
+
+pub write_own-write_conversion-requires : goal.write_own-write_conversion-requires
+write_own-write_conversion-requires g t c κs within =
+    let allowed =
+    conversion_allowed c.args.self.now c.requires.can c.args.handle c.index.result.now _ _ _
+    c.index.ensures c.in-As.is in
+    (omega (arith, c.decreases), (within, (c.requires.can, (c.requires.handle, allowed))))
+
+pub write_conversion-returns : goal.write_conversion-returns
+write_conversion-returns g t c =
+    writes_as
+    (sym
+    (conversion_row c.args.self.now c.args.scope.now c.args.operand c.args.kind c.args.convert
+    c.args.handle))
+    (writes_then c.write_callee.ensures (writes_then c.put.ensures c.write_operands.ensures))
+
+pub write_own-returns-in-As : goal.write_own-returns-in-As
+write_own-returns-in-As g t c =
+    let allowed =
+    conversion_allowed c.args.self.now c.requires.can c.args.handle c.index.result.now _ _ _
+    c.index.ensures c.in-As.is in
+    writes_as
+    (own_conversion c.args.self.now c.args.scope.now c.args.handle c.index.result.now _ _ _
+    c.requires.can allowed c.index.ensures c.in-As.is)
+    c.write_conversion.ensures

@@ -10,31 +10,67 @@ use Rattle.naga_wgsl_fns.proofs.functions.FunctionText.+expression.Given as goal
 -- An expression's own form is made of the forms of those before it, its operands; its value may be
 -- its own form, what it points at is its value, and a reference may be that.
 abbrev pub decreases-write_operands : goal.decreases-write_operands
-decreases-write_operands g l = 8 * l.handle
+decreases-write_operands g l = 16 * l.handle
 
 abbrev pub decreases-write_called : goal.decreases-write_called
-decreases-write_called g l = 8 * l.handle + 1
+decreases-write_called g l = 16 * l.handle + 1
+
+abbrev pub decreases-write_made : goal.decreases-write_made
+decreases-write_made g l = 16 * l.handle + 1
+
+abbrev pub decreases-write_conversion : goal.decreases-write_conversion
+decreases-write_conversion g l = 16 * l.handle + 1
+
+abbrev pub decreases-write_part_end : goal.decreases-write_part_end
+decreases-write_part_end g l = 16 * l.handle
+
+abbrev pub decreases-write_part : goal.decreases-write_part
+decreases-write_part g l = 16 * l.handle + 1
+
+abbrev pub decreases-write_part_address : goal.decreases-write_part_address
+decreases-write_part_address g l = 16 * l.handle + 2
+
+abbrev pub decreases-write_part_value : goal.decreases-write_part_value
+decreases-write_part_value g l = 16 * l.handle + 3
 
 abbrev pub decreases-write_own : goal.decreases-write_own
-decreases-write_own g l = 8 * l.handle + 2
+decreases-write_own g l = 16 * l.handle + 4
 
 abbrev pub decreases-write_value : goal.decreases-write_value
-decreases-write_value g l = 8 * l.handle + 3
+decreases-write_value g l = 16 * l.handle + 5
 
 abbrev pub decreases-write_dereference : goal.decreases-write_dereference
-decreases-write_dereference g l = 8 * l.handle + 4
+decreases-write_dereference g l = 16 * l.handle + 6
+
+abbrev pub decreases-write_in_parentheses : goal.decreases-write_in_parentheses
+decreases-write_in_parentheses g l = 16 * l.handle + 6
+
+abbrev pub decreases-write_base : goal.decreases-write_base
+decreases-write_base g l = 16 * l.handle + 7
+
+abbrev pub decreases-write_part_reference : goal.decreases-write_part_reference
+decreases-write_part_reference g l = 16 * l.handle + 7
 
 abbrev pub decreases-write_reference : goal.decreases-write_reference
-decreases-write_reference g l = 8 * l.handle + 5
+decreases-write_reference g l = 16 * l.handle + 8
+
+abbrev pub decreases-write_part_base : goal.decreases-write_part_base
+decreases-write_part_base g l = 16 * l.base + 9
+
+abbrev pub decreases-write_swizzle : goal.decreases-write_swizzle
+decreases-write_swizzle g l = 16 * l.vector + 8
+
+abbrev pub decreases-write_index : goal.decreases-write_index
+decreases-write_index g l = 16 * l.index + 6
 
 abbrev pub decreases-write_infix : goal.decreases-write_infix
-decreases-write_infix g l = 8 * max l.left l.right + 4
+decreases-write_infix g l = 16 * max l.left l.right + 6
 
 abbrev pub decreases-write_prefix : goal.decreases-write_prefix
-decreases-write_prefix g l = 8 * l.operand + 4
+decreases-write_prefix g l = 16 * l.operand + 6
 
 abbrev pub decreases-write_next_operand : goal.decreases-write_next_operand
-decreases-write_next_operand g l = 8 * l.operand + 4
+decreases-write_next_operand g l = 16 * l.operand + 6
 
 -- what is left to be written of the operands, which stand before the expression
 pub record OperandsLeft (start now : OutputView) (f : FunctionText) (table : List Standing)

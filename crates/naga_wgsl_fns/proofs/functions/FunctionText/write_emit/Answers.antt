@@ -18,7 +18,7 @@ pub loop-index-preserved : goal.loop-index-preserved
 loop-index-preserved g c =
     let self = c.args.self.now in
     let h = c.from_index-handle.result in
-    let one : handles_of c.emit.new.self ≡ after_one (naming self) 0 h (handles_of c.loop-index.scope) = c.emit.ensures.handles (module_names self.shader.now) self.shader.now self.module_info.now self.handle 0 in
+    let one : handles_of c.emit.new.self ≡ after_one (naming self) 0 h (handles_of c.loop-index.scope) = c.emit.ensures.handles (module_names self.shader.now) self.shader.now self.module_info.now self.handle 0 c.requires.can.allowed in
     record {
       leaves = leaves_more _ _ _ _ _ _ _ c.loop-index.invariant.leaves
           (lets_step self c.requires.can c.loop-index.scope c.emit.new.self c.args.level.0 c.loop-index.index c.args.range.end h c.loop-index-test.true c.from_index-handle.ensures one)

@@ -8,10 +8,10 @@ pub returns-then-binds : goal.returns-then-binds
 unfolding emitted_text
 returns-then-binds g c =
     let self = c.args.self.now in
-    writes_as (ap (λ (b : Bool). cond b (let_text self c.args.scope.now c.args.level.0 c.args.handle) []) (sym c.if-binds.true ∙ c.binds.ensures self.shader.now self.module_info.now)) c.write_let.ensures
+    writes_as (ap (λ (b : Bool). cond b (let_text self c.args.scope.now c.args.level.0 c.args.handle) []) (sym c.if-binds.true ∙ c.binds.ensures self.shader.now self.module_info.now c.requires.can.allowed)) c.write_let.ensures
 
 pub returns-else-binds : goal.returns-else-binds
 unfolding emitted_text
 returns-else-binds g c =
     let self = c.args.self.now in
-    writes_as (ap (λ (b : Bool). cond b (let_text self c.args.scope.now c.args.level.0 c.args.handle) []) (sym c.if-binds.false ∙ c.binds.ensures self.shader.now self.module_info.now)) (writes_nothing _)
+    writes_as (ap (λ (b : Bool). cond b (let_text self c.args.scope.now c.args.level.0 c.args.handle) []) (sym c.if-binds.false ∙ c.binds.ensures self.shader.now self.module_info.now c.requires.can.allowed)) (writes_nothing _)

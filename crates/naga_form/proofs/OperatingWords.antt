@@ -1,0 +1,128 @@
+-- Words of operators that no name hides: the signs, words and types of the operators that are written
+-- so far.
+use Rattle.std.proofs.Common.{◌≡◌, ℕ, Bool, true, false, List, [], ◌∷◌, refl, sym, ap, ◌∙◌, nat_eq}
+use Rattle.std.proofs.Common.{codes}
+use Rattle.std.specs.Prelude.{◌&&◌, ◌||◌, if◌then◌else◌, not}
+use Rattle.std.specs.Option.{is_some}
+use Rattle.module_meaning.specs.OperatorTable.{BinarySign, UnarySign, Choice, Mathematical}
+use Rattle.module_meaning.specs.OperatorTable.{Relation, Splat, relational_word, run_word}
+use Rattle.module_meaning.specs.OperatorTable.{with_type}
+use Rattle.naga_ir.specs.declared.operators.BinaryOperator.{BinaryOperator}
+use Rattle.naga_ir.specs.declared.operators.BinaryOperator.TheVariants as operator
+use Rattle.naga_ir.specs.declared.operators.MathFunction.{MathFunction}
+use Rattle.naga_ir.specs.declared.operators.MathFunction.TheVariants as math
+use Rattle.naga_ir.specs.declared.operators.RelationalFunction.{RelationalFunction}
+use Rattle.naga_ir.specs.declared.operators.RelationalFunction.TheVariants as relational
+use Rattle.naga_ir.specs.declared.operators.UnaryOperator.{UnaryOperator}
+use Rattle.naga_ir.specs.declared.operators.UnaryOperator.TheVariants as unary
+use Rattle.naga_ir.specs.declared.types.VectorSize.{VectorSize}
+use Rattle.naga_ir.specs.declared.types.VectorSize.TheVariants.{Bi, Tri, Quad}
+use Rattle.naga_keywords.specs.Plain.{is_word}
+use Rattle.naga_words.specs.Words.{matrix_word, vector_word}
+use Rattle.wgsl_text.proofs.Words.{all_words}
+use Rattle.wgsl_text.specs.Keywords.{builtin_words}
+use Rattle.wgsl_text.specs.Reading.{type_layout}
+use Rattle.wgsl_text.specs.Requests.{is_request}
+use Rattle.wgsl_text.specs.Tables.{scalar_words}
+use Rattle.wgsl_text.specs.Types.{TypeSpecifier, Named, of_one}
+use Rattle.wgsl_text.specs.Words.{is_builtin}
+use Rattle.wgsl_words.specs.Words.{math_word}
+
+-- it asks for nothing and is no name: a sign, or a built-in word, that begins like no numbered name
+abbrev pub operates_freely : List ℕ → Bool
+operates_freely [] = false
+operates_freely (c ∷ rest) =
+    not (is_request (c ∷ rest)) &&
+    (not (nat_eq c 95) &&
+    (not (nat_eq c 32) && (not (is_word (c ∷ rest)) || is_builtin (c ∷ rest))))
+
+-- as are the signs and the words of the operators that are written so far
+pub unary_free : (op : UnaryOperator) → operates_freely (run_word (UnarySign op)) ≡ true
+unfolding is_request is_builtin builtin_words
+unary_free unary.Negate = refl
+unary_free unary.LogicalNot = refl
+unary_free unary.BitwiseNot = refl
+
+pub binary_free : (op : BinaryOperator) → operates_freely (run_word (BinarySign op)) ≡ true
+unfolding is_request is_builtin builtin_words
+binary_free operator.Add = refl
+binary_free operator.Subtract = refl
+binary_free operator.Multiply = refl
+binary_free operator.Divide = refl
+binary_free operator.Modulo = refl
+binary_free operator.Equal = refl
+binary_free operator.NotEqual = refl
+binary_free operator.Less = refl
+binary_free operator.LessEqual = refl
+binary_free operator.Greater = refl
+binary_free operator.GreaterEqual = refl
+binary_free operator.And = refl
+binary_free operator.ExclusiveOr = refl
+binary_free operator.InclusiveOr = refl
+binary_free operator.LogicalAnd = refl
+binary_free operator.LogicalOr = refl
+binary_free operator.ShiftLeft = refl
+binary_free operator.ShiftRight = refl
+
+pub choice_free : operates_freely (run_word Choice) ≡ true
+unfolding is_request is_builtin builtin_words
+choice_free = refl
+
+pub splat_free : (size : VectorSize) → operates_freely (run_word (Splat size)) ≡ true
+unfolding is_request is_builtin builtin_words
+splat_free Bi = refl
+splat_free Tri = refl
+splat_free Quad = refl
+
+-- as are the words of functions of mathematics and of relations
+math_row : (fun : MathFunction) →
+    (if is_some (math_word fun) then operates_freely (run_word (Mathematical fun)) else true) ≡ true
+unfolding is_request is_builtin builtin_words
+math_row math.Abs = refl
+math_row _ = refl
+
+pub math_free : (fun : MathFunction) → is_some (math_word fun) ≡ true →
+    operates_freely (run_word (Mathematical fun)) ≡ true
+math_free fun written =
+    sym (ap (λ b. if b then operates_freely (run_word (Mathematical fun)) else true) written)
+    ∙ math_row fun
+
+pub relation_free : (fun : RelationalFunction) → is_some (relational_word fun) ≡ true →
+    operates_freely (run_word (Relation fun)) ≡ true
+unfolding is_request is_builtin builtin_words
+relation_free relational.All written = refl
+relation_free relational.Any written = refl
+relation_free _ written = absurd cc
+
+-- as is the cast of bits to any type
+pub bits_free : (word : List ℕ) → operates_freely (with_type (codes "bitcast") word) ≡ true
+unfolding is_request is_builtin builtin_words
+bits_free word = refl
+
+-- as are scalars, vectors and matrices
+abbrev is_free_type : TypeSpecifier → Bool
+is_free_type t = operates_freely (type_layout t)
+
+pub scalars_free : all_words (λ w. is_free_type (Named w)) scalar_words ≡ true
+unfolding is_request is_builtin builtin_words
+scalars_free = refl
+
+pub vectors_free : (size : VectorSize) →
+    all_words (λ w. is_free_type (of_one (vector_word size) (Named w))) scalar_words ≡ true
+unfolding is_request is_builtin builtin_words
+vectors_free Bi = refl
+vectors_free Tri = refl
+vectors_free Quad = refl
+
+pub matrices_free : (columns rows : VectorSize) →
+    all_words (λ w. is_free_type (of_one (matrix_word columns rows) (Named w))) scalar_words ≡ true
+unfolding is_request is_builtin builtin_words
+matrices_free Bi Bi = refl
+matrices_free Bi Tri = refl
+matrices_free Bi Quad = refl
+matrices_free Tri Bi = refl
+matrices_free Tri Tri = refl
+matrices_free Tri Quad = refl
+matrices_free Quad Bi = refl
+matrices_free Quad Tri = refl
+matrices_free Quad Quad = refl

@@ -1,0 +1,148 @@
+//! Conversions to other scalars.
+
+ghost use Rattle.std.specs.Prelude.{◌≡◌, ◌<◌, IsTrue, Some, length, slice_get};
+ghost use Rattle.std.specs.Option.{is_some};
+ghost use Rattle.module_meaning.specs.Conversions.{conversion_target, converted_scalar, keeps_bits};
+ghost use Rattle.module_meaning.specs.Part.{resolution_is_written, types_allow};
+ghost use Rattle.naga_ir.specs.declared.expression.Expression.TheVariants.{As};
+ghost use Rattle.naga_wgsl_fns.specs.Expressions.{bitcast_text, callee_text, cast_text};
+ghost use Rattle.naga_wgsl_fns.specs.Expressions.{conversion_callee, made_text};
+ghost use Rattle.naga_wgsl_fns.specs.FunctionText.{CanWrite};
+ghost use Rattle.naga_words.specs.Output.{Writes};
+
+use crate::functions::FunctionText;
+use naga_info::TypeResolution;
+use naga_ir::{Expression, Handle, Scalar, ScalarKind, TypeInner};
+use naga_scope::Scope;
+use naga_words::{Output, TextSink};
+use std::alloc::Global;
+
+impl FunctionText<'_> {
+    /// The operand of the expression with this handle, as a value over another scalar.
+    #[cycle(expression)]
+    pub(crate) fn write_conversion<W: TextSink>(
+        &self,
+        alloc: Global,
+        scope: &Scope,
+        handle: Handle<Expression>,
+        operand: Handle<Expression>,
+        kind: ScalarKind,
+        convert: Option<u8>,
+        out: &mut Output<'_, W>,
+    )
+        requires can { CanWrite self.now }
+        requires handle { handle < length self.now.function.now.expressions }
+        requires allowed { IsTrue (types_allow self.now.shader.now.types self.now.info.now
+            (As operand kind convert)) }
+        ensures { Writes W.text W.failures out.old out.new
+            (made_text self.now scope.now (conversion_callee self.now operand kind convert)
+            handle) }
+    {
+        self.write_callee(alloc, operand, kind, convert, out);
+        out.put("(");
+        self.write_operands(alloc, scope, handle, out);
+    }
+
+    /// What a conversion is called by: the type of its value, or `bitcast` to that where the bits
+    /// are kept.
+    fn write_callee<W: TextSink>(
+        &self,
+        alloc: Global,
+        operand: Handle<Expression>,
+        kind: ScalarKind,
+        convert: Option<u8>,
+        out: &mut Output<'_, W>,
+    )
+        requires can { CanWrite self.now }
+        requires allowed { IsTrue (types_allow self.now.shader.now.types self.now.info.now
+            (As operand kind convert)) }
+        ensures { Writes W.text W.failures out.old out.new
+            (callee_text self.now operand kind convert) }
+    {
+        let inner = self.type_of(operand);
+        let target = TypeResolution::Value(conversion_target(inner, kind, convert));
+        self.write_cast(alloc, keeps_bits(inner, convert), &target, out);
+        drop(target);
+    }
+
+    /// A type, or `bitcast` to it.
+    fn write_cast<W: TextSink>(
+        &self,
+        alloc: Global,
+        keeps_bits: bool,
+        target: &TypeResolution,
+        out: &mut Output<'_, W>,
+    )
+        requires can { CanWrite self.now }
+        requires written { IsTrue (resolution_is_written self.now.shader.now.types target.now) }
+        ensures { Writes W.text W.failures out.old out.new
+            (cast_text self.now keeps_bits target.now) }
+    {
+        if keeps_bits {
+            self.write_bitcast(alloc, target, out);
+        } else {
+            self.write_type_of(alloc, target, out);
+        }
+    }
+
+    #[tactic(auto, using(naga_words::proofs::Writing::writes_then, crate::proofs::ConversionRows::bitcast_row))]
+    fn write_bitcast<W: TextSink>(
+        &self,
+        alloc: Global,
+        target: &TypeResolution,
+        out: &mut Output<'_, W>,
+    )
+        requires can { CanWrite self.now }
+        requires written { IsTrue (resolution_is_written self.now.shader.now.types target.now) }
+        ensures { Writes W.text W.failures out.old out.new (bitcast_text self.now target.now) }
+    {
+        out.put("bitcast<");
+        self.write_type_of(alloc, target, out);
+        out.put(">");
+    }
+}
+
+/// The scalar that one is converted to: of this kind, and of the width that is told or its own.
+fn converted_scalar(scalar: Scalar, kind: ScalarKind, convert: Option<u8>) -> Scalar
+    ensures { result ≡ converted_scalar scalar kind convert }
+{
+    Scalar {
+        kind,
+        width: convert.unwrap_or(scalar.width),
+    }
+}
+
+/// What a scalar, a vector or a matrix of this type is converted to.
+fn conversion_target(operand: &TypeInner, kind: ScalarKind, convert: Option<u8>) -> TypeInner
+    requires { IsTrue (is_some (conversion_target operand.now kind convert)) }
+    ensures { conversion_target operand.now kind convert ≡ Some result }
+{
+    match operand {
+        TypeInner::Scalar(scalar) => TypeInner::Scalar(converted_scalar(*scalar, kind, convert)),
+        TypeInner::Vector { size, scalar } => TypeInner::Vector {
+            size: *size,
+            scalar: converted_scalar(*scalar, kind, convert),
+        },
+        TypeInner::Matrix {
+            columns,
+            rows,
+            scalar,
+        } => TypeInner::Matrix {
+            columns: *columns,
+            rows: *rows,
+            scalar: converted_scalar(*scalar, kind, convert),
+        },
+        _ => unreachable!(),
+    }
+}
+
+/// Whether the bits are kept and read as a value of the other type, as they are where no width is
+/// told, but for a matrix.
+fn keeps_bits(operand: &TypeInner, convert: Option<u8>) -> bool
+    ensures { result ≡ keeps_bits operand.now convert }
+{
+    match operand {
+        TypeInner::Matrix { .. } => false,
+        _ => convert.is_none(),
+    }
+}

@@ -1,0 +1,397 @@
+//! Parts of values and of what is pointed at: components, columns, elements and swizzles.
+
+ghost use Rattle.std.specs.Prelude.{◌≡◌, ◌<◌, IsTrue, Some, length, slice_get};
+ghost use Rattle.std.specs.Option.{is_some, option_map};
+ghost use Rattle.module_meaning.specs.ExpressionShapes.{component_letters, letter, part_selector};
+ghost use Rattle.module_meaning.specs.ExpressionShapes.{swizzle_letters};
+ghost use Rattle.naga_form.specs.Expressions.{as_value, points};
+ghost use Rattle.naga_words.specs.Output.{Writes};
+ghost use Rattle.naga_wgsl_fns.specs.Expressions.{base_of, base_text, form_at, index_text};
+ghost use Rattle.naga_wgsl_fns.specs.Expressions.{is_signed, letter_at, member_text, number_text};
+ghost use Rattle.naga_wgsl_fns.specs.Expressions.{parenthesized_text, part_base_text};
+ghost use Rattle.naga_wgsl_fns.specs.Expressions.{part_end_text, part_reference_text};
+ghost use Rattle.naga_wgsl_fns.specs.Expressions.{part_value_text, plain_address_text, plain_text};
+ghost use Rattle.naga_wgsl_fns.specs.Expressions.{selector_of, selector_text, word_text};
+ghost use Rattle.naga_wgsl_fns.specs.Expressions.{has_components, is_vector_at};
+ghost use Rattle.module_meaning.specs.ExpressionOperators.{type_known};
+ghost use Rattle.module_meaning.specs.Part.{types_allow};
+ghost use Rattle.naga_ir.specs.declared.expression.Expression.TheVariants.{AccessIndex};
+ghost use Rattle.naga_wgsl_fns.specs.FunctionText.{CanWrite, around, source};
+
+use crate::functions::FunctionText;
+use itoa::Buffer;
+use naga_ir::{Expression, Handle, SwizzleComponent, Type_, TypeInner, VectorSize};
+use naga_scope::{Scope, Standing};
+use naga_words::{Output, TextSink};
+use std::alloc::Global;
+
+impl FunctionText<'_> {
+    /// A part at an index, as a value: with `&`, where it is one of what is pointed at.
+    #[cycle(expression)]
+    pub(crate) fn write_part_value<W: TextSink>(
+        &self,
+        alloc: Global,
+        scope: &Scope,
+        handle: Handle<Expression>,
+        base: Handle<Expression>,
+        out: &mut Output<'_, W>,
+    )
+        requires can { CanWrite self.now }
+        requires part { base_of (slice_get self.now.function.now.expressions handle) ≡ Some base }
+        ensures { Writes W.text W.failures out.old out.new
+            (part_value_text self.now scope.now handle base) }
+    {
+        if self.points(base) {
+            self.write_part_address(alloc, scope, handle, base, out);
+        } else {
+            self.write_part(alloc, scope, handle, base, out);
+        }
+    }
+
+    /// A part at an index that has no name, as a reference: with `*`, where it is one of a value.
+    #[cycle(expression)]
+    pub(crate) fn write_part_reference<W: TextSink>(
+        &self,
+        alloc: Global,
+        scope: &Scope,
+        handle: Handle<Expression>,
+        base: Handle<Expression>,
+        out: &mut Output<'_, W>,
+    )
+        requires can { CanWrite self.now }
+        requires part { base_of (slice_get self.now.function.now.expressions handle) ≡ Some base }
+        ensures { Writes W.text W.failures out.old out.new
+            (part_reference_text self.now scope.now handle base) }
+    {
+        if self.points(base) {
+            self.write_part(alloc, scope, handle, base, out);
+        } else {
+            self.write_dereference(alloc, scope, handle, out);
+        }
+    }
+
+    /// A pointer to a part of what is pointed at.
+    #[cycle(expression)]
+    #[tactic(auto, using(naga_words::proofs::Writing::writes_then, crate::proofs::PartRows::plain_address_row))]
+    fn write_part_address<W: TextSink>(
+        &self,
+        alloc: Global,
+        scope: &Scope,
+        handle: Handle<Expression>,
+        base: Handle<Expression>,
+        out: &mut Output<'_, W>,
+    )
+        requires can { CanWrite self.now }
+        requires part { base_of (slice_get self.now.function.now.expressions handle) ≡ Some base }
+        ensures { Writes W.text W.failures out.old out.new
+            (plain_address_text self.now scope.now handle) }
+    {
+        out.put("(&");
+        self.write_part(alloc, scope, handle, base, out);
+        out.put(")");
+    }
+
+    /// A part at an index: a reference where its base points, else a value.
+    #[cycle(expression)]
+    #[tactic(auto, using(naga_words::proofs::Writing::writes_then, crate::proofs::PartRows::plain_row))]
+    fn write_part<W: TextSink>(
+        &self,
+        alloc: Global,
+        scope: &Scope,
+        handle: Handle<Expression>,
+        base: Handle<Expression>,
+        out: &mut Output<'_, W>,
+    )
+        requires can { CanWrite self.now }
+        requires part { base_of (slice_get self.now.function.now.expressions handle) ≡ Some base }
+        ensures { Writes W.text W.failures out.old out.new (plain_text self.now scope.now handle) }
+    {
+        self.write_part_base(alloc, scope, base, out);
+        self.write_part_end(alloc, scope, handle, base, out);
+    }
+
+    /// What a part is taken of: as a reference where it points, so that the part is one too, else
+    /// as a value.
+    #[cycle(expression)]
+    fn write_part_base<W: TextSink>(
+        &self,
+        alloc: Global,
+        scope: &Scope,
+        base: Handle<Expression>,
+        out: &mut Output<'_, W>,
+    )
+        requires can { CanWrite self.now }
+        requires base { base < length self.now.function.now.expressions }
+        ensures { Writes W.text W.failures out.old out.new
+            (part_base_text self.now scope.now base) }
+    {
+        if self.points(base) {
+            self.write_reference(alloc, scope, base, out);
+        } else {
+            self.write_base(alloc, scope, base, out);
+        }
+    }
+
+    /// What stands behind the base of a part.
+    #[cycle(expression)]
+    fn write_part_end<W: TextSink>(
+        &self,
+        alloc: Global,
+        scope: &Scope,
+        handle: Handle<Expression>,
+        base: Handle<Expression>,
+        out: &mut Output<'_, W>,
+    )
+        requires can { CanWrite self.now }
+        requires part { base_of (slice_get self.now.function.now.expressions handle) ≡ Some base }
+        ensures { Writes W.text W.failures out.old out.new
+            (part_end_text self.now scope.now handle) }
+    {
+        match &self.function.expressions[handle] {
+            Expression::Access { index, .. } => self.write_index(alloc, scope, *index, out),
+            Expression::AccessIndex { index, .. } => self.write_selector(base, *index, out),
+            _ => unreachable!(),
+        }
+    }
+
+    #[cycle(expression)]
+    #[tactic(auto, using(naga_words::proofs::Writing::writes_then, crate::proofs::PartRows::index_row))]
+    fn write_index<W: TextSink>(
+        &self,
+        alloc: Global,
+        scope: &Scope,
+        index: Handle<Expression>,
+        out: &mut Output<'_, W>,
+    )
+        requires can { CanWrite self.now }
+        requires index { index < length self.now.function.now.expressions }
+        ensures { Writes W.text W.failures out.old out.new (index_text self.now scope.now index) }
+    {
+        out.put("[");
+        self.write_value(alloc, scope, index, out);
+        out.put("]");
+    }
+
+    /// A known index: a component by its letter, a column by its number.
+    fn write_selector<W: TextSink>(
+        &self,
+        base: Handle<Expression>,
+        index: u32,
+        out: &mut Output<'_, W>,
+    )
+        requires can { CanWrite self.now }
+        requires allowed { IsTrue (types_allow self.now.shader.now.types self.now.info.now
+            (AccessIndex base index)) }
+        ensures { Writes W.text W.failures out.old out.new (selector_text self.now base index) }
+    {
+        match self.component(base, index) {
+            Some(word) => write_word(word, out),
+            None => write_number(index, out),
+        }
+    }
+
+    /// The letter of a component of a vector, or of one that is pointed at. Other parts have none.
+    fn component(&self, base: Handle<Expression>, index: u32) -> Option<&'static str>
+        requires can { CanWrite self.now }
+        requires allowed { IsTrue (types_allow self.now.shader.now.types self.now.info.now
+            (AccessIndex base index)) }
+        ensures { part_selector (source self.now).declared base index
+            ≡ Some (selector_of (option_map (λ word. word.now) result) index) }
+    {
+        if self.has_components(base) {
+            component_letter(index)
+        } else {
+            None
+        }
+    }
+
+    /// Whether the type of an expression is that of a vector, or of a pointer to one.
+    fn has_components(&self, handle: Handle<Expression>) -> bool
+        requires can { CanWrite self.now }
+        requires handle { handle < length self.now.info.now }
+        ensures { result ≡ has_components self.now handle }
+    {
+        match self.type_of(handle) {
+            TypeInner::Vector { .. } => true,
+            TypeInner::Pointer { base, .. } => self.is_vector(*base),
+            _ => false,
+        }
+    }
+
+    fn is_vector(&self, ty: Handle<Type_>) -> bool
+        requires { ty < length self.now.shader.now.types }
+        ensures { result ≡ is_vector_at self.now.shader.now.types ty }
+    {
+        matches!(&self.shader.types[ty].inner, TypeInner::Vector { .. })
+    }
+
+    /// Whether the type of an expression is that of a pointer.
+    fn points(&self, handle: Handle<Expression>) -> bool
+        requires can { CanWrite self.now }
+        requires handle { handle < length self.now.info.now }
+        ensures { result ≡ points (around self.now) handle }
+    {
+        matches!(
+            self.type_of(handle),
+            TypeInner::Pointer { .. } | TypeInner::ValuePointer { .. }
+        )
+    }
+
+    /// The type of an expression, by itself.
+    pub(crate) fn type_of(&self, handle: Handle<Expression>) -> &TypeInner
+        requires can { CanWrite self.now }
+        requires handle { handle < length self.now.info.now }
+        ensures { type_known (around self.now) handle ≡ Some result.now }
+    {
+        self.info[handle].ty.inner_with(&self.shader.types)
+    }
+
+    /// The components of a vector that a swizzle chooses.
+    #[cycle(expression)]
+    #[tactic(auto, using(naga_words::proofs::Writing::writes_then, crate::proofs::PartRows::swizzle_row))]
+    pub(crate) fn write_swizzle<W: TextSink>(
+        &self,
+        alloc: Global,
+        scope: &Scope,
+        size: VectorSize,
+        vector: Handle<Expression>,
+        pattern: &[SwizzleComponent; 4],
+        out: &mut Output<'_, W>,
+    )
+        requires can { CanWrite self.now }
+        requires vector { vector < length self.now.function.now.expressions }
+        ensures { Writes W.text W.failures out.old out.new
+            (member_text self.now scope.now vector (swizzle_letters size pattern.now)) }
+    {
+        self.write_base(alloc, scope, vector, out);
+        out.put(".");
+        write_letters(size, pattern, out);
+    }
+
+    /// A value of which a part is taken: in parentheses where it starts with the sign of an
+    /// operator.
+    #[cycle(expression)]
+    fn write_base<W: TextSink>(
+        &self,
+        alloc: Global,
+        scope: &Scope,
+        handle: Handle<Expression>,
+        out: &mut Output<'_, W>,
+    )
+        requires can { CanWrite self.now }
+        requires handle { handle < length self.now.function.now.expressions }
+        ensures { Writes W.text W.failures out.old out.new
+            (base_text self.now scope.now handle) }
+    {
+        if self.is_signed(scope, handle) {
+            self.write_in_parentheses(alloc, scope, handle, out);
+        } else {
+            self.write_value(alloc, scope, handle, out);
+        }
+    }
+
+    #[cycle(expression)]
+    #[tactic(auto, using(naga_words::proofs::Writing::writes_then, crate::proofs::PartRows::parenthesized_row))]
+    fn write_in_parentheses<W: TextSink>(
+        &self,
+        alloc: Global,
+        scope: &Scope,
+        handle: Handle<Expression>,
+        out: &mut Output<'_, W>,
+    )
+        requires can { CanWrite self.now }
+        requires handle { handle < length self.now.function.now.expressions }
+        ensures { Writes W.text W.failures out.old out.new
+            (parenthesized_text self.now scope.now handle) }
+    {
+        out.put("(");
+        self.write_value(alloc, scope, handle, out);
+        out.put(")");
+    }
+
+    /// Whether an expression is written here as an operator before its operand.
+    fn is_signed(&self, scope: &Scope, handle: Handle<Expression>) -> bool
+        requires can { CanWrite self.now }
+        requires handle { handle < length self.now.function.now.expressions }
+        ensures { result ≡ is_signed (as_value (form_at self.now scope.now handle)) }
+    {
+        match scope.standing(handle) {
+            Standing::Named => false,
+            _ => matches!(&self.function.expressions[handle], Expression::Unary { .. }),
+        }
+    }
+}
+
+#[tactic(auto, using(naga_words::proofs::Writing::writes_then, crate::proofs::PartRows::word_row))]
+fn write_word<W: TextSink>(word: &str, out: &mut Output<'_, W>)
+    ensures { Writes W.text W.failures out.old out.new (word_text word.now) }
+{
+    out.put(".");
+    out.put(word);
+}
+
+#[tactic(auto, using(naga_words::proofs::Writing::writes_then, crate::proofs::PartRows::number_row))]
+fn write_number<W: TextSink>(index: u32, out: &mut Output<'_, W>)
+    ensures { Writes W.text W.failures out.old out.new (number_text index) }
+{
+    let mut buffer = Buffer::new();
+    out.put("[");
+    out.put(buffer.format(index));
+    out.put("]");
+}
+
+/// The letter of a component of a vector, if it has as many.
+fn component_letter(index: u32) -> Option<&'static str>
+    ensures { option_map (λ word. word.now) result ≡ slice_get component_letters index }
+{
+    match index {
+        0 => Some("x"),
+        1 => Some("y"),
+        2 => Some("z"),
+        3 => Some("w"),
+        _ => None,
+    }
+}
+
+/// The letters of the components that a swizzle chooses.
+#[tactic(auto, using(naga_words::proofs::Writing::writes_then, crate::proofs::PartRows::letters_row))]
+fn write_letters<W: TextSink>(
+    size: VectorSize,
+    pattern: &[SwizzleComponent; 4],
+    out: &mut Output<'_, W>,
+)
+    ensures { Writes W.text W.failures out.old out.new (swizzle_letters size pattern.now) }
+{
+    out.put(letter_str(size, pattern, 0));
+    out.put(letter_str(size, pattern, 1));
+    out.put(letter_str(size, pattern, 2));
+    out.put(letter_str(size, pattern, 3));
+}
+
+/// The letter at a place of a swizzle, of which as many are chosen as the vector has components.
+fn letter_str(size: VectorSize, pattern: &[SwizzleComponent; 4], place: usize) -> &'static str
+    requires { place < 4 }
+    ensures { result.now ≡ letter_at size pattern.now place }
+{
+    let chosen = match size {
+        VectorSize::Bi => 2,
+        VectorSize::Tri => 3,
+        VectorSize::Quad => 4,
+    };
+    if place < chosen {
+        component_str(pattern[place])
+    } else {
+        ""
+    }
+}
+
+fn component_str(component: SwizzleComponent) -> &'static str
+    ensures { result.now ≡ letter component }
+{
+    match component {
+        SwizzleComponent::X => "x",
+        SwizzleComponent::Y => "y",
+        SwizzleComponent::Z => "z",
+        SwizzleComponent::W => "w",
+    }
+}

@@ -1,0 +1,300 @@
+//! Parts at an index: components, columns and elements, of values and of what is pointed at.
+
+use crate::program::tests::operators::{is_text, is_written};
+use crate::program::tests::values::{
+    MAT3X2_F32, VEC2_F32, VEC3_F32, Value, add_type, build_argument,
+};
+use bitflags::Flags;
+use naga_wgsl_out::info::{TypeResolution, accepts};
+use naga_wgsl_out::ir::{
+    AddressSpace, BinaryOperator, Expression, Handle, LocalVariable, Scalar, TypeInner,
+    UnaryOperator, VectorSize,
+};
+use naga_wgsl_out::wgsl::{WriterFlags, write_string};
+use sample_modules::Sample;
+use std::alloc::{AllocError, Global};
+use std::test::Fail;
+
+const I32: Value = Value::Scalar(Scalar::I32);
+
+const F32: Value = Value::Scalar(Scalar::F32);
+
+const VEC3_I32: Value = Value::Vector(VectorSize::Tri, Scalar::I32);
+
+const VEC4_I32: Value = Value::Vector(VectorSize::Quad, Scalar::I32);
+
+/// A function that takes parts.
+#[derive(Clone, Copy)]
+enum Taken {
+    /// A component of the value with another sign.
+    OfNegated,
+    /// A component at a number that is computed.
+    Element,
+    /// A component of a column.
+    OfColumn,
+    /// A component of a column at a number that is computed.
+    OfElement,
+    /// A component of a column of a local at a number that is computed.
+    PointedElement,
+}
+
+const TAKEN: &[(Taken, &str)] = &[
+    (
+        Taken::OfNegated,
+        "fn f(x: vec3<i32>) -> i32 {\n    return (-(x)).x;\n}\n\n",
+    ),
+    (
+        Taken::Element,
+        "fn f(x: vec3<f32>, y: i32) -> f32 {\n    return x[y];\n}\n\n",
+    ),
+    (
+        Taken::OfColumn,
+        "fn f(x: mat3x2<f32>) -> f32 {\n    return x[2].y;\n}\n\n",
+    ),
+    (
+        Taken::OfElement,
+        "fn f(x: mat3x2<f32>, y: i32) -> f32 {\n    return x[y].x;\n}\n\n",
+    ),
+    (
+        Taken::PointedElement,
+        "fn f(x: f32, y: i32) {\n    var a: mat3x2<f32>;\n\n    a[y][1] = x;\n}\n\n",
+    ),
+];
+
+/// A part at a known index.
+fn part(
+    sample: &mut Sample,
+    base: Handle<Expression>,
+    index: u32,
+    value: Value,
+) -> Result<Handle<Expression>, AllocError> {
+    let ty = add_type(sample, value)?;
+    sample.used(Expression::AccessIndex { base, index }, ty, 1)
+}
+
+/// A part at an index that is computed.
+fn element(
+    sample: &mut Sample,
+    base: Handle<Expression>,
+    index: Handle<Expression>,
+    value: Value,
+) -> Result<Handle<Expression>, AllocError> {
+    let ty = add_type(sample, value)?;
+    sample.used(Expression::Access { base, index }, ty, 1)
+}
+
+/// A part of what is pointed at, of `f32` or of vectors of it.
+fn pointed(
+    sample: &mut Sample,
+    expression: Expression,
+    size: Option<VectorSize>,
+) -> Result<Handle<Expression>, AllocError> {
+    let ty = TypeResolution::Value(TypeInner::ValuePointer {
+        size,
+        scalar: Scalar::F32,
+        space: AddressSpace::Function,
+    });
+    sample.resolved(expression, ty, 1)
+}
+
+fn local(sample: &mut Sample, value: Value) -> Result<Handle<Expression>, AllocError> {
+    let ty = add_type(sample, value)?;
+    let local: Handle<LocalVariable> = sample.local("a", ty, None)?;
+    sample.pointer(local, ty)
+}
+
+fn end_with_part(
+    sample: &mut Sample,
+    first: Handle<Expression>,
+    last: Handle<Expression>,
+    value: Value,
+) -> Result<(), AllocError> {
+    let ty = add_type(sample, value)?;
+    sample.returns(ty);
+    sample.emit(first, last)?;
+    sample.end_with(last)
+}
+
+fn argument(
+    sample: &mut Sample,
+    label: &str,
+    number: u32,
+    value: Value,
+) -> Result<Handle<Expression>, AllocError> {
+    let ty = add_type(sample, value)?;
+    build_argument(sample, label, number, ty)
+}
+
+fn build_of_negated(sample: &mut Sample) -> Result<(), AllocError> {
+    let x = argument(sample, "x", 0, VEC3_I32)?;
+    let ty = add_type(sample, VEC3_I32)?;
+    let negated = Expression::Unary {
+        op: UnaryOperator::Negate,
+        expr: x,
+    };
+    let base = sample.used(negated, ty, 1)?;
+    let last = part(sample, base, 0, I32)?;
+    end_with_part(sample, base, last, I32)
+}
+
+fn build_element(sample: &mut Sample) -> Result<(), AllocError> {
+    let x = argument(sample, "x", 0, VEC3_F32)?;
+    let y = argument(sample, "y", 1, I32)?;
+    let last = element(sample, x, y, F32)?;
+    end_with_part(sample, last, last, F32)
+}
+
+fn build_of_column(sample: &mut Sample) -> Result<(), AllocError> {
+    let x = argument(sample, "x", 0, MAT3X2_F32)?;
+    let column = part(sample, x, 2, VEC2_F32)?;
+    let last = part(sample, column, 1, F32)?;
+    end_with_part(sample, column, last, F32)
+}
+
+fn build_of_element(sample: &mut Sample) -> Result<(), AllocError> {
+    let x = argument(sample, "x", 0, MAT3X2_F32)?;
+    let y = argument(sample, "y", 1, I32)?;
+    let column = element(sample, x, y, VEC2_F32)?;
+    let last = part(sample, column, 0, F32)?;
+    end_with_part(sample, column, last, F32)
+}
+
+/// A component of a local, stored and loaded.
+fn build_pointed(sample: &mut Sample) -> Result<(), AllocError> {
+    sample.label("f")?;
+    let x = argument(sample, "x", 0, F32)?;
+    let ty = add_type(sample, F32)?;
+    let base = local(sample, VEC3_F32)?;
+    let place = pointed(sample, Expression::AccessIndex { base, index: 2 }, None)?;
+    let loaded = sample.used(Expression::Load { pointer: place }, ty, 1)?;
+    sample.returns(ty);
+    sample.emit(place, place)?;
+    sample.store(place, x)?;
+    sample.emit(loaded, loaded)?;
+    sample.end_with(loaded)
+}
+
+fn build_pointed_element(sample: &mut Sample) -> Result<(), AllocError> {
+    let x = argument(sample, "x", 0, F32)?;
+    let index = argument(sample, "y", 1, I32)?;
+    let base = local(sample, MAT3X2_F32)?;
+    let column = pointed(
+        sample,
+        Expression::Access { base, index },
+        Some(VectorSize::Bi),
+    )?;
+    let part = Expression::AccessIndex {
+        base: column,
+        index: 1,
+    };
+    let place = pointed(sample, part, None)?;
+    sample.emit(column, place)?;
+    sample.store(place, x)?;
+    sample.end_function()
+}
+
+fn build_taken(sample: &mut Sample, taken: Taken) -> Result<(), AllocError> {
+    sample.label("f")?;
+    match taken {
+        Taken::OfNegated => build_of_negated(sample),
+        Taken::Element => build_element(sample),
+        Taken::OfColumn => build_of_column(sample),
+        Taken::OfElement => build_of_element(sample),
+        Taken::PointedElement => build_pointed_element(sample),
+    }
+}
+
+fn taken_gives(alloc: Global, case: &(Taken, &str)) -> Result<bool, AllocError> {
+    let mut sample = Sample::new(alloc);
+    let built = build_taken(&mut sample, case.0);
+    let given = is_written(alloc, &sample, case.1);
+    drop(sample);
+    built?;
+    Ok(given)
+}
+
+fn pointed_gives(alloc: Global, flags: WriterFlags, want: &str) -> Result<bool, AllocError> {
+    let mut sample = Sample::new(alloc);
+    let built = build_pointed(&mut sample);
+    let given = is_text(alloc, &sample, flags, want);
+    drop(sample);
+    built?;
+    Ok(given)
+}
+
+#[test]
+fn components_of_locals_are_loaded(rt: HostRuntime) -> Result<(), Fail> {
+    let plain =
+        "fn f(x: f32) -> f32 {\n    var a: vec3<f32>;\n\n    a.z = x;\n    let _e3 = a.z;\n    \
+                 return _e3;\n}\n\n";
+    let told =
+        "fn f(x: f32) -> f32 {\n    var a: vec3<f32>;\n\n    a.z = x;\n    let _e3: f32 = a.z;\n    \
+                return _e3;\n}\n\n";
+    assert!(rt;
+        pointed_gives(rt.alloc(), WriterFlags::empty(), plain)?,
+        "plain"
+    );
+    assert!(rt;
+        pointed_gives(rt.alloc(), WriterFlags::EXPLICIT_TYPES, told)?,
+        "told"
+    );
+    Ok(())
+}
+
+#[test]
+fn parts_are_taken(rt: HostRuntime) -> Result<(), Fail> {
+    for case in TAKEN {
+        assert!(rt; taken_gives(rt.alloc(), case)?, "{}", case.1);
+    }
+    Ok(())
+}
+
+/// An element at the sum of an element with itself, and so on: no `let` binds an element, so that
+/// each sum has its text twice.
+fn build_doubled(sample: &mut Sample, times: usize) -> Result<(), AllocError> {
+    sample.label("d")?;
+    let t = argument(sample, "t", 0, VEC4_I32)?;
+    let x = argument(sample, "x", 1, I32)?;
+    let ty = add_type(sample, I32)?;
+    let first = sample.used(Expression::Access { base: t, index: x }, ty, 2)?;
+    let mut last = first;
+    for _ in 0..times {
+        let sum = Expression::Binary {
+            op: BinaryOperator::Add,
+            left: last,
+            right: last,
+        };
+        let index = sample.used(sum, ty, 1)?;
+        last = sample.used(Expression::Access { base: t, index }, ty, 2)?;
+    }
+    sample.returns(ty);
+    sample.emit(first, last)?;
+    sample.end_with(last)
+}
+
+/// The length of the text in bytes, if it is written.
+fn doubled_length(alloc: Global, times: usize) -> Result<Option<usize>, AllocError> {
+    let mut sample = Sample::new(alloc);
+    build_doubled(&mut sample, times)?;
+    if !accepts(&sample.module, &sample.info) {
+        return Ok(None);
+    }
+    match write_string(alloc, &sample.module, &sample.info, WriterFlags::empty()) {
+        Ok(text) => Ok(Some(text.len())),
+        Err(_) => Ok(None),
+    }
+}
+
+#[test]
+fn elements_are_doubled(rt: HostRuntime) -> Result<(), Fail> {
+    let around = "fn d(t: vec4<i32>, x: i32) -> i32 {\n    return ;\n}\n\n".len();
+    assert!(rt;
+        doubled_length(rt.alloc(), 0)? == Some(around.saturating_add(4)),
+        "t[x]"
+    );
+    assert!(rt;
+        doubled_length(rt.alloc(), 12)? == Some(around.saturating_add(49144)),
+        "doubled"
+    );
+    Ok(())
+}
