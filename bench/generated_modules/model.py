@@ -18,6 +18,9 @@ MATH = [("abs", 1), ("min", 2), ("clamp", 3), ("insertBits", 4), ("dot", 2), ("f
 RELATIONAL = ["all", "any", None]
 KINDS = ["bool", "sint", "uint", "sint", "uint", "float", "float"]
 WIDTHS = [1, 4, 4, 8, 8, 4, 8]
+AXES = ["dpdx", "dpdy", "fwidth"]
+CONTROLS = ["", "Coarse", "Fine"]
+DERIVATIVES = [axis + control for axis in AXES for control in CONTROLS]
 SUFFIX = {1: "i", 2: "u", 3: "li", 4: "lu"}
 INTEGERS = (1, 2, 3, 4)
 # added to the number of a type: a pointer to a value of it
@@ -85,6 +88,8 @@ class Function:
 LEAVES = (0, 1, 2, 11)
 # parts at a computed index and at a known one
 PARTS = (13, 14)
+# loads and derivatives: these are events where they are used at all
+EVENTS = (3, 16)
 
 
 def operands(e):
@@ -99,7 +104,7 @@ def operands(e):
         return [e[2], e[3]]
     if kind in (4, 8, 9, 12):
         return [e[3]]
-    if kind == 15:
+    if kind in (15, 16):
         return [e[4]]
     if kind == 5:
         return [e[3], e[4]]
@@ -218,8 +223,11 @@ def generate_expression(r, es):
         return [9, 10 * size + ty, size, x]
     if what < 0.955:
         return composed(r, es, x)
-    if what < 0.975:
+    if what < 0.97:
         return conversion(r, es, x)
+    if what < 0.975:
+        # what is known of the type of a derivative is asked by no clause
+        return [16, some_type(r) if r.random() < 0.1 else ty, r.randrange(3), r.randrange(3), x]
     if what < 0.99 and 10 <= ty < 100:
         size = r.randint(2, 4)
         letters = [r.randrange(ty // 10) for _ in range(size)] + [r.randrange(4) for _ in range(4 - size)]
@@ -383,6 +391,8 @@ def key_of(f, e):
         return ("[_]", 2)
     if kind == 14:
         return (part_word(f.expressions[e[2]], e[3]), 1)
+    if kind == 16:
+        return (AXES[e[2]] + CONTROLS[e[3]], 1)
     if kind == 15:
         return (conversion_word(type_of(f, e[4]), e[2], e[3]), 1)
     return None
@@ -394,7 +404,8 @@ def agrees(functions):
     for f in functions:
         for e in f.expressions:
             key = key_of(f, e)
-            if key is None:
+            # what asks for an event need not agree
+            if key is None or e[0] in EVENTS:
                 continue
             over = (key, tuple(type_of(f, h) for h in written_operands(e)))
             if seen.setdefault(over, e[1]) != e[1]:
@@ -447,7 +458,7 @@ def binds(e, uses):
     # a part is written wherever it is used
     if e[0] in PARTS:
         return False
-    return uses >= (1 if e[0] == 3 else 2)
+    return uses >= (1 if e[0] in EVENTS else 2)
 
 
 class Writer:
@@ -457,7 +468,8 @@ class Writer:
         self.constant = []
         for e in f.expressions:
             kids = operands(e)
-            self.constant.append(e[0] in (0, 11) or (e[0] > 3 and all(self.constant[h] for h in kids)))
+            is_operator = e[0] > 3 and e[0] not in EVENTS
+            self.constant.append(e[0] in (0, 11) or (is_operator and all(self.constant[h] for h in kids)))
         # where an emitted expression stands: a name, written where it is used, or never
         self.standing = {}
 
@@ -479,7 +491,7 @@ class Writer:
             told = ": " + spelled(e[1]) if self.explicit else ""
             lines.append(f"    let _e{h}{told} = {text};")
             self.standing[h] = "named"
-        elif e[0] > 3:
+        elif e[0] not in EVENTS:
             if ready:
                 self.standing[h] = "inline"
             elif not self.constant[h]:
@@ -600,7 +612,7 @@ def run_module(f):
         if h in values:
             return values[h]
         # what no `Emit` gave is a tree of constants, or is never used
-        if e[0] == 3:
+        if e[0] in EVENTS:
             raise KeyError(h)
         return applied(h)
 
@@ -614,11 +626,12 @@ def run_module(f):
         if s[0] == 0:
             for h in range(s[1], s[2] + 1):
                 e = f.expressions[h]
-                if e[0] == 3:
-                    # a load that nobody uses is not made
+                if e[0] in EVENTS:
+                    # a load or a derivative that nobody uses is not made
                     if uses[h] > 0:
-                        values[h] = ("loaded", len(events))
-                        events.append(("load", leaf(e[2])))
+                        event = ("load", leaf(e[2])) if e[0] == 3 else ("asked", *applied(h))
+                        values[h] = ("answer", len(events))
+                        events.append(event)
                 else:
                     try:
                         values[h] = applied(h)
@@ -668,7 +681,7 @@ class Reader:
         if s.startswith("(*") or word_of(s) in self.places:
             place, rest = self.read_place(s)
             self.events.append(("load", place))
-            return ("loaded", len(self.events) - 1), rest
+            return ("answer", len(self.events) - 1), rest
         # a sign is of all that follows it, with the parts that are taken of that
         if s[0] in "-!~" and s[1] == "(":
             term, rest = self.read(s[1:])
@@ -718,6 +731,9 @@ class Reader:
                 term, rest = self.read(rest)
                 terms.append(term)
                 rest = rest[2:] if rest.startswith(", ") else rest
+            if word in DERIVATIVES:
+                self.events.append(("asked", word, *terms))
+                return ("answer", len(self.events) - 1), rest[1:]
             return (word, *terms), rest[1:]
         if word in self.known:
             return self.known[word], rest

@@ -34,3 +34,4 @@ pub mod TypeIdentity
 pub mod TypeParts
 pub mod Types
 pub mod Writable
+pub mod Written

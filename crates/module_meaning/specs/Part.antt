@@ -17,6 +17,7 @@ use Rattle.naga_ir.specs.declared.expression.Expression.TheVariants.{LocalVariab
 use Rattle.naga_ir.specs.declared.expression.Expression.TheVariants.{Binary, Select, Math}
 use Rattle.naga_ir.specs.declared.expression.Expression.TheVariants.{Relational, Splat, Swizzle}
 use Rattle.naga_ir.specs.declared.expression.Expression.TheVariants.{Access, AccessIndex, As}
+use Rattle.naga_ir.specs.declared.expression.Expression.TheVariants.{Derivative}
 use Rattle.naga_ir.specs.declared.expression.Literal.{Literal as LiteralValue}
 use Rattle.naga_ir.specs.declared.expression.Literal.TheVariants as literal
 use Rattle.naga_ir.specs.declared.module.Function.{Function}
@@ -95,8 +96,8 @@ is_written_literal _ = false
 
 -- a literal of `bool` or of an integer type, the zero value of a type, a value of a type from its
 -- parts, a part at an index, an argument, a local, a load, an operator with a sign, the choice of
--- one of two values, a vector of one value, components of a vector, a conversion, or a function of
--- mathematics or a relation that has a word
+-- one of two values, a vector of one value, components of a vector, a conversion, a derivative, or a
+-- function of mathematics or a relation that has a word
 abbrev pub expression_is_written : Expression → Bool
 expression_is_written (Literal value) = is_written_literal value
 expression_is_written (ZeroValue ty) = true
@@ -112,6 +113,7 @@ expression_is_written (Select condition accept reject) = true
 expression_is_written (Splat size value) = true
 expression_is_written (Swizzle size vector pattern) = true
 expression_is_written (As expr kind convert) = true
+expression_is_written (Derivative axis ctrl expr) = true
 expression_is_written (Math fun arg arg1 arg2 arg3) = is_some (math_word fun)
 expression_is_written (Relational fun argument) = is_some (relational_word fun)
 expression_is_written _ = false

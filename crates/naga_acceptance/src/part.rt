@@ -34,9 +34,9 @@ use wgsl_words::TryToWgsl;
 /// their expressions, whose arguments and result are bound to nothing, whose locals have a literal
 /// as first value or none, whose expressions are arguments, locals, literals of `bool` and of the
 /// integer types, zero values, values of a type composed of others, loads, operators with a sign,
-/// choices, vectors of one value, swizzles, parts at an index, conversions, and calls of functions
-/// of mathematics that have a word, of `all` and of `any`, and whose statements are `Emit`s,
-/// `Store`s and `Return`s. And whether nothing else is known of these expressions' types than such
+/// choices, vectors of one value, swizzles, parts at an index, conversions, derivatives, and calls
+/// of functions of mathematics that have a word, of `all` and of `any`, and whose statements are
+/// `Emit`s, `Store`s and `Return`s. And whether nothing else is known of these expressions' types than such
 /// a type, or a pointer to a local of one or to its components and columns, a known index is that
 /// of what has parts, and a conversion is to such a type.
 #[tactic(auto, unfolding(module_meaning::specs::Part::is_written_so_far))]
@@ -232,7 +232,8 @@ fn expression_is_written(expression: &Expression) -> bool
         | Expression::Select { .. }
         | Expression::Splat { .. }
         | Expression::Swizzle { .. }
-        | Expression::As { .. } => true,
+        | Expression::As { .. }
+        | Expression::Derivative { .. } => true,
         Expression::Math { fun, .. } => fun.try_to_wgsl().is_some(),
         Expression::Relational { fun, .. } => has_word(*fun),
         Expression::Literal(literal) => is_written_literal(*literal),

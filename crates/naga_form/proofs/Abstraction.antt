@@ -51,7 +51,11 @@ use Rattle.naga_form.specs.Expressions.{is_pointer, part_plain, points, selected
 use Rattle.naga_info.specs.declared.info.TypeResolution.TheVariants.{Value}
 use Rattle.naga_info.specs.declared.info.ExpressionInfo.{ExpressionInfo}
 use Rattle.naga_info.specs.declared.info.ModuleInfo.{ModuleInfo}
-use Rattle.std.specs.List.{list_all}
+use Rattle.std.specs.List.{AllByRecursion, filter, list_all}
+use Rattle.std.specs.Option.{option_to_list}
+use Rattle.module_meaning.specs.Written.{block_roots, cases_roots, simple_roots, statement_roots}
+use Rattle.naga_form.proofs.WrittenHandles.{AreClosed, all_are_closed, all_front, all_map}
+use Rattle.naga_form.proofs.WrittenHandles.{all_rest}
 use Rattle.module_meaning.specs.Part.{block_is_written, expression_is_written}
 use Rattle.module_meaning.specs.Part.{function_is_written, is_value_type, statement_is_written}
 use Rattle.module_meaning.proofs.Lists.{list_all_at}
@@ -227,32 +231,36 @@ index_read _ false is index i read base b same =
     (λ e. ap (Index (expression_read e)) read) base b same
 index_read _ true is index i read base b same = absurd cc
 
+-- operands are read as what is like them
+abbrev ArePlain : (operand : ℕ → PlainForm) (like : ℕ → Plain) → List ℕ → Type 0
+ArePlain operand like hs = AllByRecursion (λ x. plain_read (operand x) ≡ like x) hs
+
 module _ (n : Naming) (code : Source) (spells : SpellsTypes code.declared.around code.type_names)
     (places : (h : ℕ) → is_place (handle_type n.function h) ≡ points code.declared.around h)
     (all : List ir.Expression) where
   -- an operator where one is applied, and what stands there where none is
-  applied_reads : (operand : ℕ → PlainForm) (like : ℕ → Plain) →
-      ((x : ℕ) → plain_read (operand x) ≡ like x) → (k : ValueType) (otherwise : PlainForm) →
+  applied_reads : (operand : ℕ → PlainForm) (like : ℕ → Plain) (hs : List ℕ) →
+      ArePlain operand like hs → (k : ValueType) (otherwise : PlainForm) →
       (other : shapes.Expression) → plain_read otherwise ≡ runs.own_form n like k (Some other) →
-      (type : Option TypeSpecifier) (hs : List ℕ) (o : Option Operator) → SpellsIf type o →
+      (type : Option TypeSpecifier) (o : Option Operator) → SpellsIf type o →
       plain_read (applied_plain otherwise type operand hs o) ≡
       runs.own_form n like k (Some (applied_or other hs o))
-  applied_reads operand like same k otherwise other none type hs None spelled = none
-  applied_reads operand like same k otherwise other none type hs (Some op) spelled =
-      applied_read operand like (λ h. value_is (operand h) ∙ ap runs.value_form (same h)) n k type op
-      spelled hs
+  applied_reads operand like hs same k otherwise other none type None spelled = none
+  applied_reads operand like hs same k otherwise other none type (Some op) spelled =
+      applied_read operand like n k type op spelled hs
+      (all_map (λ h is. value_is (operand h) ∙ ap runs.value_form is) hs same)
 
-  applies : (operand : ℕ → PlainForm) (like : ℕ → Plain) →
-      ((x : ℕ) → plain_read (operand x) ≡ like x) → (k : ValueType) (e : ir.Expression) →
+  applies : (operand : ℕ → PlainForm) (like : ℕ → Plain) (k : ValueType) (e : ir.Expression) →
+      ArePlain operand like (expression_operands e) →
       plain_read
       (applied_plain no_form (operator_type code.declared.around code.type_names e) operand (expression_operands e)
       (applied_operator code.declared.around e)) ≡
       runs.own_form n like k
       (Some (applied_or shapes.Result (expression_operands e) (applied_operator code.declared.around e)))
-  applies operand like same k e =
-      applied_reads operand like same k no_form shapes.Result refl
+  applies operand like k e same =
+      applied_reads operand like (expression_operands e) same k no_form shapes.Result refl
       (operator_type code.declared.around code.type_names e)
-      (expression_operands e) (applied_operator code.declared.around e)
+      (applied_operator code.declared.around e)
       (operator_spelled code.declared.around code.type_names spells e)
 
   -- a zero value, where the type of its handle is known
@@ -268,30 +276,30 @@ module _ (n : Naming) (code : Source) (spells : SpellsTypes code.declared.around
       o)))
   zero_reads operand like k ty (Some r) known =
       ap AsValue
-      (zero_read operand (λ h. plain_read (operand h)) (λ h. value_is (operand h))
+      (zero_read operand (λ h. plain_read (operand h))
       (type_tree code.type_names ty)
       (constructor code.declared.around (Handle ty) 0)
       (constructor_spelled code.declared.around (Handle ty) 0 (type_tree code.type_names ty) (spells (Handle ty))))
   zero_reads operand like k ty None known = absurd cc
 
-  own_reads : (operand : ℕ → PlainForm) (like : ℕ → Plain) →
-      ((x : ℕ) → plain_read (operand x) ≡ like x) → (k : ValueType) (h : ℕ) (e : ir.Expression) →
+  own_reads : (operand : ℕ → PlainForm) (like : ℕ → Plain) (k : ValueType) (h : ℕ)
+      (e : ir.Expression) → ArePlain operand like (expression_operands e) →
       expression_is_written e ≡ true → is_some (code.declared.around.known h) ≡ true →
       plain_read (own_plain n code operand e) ≡ runs.own_form n like k (Some (shape_of code.declared all h e))
-  own_reads operand like same k h (expression.Literal value) w known =
+  own_reads operand like k h (expression.Literal value) same w known =
       ap (λ v. AsValue (LiteralOf v)) (literal_read value w)
-  own_reads operand like same k h (expression.ZeroValue ty) w known =
+  own_reads operand like k h (expression.ZeroValue ty) same w known =
       zero_reads operand like k ty (code.declared.around.known h) known
-  own_reads operand like same k h (expression.Compose ty components) w known =
-      applies operand like same k (expression.Compose ty components)
-  own_reads operand like same k h (expression.As e kind convert) w known =
-      applies operand like same k (expression.As e kind convert)
-  own_reads operand like same k h (expression.Access base index) w known =
+  own_reads operand like k h (expression.Compose ty components) same w known =
+      applies operand like k (expression.Compose ty components) same
+  own_reads operand like k h (expression.As e kind convert) same w known =
+      applies operand like k (expression.As e kind convert) same
+  own_reads operand like k h (expression.Access base index) same w known =
       index_read (handle_type n.function base) (points code.declared.around base) (places base)
       (as_value (operand index)) (like index)
-      (value_is (operand index) ∙ ap runs.value_form (same index))
-      (operand base) (like base) (same base)
-  own_reads operand like same k h (expression.AccessIndex base index) w known =
+      (value_is (operand index) ∙ ap runs.value_form same.1.0)
+      (operand base) (like base) same.0
+  own_reads operand like k h (expression.AccessIndex base index) same w known =
       by (part_selector code.declared base index)
     where
       without : Operator
@@ -305,50 +313,59 @@ module _ (n : Naming) (code : Source) (spells : SpellsTypes code.declared.around
           runs.own_form n like k (Some (part_shape base index o))
       by (Some x) =
           part_read (handle_type n.function base) (points code.declared.around base) (places base) x
-          (operand base) (like base) (same base)
+          (operand base) (like base) same.0
       by None =
-          applied_reads operand like same k no_form shapes.Result refl None (base ∷ [])
+          applied_reads operand like (base ∷ []) same k no_form shapes.Result refl None
           (Some without) tt
-  own_reads operand like same k h (expression.Swizzle size vector pattern) w known =
+  own_reads operand like k h (expression.Swizzle size vector pattern) same w known =
       ap (λ v. AsValue (PartOf (MemberNamed (swizzle_letters size pattern)) v))
-      (value_is (operand vector) ∙ ap runs.value_form (same vector))
-  own_reads operand like same k h (expression.Load pointer) w known =
-      applied_reads operand like same k (ValueForm (as_reference (operand pointer)))
+      (value_is (operand vector) ∙ ap runs.value_form same.0)
+  own_reads operand like k h (expression.Load pointer) same w known =
+      applied_reads operand like (pointer ∷ []) same k (ValueForm (as_reference (operand pointer)))
       (shapes.Load pointer)
-      (ap AsValue (place_is (operand pointer) ∙ ap runs.place_form (same pointer)))
-      None (pointer ∷ []) (load_operator code.declared.around pointer)
+      (ap AsValue (place_is (operand pointer) ∙ ap runs.place_form same.0))
+      None (load_operator code.declared.around pointer)
       (untyped (load_operator code.declared.around pointer))
-  own_reads operand like same k h (expression.FunctionArgument number) w known = refl
-  own_reads operand like same k h (expression.LocalVariable handle) w known = refl
-  own_reads operand like same k h (expression.Unary op expr) w known =
-      applies operand like same k (expression.Unary op expr)
-  own_reads operand like same k h (expression.Binary op left right) w known =
-      applies operand like same k (expression.Binary op left right)
-  own_reads operand like same k h (expression.Select condition accept reject) w known =
-      applies operand like same k (expression.Select condition accept reject)
-  own_reads operand like same k h (expression.Splat size value) w known =
-      applies operand like same k (expression.Splat size value)
-  own_reads operand like same k h (expression.Math fun arg arg1 arg2 arg3) w known =
-      applies operand like same k (expression.Math fun arg arg1 arg2 arg3)
-  own_reads operand like same k h (expression.Relational fun argument) w known =
-      applies operand like same k (expression.Relational fun argument)
-  own_reads operand like same k h _ w known = absurd cc
+  own_reads operand like k h (expression.FunctionArgument number) same w known = refl
+  own_reads operand like k h (expression.LocalVariable handle) same w known = refl
+  own_reads operand like k h (expression.Derivative axis how expr) same w known =
+      applies operand like k (expression.Derivative axis how expr) same
+  own_reads operand like k h (expression.Unary op expr) same w known =
+      applies operand like k (expression.Unary op expr) same
+  own_reads operand like k h (expression.Binary op left right) same w known =
+      applies operand like k (expression.Binary op left right) same
+  own_reads operand like k h (expression.Select condition accept reject) same w known =
+      applies operand like k (expression.Select condition accept reject) same
+  own_reads operand like k h (expression.Splat size value) same w known =
+      applies operand like k (expression.Splat size value) same
+  own_reads operand like k h (expression.Math fun arg arg1 arg2 arg3) same w known =
+      applies operand like k (expression.Math fun arg arg1 arg2 arg3) same
+  own_reads operand like k h (expression.Relational fun argument) same w known =
+      applies operand like k (expression.Relational fun argument) same
+  own_reads operand like k h _ same w known = absurd cc
 
-  own_if_reads : (operand : ℕ → PlainForm) (like : ℕ → Plain) →
-      ((x : ℕ) → plain_read (operand x) ≡ like x) → (k : ValueType) (h : ℕ) →
-      (e : Option ir.Expression) → option_map_or expression_is_written e true ≡ true →
+  own_if_reads : (operand : ℕ → PlainForm) (like : ℕ → Plain) (k : ValueType) (h : ℕ) →
+      (e : Option ir.Expression) →
+      ((x : ir.Expression) → e ≡ Some x → ArePlain operand like (expression_operands x)) →
+      ((x : ir.Expression) → e ≡ Some x → expression_is_written x ≡ true) →
       ((x : ir.Expression) → e ≡ Some x → is_some (code.declared.around.known h) ≡ true) →
       plain_read (own_if n code operand e) ≡
       runs.own_form n like k (option_map (shape_of code.declared all h) e)
-  own_if_reads operand like same k h (Some e) w known =
-      own_reads operand like same k h e w (known e refl)
-  own_if_reads operand like same k h None w known = refl
+  own_if_reads operand like k h (Some e) same w known =
+      own_reads operand like k h e (same e refl) (w e refl) (known e refl)
+  own_if_reads operand like k h None same w known = refl
+
+-- these handles, where there is an expression, are of the part
+abbrev pub AreWritten : (W : ℕ → Type 0) → ir_function.Function → Type 0
+AreWritten W f =
+    (h : ℕ) (e : ir.Expression) → slice_get f.expressions h ≡ Some e → W h →
+    expression_is_written e ≡ true
 
 standing_reads : (s : Standing) (p : PlainForm) (q : Plain) → plain_read p ≡ q → plain_read (standing_plain s p) ≡ runs.standing_form s q
 standing_reads (Named x) p q e = refl
 standing_reads _ p q e = e
 
-module _ (names : NameMap) (m : Module) (info : ModuleInfo) (g : ℕ) (f : ir_function.Function) (es : List ExpressionInfo) (values : IsTrue (list_all is_value_type m.types)) (size : length f.expressions ≡ length es) (written : IsTrue (list_all expression_is_written f.expressions)) where
+module _ (names : NameMap) (m : Module) (info : ModuleInfo) (g : ℕ) (f : ir_function.Function) (es : List ExpressionInfo) (values : IsTrue (list_all is_value_type m.types)) (size : length f.expressions ≡ length es) (W : ℕ → Type 0) (closed : AreClosed W (binds (function_shape m info f es)) f) (written : AreWritten W f) where
   abbrev own : Naming
   own = function_naming names m info g f es
 
@@ -357,13 +374,6 @@ module _ (names : NameMap) (m : Module) (info : ModuleInfo) (g : ℕ) (f : ir_fu
 
   abbrev d : Declared
   d = source.declared
-
-  written_at : (h : ℕ) → option_map_or expression_is_written (slice_get f.expressions h) true ≡ true
-  written_at h = by (slice_get f.expressions h) refl
-    where
-      by : (o : Option ir.Expression) → slice_get f.expressions h ≡ o → option_map_or expression_is_written o true ≡ true
-      by None at = refl
-      by (Some e) at = list_all_at expression_is_written f.expressions h e written at
 
   -- types are spelled as their trees are
   types_spelled : SpellsTypes d.around source.type_names
@@ -382,27 +392,30 @@ module _ (names : NameMap) (m : Module) (info : ModuleInfo) (g : ℕ) (f : ir_fu
   places_are h = places_in m es h
 
   -- a handle's expression, over operands that are read so
-  handle_reads : (operand : ℕ → PlainForm) (like : ℕ → Plain) → ((x : ℕ) → plain_read (operand x) ≡ like x) → (h : ℕ) →
+  handle_reads : (operand : ℕ → PlainForm) (like : ℕ → Plain) →
+      ((x : ℕ) → W x → plain_read (operand x) ≡ like x) → (h : ℕ) → W h →
       plain_read (own_if own source operand (slice_get f.expressions h)) ≡ runs.own_form own like (handle_type own.function h) (expression_of own.function h)
-  handle_reads operand like same h =
-      own_if_reads own source types_spelled places_are f.expressions operand like same (handle_type own.function h) h (slice_get f.expressions h) (written_at h) (λ e. known_at h e)
+  handle_reads operand like same h w =
+      own_if_reads own source types_spelled places_are f.expressions operand like (handle_type own.function h) h (slice_get f.expressions h)
+      (λ e at. all_map same (expression_operands e) (closed.operands h e at w))
+      (λ e at. written h e at w) (λ e. known_at h e)
       ∙ ap (runs.own_form own like (handle_type own.function h)) (sym (expression_is m info f es h))
 
-  below_reads : (s : Handles) (k h : ℕ) → plain_read (plain_below own source s k h) ≡ written_below own s k h
-  below_reads s zero h = refl
-  below_reads s (suc k) h =
+  below_reads : (s : Handles) (k h : ℕ) → W h → plain_read (plain_below own source s k h) ≡ written_below own s k h
+  below_reads s zero h w = refl
+  below_reads s (suc k) h w =
       standing_reads (s h) (own_if own source (plain_below own source s k) (slice_get f.expressions h)) (runs.own_form own (written_below own s k) (handle_type own.function h) (expression_of own.function h))
-      (handle_reads (plain_below own source s k) (written_below own s k) (below_reads s k) h)
+      (handle_reads (plain_below own source s k) (written_below own s k) (below_reads s k) h w)
 
-  plain_reads : (s : Handles) (h : ℕ) → plain_read (plain_form own source s h) ≡ runs.written_form own s h
-  plain_reads s h = below_reads s (length f.expressions) h ∙ ap (λ k. written_below own s k h) (sym (shapes_length d f.expressions 0 f.expressions))
+  plain_reads : (s : Handles) (h : ℕ) → W h → plain_read (plain_form own source s h) ≡ runs.written_form own s h
+  plain_reads s h w = below_reads s (length f.expressions) h w ∙ ap (λ k. written_below own s k h) (sym (shapes_length d f.expressions 0 f.expressions))
 
-  value_reads : (s : Handles) (h : ℕ) → expression_read (value_form own source s h) ≡ runs.value_at own s h
-  value_reads s h = value_is (plain_form own source s h) ∙ ap runs.value_form (plain_reads s h)
+  value_reads : (s : Handles) (h : ℕ) → W h → expression_read (value_form own source s h) ≡ runs.value_at own s h
+  value_reads s h w = value_is (plain_form own source s h) ∙ ap runs.value_form (plain_reads s h w)
 
-  value_if_reads : (s : Handles) (v : Option ℕ) → option_map expression_read (option_map (value_form own source s) v) ≡ runs.value_if own s v
-  value_if_reads s None = refl
-  value_if_reads s (Some h) = ap Some (value_reads s h)
+  value_if_reads : (s : Handles) (v : Option ℕ) → AllByRecursion W (option_to_list v) → option_map expression_read (option_map (value_form own source s) v) ≡ runs.value_if own s v
+  value_if_reads s None w = refl
+  value_if_reads s (Some h) w = ap Some (value_reads s h w.0)
 
   let_reads : (told : Option TypeSpecifier) (x : List ℕ) (e : tree_expressions.Expression) → statement_read (let_form told x e) ≡ Let x (expression_read e)
   let_reads None x e = refl
@@ -412,67 +425,98 @@ module _ (names : NameMap) (m : Module) (info : ModuleInfo) (g : ℕ) (f : ir_fu
   then_if_reads true told x e rest = ap (λ l. before l (statements_read rest)) (let_reads told x e)
   then_if_reads false told x e rest = refl
 
-  lets_read : (told : ℕ → Option TypeSpecifier) (k : ℕ) (hs : List ℕ) (s : Handles) (rest : tree.Statements) → statements_read (lets_form own told source k hs s rest) ≡ runs.lets own k hs s (statements_read rest)
-  lets_read told k [] s rest = refl
-  lets_read told k (h ∷ hs) s rest =
-      let e = unnamed_form own source s h in
-      let behind = lets_form own told source (given_after own.function h k) hs (after_one own k h s) rest in
-      then_if_reads (binds own.function h) (told h) (bound_name own k h) (as_value e) behind
-      ∙ λ i. let_if (binds own.function h) (bound_name own k h)
-      ((value_is e ∙ ap runs.value_form (handle_reads (plain_form own source s) (runs.written_form own s) (plain_reads s) h)) i)
-      (lets_read told (given_after own.function h k) hs (after_one own k h s) rest i)
+  -- the roots of statements are written
+  abbrev Writes : List ℕ → Type 0
+  Writes hs = AllByRecursion W hs
 
-  return_reads : (s : Handles) (v : Option ℕ) → statement_read (return_line own source s v) ≡ ReturnLine (runs.value_if own s v)
-  return_reads s None = refl
-  return_reads s (Some h) = ap (λ e. ReturnLine (Some e)) (value_reads s h)
+  abbrev bound : ℕ → Bool
+  bound = binds own.function
 
-  simple_reads : (told : ℕ → Option TypeSpecifier) (k : ℕ) (st : SimpleStatement) (s : Handles) (rest : tree.Statements) → has_form st ≡ true → statements_read (simple_form own told source k st s rest) ≡ runs.form own k (simple_shape d.around st) s (statements_read rest)
-  simple_reads told k (emit first end) s rest has = lets_read told k (from first (end - first)) s rest
-  simple_reads told k (store pointer value) s rest has =
-      (λ i. before (Assign ((place_is (plain_form own source s pointer) ∙ ap runs.place_form (plain_reads s pointer)) i) (value_reads s value i)) (statements_read rest))
+  lets_read : (told : ℕ → Option TypeSpecifier) (k : ℕ) (hs : List ℕ) (s : Handles) (rest : tree.Statements) → Writes (filter bound hs) → statements_read (lets_form own told source k hs s rest) ≡ runs.lets own k hs s (statements_read rest)
+  lets_read told k [] s rest w = refl
+  lets_read told k (h ∷ hs) s rest w =
+      by (bound h) refl w
+      (lets_read told (given_after own.function h k) hs (after_one own k h s) rest)
+    where
+      e : PlainForm
+      e = unnamed_form own source s h
+
+      behind : tree.Statements
+      behind = lets_form own told source (given_after own.function h k) hs (after_one own k h s) rest
+
+      by : (b : Bool) → bound h ≡ b → Writes (if b then h ∷ filter bound hs else filter bound hs) →
+          (Writes (filter bound hs) → statements_read behind ≡ runs.lets own (given_after own.function h k) hs (after_one own k h s) (statements_read rest)) →
+          statements_read (then_if b (let_form (told h) (bound_name own k h) (as_value e)) behind) ≡
+          let_if b (bound_name own k h) (runs.value_form (runs.own_form own (runs.written_form own s) (handle_type own.function h) (expression_of own.function h))) (runs.lets own (given_after own.function h k) hs (after_one own k h s) (statements_read rest))
+      by true is w more =
+          then_if_reads true (told h) (bound_name own k h) (as_value e) behind
+          ∙ λ i. let_if true (bound_name own k h)
+          ((value_is e ∙ ap runs.value_form (handle_reads (plain_form own source s) (runs.written_form own s) (plain_reads s) h w.0)) i)
+          (more w.1 i)
+      by false is w more = more w
+
+  return_reads : (s : Handles) (v : Option ℕ) → Writes (option_to_list v) → statement_read (return_line own source s v) ≡ ReturnLine (runs.value_if own s v)
+  return_reads s None w = refl
+  return_reads s (Some h) w = ap (λ e. ReturnLine (Some e)) (value_reads s h w.0)
+
+  simple_reads : (told : ℕ → Option TypeSpecifier) (k : ℕ) (st : SimpleStatement) (s : Handles) (rest : tree.Statements) → has_form st ≡ true → Writes (simple_roots bound st) → statements_read (simple_form own told source k st s rest) ≡ runs.form own k (simple_shape d.around st) s (statements_read rest)
+  simple_reads told k (emit first end) s rest has w = lets_read told k (from first (end - first)) s rest w
+  simple_reads told k (store pointer value) s rest has w =
+      (λ i. before (Assign ((place_is (plain_form own source s pointer) ∙ ap runs.place_form (plain_reads s pointer w.0)) i) (value_reads s value w.1.0 i)) (statements_read rest))
       ∙ ap (λ shape. runs.form own k shape s (statements_read rest)) (sym (plain_store d.around pointer value (points_plainly d.around values pointer)))
-  simple_reads told k (return value) s rest has = ap (λ l. before l (statements_read rest)) (return_reads s value)
-  simple_reads told k break s rest has = refl
-  simple_reads told k continue s rest has = refl
-  simple_reads told k kill s rest has = refl
-  simple_reads told k _ s rest has = absurd cc
+  simple_reads told k (return value) s rest has w = ap (λ l. before l (statements_read rest)) (return_reads s value w)
+  simple_reads told k break s rest has w = refl
+  simple_reads told k continue s rest has w = refl
+  simple_reads told k kill s rest has w = refl
+  simple_reads told k _ s rest has w = absurd cc
 
   mutual
-    line_reads : (told : ℕ → Option TypeSpecifier) (k : ℕ) (st : StatementTree) (s : Handles) (rest : tree.Statements) → have_forms_in st ≡ true → statements_read (line_form own told source k st s rest) ≡ runs.form own k (statement_shape d.around st) s (statements_read rest)
-    line_reads told k (simple st) s rest have = simple_reads told k st s rest have
-    line_reads told k (block b) s rest have = ap (λ ls. before (Braces ls) (statements_read rest)) (lines_read told k b s have)
-    line_reads told k (branch condition accept reject) s rest have =
+    line_reads : (told : ℕ → Option TypeSpecifier) (k : ℕ) (st : StatementTree) (s : Handles) (rest : tree.Statements) → have_forms_in st ≡ true → Writes (statement_roots bound st) → statements_read (line_form own told source k st s rest) ≡ runs.form own k (statement_shape d.around st) s (statements_read rest)
+    line_reads told k (simple st) s rest have w = simple_reads told k st s rest have w
+    line_reads told k (block b) s rest have w = ap (λ ls. before (Braces ls) (statements_read rest)) (lines_read told k b s have w)
+    line_reads told k (branch condition accept reject) s rest have w =
         let both = and_parts (have_forms accept) (have_forms reject) have in
         let behind = given_by_all own.function (statements_shape d.around accept) k in
-        λ i. before (IfElse (value_reads s condition i) (lines_read told k accept s both.0 i) (lines_read told behind reject s both.1 i)) (statements_read rest)
-    line_reads told k (switch selector cases) s rest have =
-        λ i. before (SwitchOn (value_reads s selector i) (cases_read_as told k [] cases s have i)) (statements_read rest)
-    line_reads told k (loop body continuing break_if) s rest have =
+        let one = all_front W (block_roots bound accept) (block_roots bound reject) w.1 in
+        let other = all_rest W (block_roots bound accept) (block_roots bound reject) w.1 in
+        λ i. before (IfElse (value_reads s condition w.0 i) (lines_read told k accept s both.0 one i) (lines_read told behind reject s both.1 other i)) (statements_read rest)
+    line_reads told k (switch selector cases) s rest have w =
+        λ i. before (SwitchOn (value_reads s selector w.0 i) (cases_read_as told k [] cases s have w.1 i)) (statements_read rest)
+    line_reads told k (loop body continuing break_if) s rest have w =
         let both = and_parts (have_forms body) (have_forms continuing) have in
         let behind = given_by_all own.function (statements_shape d.around body) k in
         let inside = after_all own k (statements_shape d.around body) s in
         let last = after_all own behind (statements_shape d.around continuing) inside in
+        let one = all_front W (block_roots bound body) (block_roots bound continuing ++ option_to_list break_if) w in
+        let more = all_rest W (block_roots bound body) (block_roots bound continuing ++ option_to_list break_if) w in
+        let other = all_front W (block_roots bound continuing) (option_to_list break_if) more in
+        let value = all_rest W (block_roots bound continuing) (option_to_list break_if) more in
         ap (λ l. before l (statements_read rest)) (loop_reads (lines_form own told source k body s) (lines_form own told source behind continuing inside) (option_map (value_form own source last) break_if))
-        ∙ λ i. before (LoopOf (lines_read told k body s both.0 i) (lines_read told behind continuing inside both.1 i) (value_if_reads last break_if i)) (statements_read rest)
+        ∙ λ i. before (LoopOf (lines_read told k body s both.0 one i) (lines_read told behind continuing inside both.1 other i) (value_if_reads last break_if value i)) (statements_read rest)
 
-    lines_read : (told : ℕ → Option TypeSpecifier) (k : ℕ) (b : BlockTree) (s : Handles) → have_forms b ≡ true → statements_read (lines_form own told source k b s) ≡ runs.form_all own k (statements_shape d.around b) s
-    lines_read told k no_statements s have = refl
-    lines_read told k (statement st b) s have =
+    lines_read : (told : ℕ → Option TypeSpecifier) (k : ℕ) (b : BlockTree) (s : Handles) → have_forms b ≡ true → Writes (block_roots bound b) → statements_read (lines_form own told source k b s) ≡ runs.form_all own k (statements_shape d.around b) s
+    lines_read told k no_statements s have w = refl
+    lines_read told k (statement st b) s have w =
         let both = and_parts (have_forms_in st) (have_forms b) have in
-        line_reads told k st s (lines_form own told source (given_by own.function (statement_shape d.around st) k) b (after own k (statement_shape d.around st) s)) both.0
-        ∙ ap (runs.form own k (statement_shape d.around st) s) (lines_read told (given_by own.function (statement_shape d.around st) k) b (after own k (statement_shape d.around st) s) both.1)
+        let one = all_front W (statement_roots bound st) (block_roots bound b) w in
+        let more = all_rest W (statement_roots bound st) (block_roots bound b) w in
+        line_reads told k st s (lines_form own told source (given_by own.function (statement_shape d.around st) k) b (after own k (statement_shape d.around st) s)) both.0 one
+        ∙ ap (runs.form own k (statement_shape d.around st) s) (lines_read told (given_by own.function (statement_shape d.around st) k) b (after own k (statement_shape d.around st) s) both.1 more)
 
-    cases_read_as : (told : ℕ → Option TypeSpecifier) (k : ℕ) (labels : List tree.Label) (cs : CaseTrees) (s : Handles) → cases_have_forms cs ≡ true → cases_read (cases_form own told source k labels cs s) ≡ runs.form_cases own k (map label_read labels) (cases_shape d.around cs) s
-    cases_read_as told k labels no_cases s have = refl
-    cases_read_as told k labels (case value body true cs) s have =
+    cases_read_as : (told : ℕ → Option TypeSpecifier) (k : ℕ) (labels : List tree.Label) (cs : CaseTrees) (s : Handles) → cases_have_forms cs ≡ true → Writes (cases_roots bound cs) → cases_read (cases_form own told source k labels cs s) ≡ runs.form_cases own k (map label_read labels) (cases_shape d.around cs) s
+    cases_read_as told k labels no_cases s have w = refl
+    cases_read_as told k labels (case value body true cs) s have w =
         let both = and_parts (have_forms body) (cases_have_forms cs) have in
         let behind = given_by_all own.function (statements_shape d.around body) k in
         cases_read_as told behind (labels ++ label_form value ∷ []) cs s both.1
+        (all_rest W (block_roots bound body) (cases_roots bound cs) w)
         ∙ ap (λ ls. runs.form_cases own behind ls (cases_shape d.around cs) s) (labels_with labels value)
-    cases_read_as told k labels (case value body false cs) s have =
+    cases_read_as told k labels (case value body false cs) s have w =
         let both = and_parts (have_forms body) (cases_have_forms cs) have in
         let behind = given_by_all own.function (statements_shape d.around body) k in
-        λ i. group (labels_read_as labels value i) (lines_read told k body s both.0 i) (cases_read_as told behind [] cs s both.1 i)
+        let one = all_front W (block_roots bound body) (cases_roots bound cs) w in
+        let more = all_rest W (block_roots bound body) (cases_roots bound cs) w in
+        λ i. group (labels_read_as labels value i) (lines_read told k body s both.0 one i) (cases_read_as told behind [] cs s both.1 more i)
 
 -- what is written so far has forms
 written_has_form : (st : StatementTree) → statement_is_written st ≡ true → have_forms_in st ≡ true
@@ -495,7 +539,7 @@ pointer_reads m ty t at =
     (inner_tree_row text-append (type_names m) (λ handle. true) (inner.Pointer ty space.Function)
     ∙ ap (λ o. option_map type_layout (option_map (pointer_tree (codes "function") None) o)) at))
 
-module _ (m : Module) (info : ModuleInfo) (g : ℕ) (f : ir_function.Function) (es : List ExpressionInfo) (values : IsTrue (list_all is_value_type m.types)) (size : length f.expressions ≡ length es) (written : IsTrue (list_all expression_is_written f.expressions)) where
+module _ (m : Module) (info : ModuleInfo) (g : ℕ) (f : ir_function.Function) (es : List ExpressionInfo) (values : IsTrue (list_all is_value_type m.types)) (size : length f.expressions ≡ length es) (W : ℕ → Type 0) (closed : AreClosed W (binds (function_shape m info f es)) f) (written : AreWritten W f) where
   abbrev own_names : Naming
   own_names = function_naming (module_names m) m info g f es
 
@@ -507,7 +551,7 @@ module _ (m : Module) (info : ModuleInfo) (g : ℕ) (f : ir_function.Function) (
       let pointer = pointer_reads m v.ty t.0 t.1 ∙ sym (mapped_at (λ l. local_pointer m l.ty) [] f.local_variables l v here) in
       let rest = locals_read formed (l + 1) vs later in
       λ i.
-      record { name = own_names.names.local_ l; pointer = pointer i; first_value = value_if_reads (module_names m) m info g f es values size written (at_start own_names.function) v.init i }
+      record { name = own_names.names.local_ l; pointer = pointer i; first_value = value_if_reads (module_names m) m info g f es values size W closed written (at_start own_names.function) v.init (closed.firsts l v here) i }
       ∷ (rest ∙ ap (λ k. variables_from own_names k (map (λ v. v.init) vs)) (add-one l)) i
     where
       later : (k : ℕ) → slice_get vs k ≡ slice_get f.local_variables (k + (l + 1))
@@ -522,14 +566,21 @@ locals_have_forms m f count values ranges l v at =
     let form = type_has_form m.types v.ty (values_at m.types v.ty values (ltb-true v.ty (length m.types) parts.0)) in
     (form.tree, form.is (module_names m))
 
-pub function_reads : (explicit : Bool) (m : Module) (info : ModuleInfo) (g : ℕ) (f : ir_function.Function) (es : List ExpressionInfo) → IsTrue (list_all is_value_type m.types) → IsTrue (function_is_written f) → length f.expressions ≡ length es → LocalsHaveForms (type_names m) f.local_variables → function_read (function_form explicit (module_names m) m info g f es) ≡ form_function (function_naming (module_names m) m info g f es)
-function_reads explicit m info g f es values written size formed =
+-- whatever is written of a function is read as its shape is
+pub written_reads : (explicit : Bool) (m : Module) (info : ModuleInfo) (g : ℕ) (f : ir_function.Function) (es : List ExpressionInfo) → IsTrue (list_all is_value_type m.types) → have_forms f.body ≡ true → length f.expressions ≡ length es → LocalsHaveForms (type_names m) f.local_variables → (W : ℕ → Type 0) → AreClosed W (binds (function_shape m info f es)) f → AreWritten W f → function_read (function_form explicit (module_names m) m info g f es) ≡ form_function (function_naming (module_names m) m info g f es)
+written_reads explicit m info g f es values have size formed W closed written =
     let names = module_names m in
-    let parts = function_parts f written in
-    let locals = locals_read m info g f es values size parts.expressions formed 0 f.local_variables (λ k. ap (slice_get f.local_variables) (sym (add-zero k))) in
+    let locals = locals_read m info g f es values size W closed written formed 0 f.local_variables (λ k. ap (slice_get f.local_variables) (sym (add-zero k))) in
     λ i. record {
       name = function_name names g;
       parameters = (names_counted names m.types g 0 f.arguments.items ∙ ap (names_from (argument_name names g) 0) (sym (mapped_length (λ a. declared_type m a.ty) f.arguments.items))) i;
       variables = locals i;
-      lines = lines_read names m info g f es values size parts.expressions (told_type explicit (type_names m) es) 0 f.body (at_start (function_shape m info f es)) (written_have_forms f.body parts.body) i;
+      lines = lines_read names m info g f es values size W closed written (told_type explicit (type_names m) es) 0 f.body (at_start (function_shape m info f es)) have closed.body i;
     }
+
+pub function_reads : (explicit : Bool) (m : Module) (info : ModuleInfo) (g : ℕ) (f : ir_function.Function) (es : List ExpressionInfo) → IsTrue (list_all is_value_type m.types) → IsTrue (function_is_written f) → length f.expressions ≡ length es → LocalsHaveForms (type_names m) f.local_variables → function_read (function_form explicit (module_names m) m info g f es) ≡ form_function (function_naming (module_names m) m info g f es)
+function_reads explicit m info g f es values written size formed =
+    let parts = function_parts f written in
+    written_reads explicit m info g f es values (written_have_forms f.body parts.body) size formed
+    (λ h. Unit {0}) (all_are_closed (binds (function_shape m info f es)) f)
+    (λ h e at w. list_all_at expression_is_written f.expressions h e parts.expressions at)

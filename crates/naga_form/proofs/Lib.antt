@@ -61,5 +61,6 @@ pub mod TypeTrees
 pub mod TypedWords
 pub mod WellFormed
 pub mod Worded
+pub mod WrittenHandles
 pub mod WrittenOut
 pub mod WrittenTypes

@@ -6,7 +6,11 @@ use Rattle.std.specs.Prelude.{◌&&◌, ◌||◌, if◌then◌else◌, not}
 use Rattle.std.specs.Option.{is_some}
 use Rattle.module_meaning.specs.OperatorTable.{BinarySign, UnarySign, Choice, Mathematical}
 use Rattle.module_meaning.specs.OperatorTable.{Relation, Splat, relational_word, run_word}
-use Rattle.module_meaning.specs.OperatorTable.{with_type}
+use Rattle.module_meaning.specs.OperatorTable.{Derivative, with_type}
+use Rattle.naga_ir.specs.declared.operators.DerivativeAxis.{DerivativeAxis}
+use Rattle.naga_ir.specs.declared.operators.DerivativeAxis.TheVariants as axis
+use Rattle.naga_ir.specs.declared.operators.DerivativeControl.{DerivativeControl}
+use Rattle.naga_ir.specs.declared.operators.DerivativeControl.TheVariants as control
 use Rattle.naga_ir.specs.declared.operators.BinaryOperator.{BinaryOperator}
 use Rattle.naga_ir.specs.declared.operators.BinaryOperator.TheVariants as operator
 use Rattle.naga_ir.specs.declared.operators.MathFunction.{MathFunction}
@@ -28,13 +32,18 @@ use Rattle.wgsl_text.specs.Types.{TypeSpecifier, Named, of_one}
 use Rattle.wgsl_text.specs.Words.{is_builtin}
 use Rattle.wgsl_words.specs.Words.{math_word}
 
--- it asks for nothing and is no name: a sign, or a built-in word, that begins like no numbered name
+-- it is no name: a sign, or a built-in word, that begins like no numbered name
+abbrev pub names_no_item : List ℕ → Bool
+names_no_item [] = false
+names_no_item (c ∷ rest) =
+    not (nat_eq c 95) && (not (nat_eq c 32) && (not (is_word (c ∷ rest)) || is_builtin (c ∷ rest)))
+
+-- and it asks for nothing, or asks for an event
 abbrev pub operates_freely : List ℕ → Bool
-operates_freely [] = false
-operates_freely (c ∷ rest) =
-    not (is_request (c ∷ rest)) &&
-    (not (nat_eq c 95) &&
-    (not (nat_eq c 32) && (not (is_word (c ∷ rest)) || is_builtin (c ∷ rest))))
+operates_freely w = not (is_request w) && names_no_item w
+
+abbrev pub asks_freely : List ℕ → Bool
+asks_freely w = is_request w && names_no_item w
 
 -- as are the signs and the words of the operators that are written so far
 pub unary_free : (op : UnaryOperator) → operates_freely (run_word (UnarySign op)) ≡ true
@@ -93,6 +102,20 @@ unfolding is_request is_builtin builtin_words
 relation_free relational.All written = refl
 relation_free relational.Any written = refl
 relation_free _ written = absurd cc
+
+-- as are the words of derivatives, which ask
+pub derivative_free : (along : DerivativeAxis) (how : DerivativeControl) →
+    asks_freely (run_word (Derivative along how)) ≡ true
+unfolding is_request is_builtin builtin_words
+derivative_free axis.X control.Coarse = refl
+derivative_free axis.X control.Fine = refl
+derivative_free axis.X control.None = refl
+derivative_free axis.Y control.Coarse = refl
+derivative_free axis.Y control.Fine = refl
+derivative_free axis.Y control.None = refl
+derivative_free axis.Width control.Coarse = refl
+derivative_free axis.Width control.Fine = refl
+derivative_free axis.Width control.None = refl
 
 -- as is the cast of bits to any type
 pub bits_free : (word : List ℕ) → operates_freely (with_type (codes "bitcast") word) ≡ true

@@ -3,6 +3,7 @@
 use Rattle.std.proofs.Common.{◌≡◌, ℕ, Bool, true, false, List, [], ◌∷◌, Option, Some, None}
 use Rattle.std.proofs.Common.{refl, sym, ap, subst, ◌∙◌, length, codes, ◌++◌}
 use Rattle.std.specs.Prelude.{IsTrue, if◌then◌else◌, unwrap_or}
+use Rattle.std.specs.List.{AllByRecursion}
 use Rattle.std.specs.Option.{is_some, option_map, option_map_or, option_and_then}
 use Rattle.naga_ir.specs.declared.expression.Expression as ir
 use Rattle.naga_ir.specs.declared.expression.Expression.TheVariants as expression
@@ -26,7 +27,11 @@ use Rattle.naga_ir.specs.declared.operators.RelationalFunction.{RelationalFuncti
 use Rattle.naga_ir.specs.declared.types.VectorSize.{VectorSize}
 use Rattle.module_meaning.specs.OperatorTable.{Choice, Splat, Relation, Mathematical, Construct}
 use Rattle.module_meaning.specs.OperatorTable.{WithoutForm, ValueOf, relational_word, Cast}
-use Rattle.module_meaning.specs.OperatorTable.{with_type}
+use Rattle.module_meaning.specs.OperatorTable.{Derivative, with_type}
+use Rattle.naga_ir.specs.declared.operators.DerivativeAxis.{DerivativeAxis}
+use Rattle.naga_ir.specs.declared.operators.DerivativeAxis.TheVariants as axis
+use Rattle.naga_ir.specs.declared.operators.DerivativeControl.{DerivativeControl}
+use Rattle.naga_ir.specs.declared.operators.DerivativeControl.TheVariants as control
 use Rattle.wgsl_text.specs.Expressions.{IsCallee}
 use Rattle.wgsl_text.specs.Types.{IsType}
 use Rattle.module_meaning.specs.ExpressionShapes.{applied_shape, asking}
@@ -175,41 +180,49 @@ operator_spelled a t spells e = untyped (applied_operator a e)
 
 -- ---- what is read
 -- a call whose operands are all expressions is its word over them
-module _ (operand : ℕ → PlainForm) (like : ℕ → runs.Plain)
-    (same : (h : ℕ) → expression_read (as_value (operand h)) ≡ runs.value_form (like h)) where
-  operands_read : (hs : List ℕ) →
-      arguments_read (operands (value_forms operand hs)) ≡ runs.value_forms like hs
-  operands_read [] = refl
-  operands_read (h ∷ hs) = λ i. more (same h i) (operands_read hs i)
+module _ (operand : ℕ → PlainForm) (like : ℕ → runs.Plain) where
+  -- an operand is read as what is like it, and so is each of several
+  abbrev pub ReadsLike : ℕ → Type 0
+  ReadsLike h = expression_read (as_value (operand h)) ≡ runs.value_form (like h)
 
-  call_read : (t : TypeSpecifier) (hs : List ℕ) →
+  abbrev pub AllReadLike : List ℕ → Type 0
+  AllReadLike hs = AllByRecursion ReadsLike hs
+
+  operands_read : (hs : List ℕ) → AllReadLike hs →
+      arguments_read (operands (value_forms operand hs)) ≡ runs.value_forms like hs
+  operands_read [] same = refl
+  operands_read (h ∷ hs) same = λ i. more (same.0 i) (operands_read hs same.1 i)
+
+  call_read : (t : TypeSpecifier) (hs : List ℕ) → AllReadLike hs →
       expression_read (Call t (operands (value_forms operand hs))) ≡
       Apply (type_layout t) (runs.value_forms like hs)
-  call_read t [] = refl
-  call_read t (h ∷ hs) = ap (Apply (type_layout t)) (operands_read (h ∷ hs))
+  call_read t [] same = refl
+  call_read t (h ∷ hs) same = ap (Apply (type_layout t)) (operands_read (h ∷ hs) same)
 
   -- an operator in its notation is read as the operator over its operands
   called_read : (type : Option TypeSpecifier) (op : Operator) → Spells type op → (hs : List ℕ) →
+      AllReadLike hs →
       expression_read (Call (callee (notation type op)) (operands (value_forms operand hs))) ≡
       Apply (run_word op) (runs.value_forms like hs)
-  called_read type op spelled hs =
-      call_read (callee (notation type op)) hs
+  called_read type op spelled hs same =
+      call_read (callee (notation type op)) hs same
       ∙ ap (λ w. Apply w (runs.value_forms like hs)) (callee_word type op spelled)
 
   operator_read : (n : Naming) (k : ValueType) (type : Option TypeSpecifier) (op : Operator) →
-      Spells type op → (hs : List ℕ) →
+      Spells type op → (hs : List ℕ) → AllReadLike hs →
       runs.AsValue (expression_read (applied_form (notation type op) (value_forms operand hs))) ≡
       runs.own_form n like k (Some (operator_shape op hs))
-  operator_read n k type (BinarySign operator.LogicalAnd) spelled (l ∷ r ∷ []) =
-      λ i. runs.AsValue (LogicalOf ShortCircuitAnd (same l i) (same r i))
-  operator_read n k type (BinarySign operator.LogicalOr) spelled (l ∷ r ∷ []) =
-      λ i. runs.AsValue (LogicalOf ShortCircuitOr (same l i) (same r i))
-  operator_read n k type (BinarySign op) spelled (l ∷ r ∷ []) =
+  operator_read n k type (BinarySign operator.LogicalAnd) spelled (l ∷ r ∷ []) same =
+      λ i. runs.AsValue (LogicalOf ShortCircuitAnd (same.0 i) (same.1.0 i))
+  operator_read n k type (BinarySign operator.LogicalOr) spelled (l ∷ r ∷ []) same =
+      λ i. runs.AsValue (LogicalOf ShortCircuitOr (same.0 i) (same.1.0 i))
+  operator_read n k type (BinarySign op) spelled (l ∷ r ∷ []) same =
       λ i. runs.AsValue
-      (Apply (sym (operator_row op) i) (more (same l i) (more (same r i) no_more)))
-  operator_read n k type (UnarySign op) spelled (h ∷ []) =
-      λ i. runs.AsValue (Apply (sym (unary_row op) i) (more (same h i) no_more))
-  operator_read n k type op spelled hs = ap runs.AsValue (called_read type op spelled hs)
+      (Apply (sym (operator_row op) i) (more (same.0 i) (more (same.1.0 i) no_more)))
+  operator_read n k type (UnarySign op) spelled (h ∷ []) same =
+      λ i. runs.AsValue (Apply (sym (unary_row op) i) (more (same.0 i) no_more))
+  operator_read n k type op spelled hs same =
+      ap runs.AsValue (called_read type op spelled hs same)
 
   -- no constants behind the operands
   none_behind : (hs : List ℕ) → runs.value_forms like hs ≡ runs.value_forms_then like hs no_more
@@ -217,21 +230,21 @@ module _ (operand : ℕ → PlainForm) (like : ℕ → runs.Plain)
   none_behind (h ∷ hs) = ap (more (runs.value_form (like h))) (none_behind hs)
 
   request_read : (type : Option TypeSpecifier) (op : Operator) → Spells type op → (hs : List ℕ) →
-      asks op ≡ true →
+      AllReadLike hs → asks op ≡ true →
       runs.AsValue (expression_read (applied_form (notation type op) (value_forms operand hs))) ≡
       runs.AsValue (Apply (run_word op) (runs.value_forms_then like hs no_more))
-  request_read type (BinarySign op) spelled hs is = absurd cc
-  request_read type (UnarySign op) spelled hs is = absurd cc
-  request_read type op spelled hs is =
+  request_read type (BinarySign op) spelled hs same is = absurd cc
+  request_read type (UnarySign op) spelled hs same is = absurd cc
+  request_read type op spelled hs same is =
       ap runs.AsValue
-      (called_read type op spelled hs ∙ ap (Apply (run_word op)) (none_behind hs))
+      (called_read type op spelled hs same ∙ ap (Apply (run_word op)) (none_behind hs))
 
   -- so is one that asks for an event
   pub applied_read : (n : Naming) (k : ValueType) (type : Option TypeSpecifier) (op : Operator) →
-      Spells type op → (hs : List ℕ) →
+      Spells type op → (hs : List ℕ) → AllReadLike hs →
       runs.AsValue (expression_read (applied_form (notation type op) (value_forms operand hs))) ≡
       runs.own_form n like k (Some (applied_shape op hs))
-  applied_read n k type op spelled hs = by (asks op) refl
+  applied_read n k type op spelled hs same = by (asks op) refl
     where
       by : (b : Bool) → asks op ≡ b →
           runs.AsValue
@@ -239,15 +252,15 @@ module _ (operand : ℕ → PlainForm) (like : ℕ → runs.Plain)
           runs.own_form n like k
           (Some
           (if b then Request (asking op) (run_word op) hs no_constant else operator_shape op hs))
-      by true is = request_read type op spelled hs is
-      by false is = operator_read n k type op spelled hs
+      by true is = request_read type op spelled hs same is
+      by false is = operator_read n k type op spelled hs same
 
   -- a zero value is called without operands
   pub zero_read : (type : Option TypeSpecifier) (op : Operator) → Spells type op →
       expression_read (applied_form (notation type op) []) ≡ Apply (run_word op) no_more
-  zero_read type (BinarySign op) spelled = called_read type (BinarySign op) spelled []
-  zero_read type (UnarySign op) spelled = called_read type (UnarySign op) spelled []
-  zero_read type op spelled = called_read type op spelled []
+  zero_read type (BinarySign op) spelled = called_read type (BinarySign op) spelled [] tt
+  zero_read type (UnarySign op) spelled = called_read type (UnarySign op) spelled [] tt
+  zero_read type op spelled = called_read type op spelled [] tt
 
 -- ---- what is of the grammar
 -- the notation takes so many operands, and what is called may be called
@@ -350,6 +363,22 @@ relation_called relational.All written = callee_of (run_word (Relation relationa
 relation_called relational.Any written = callee_of (run_word (Relation relational.Any)) refl
 relation_called _ written = absurd cc
 
+derivative_called : (along : DerivativeAxis) (how : DerivativeControl) →
+    IsCallee (Named (run_word (Derivative along how)))
+unfolding is_builtin builtin_words
+derivative_called axis.X control.Coarse = callee_of (run_word (Derivative axis.X control.Coarse)) refl
+derivative_called axis.X control.Fine = callee_of (run_word (Derivative axis.X control.Fine)) refl
+derivative_called axis.X control.None = callee_of (run_word (Derivative axis.X control.None)) refl
+derivative_called axis.Y control.Coarse = callee_of (run_word (Derivative axis.Y control.Coarse)) refl
+derivative_called axis.Y control.Fine = callee_of (run_word (Derivative axis.Y control.Fine)) refl
+derivative_called axis.Y control.None = callee_of (run_word (Derivative axis.Y control.None)) refl
+derivative_called axis.Width control.Coarse =
+    callee_of (run_word (Derivative axis.Width control.Coarse)) refl
+derivative_called axis.Width control.Fine =
+    callee_of (run_word (Derivative axis.Width control.Fine)) refl
+derivative_called axis.Width control.None =
+    callee_of (run_word (Derivative axis.Width control.None)) refl
+
 atomic_called : IsCallee (Named (run_word AtomicLoad))
 unfolding is_builtin builtin_words
 atomic_called = callee_of (run_word AtomicLoad) refl
@@ -402,6 +431,7 @@ notated a t (expression.As operand kind convert) written has formed =
     (typed_notation _ (cast_called a kind convert (type_known a operand))
     (operator_type a t (expression.As operand kind convert)) formed.0 formed.1))
     formed.2
+notated a t (expression.Derivative along how expr) written has formed = derivative_called along how
 notated a t (expression.Swizzle size vector pattern) written has formed = tt
 notated a t (expression.Access base index) written has formed = tt
 notated a t (expression.Literal value) written has formed = tt
@@ -412,15 +442,18 @@ notated a t (expression.Load pointer) written has formed = load_notated a pointe
 notated a t (expression.AccessIndex base index) written has formed = absurd has
 notated a t _ written has formed = absurd cc
 
-module _ (operand : ℕ → PlainForm) (all : (h : ℕ) → IsExpression (as_value (operand h))) where
-  operands_are : (hs : List ℕ) → Each IsExpression (value_forms operand hs)
-  operands_are [] = tt
-  operands_are (h ∷ hs) = (all h, operands_are hs)
+module _ (operand : ℕ → PlainForm) where
+  abbrev pub AreExpressions : List ℕ → Type 0
+  AreExpressions hs = AllByRecursion (λ h. IsExpression (as_value (operand h))) hs
 
-  pub applied_is : (n : Notation) (hs : List ℕ) → NotationFits n hs →
+  operands_are : (hs : List ℕ) → AreExpressions hs → Each IsExpression (value_forms operand hs)
+  operands_are [] all = tt
+  operands_are (h ∷ hs) all = (all.0, operands_are hs all.1)
+
+  pub applied_is : (n : Notation) (hs : List ℕ) → AreExpressions hs → NotationFits n hs →
       IsExpression (applied_form n (value_forms operand hs))
-  applied_is (Infix op) (l ∷ r ∷ []) fit = (all l, all r)
-  applied_is (Prefix op) (h ∷ []) fit = all h
-  applied_is (Called t) hs fit =
-      called_words.expression t (value_forms operand hs) fit (operands_are hs)
-  applied_is n hs fit = absurd fit
+  applied_is (Infix op) (l ∷ r ∷ []) all fit = (all.0, all.1.0)
+  applied_is (Prefix op) (h ∷ []) all fit = all.0
+  applied_is (Called t) hs all fit =
+      called_words.expression t (value_forms operand hs) fit (operands_are hs all)
+  applied_is n hs all fit = absurd fit

@@ -17,7 +17,7 @@ use Rattle.module_meaning.specs.ExpressionOperators.{cast, cast_to, constructor}
 use Rattle.module_meaning.specs.ExpressionShapes.{Declared, shape_of, applied_shape, constant_shape}
 use Rattle.module_meaning.specs.OperatorTable.{BinarySign, UnarySign, Choice, Mathematical}
 use Rattle.module_meaning.specs.OperatorTable.{Relation, Splat, run_word, Operator, Construct}
-use Rattle.module_meaning.specs.OperatorTable.{WithoutForm, ValueOf, Cast, with_type}
+use Rattle.module_meaning.specs.OperatorTable.{WithoutForm, ValueOf, Cast, Derivative, with_type}
 use Rattle.module_meaning.specs.Ranges.{function_in_range, names_in_range}
 use Rattle.module_meaning.specs.Types.{type_names}
 use Rattle.naga_info.specs.declared.info.TypeResolution.{TypeResolution}
@@ -30,7 +30,9 @@ use Rattle.wgsl_text.specs.Reading.{type_layout}
 use Rattle.wgsl_text.proofs.Text.{text-append}
 use Rattle.naga_form.proofs.AcceptedFunctions.{names_are_in_range}
 use Rattle.naga_form.proofs.OperatingWords.{operates_freely, unary_free, binary_free, choice_free}
-use Rattle.naga_form.proofs.OperatingWords.{bits_free, splat_free, math_free, relation_free}
+use Rattle.naga_form.proofs.OperatingWords.{asks_freely, bits_free, derivative_free}
+use Rattle.naga_form.proofs.OperatingWords.{splat_free, math_free, relation_free}
+use Rattle.naga_form.proofs.OperatingWords.{names_no_item}
 use Rattle.naga_form.proofs.TypeTrees.{resolution_row}
 use Rattle.naga_form.proofs.WrittenTypes.{free_form, values_at}
 use Rattle.module_meaning.specs.Surroundings.{declared, types_known}
@@ -48,7 +50,7 @@ use Rattle.shader_runs.specs.Scope.{fits_function}
 use Rattle.shader_runs.specs.Premises.{WordFits}
 use Rattle.shader_runs.specs.Premises.{AreDistinct, FixedKey}
 use Rattle.shader_runs.specs.Premises.{NumberedKey, GivenKey, ArgumentName, LocalName, ConstantName}
-use Rattle.shader_runs.specs.Premises.{GlobalName, OperatesBy, StandsFree, IsNoName}
+use Rattle.shader_runs.specs.Premises.{AsksBy, GlobalName, OperatesBy, StandsFree, IsNoName}
 use Rattle.shader_runs.specs.Premises.{IsName, NameKey, name_at}
 use Rattle.naga_form.proofs.AlikeNumbers.{is_no}
 use Rattle.naga_form.proofs.Names.{numbered_distinct, name_is, item_is_identifier}
@@ -182,23 +184,24 @@ module _ (m : Module) (info : ModuleInfo) (values : IsTrue (list_all is_value_ty
       no_name (NumberedKey h) is e = sign_not_numbered h c rest one two e
       no_name (GivenKey k) is e = none_given k is
 
-  operates : (w : List ℕ) → operates_freely w ≡ true → OperatesBy p own w
-  operates [] free = absurd (cc)
-  operates (c ∷ rest) free =
+  free_word : (w : List ℕ) → names_no_item w ≡ true → StandsFree p own w
+  free_word [] free = absurd (cc)
+  free_word (c ∷ rest) free =
       let one =
-      and_parts (not (is_request (c ∷ rest)))
-      (not (nat_eq c 95) &&
-      (not (nat_eq c 32) && (not (is_word (c ∷ rest)) || is_builtin (c ∷ rest)))) free in
-      let two =
       and_parts (not (nat_eq c 95))
-      (not (nat_eq c 32) && (not (is_word (c ∷ rest)) || is_builtin (c ∷ rest))) one.1 in
-      let three =
-      and_parts (not (nat_eq c 32))
-      (not (is_word (c ∷ rest)) || is_builtin (c ∷ rest)) two.1 in (
-        is_no (is_request (c ∷ rest)) one.0,
-        stands_free c rest
-            (is_no (nat_eq c 95) two.0) (is_no (nat_eq c 32) three.0) three.1,
-      )
+      (not (nat_eq c 32) && (not (is_word (c ∷ rest)) || is_builtin (c ∷ rest))) free in
+      let two =
+      and_parts (not (nat_eq c 32)) (not (is_word (c ∷ rest)) || is_builtin (c ∷ rest)) one.1 in
+      stands_free c rest (is_no (nat_eq c 95) one.0) (is_no (nat_eq c 32) two.0) two.1
+
+  operates : (w : List ℕ) → operates_freely w ≡ true → OperatesBy p own w
+  operates w free =
+      let both = and_parts (not (is_request w)) (names_no_item w) free in
+      (is_no (is_request w) both.0, free_word w both.1)
+
+  asks_by : (w : List ℕ) → asks_freely w ≡ true → AsksBy p own w
+  asks_by w free =
+      let both = and_parts (is_request w) (names_no_item w) free in (both.0, free_word w both.1)
 
   -- what makes a value of a type of the module is called by the type
   called_type : (ty : ℕ) → ty < length m.types →
@@ -265,6 +268,8 @@ module _ (m : Module) (info : ModuleInfo) (values : IsTrue (list_all is_value_ty
       (operand ∷ []))))
       (sym (ap (option_and_then (λ it. d.around.spelled (Value it))) c.target ∙ spelled))
       (cast_words (keeps_bits c.from convert) (type_layout c.has.tree) operand c.has.free))
+  words h (expression.Derivative axis how expr) is may range =
+      (asks_by (run_word (Derivative axis how)) (derivative_free axis how), tt)
   words h (expression.Access base index) is may range = tt
   words h (expression.AccessIndex base index) is may range =
       let x = selected m info es base index may in

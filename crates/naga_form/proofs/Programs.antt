@@ -82,6 +82,15 @@ use Rattle.naga_form.proofs.Operators.{cast_callee, constructor_notated, convers
 use Rattle.naga_form.proofs.Operators.{load_notated, notated}
 use Rattle.module_meaning.specs.Conversions.{keeps_bits}
 use Rattle.naga_form.proofs.AllowedParts.{conversion}
+use Rattle.naga_form.proofs.Abstraction.{AreWritten}
+use Rattle.module_meaning.specs.Part.{names_nothing}
+use Rattle.module_meaning.specs.FunctionShapes.{function_shape}
+use Rattle.naga_form.proofs.WrittenHandles.{AreClosed, all_are_closed, all_front, all_map, all_rest}
+use Rattle.module_meaning.specs.Written.{block_roots, cases_roots, simple_roots, statement_roots}
+use Rattle.std.specs.List.{AllByRecursion, filter}
+use Rattle.std.specs.Prelude.{if◌then◌else◌}
+use Rattle.std.proofs.Common.{add-zero, zero-add}
+use Rattle.std.specs.Option.{option_to_list}
 use Rattle.naga_form.specs.Expressions.{cast_tree, operator_type}
 use Rattle.naga_form.proofs.Letters.{letters_are_a_word}
 use Rattle.std.proofs.lemmas.Bool.{eqb-true}
@@ -254,7 +263,17 @@ statements_fit (statement st b) is =
     by (simple (return value)) is = refl
     by _ is = absurd (cc)
 
-module _ (m : Module) (info : ModuleInfo) (g : ℕ) (f : ir_function.Function) (found : slice_get m.functions g ≡ Some f) (es : List ExpressionInfo) (callees : ℕ) (ranges : function_in_range m callees f ≡ true) (written : IsTrue (function_is_written f)) (allowed : IsTrue (types_allow_all m.types f es)) (known : list_all (λ k. resolution_is_written m.types k.ty) es ≡ true) (values : list_all is_value_type m.types ≡ true) (few : length f.expressions ≤ 2 ^ 64) where
+-- operands are forms of the grammar
+abbrev ArePlain : (operand : ℕ → PlainForm) → List ℕ → Type 0
+ArePlain operand hs = AllByRecursion (λ x. IsPlainForm (operand x)) hs
+
+-- the types of operands let these handles be written
+abbrev AreAllowed : (W : ℕ → Type 0) → Module → List ExpressionInfo → ir_function.Function → Type 0
+AreAllowed W m es f =
+    (h : ℕ) (e : ir.Expression) → slice_get f.expressions h ≡ Some e → W h →
+    types_allow m.types es e ≡ true
+
+module _ (m : Module) (info : ModuleInfo) (g : ℕ) (f : ir_function.Function) (found : slice_get m.functions g ≡ Some f) (es : List ExpressionInfo) (callees : ℕ) (ranges : function_in_range m callees f ≡ true) (unnamed : IsTrue (names_nothing f)) (W : ℕ → Type 0) (closed : AreClosed W (binds (function_shape m info f es)) f) (written : AreWritten W f) (allowed : AreAllowed W m es f) (known : list_all (λ k. resolution_is_written m.types k.ty) es ≡ true) (values : list_all is_value_type m.types ≡ true) (few : length f.expressions ≤ 2 ^ 64) where
   abbrev own : Naming
   own = function_naming (module_names m) m info g f es
 
@@ -265,12 +284,13 @@ module _ (m : Module) (info : ModuleInfo) (g : ℕ) (f : ir_function.Function) (
   d = source.declared
 
   application_is : (otherwise : PlainForm) → IsPlainForm otherwise → (operand : ℕ → PlainForm) →
-      ((x : ℕ) → IsPlainForm (operand x)) → (type : Option TypeSpecifier) (hs : List ℕ) →
+      (type : Option TypeSpecifier) (hs : List ℕ) → ArePlain operand hs →
       (o : Option Operator) → IsNotated type hs o →
       IsPlainForm (applied_plain otherwise type operand hs o)
-  application_is otherwise plain operand all type hs None is = plain
-  application_is otherwise plain operand all type hs (Some op) is =
-      applied_is operand (λ h. value_is_one (operand h) (all h)) (notation type op) hs is
+  application_is otherwise plain operand type hs all None is = plain
+  application_is otherwise plain operand type hs all (Some op) is =
+      applied_is operand (notation type op) hs
+      (all_map (λ h. value_is_one (operand h)) hs all) is
 
   -- the type of which an expression makes a value has a form
   type_at : (ty : ℕ) → nat_lt ty (length m.types) ≡ true → HasFormAt (type_names m) ty
@@ -294,29 +314,25 @@ module _ (m : Module) (info : ModuleInfo) (g : ℕ) (f : ir_function.Function) (
       )
   type_formed _ may range = tt
 
-  own_is : (operand : ℕ → PlainForm) → ((x : ℕ) → IsPlainForm (operand x)) → (h : ℕ) (e : ir.Expression) → slice_get f.expressions h ≡ Some e → IsPlainForm (own_plain own source operand e)
-  own_is operand all h (expression.Literal v) at =
-      literal_is v (list_all_at expression_is_written f.expressions h (expression.Literal v) (function_parts f written).expressions at)
+  own_is : (operand : ℕ → PlainForm) → (h : ℕ) (e : ir.Expression) → slice_get f.expressions h ≡ Some e → expression_is_written e ≡ true → types_allow m.types es e ≡ true → ArePlain operand (expression_operands e) → IsPlainForm (own_plain own source operand e)
+  own_is operand h (expression.Literal v) at is may all =
+      literal_is v is
       (names_are_in_range m callees f ranges h (expression.Literal v) at)
-  own_is operand all h (expression.FunctionArgument n) at =
+  own_is operand h (expression.FunctionArgument n) at is may all =
       let a = element f.arguments.items n (ltb-true n (length f.arguments.items) (names_are_in_range m callees f ranges h (expression.FunctionArgument n) at)) in
       item_is_identifier m (argument_item m g n a.0) (argument_there m g f n a.0 found a.1)
-  own_is operand all h (expression.LocalVariable v) at =
+  own_is operand h (expression.LocalVariable v) at is may all =
       let l = element f.local_variables v (ltb-true v (length f.local_variables) (names_are_in_range m callees f ranges h (expression.LocalVariable v) at)) in
       (item_is_identifier m (local_item g v l.0) (local_stands wgsl_names m g f v l.0 found l.1), refl)
-  own_is operand all h (expression.ZeroValue ty) at =
+  own_is operand h (expression.ZeroValue ty) at is may all =
       let form = type_at ty (names_are_in_range m callees f ranges h (expression.ZeroValue ty) at) in
-      applied_is operand (λ x. value_is_one (operand x) (all x))
-      (notation (type_tree (type_names m) ty) (constructor d.around (Handle ty) 0)) []
+      applied_is operand (notation (type_tree (type_names m) ty) (constructor d.around (Handle ty) 0)) [] tt
       (constructor_notated d.around (Handle ty) 0 [] (type_tree (type_names m) ty) form.0 form.1 form.2)
-  own_is operand all h (expression.Access base index) at =
-      part_is (points d.around base) (λ e. Index e (as_value (operand index))) (operand base) (all base)
-      (λ e is. (is, value_is_one (operand index) (all index))) (λ e is. is)
-  own_is operand all h (expression.AccessIndex base index) at = by (selected m info es base index may)
+  own_is operand h (expression.Access base index) at is may all =
+      part_is (points d.around base) (λ e. Index e (as_value (operand index))) (operand base) all.0
+      (λ e is. (is, value_is_one (operand index) all.1.0)) (λ e is. is)
+  own_is operand h (expression.AccessIndex base index) at is may all = by (selected m info es base index may)
     where
-      may : types_allow m.types es (expression.AccessIndex base index) ≡ true
-      may = list_all_at (types_allow m.types es) f.expressions h (expression.AccessIndex base index) allowed at
-
       by : (x : Selector) × (part_selector d base index ≡ Some x) →
           IsPlainForm (own_plain own source operand (expression.AccessIndex base index))
       by s =
@@ -327,41 +343,42 @@ module _ (m : Module) (info : ModuleInfo) (g : ℕ) (f : ir_function.Function) (
           (λ x. part_plain (points d.around base) (selected_part x) (operand base)) o
           (applied_plain no_form None operand (base ∷ []) (Some (WithoutForm (PartAt index))))))
           (sym s.1)
-          (selected_is (points d.around base) s.0 (selected_well m info es base index may known lt s.0 s.1) (operand base) (all base))
-  own_is operand all h (expression.Swizzle size v pattern) at =
+          (selected_is (points d.around base) s.0 (selected_well m info es base index may known lt s.0 s.1) (operand base) all.0)
+  own_is operand h (expression.Swizzle size v pattern) at is may all =
       let whole =
       names_are_in_range m callees f ranges h (expression.Swizzle size v pattern) at in
-      (value_is_one (operand v) (all v), letters_are_a_word size pattern (eqb-true (length pattern) 4 whole))
-  own_is operand all h (expression.Load q) at =
-      application_is (ValueForm (as_reference (operand q))) (reference_is_one (operand q) (all q)).0
-      operand all None (q ∷ []) (load_operator d.around q) (load_notated d.around q)
-  own_is operand all h e at =
-      application_is no_form tt operand all (operator_type d.around (type_names m) e) (expression_operands e)
+      (value_is_one (operand v) all.0, letters_are_a_word size pattern (eqb-true (length pattern) 4 whole))
+  own_is operand h (expression.Load q) at is may all =
+      application_is (ValueForm (as_reference (operand q))) (reference_is_one (operand q) all.0).0
+      operand None (q ∷ []) all (load_operator d.around q) (load_notated d.around q)
+  own_is operand h e at is may all =
+      application_is no_form tt operand (operator_type d.around (type_names m) e) (expression_operands e) all
       (applied_operator d.around e)
       (notated d.around (type_names m) e
-      (list_all_at expression_is_written f.expressions h e (function_parts f written).expressions at)
-      tt
-      (type_formed e (list_all_at (types_allow m.types es) f.expressions h e allowed at)
+      is tt
+      (type_formed e may
       (names_are_in_range m callees f ranges h e at)))
 
-  own_if_is : (operand : ℕ → PlainForm) → ((x : ℕ) → IsPlainForm (operand x)) → (h : ℕ) (o : Option ir.Expression) → slice_get f.expressions h ≡ o → IsPlainForm (own_if own source operand o)
-  own_if_is operand all h None at = tt
-  own_if_is operand all h (Some e) at = own_is operand all h e at
+  own_if_is : (operand : ℕ → PlainForm) → ((x : ℕ) → W x → IsPlainForm (operand x)) → (h : ℕ) → W h → (o : Option ir.Expression) → slice_get f.expressions h ≡ o → IsPlainForm (own_if own source operand o)
+  own_if_is operand all h w None at = tt
+  own_if_is operand all h w (Some e) at =
+      own_is operand h e at (written h e at w) (allowed h e at w)
+      (all_map all (expression_operands e) (closed.operands h e at w))
 
   standing_is : (s : Standing) (p : PlainForm) → ((x : List ℕ) → s ≡ Named x → IsIdentifier x) → IsPlainForm p → IsPlainForm (standing_plain s p)
   standing_is (Named x) p named_well is = named_well x refl
   standing_is _ p named_well is = is
 
-  below_is : (s : Handles) → NamesAre s → (k h : ℕ) → IsPlainForm (plain_below own source s k h)
-  below_is s well zero h = tt
-  below_is s well (suc k) h = standing_is (s h) (own_if own source (plain_below own source s k) (slice_get f.expressions h)) (well h) (own_if_is (plain_below own source s k) (below_is s well k) h (slice_get f.expressions h) refl)
+  below_is : (s : Handles) → NamesAre s → (k h : ℕ) → W h → IsPlainForm (plain_below own source s k h)
+  below_is s well zero h w = tt
+  below_is s well (suc k) h w = standing_is (s h) (own_if own source (plain_below own source s k) (slice_get f.expressions h)) (well h) (own_if_is (plain_below own source s k) (below_is s well k) h w (slice_get f.expressions h) refl)
 
-  plain_is : (s : Handles) → NamesAre s → (h : ℕ) → IsPlainForm (plain_form own source s h)
-  plain_is s well h = below_is s well (length f.expressions) h
+  plain_is : (s : Handles) → NamesAre s → (h : ℕ) → W h → IsPlainForm (plain_form own source s h)
+  plain_is s well h w = below_is s well (length f.expressions) h w
 
   -- a bound handle's name
   bound_is : (k h : ℕ) → binds own.function h ≡ true → IsIdentifier (bound_name own k h)
-  bound_is k h bound = subst (λ b. IsIdentifier (cond b [] (numbered_name h))) (sym (none_is_given m info f es (function_parts f written).unnamed h)) (numbered_is h (within (slice_get f.expressions h) refl))
+  bound_is k h bound = subst (λ b. IsIdentifier (cond b [] (numbered_name h))) (sym (none_is_given m info f es unnamed h)) (numbered_is h (within (slice_get f.expressions h) refl))
     where
       within : (o : Option ir.Expression) → slice_get f.expressions h ≡ o → h < 2 ^ 64
       within (Some e) at = let lt = slice_get_within f.expressions h e at in omega (arith, lt, few)
@@ -435,10 +452,17 @@ module _ (m : Module) (info : ModuleInfo) (g : ℕ) (f : ir_function.Function) (
   let_is None told_well x e name is = (name, is)
   let_is (Some t) told_well x e name is = (name, told_well t refl, is)
 
-  lets_are : (told : ℕ → Option TypeSpecifier) → ((h : ℕ) (t : TypeSpecifier) → told h ≡ Some t → IsType t) → (k : ℕ) (hs : List ℕ) (s : Handles) → NamesAre s → (rest : tree.Statements) → IsStatements rest → IsStatements (lets_form own told source k hs s rest)
-  lets_are told told_well k [] s well rest is = is
-  lets_are told told_well k (h ∷ hs) s well rest is =
-      then_is (binds own.function h) refl (lets_are told told_well (given_after own.function h k) hs (after_one own k h s) (after_one_is k h s well) rest is)
+  -- the roots of statements are written
+  abbrev Writes : List ℕ → Type 0
+  Writes hs = AllByRecursion W hs
+
+  abbrev bound : ℕ → Bool
+  bound = binds own.function
+
+  lets_are : (told : ℕ → Option TypeSpecifier) → ((h : ℕ) (t : TypeSpecifier) → told h ≡ Some t → IsType t) → (k : ℕ) (hs : List ℕ) (s : Handles) → NamesAre s → (rest : tree.Statements) → IsStatements rest → Writes (filter bound hs) → IsStatements (lets_form own told source k hs s rest)
+  lets_are told told_well k [] s well rest is w = is
+  lets_are told told_well k (h ∷ hs) s well rest is w =
+      then_is (bound h) refl w (lets_are told told_well (given_after own.function h k) hs (after_one own k h s) (after_one_is k h s well) rest is)
     where
       e : tree_expressions.Expression
       e = as_value (unnamed_form own source s h)
@@ -446,31 +470,31 @@ module _ (m : Module) (info : ModuleInfo) (g : ℕ) (f : ir_function.Function) (
       behind : tree.Statements
       behind = lets_form own told source (given_after own.function h k) hs (after_one own k h s) rest
 
-      then_is : (b : Bool) → binds own.function h ≡ b → IsStatements behind → IsStatements (then_if b (let_form (told h) (bound_name own k h) e) behind)
-      then_is true bound more = (
-        let_is (told h) (told_well h) (bound_name own k h) e (bound_is k h bound) (value_is_one (unnamed_form own source s h) (own_if_is (plain_form own source s) (plain_is s well) h (slice_get f.expressions h) refl)),
-        more,
+      then_is : (b : Bool) → bound h ≡ b → Writes (if b then h ∷ filter bound hs else filter bound hs) → (Writes (filter bound hs) → IsStatements behind) → IsStatements (then_if b (let_form (told h) (bound_name own k h) e) behind)
+      then_is true is_bound w more = (
+        let_is (told h) (told_well h) (bound_name own k h) e (bound_is k h is_bound) (value_is_one (unnamed_form own source s h) (own_if_is (plain_form own source s) (plain_is s well) h w.0 (slice_get f.expressions h) refl)),
+        more w.1,
       )
-      then_is false bound more = more
+      then_is false is_bound w more = more w
 
-  return_is : (s : Handles) → NamesAre s → (v : Option ℕ) → IsStatement (return_line own source s v)
-  return_is s well None = tt
-  return_is s well (Some h) = value_is_one (plain_form own source s h) (plain_is s well h)
+  return_is : (s : Handles) → NamesAre s → (v : Option ℕ) → Writes (option_to_list v) → IsStatement (return_line own source s v)
+  return_is s well None w = tt
+  return_is s well (Some h) w = value_is_one (plain_form own source s h) (plain_is s well h w.0)
 
-  simple_is : (told : ℕ → Option TypeSpecifier) → ((h : ℕ) (t : TypeSpecifier) → told h ≡ Some t → IsType t) → (k : ℕ) (st : SimpleStatement) (s : Handles) → NamesAre s → (rest : tree.Statements) → IsStatements rest → IsStatements (simple_form own told source k st s rest)
-  simple_is told told_well k (emit first last) s well rest is = lets_are told told_well k (from first (last - first)) s well rest is
-  simple_is told told_well k (store pointer value) s well rest is =
-      let r = reference_is_one (plain_form own source s pointer) (plain_is s well pointer) in
-      ((r.0, value_is_one (plain_form own source s value) (plain_is s well value), r.1), is)
-  simple_is told told_well k (return v) s well rest is = (return_is s well v, is)
-  simple_is told told_well k _ s well rest is = (tt, is)
+  simple_is : (told : ℕ → Option TypeSpecifier) → ((h : ℕ) (t : TypeSpecifier) → told h ≡ Some t → IsType t) → (k : ℕ) (st : SimpleStatement) (s : Handles) → NamesAre s → (rest : tree.Statements) → IsStatements rest → Writes (simple_roots bound st) → IsStatements (simple_form own told source k st s rest)
+  simple_is told told_well k (emit first last) s well rest is w = lets_are told told_well k (from first (last - first)) s well rest is w
+  simple_is told told_well k (store pointer value) s well rest is w =
+      let r = reference_is_one (plain_form own source s pointer) (plain_is s well pointer w.0) in
+      ((r.0, value_is_one (plain_form own source s value) (plain_is s well value w.1.0), r.1), is)
+  simple_is told told_well k (return v) s well rest is w = (return_is s well v w, is)
+  simple_is told told_well k _ s well rest is w = (tt, is)
 
-  value_at_is : (s : Handles) → NamesAre s → (h : ℕ) → IsExpression (value_form own source s h)
-  value_at_is s well h = value_is_one (plain_form own source s h) (plain_is s well h)
+  value_at_is : (s : Handles) → NamesAre s → (h : ℕ) → W h → IsExpression (value_form own source s h)
+  value_at_is s well h w = value_is_one (plain_form own source s h) (plain_is s well h w)
 
-  loop_is : (body continuing : tree.Statements) (s : Handles) → NamesAre s → (e : Option ℕ) → IsStatements body → IsStatements continuing → IsStatement (loop_form body continuing (option_map (value_form own source s) e))
-  loop_is body continuing s well None b d = (b, d)
-  loop_is body continuing s well (Some h) b d = (b, d, value_at_is s well h)
+  loop_is : (body continuing : tree.Statements) (s : Handles) → NamesAre s → (e : Option ℕ) → Writes (option_to_list e) → IsStatements body → IsStatements continuing → IsStatement (loop_form body continuing (option_map (value_form own source s) e))
+  loop_is body continuing s well None w b d = (b, d)
+  loop_is body continuing s well (Some h) w b d = (b, d, value_at_is s well h w.0)
 
   cases_stay : (told : ℕ → Option TypeSpecifier) (k : ℕ) (labels : List tree.Label) (cs : CaseTrees) → IsTrue (some_case_stays cs) → (s : Handles) → IsTrue (has_case (cases_form own told source k labels cs s))
   cases_stay told k labels no_cases stays s = stays
@@ -479,39 +503,49 @@ module _ (m : Module) (info : ModuleInfo) (g : ℕ) (f : ir_function.Function) (
   cases_stay told k labels (case value body false cs) stays s = refl
 
   mutual
-    line_is : (told : ℕ → Option TypeSpecifier) → ((h : ℕ) (t : TypeSpecifier) → told h ≡ Some t → IsType t) → (k : ℕ) (st : StatementTree) → StatementsFit st → (s : Handles) → NamesAre s → (rest : tree.Statements) → IsStatements rest → IsStatements (line_form own told source k st s rest)
-    line_is told told_well k (simple st) fit s well rest is = simple_is told told_well k st s well rest is
-    line_is told told_well k (block b) fit s well rest is = (lines_are told told_well k b fit s well, is)
-    line_is told told_well k (branch condition accept reject) fit s well rest is =
+    line_is : (told : ℕ → Option TypeSpecifier) → ((h : ℕ) (t : TypeSpecifier) → told h ≡ Some t → IsType t) → (k : ℕ) (st : StatementTree) → StatementsFit st → (s : Handles) → NamesAre s → (rest : tree.Statements) → IsStatements rest → Writes (statement_roots bound st) → IsStatements (line_form own told source k st s rest)
+    line_is told told_well k (simple st) fit s well rest is w = simple_is told told_well k st s well rest is w
+    line_is told told_well k (block b) fit s well rest is w = (lines_are told told_well k b fit s well w, is)
+    line_is told told_well k (branch condition accept reject) fit s well rest is w =
         let behind = given_by_all own.function (statements_shape d.around accept) k in
-        ((value_at_is s well condition, lines_are told told_well k accept fit.0 s well, lines_are told told_well behind reject fit.1 s well), is)
-    line_is told told_well k (switch selector cs) fit s well rest is =
-        ((value_at_is s well selector, cases_are told told_well k [] tt cs fit.1 s well, cases_stay told k [] cs fit.0 s), is)
-    line_is told told_well k (loop body continuing break_if) fit s well rest is =
+        let one = all_front W (block_roots bound accept) (block_roots bound reject) w.1 in
+        let other = all_rest W (block_roots bound accept) (block_roots bound reject) w.1 in
+        ((value_at_is s well condition w.0, lines_are told told_well k accept fit.0 s well one, lines_are told told_well behind reject fit.1 s well other), is)
+    line_is told told_well k (switch selector cs) fit s well rest is w =
+        ((value_at_is s well selector w.0, cases_are told told_well k [] tt cs fit.1 s well w.1, cases_stay told k [] cs fit.0 s), is)
+    line_is told told_well k (loop body continuing break_if) fit s well rest is w =
         let behind = given_by_all own.function (statements_shape d.around body) k in
         let inside = after_all own k (statements_shape d.around body) s in
         let inside_well = after_all_is k body fit.0 s well in
-        (loop_is _ _ (after_all own behind (statements_shape d.around continuing) inside) (after_all_is behind continuing fit.1 inside inside_well) break_if (lines_are told told_well k body fit.0 s well) (lines_are told told_well behind continuing fit.1 inside inside_well), is)
+        let one = all_front W (block_roots bound body) (block_roots bound continuing ++ option_to_list break_if) w in
+        let more = all_rest W (block_roots bound body) (block_roots bound continuing ++ option_to_list break_if) w in
+        let other = all_front W (block_roots bound continuing) (option_to_list break_if) more in
+        let value = all_rest W (block_roots bound continuing) (option_to_list break_if) more in
+        (loop_is _ _ (after_all own behind (statements_shape d.around continuing) inside) (after_all_is behind continuing fit.1 inside inside_well) break_if value (lines_are told told_well k body fit.0 s well one) (lines_are told told_well behind continuing fit.1 inside inside_well other), is)
 
-    lines_are : (told : ℕ → Option TypeSpecifier) → ((h : ℕ) (t : TypeSpecifier) → told h ≡ Some t → IsType t) → (k : ℕ) (b : BlockTree) → AllFit b → (s : Handles) → NamesAre s → IsStatements (lines_form own told source k b s)
-    lines_are told told_well k no_statements fit s well = tt
-    lines_are told told_well k (statement st b) fit s well =
+    lines_are : (told : ℕ → Option TypeSpecifier) → ((h : ℕ) (t : TypeSpecifier) → told h ≡ Some t → IsType t) → (k : ℕ) (b : BlockTree) → AllFit b → (s : Handles) → NamesAre s → Writes (block_roots bound b) → IsStatements (lines_form own told source k b s)
+    lines_are told told_well k no_statements fit s well w = tt
+    lines_are told told_well k (statement st b) fit s well w =
+        let one = all_front W (statement_roots bound st) (block_roots bound b) w in
+        let more = all_rest W (statement_roots bound st) (block_roots bound b) w in
         line_is told told_well k st fit.0 s well (lines_form own told source (given_by own.function (statement_shape d.around st) k) b (after own k (statement_shape d.around st) s))
-        (lines_are told told_well (given_by own.function (statement_shape d.around st) k) b fit.1 (after own k (statement_shape d.around st) s) (after_is k st fit.0 s well))
+        (lines_are told told_well (given_by own.function (statement_shape d.around st) k) b fit.1 (after own k (statement_shape d.around st) s) (after_is k st fit.0 s well) more) one
 
-    cases_are : (told : ℕ → Option TypeSpecifier) → ((h : ℕ) (t : TypeSpecifier) → told h ≡ Some t → IsType t) → (k : ℕ) (labels : List tree.Label) → Each IsLabel labels → (cs : CaseTrees) → CasesFit cs → (s : Handles) → NamesAre s → IsCases (cases_form own told source k labels cs s)
-    cases_are told told_well k labels are no_cases fit s well = tt
-    cases_are told told_well k labels are (case value body true cs) fit s well =
+    cases_are : (told : ℕ → Option TypeSpecifier) → ((h : ℕ) (t : TypeSpecifier) → told h ≡ Some t → IsType t) → (k : ℕ) (labels : List tree.Label) → Each IsLabel labels → (cs : CaseTrees) → CasesFit cs → (s : Handles) → NamesAre s → Writes (cases_roots bound cs) → IsCases (cases_form own told source k labels cs s)
+    cases_are told told_well k labels are no_cases fit s well w = tt
+    cases_are told told_well k labels are (case value body true cs) fit s well w =
         cases_are told told_well (given_by_all own.function (statements_shape d.around body) k) (labels ++ label_form value ∷ []) (labels_more labels value are fit.0) cs fit.2 s well
-    cases_are told told_well k labels are (case value body false cs) fit s well = (
+        (all_rest W (block_roots bound body) (cases_roots bound cs) w)
+    cases_are told told_well k labels are (case value body false cs) fit s well w = (
       labels_are labels value are fit.0,
-      lines_are told told_well k body fit.1 s well,
-      cases_are told told_well (given_by_all own.function (statements_shape d.around body) k) [] tt cs fit.2 s well,
+      lines_are told told_well k body fit.1 s well (all_front W (block_roots bound body) (cases_roots bound cs) w),
+      cases_are told told_well (given_by_all own.function (statements_shape d.around body) k) [] tt cs fit.2 s well
+          (all_rest W (block_roots bound body) (cases_roots bound cs) w),
     )
 
-  locals_are : (l : ℕ) (vs : List LocalVariable) → l + length vs ≡ length f.local_variables → list_all (local_in_range (length m.types) (length f.expressions)) vs ≡ true → Each IsLocal (locals_form own (type_names m) source l vs)
-  locals_are l [] size fit = tt
-  locals_are l (v ∷ vs) size fit =
+  locals_are : (l : ℕ) (vs : List LocalVariable) → l + length vs ≡ length f.local_variables → ((k : ℕ) → slice_get vs k ≡ slice_get f.local_variables (k + l)) → list_all (local_in_range (length m.types) (length f.expressions)) vs ≡ true → Each IsLocal (locals_form own (type_names m) source l vs)
+  locals_are l [] size at fit = tt
+  locals_are l (v ∷ vs) size at fit =
       let lt : l < length f.local_variables = omega (arith, size) in
       let next : (l + 1) + length vs ≡ length f.local_variables = omega (arith, size) in
       let here = element f.local_variables l lt in
@@ -520,14 +554,19 @@ module _ (m : Module) (info : ModuleInfo) (g : ℕ) (f : ir_function.Function) (
         record {
           name = item_is_identifier m (local_item g l here.0) (local_stands wgsl_names m g f l here.0 found here.1);
           type = is_type_at m.types values (module_names m) v.ty (ltb-true v.ty (length m.types) parts.0);
-          value = first_is v.init;
+          value = first_is v.init (closed.firsts l v (ap (slice_get f.local_variables) (sym (zero-add l)) ∙ sym (at 0)));
         },
-        locals_are (l + 1) vs next both.1,
+        locals_are (l + 1) vs next later both.1,
       )
     where
-      first_is : (o : Option ℕ) → IsValue (option_map (value_form own source (at_start own.function)) o)
-      first_is None = tt
-      first_is (Some h) = value_is_one (plain_form own source (at_start own.function) h) (plain_is (at_start own.function) start_is h)
+      later : (k : ℕ) → slice_get vs k ≡ slice_get f.local_variables (k + (l + 1))
+      later k =
+          let same : suc k + l ≡ k + (l + 1) = omega arith in
+          at (suc k) ∙ ap (slice_get f.local_variables) same
+
+      first_is : (o : Option ℕ) → Writes (option_to_list o) → IsValue (option_map (value_form own source (at_start own.function)) o)
+      first_is None w = tt
+      first_is (Some h) w = value_is_one (plain_form own source (at_start own.function) h) (plain_is (at_start own.function) start_is h w.0)
 
   parameters_are : (n : ℕ) (args : List FunctionArgument) → n + length args ≡ length f.arguments.items → IsTrue (list_all (λ a. nat_lt a.ty (length m.types)) args) → Each IsParameter (parameters_form (module_names m) m.types g n args)
   parameters_are n [] size fit = tt
@@ -544,8 +583,8 @@ module _ (m : Module) (info : ModuleInfo) (g : ℕ) (f : ir_function.Function) (
   result_is None fit = tt
   result_is (Some r) fit = (tt, refl, is_type_at m.types values (module_names m) r.ty (ltb-true r.ty (length m.types) fit))
 
-  function_is : (explicit : Bool) → IsFunction (function_form explicit (module_names m) m info g f es)
-  function_is explicit =
+  function_is : (explicit : Bool) → AllFit f.body → IsFunction (function_form explicit (module_names m) m info g f es)
+  function_is explicit fit =
       let signature = (and_parts (signature_types_fit (length m.types) f) (signature_fits_32_bits f) (and_parts (signature_fits (length m.types) f) _ ranges).0).0 in
       let args = list_all (λ a. nat_lt a.ty (length m.types)) f.arguments.items in
       let answer = is_below (length m.types) (option_map (λ r. r.ty) f.result) in
@@ -555,11 +594,20 @@ module _ (m : Module) (info : ModuleInfo) (g : ℕ) (f : ir_function.Function) (
         name = item_is_identifier m (function_item m g f) (function_there m g f found);
         parameters = parameters_are 0 f.arguments.items all (and_left args answer signature);
         result = result_is f.result (and_right args answer signature);
-        locals = locals_are 0 f.local_variables all_locals (locals_are_in_range m callees f ranges);
-        body = lines_are (told_type explicit (type_names m) es) (told_is m.types values (module_names m) explicit es known) 0 f.body (statements_fit f.body (function_parts f written).body) (at_start own.function) start_is;
+        locals = locals_are 0 f.local_variables all_locals (λ k. ap (slice_get f.local_variables) (sym (add-zero k))) (locals_are_in_range m callees f ranges);
+        body = lines_are (told_type explicit (type_names m) es) (told_is m.types values (module_names m) explicit es known) 0 f.body fit (at_start own.function) start_is closed.body;
       }
 
 module _ (explicit : Bool) (m : Module) (info : ModuleInfo) (accepted : IsTrue (is_accepted m info)) (values : list_all is_value_type m.types ≡ true) where
+  one_is : (g : ℕ) (f : ir_function.Function) (found : slice_get m.functions g ≡ Some f) (es : List ExpressionInfo) (callees : ℕ) → function_in_range m callees f ≡ true → IsTrue (function_is_written f) → IsTrue (types_allow_all m.types f es) → list_all (λ k. resolution_is_written m.types k.ty) es ≡ true → length f.expressions ≤ 2 ^ 64 → (explicit : Bool) → IsFunction (function_form explicit (module_names m) m info g f es)
+  one_is g f found es callees ranges written may known few explicit =
+      let parts = function_parts f written in
+      function_is m info g f found es callees ranges parts.unnamed (λ h. Unit {0})
+      (all_are_closed (binds (function_shape m info f es)) f)
+      (λ h e at w. list_all_at expression_is_written f.expressions h e parts.expressions at)
+      (λ h e at w. list_all_at (types_allow m.types es) f.expressions h e may at)
+      known values few explicit (statements_fit f.body parts.body)
+
   functions_are : (g : ℕ) (fs : List ir_function.Function) (ess : List (List ExpressionInfo)) → ((i : ℕ) (f : ir_function.Function) → slice_get fs i ≡ Some f → slice_get m.functions (g + i) ≡ Some f) → IsTrue (list_all function_is_written fs) →
       IsTrue (list_all (list_all (λ k. resolution_is_written m.types k.ty)) ess) → IsTrue (list_all (λ p. types_allow_all m.types p.0 p.1) (zip fs ess)) → IsTrue (list_all (λ f. nat_le (length f.expressions) (2 ^ 64)) fs) → Each IsFunction (functions_form explicit (module_names m) m info g fs ess)
   functions_are g [] [] there written known allowed few = tt
@@ -574,7 +622,7 @@ module _ (explicit : Bool) (m : Module) (info : ModuleInfo) (accepted : IsTrue (
       let types = and_parts (list_all (λ k. resolution_is_written m.types k.ty) es) (list_all (list_all (λ k. resolution_is_written m.types k.ty)) ess) known in
       let may = and_parts (types_allow_all m.types f es) (list_all (λ p. types_allow_all m.types p.0 p.1) (zip fs ess)) allowed in
       let counted = and_parts (nat_le (length f.expressions) (2 ^ 64)) (list_all (λ f. nat_le (length f.expressions) (2 ^ 64)) fs) few in (
-        function_is m info g f found es is.callees is.ranges all.0 may.0 types.0 values (leb-true (length f.expressions) (2 ^ 64) counted.0) explicit,
+        one_is g f found es is.callees is.ranges all.0 may.0 types.0 (leb-true (length f.expressions) (2 ^ 64) counted.0) explicit,
         functions_are (g + 1) fs ess (further m.functions g f fs there) all.1 types.1 may.1 counted.1,
       )
 

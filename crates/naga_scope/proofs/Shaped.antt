@@ -309,6 +309,7 @@ module _ (m : Module) (info : ModuleInfo) (f : ir_function.Function) (es : List 
         own (expression.Select condition accept reject) is types may = counted_from 2 h
         own (expression.Splat size value) is types may = counted_from 2 h
         own (expression.Swizzle size vector pattern) is types may = counted_from 2 h
+        own (expression.Derivative axis how expr) is types may = counted_from 1 h
         own (expression.As operand kind convert) is types may =
             let op = cast d.around kind convert (type_known d.around operand) in
             silent_binds h op (operand ∷ []) (cast_asks d.around kind convert _)

@@ -77,9 +77,9 @@ pub(crate) fn is_constant_leaf(kind: ExpressionKind) -> bool
     }
 }
 
-/// Whether a `let` binds the expression with this handle where it is emitted: a `Load` with a use,
-/// or an operator with two. It is for functions that are written so far, in which no front end named
-/// an expression.
+/// Whether a `let` binds the expression with this handle where it is emitted: a `Load` or a
+/// derivative with a use, or another operator, but no part at an index, with two. It is for
+/// functions that are written so far, in which no front end named an expression.
 pub fn binds(function: &Function, info: &FunctionInfo, handle: Handle<Expression>) -> bool
     requires written { IsTrue (function_is_written function.now) }
     ensures { (m : Module) (known : ModuleInfo) →

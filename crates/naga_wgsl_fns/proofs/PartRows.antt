@@ -383,6 +383,7 @@ signed_row f table handle can lt =
         of_written (expression.Select c a r) at is = refl
         of_written (expression.Splat size x) at is = refl
         of_written (expression.Swizzle size v pattern) at is = refl
+        of_written (expression.Derivative axis how x) at is = refl
         of_written (expression.Math fun x y z w) at is = refl
         of_written (expression.Relational fun x) at is = refl
         of_written _ at is = absurd cc

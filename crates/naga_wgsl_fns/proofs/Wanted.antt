@@ -19,6 +19,8 @@ use Rattle.naga_ir.specs.declared.module.FunctionResult.{FunctionResult}
 use Rattle.naga_ir.specs.declared.module.LocalVariable.{LocalVariable}
 use Rattle.naga_ir.specs.declared.module.Module.{Module}
 use Rattle.naga_ir.specs.declared.operators.BinaryOperator.{BinaryOperator}
+use Rattle.naga_ir.specs.declared.operators.DerivativeAxis.{DerivativeAxis}
+use Rattle.naga_ir.specs.declared.operators.DerivativeControl.{DerivativeControl}
 use Rattle.naga_ir.specs.declared.operators.MathFunction.{MathFunction}
 use Rattle.naga_ir.specs.declared.operators.RelationalFunction.{RelationalFunction}
 use Rattle.naga_ir.specs.declared.operators.UnaryOperator.{UnaryOperator}
@@ -95,6 +97,8 @@ IsNoOther e =
     ((size : VectorSize) (x : ℕ) (pattern : List SwizzleComponent) →
     e ≡ expression.Swizzle size x pattern → ⊥) →
     ((x : ℕ) (kind : ScalarKind) (convert : Option ℕ) → e ≡ expression.As x kind convert → ⊥) →
+    ((axis : DerivativeAxis) (how : DerivativeControl) (x : ℕ) →
+    e ≡ expression.Derivative axis how x → ⊥) →
     ((fun : MathFunction) (x : ℕ) (y z w : Option ℕ) → e ≡ expression.Math fun x y z w → ⊥) →
     ((fun : RelationalFunction) (x : ℕ) → e ≡ expression.Relational fun x → ⊥) →
     ⊥
@@ -382,23 +386,24 @@ module _ (t : FunctionText) (can : CanWrite t) where
   no_other_expression h e here = by e (is_written h e here)
     where
       by : (e : Expression) → IsTrue (expression_is_written e) → IsNoOther e
-      by (expression.Literal v) is literal zero made element part argument local load unary binary select splat swizzle converted mathematical relational = literal v refl
-      by (expression.ZeroValue t) is literal zero made element part argument local load unary binary select splat swizzle converted mathematical relational = zero t refl
-      by (expression.Compose t xs) is literal zero made element part argument local load unary binary select splat swizzle converted mathematical relational = made t xs refl
-      by (expression.Access b i) is literal zero made element part argument local load unary binary select splat swizzle converted mathematical relational = element b i refl
-      by (expression.AccessIndex b i) is literal zero made element part argument local load unary binary select splat swizzle converted mathematical relational = part b i refl
-      by (expression.FunctionArgument n) is literal zero made element part argument local load unary binary select splat swizzle converted mathematical relational = argument n refl
-      by (expression.LocalVariable v) is literal zero made element part argument local load unary binary select splat swizzle converted mathematical relational = local v refl
-      by (expression.Load p) is literal zero made element part argument local load unary binary select splat swizzle converted mathematical relational = load p refl
-      by (expression.Unary op x) is literal zero made element part argument local load unary binary select splat swizzle converted mathematical relational = unary op x refl
-      by (expression.Binary op l r) is literal zero made element part argument local load unary binary select splat swizzle converted mathematical relational = binary op l r refl
-      by (expression.Select c a r) is literal zero made element part argument local load unary binary select splat swizzle converted mathematical relational = select c a r refl
-      by (expression.As x kind convert) is literal zero made element part argument local load unary binary select splat swizzle converted mathematical relational = converted x kind convert refl
-      by (expression.Splat size x) is literal zero made element part argument local load unary binary select splat swizzle converted mathematical relational = splat size x refl
-      by (expression.Swizzle size x letters) is literal zero made element part argument local load unary binary select splat swizzle converted mathematical relational = swizzle size x letters refl
-      by (expression.Math fun x y z w) is literal zero made element part argument local load unary binary select splat swizzle converted mathematical relational = mathematical fun x y z w refl
-      by (expression.Relational fun x) is literal zero made element part argument local load unary binary select splat swizzle converted mathematical relational = relational fun x refl
-      by _ is literal zero made element part argument local load unary binary select splat swizzle converted mathematical relational = absurd cc
+      by (expression.Literal v) is literal zero made element part argument local load unary binary select splat swizzle converted derivative mathematical relational = literal v refl
+      by (expression.ZeroValue t) is literal zero made element part argument local load unary binary select splat swizzle converted derivative mathematical relational = zero t refl
+      by (expression.Compose t xs) is literal zero made element part argument local load unary binary select splat swizzle converted derivative mathematical relational = made t xs refl
+      by (expression.Access b i) is literal zero made element part argument local load unary binary select splat swizzle converted derivative mathematical relational = element b i refl
+      by (expression.AccessIndex b i) is literal zero made element part argument local load unary binary select splat swizzle converted derivative mathematical relational = part b i refl
+      by (expression.FunctionArgument n) is literal zero made element part argument local load unary binary select splat swizzle converted derivative mathematical relational = argument n refl
+      by (expression.LocalVariable v) is literal zero made element part argument local load unary binary select splat swizzle converted derivative mathematical relational = local v refl
+      by (expression.Load p) is literal zero made element part argument local load unary binary select splat swizzle converted derivative mathematical relational = load p refl
+      by (expression.Unary op x) is literal zero made element part argument local load unary binary select splat swizzle converted derivative mathematical relational = unary op x refl
+      by (expression.Binary op l r) is literal zero made element part argument local load unary binary select splat swizzle converted derivative mathematical relational = binary op l r refl
+      by (expression.Select c a r) is literal zero made element part argument local load unary binary select splat swizzle converted derivative mathematical relational = select c a r refl
+      by (expression.As x kind convert) is literal zero made element part argument local load unary binary select splat swizzle converted derivative mathematical relational = converted x kind convert refl
+      by (expression.Derivative axis how x) is literal zero made element part argument local load unary binary select splat swizzle converted derivative mathematical relational = derivative axis how x refl
+      by (expression.Splat size x) is literal zero made element part argument local load unary binary select splat swizzle converted derivative mathematical relational = splat size x refl
+      by (expression.Swizzle size x letters) is literal zero made element part argument local load unary binary select splat swizzle converted derivative mathematical relational = swizzle size x letters refl
+      by (expression.Math fun x y z w) is literal zero made element part argument local load unary binary select splat swizzle converted derivative mathematical relational = mathematical fun x y z w refl
+      by (expression.Relational fun x) is literal zero made element part argument local load unary binary select splat swizzle converted derivative mathematical relational = relational fun x refl
+      by _ is literal zero made element part argument local load unary binary select splat swizzle converted derivative mathematical relational = absurd cc
 
   -- ---- names of handles
   unnamed : IsTrue (names_nothing f)

@@ -3,7 +3,7 @@
 ghost use Rattle.std.specs.Prelude.{[], ◌∷◌, ◌<◌, ◌≡◌, length, IsTrue};
 ghost use Rattle.std.specs.Option.{is_some};
 ghost use Rattle.module_meaning.specs.OperatorTable.{Mathematical, Relation, relational_word};
-ghost use Rattle.module_meaning.specs.OperatorTable.{run_word};
+ghost use Rattle.module_meaning.specs.OperatorTable.{Derivative, run_word};
 ghost use Rattle.module_meaning.specs.ExpressionShapes.{letter, swizzle_letters};
 ghost use Rattle.module_meaning.specs.Part.{is_value_at};
 ghost use Rattle.naga_form.specs.Expressions.{as_value};
@@ -24,8 +24,8 @@ use crate::literal::write_literal;
 use crate::names::write_bound_name;
 use naga_back::binary_operation_str;
 use naga_ir::{
-    BinaryOperator, Expression, Handle, LocalVariable, MathFunction, RelationalFunction, Type_,
-    UnaryOperator,
+    BinaryOperator, DerivativeAxis, DerivativeControl, Expression, Handle, LocalVariable,
+    MathFunction, RelationalFunction, Type_, UnaryOperator,
 };
 use naga_scope::{Scope, Standing};
 use naga_words::words::vector_str;
@@ -105,6 +105,9 @@ impl FunctionText<'_> {
             }
             Expression::Relational { fun, .. } => {
                 self.write_called(alloc, scope, handle, relational_function_str(*fun), out)
+            }
+            Expression::Derivative { axis, ctrl, .. } => {
+                self.write_called(alloc, scope, handle, derivative_str(*axis, *ctrl), out)
             }
             _ => unreachable!(),
         }
@@ -327,6 +330,23 @@ fn math_function_str(fun: MathFunction) -> &'static str
     match fun.try_to_wgsl() {
         Some(word) => word,
         None => unreachable!(),
+    }
+}
+
+/// The word of a derivative.
+fn derivative_str(axis: DerivativeAxis, control: DerivativeControl) -> &'static str
+    ensures { result.now ≡ run_word (Derivative axis control) }
+{
+    match (axis, control) {
+        (DerivativeAxis::X, DerivativeControl::Coarse) => "dpdxCoarse",
+        (DerivativeAxis::X, DerivativeControl::Fine) => "dpdxFine",
+        (DerivativeAxis::X, DerivativeControl::None) => "dpdx",
+        (DerivativeAxis::Y, DerivativeControl::Coarse) => "dpdyCoarse",
+        (DerivativeAxis::Y, DerivativeControl::Fine) => "dpdyFine",
+        (DerivativeAxis::Y, DerivativeControl::None) => "dpdy",
+        (DerivativeAxis::Width, DerivativeControl::Coarse) => "fwidthCoarse",
+        (DerivativeAxis::Width, DerivativeControl::Fine) => "fwidthFine",
+        (DerivativeAxis::Width, DerivativeControl::None) => "fwidth",
     }
 }
 

@@ -92,12 +92,12 @@ impl<W: TextSink> Writer<W> {
     /// whose expressions are arguments, locals, literals of `bool` and of the integer types, zero
     /// values, values of a type composed of others, loads, choices, operators with a sign, vectors
     /// of one value, swizzles, parts at an index of vectors, of matrices and of what is pointed at,
-    /// conversions to such types, and calls of functions of mathematics that have a word, of `all`
-    /// and of `any`, without names of their own, and whose statements are `Emit`s, `Store`s and
-    /// `Return`s.
+    /// conversions to such types, derivatives, and calls of functions of mathematics that have a
+    /// word, of `all` and of `any`, without names of their own, and whose statements are `Emit`s,
+    /// `Store`s and `Return`s.
     ///
-    /// An emitted expression is bound by a `let` where it is a `Load` that is used at all or an
-    /// operator that is used at least twice; `EXPLICIT_TYPES` has each `let` tell its type.
+    /// An emitted expression is bound by a `let` where it is a `Load` or a derivative that is used
+    /// at all, or another operator, but no part at an index, that is used at least twice; `EXPLICIT_TYPES` has each `let` tell its type.
     pub fn write(&mut self, module: &Module, info: &ModuleInfo) -> Result<(), Error>
         requires accepted { IsTrue (is_accepted «module».now info.now) }
         ensures faithful { FaithfulWriting «module».now info.now result

@@ -11,6 +11,7 @@ use std::process::Abort;
 use std::test::Fail;
 
 mod converted;
+mod derived;
 mod indexed;
 mod made;
 mod operators;

@@ -72,7 +72,7 @@ write_own-write_infix-requires g t c κs within =
 
 pub write_own-unreachable-requires : goal.write_own-unreachable-requires
 write_own-unreachable-requires g t c =
-    no_other_expression c.args.self.now c.requires.can c.args.handle c.index.result.now c.index.ensures c.in_default.not-Literal c.in_default.not-ZeroValue c.in_default.not-Compose c.in_default.not-Access c.in_default.not-AccessIndex c.in_default.not-FunctionArgument c.in_default.not-LocalVariable c.in_default.not-Load c.in_default.not-Unary c.in_default.not-Binary c.in_default.not-Select c.in_default.not-Splat c.in_default.not-Swizzle c.in_default.not-As c.in_default.not-Math c.in_default.not-Relational
+    no_other_expression c.args.self.now c.requires.can c.args.handle c.index.result.now c.index.ensures c.in_default.not-Literal c.in_default.not-ZeroValue c.in_default.not-Compose c.in_default.not-Access c.in_default.not-AccessIndex c.in_default.not-FunctionArgument c.in_default.not-LocalVariable c.in_default.not-Load c.in_default.not-Unary c.in_default.not-Binary c.in_default.not-Select c.in_default.not-Splat c.in_default.not-Swizzle c.in_default.not-As c.in_default.not-Derivative c.in_default.not-Math c.in_default.not-Relational
 
 pub write_reference-write_local_name-requires-clause-local : goal.write_reference-write_local_name-requires-clause-local
 write_reference-write_local_name-requires-clause-local g t c =
@@ -130,6 +130,13 @@ pub write_own-math_function_str-requires : goal.write_own-math_function_str-requ
 write_own-math_function_str-requires g t c =
     math_is_written c.args.self.now c.requires.can c.args.handle c.index.result.now _ _ _ _ _
     c.index.ensures c.in-Math.is
+
+pub write_own-returns-in-Derivative : goal.write_own-returns-in-Derivative
+write_own-returns-in-Derivative g t c =
+    writes_as
+    (own_called c.args.self.now c.args.scope.now c.args.handle c.index.result.now _ _ _
+    c.requires.can c.index.ensures c.in-Derivative.is c.derivative_str.ensures refl)
+    c.write_called-in-Derivative.ensures
 
 pub write_own-returns-in-Math : goal.write_own-returns-in-Math
 write_own-returns-in-Math g t c =
