@@ -62,6 +62,10 @@ def literal_text(scalar, value):
     return f"{value}{SUFFIX[scalar]}"
 
 
+# the least integers, which have no literal in the text
+LEAST = [literal_text(1, -2**31), literal_text(3, -2**63)]
+
+
 # ---- modules
 class Function:
     """Arguments and result by types; locals by type and first value or -1; expressions (kind, type, ..); statements."""
@@ -720,11 +724,11 @@ class Reader:
             op, rest = rest[1:].split(" ", 1)
             right, rest = self.read(rest)
             return (op, left, right), closed(rest)
+        for text in LEAST:
+            if s.startswith(text):
+                return ("literal", text), s[len(text):]
         word = word_of(s)
         rest = s[len(word):]
-        if word in ("i32", "i64") and rest.startswith("(-"):
-            inner, rest = rest.split(")", 1)
-            return ("literal", word + inner + ")"), rest
         if rest.startswith("("):
             terms, rest = [], rest[1:]
             while not rest.startswith(")"):
