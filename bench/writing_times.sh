@@ -17,7 +17,7 @@ allocations() {
 
 # What one call more takes.
 if command -v valgrind > /dev/null; then
-    for call in 'empty 1 write' 'lines 10 write' 'lines 1000 write' 'bound_sums 1000 write' 'functions 1000 write' \
+    for call in 'empty 1 write' 'lines 10 write' 'lines 1000 write' 'mixed 1000 write' 'mixed 10000 write' 'bound_sums 1000 write' 'functions 1000 write' \
         'long_labels 1000 write' 'locals 1000 write' 'nested_operands 1000 write' 'structs 1000 reset'; do
         once=$(allocations $call 1)
         twice=$(allocations $call 2)

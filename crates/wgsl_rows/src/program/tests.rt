@@ -14,6 +14,7 @@ mod converted;
 mod derived;
 mod indexed;
 mod made;
+mod mathematics;
 mod operators;
 mod parts;
 mod values;

@@ -2,7 +2,7 @@
 
 use crate::program::tests::operators::{is_not_yet_written, is_text, is_written};
 use crate::program::tests::values::{
-    MAT3X2_F32, VEC2_I32, VEC3_F32, Value, add_type, build_argument,
+    MAT3X2_F32, VEC2_F32, VEC2_I32, VEC3_F32, Value, add_type, build_argument,
 };
 use bitflags::Flags;
 use naga_wgsl_out::ir::{Expression, Scalar, ScalarKind, VectorSize};
@@ -76,6 +76,48 @@ const CONVERTED: &[Conversion] = &[
         Some(4),
         Value::Vector(VectorSize::Tri, Scalar::I32),
         "fn f(x: vec3<f32>) -> vec3<i32> {\n    return vec3<i32>(x);\n}\n\n",
+    ),
+    (
+        U32,
+        ScalarKind::Sint,
+        Some(4),
+        I32,
+        "fn f(x: u32) -> i32 {\n    return i32(x);\n}\n\n",
+    ),
+    (
+        I32,
+        ScalarKind::Float,
+        None,
+        F32,
+        "fn f(x: i32) -> f32 {\n    return bitcast<f32>(x);\n}\n\n",
+    ),
+    (
+        VEC2_I32,
+        ScalarKind::Float,
+        None,
+        VEC2_F32,
+        "fn f(x: vec2<i32>) -> vec2<f32> {\n    return bitcast<vec2<f32>>(x);\n}\n\n",
+    ),
+    (
+        VEC2_I32,
+        ScalarKind::Float,
+        Some(4),
+        VEC2_F32,
+        "fn f(x: vec2<i32>) -> vec2<f32> {\n    return vec2<f32>(x);\n}\n\n",
+    ),
+    (
+        VEC2_I32,
+        ScalarKind::Uint,
+        Some(8),
+        Value::Vector(VectorSize::Bi, Scalar::U64),
+        "fn f(x: vec2<i32>) -> vec2<u64> {\n    return vec2<u64>(x);\n}\n\n",
+    ),
+    (
+        VEC3_F32,
+        ScalarKind::Bool,
+        Some(1),
+        Value::Vector(VectorSize::Tri, Scalar::BOOL),
+        "fn f(x: vec3<f32>) -> vec3<bool> {\n    return vec3<bool>(x);\n}\n\n",
     ),
     (
         MAT3X2_F32,

@@ -36,6 +36,10 @@ enum Taken {
     OfElement,
     /// A component of a column of a local at a number that is computed.
     PointedElement,
+    /// A component of a local at a number that is computed.
+    PointedComponent,
+    /// A component at a number that is computed of a column of a local.
+    PointedColumn,
 }
 
 const TAKEN: &[(Taken, &str)] = &[
@@ -54,6 +58,14 @@ const TAKEN: &[(Taken, &str)] = &[
     (
         Taken::OfElement,
         "fn f(x: mat3x2<f32>, y: i32) -> f32 {\n    return x[y].x;\n}\n\n",
+    ),
+    (
+        Taken::PointedComponent,
+        "fn f(x: f32, y: i32) {\n    var a: vec3<f32>;\n\n    a[y] = x;\n}\n\n",
+    ),
+    (
+        Taken::PointedColumn,
+        "fn f(x: f32, y: i32) {\n    var a: mat3x2<f32>;\n\n    a[2][y] = x;\n}\n\n",
     ),
     (
         Taken::PointedElement,
@@ -193,6 +205,38 @@ fn build_pointed_element(sample: &mut Sample) -> Result<(), AllocError> {
     sample.end_function()
 }
 
+fn build_pointed_component(sample: &mut Sample) -> Result<(), AllocError> {
+    let x = argument(sample, "x", 0, F32)?;
+    let index = argument(sample, "y", 1, I32)?;
+    let base = local(sample, VEC3_F32)?;
+    let place = pointed(sample, Expression::Access { base, index }, None)?;
+    sample.emit(place, place)?;
+    sample.store(place, x)?;
+    sample.end_function()
+}
+
+fn build_pointed_column(sample: &mut Sample) -> Result<(), AllocError> {
+    let x = argument(sample, "x", 0, F32)?;
+    let index = argument(sample, "y", 1, I32)?;
+    let base = local(sample, MAT3X2_F32)?;
+    let column = pointed(
+        sample,
+        Expression::AccessIndex { base, index: 2 },
+        Some(VectorSize::Bi),
+    )?;
+    let place = pointed(
+        sample,
+        Expression::Access {
+            base: column,
+            index,
+        },
+        None,
+    )?;
+    sample.emit(column, place)?;
+    sample.store(place, x)?;
+    sample.end_function()
+}
+
 fn build_taken(sample: &mut Sample, taken: Taken) -> Result<(), AllocError> {
     sample.label("f")?;
     match taken {
@@ -201,6 +245,8 @@ fn build_taken(sample: &mut Sample, taken: Taken) -> Result<(), AllocError> {
         Taken::OfColumn => build_of_column(sample),
         Taken::OfElement => build_of_element(sample),
         Taken::PointedElement => build_pointed_element(sample),
+        Taken::PointedComponent => build_pointed_component(sample),
+        Taken::PointedColumn => build_pointed_column(sample),
     }
 }
 

@@ -1,7 +1,7 @@
 use bitflags::Flags;
 use naga_wgsl_out::info::accepts;
 use naga_wgsl_out::ir::{
-    BinaryOperator, Expression, Handle, MathFunction, RelationalFunction, Scalar, UnaryOperator,
+    BinaryOperator, Expression, Handle, RelationalFunction, Scalar, UnaryOperator,
 };
 use naga_wgsl_out::wgsl::{Error, WriterFlags, write_string};
 use sample_modules::Sample;
@@ -172,97 +172,6 @@ const CHOICES: &[(Scalar, &str)] = &[
     ),
 ];
 
-/// A call of a function of mathematics with arguments of these types, with the type of what it
-/// gives, and the text of a function that returns it.
-#[derive(Clone, Copy)]
-struct Call {
-    fun: MathFunction,
-    first: Scalar,
-    second: Option<Scalar>,
-    third: Option<Scalar>,
-    fourth: Option<Scalar>,
-    given: Scalar,
-    text: &'static str,
-}
-
-const CALLS: &[Call] = &[
-    Call {
-        fun: MathFunction::Abs,
-        first: Scalar::I32,
-        second: None,
-        third: None,
-        fourth: None,
-        given: Scalar::I32,
-        text: "fn f(x: i32) -> i32 {\n    return abs(x);\n}\n\n",
-    },
-    Call {
-        fun: MathFunction::CountOneBits,
-        first: Scalar::U32,
-        second: None,
-        third: None,
-        fourth: None,
-        given: Scalar::U32,
-        text: "fn f(x: u32) -> u32 {\n    return countOneBits(x);\n}\n\n",
-    },
-    Call {
-        fun: MathFunction::Min,
-        first: Scalar::I64,
-        second: Some(Scalar::I64),
-        third: None,
-        fourth: None,
-        given: Scalar::I64,
-        text: "fn f(x: i64, y: i64) -> i64 {\n    return min(x, y);\n}\n\n",
-    },
-    Call {
-        fun: MathFunction::Max,
-        first: Scalar::U64,
-        second: Some(Scalar::U64),
-        third: None,
-        fourth: None,
-        given: Scalar::U64,
-        text: "fn f(x: u64, y: u64) -> u64 {\n    return max(x, y);\n}\n\n",
-    },
-    Call {
-        fun: MathFunction::Dot4I8Packed,
-        first: Scalar::U32,
-        second: Some(Scalar::U32),
-        third: None,
-        fourth: None,
-        given: Scalar::I32,
-        text: "fn f(x: u32, y: u32) -> i32 {\n    return dot4I8Packed(x, y);\n}\n\n",
-    },
-    Call {
-        fun: MathFunction::Clamp,
-        first: Scalar::I32,
-        second: Some(Scalar::I32),
-        third: Some(Scalar::I32),
-        fourth: None,
-        given: Scalar::I32,
-        text: "fn f(x: i32, y: i32, z: i32) -> i32 {\n    return clamp(x, y, z);\n}\n\n",
-    },
-    Call {
-        fun: MathFunction::ExtractBits,
-        first: Scalar::I32,
-        second: Some(Scalar::U32),
-        third: Some(Scalar::U32),
-        fourth: None,
-        given: Scalar::I32,
-        text: "fn f(x: i32, y: u32, z: u32) -> i32 {\n    return extractBits(x, y, z);\n}\n\n",
-    },
-    Call {
-        fun: MathFunction::InsertBits,
-        first: Scalar::I32,
-        second: Some(Scalar::I32),
-        third: Some(Scalar::U32),
-        fourth: Some(Scalar::U32),
-        given: Scalar::I32,
-        text: "fn f(x: i32, y: i32, z: u32, w: u32) -> i32 {\n    return insertBits(x, y, z, w);\n}\n\n",
-    },
-];
-
-/// Functions of mathematics that WGSL has no word for.
-const WORDLESS: [MathFunction; 2] = [MathFunction::Inverse, MathFunction::Outer];
-
 /// Relations, each with the text of a function that returns whether it holds of a truth value.
 const RELATIONS: &[(RelationalFunction, &str)] = &[
     (
@@ -349,18 +258,6 @@ fn build_operand(
     sample.expression(Expression::FunctionArgument(number), ty)
 }
 
-fn build_further_operand(
-    sample: &mut Sample,
-    label: &str,
-    number: u32,
-    scalar: Option<Scalar>,
-) -> Result<Option<Handle<Expression>>, AllocError> {
-    match scalar {
-        Some(scalar) => Ok(Some(build_operand(sample, label, number, scalar)?)),
-        None => Ok(None),
-    }
-}
-
 /// The end of a function that returns what this expression gives.
 fn build_return(
     sample: &mut Sample,
@@ -372,22 +269,6 @@ fn build_return(
     let value = sample.expression(expression, given_type)?;
     sample.emit(value, value)?;
     sample.end_with(value)
-}
-
-fn build_call(sample: &mut Sample, call: &Call) -> Result<(), AllocError> {
-    sample.label("f")?;
-    let arg = build_operand(sample, "x", 0, call.first)?;
-    let arg1 = build_further_operand(sample, "y", 1, call.second)?;
-    let arg2 = build_further_operand(sample, "z", 2, call.third)?;
-    let arg3 = build_further_operand(sample, "w", 3, call.fourth)?;
-    let value = Expression::Math {
-        fun: call.fun,
-        arg,
-        arg1,
-        arg2,
-        arg3,
-    };
-    build_return(sample, value, call.given)
 }
 
 fn build_relation(sample: &mut Sample, fun: RelationalFunction) -> Result<(), AllocError> {
@@ -457,33 +338,6 @@ fn choice_gives(alloc: Global, case: &(Scalar, &str)) -> Result<bool, AllocError
     Ok(given)
 }
 
-fn call_gives(alloc: Global, call: &Call) -> Result<bool, AllocError> {
-    let mut sample = Sample::new(alloc);
-    let built = build_call(&mut sample, call);
-    let given = is_written(alloc, &sample, call.text);
-    drop(sample);
-    built?;
-    Ok(given)
-}
-
-fn wordless_is_refused(alloc: Global, fun: MathFunction) -> Result<bool, AllocError> {
-    let call = Call {
-        fun,
-        first: Scalar::I32,
-        second: None,
-        third: None,
-        fourth: None,
-        given: Scalar::I32,
-        text: "",
-    };
-    let mut sample = Sample::new(alloc);
-    let built = build_call(&mut sample, &call);
-    let refused = is_not_yet_written(alloc, &sample);
-    drop(sample);
-    built?;
-    Ok(refused)
-}
-
 fn relation_gives(alloc: Global, case: &(RelationalFunction, &str)) -> Result<bool, AllocError> {
     let mut sample = Sample::new(alloc);
     let built = build_relation(&mut sample, case.0);
@@ -506,10 +360,7 @@ fn wordless_relation_is_refused(
 }
 
 #[test]
-fn calls_are_written(rt: HostRuntime) -> Result<(), Fail> {
-    for call in CALLS {
-        assert!(rt; call_gives(rt.alloc(), call)?, "{}", call.text);
-    }
+fn relations_are_written(rt: HostRuntime) -> Result<(), Fail> {
     for case in RELATIONS {
         assert!(rt; relation_gives(rt.alloc(), case)?, "{}", case.1);
     }
@@ -517,10 +368,7 @@ fn calls_are_written(rt: HostRuntime) -> Result<(), Fail> {
 }
 
 #[test]
-fn wordless_calls_are_refused(rt: HostRuntime) -> Result<(), Fail> {
-    for fun in WORDLESS {
-        assert!(rt; wordless_is_refused(rt.alloc(), fun)?, "{fun:?}");
-    }
+fn wordless_relations_are_refused(rt: HostRuntime) -> Result<(), Fail> {
     for fun in WORDLESS_RELATIONS {
         assert!(rt; wordless_relation_is_refused(rt.alloc(), fun)?, "{fun:?}");
     }
