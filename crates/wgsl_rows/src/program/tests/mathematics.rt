@@ -492,20 +492,23 @@ const LABELS: [&str; 4] = ["x", "y", "z", "w"];
 fn build_operand(
     sample: &mut Sample,
     values: &[Value],
-    number: usize,
+    number: u32,
 ) -> Result<Option<Handle<Expression>>, AllocError> {
-    let Some(value) = values.get(number) else {
+    let (Some(label), Some(value)) = (LABELS.get(number as usize), values.get(number as usize))
+    else {
         return Ok(None);
     };
     let ty = add_type(sample, *value)?;
-    let handle = build_argument(sample, LABELS[number], number as u32, ty)?;
+    let handle = build_argument(sample, label, number, ty)?;
     Ok(Some(handle))
 }
 
+/// The function of the case; nothing where it has no operand, whose text is then no function's.
 fn build_applied(sample: &mut Sample, case: &Applied) -> Result<(), AllocError> {
     sample.label("f")?;
-    let ty = add_type(sample, case.1[0])?;
-    let arg = build_argument(sample, "x", 0, ty)?;
+    let Some(arg) = build_operand(sample, case.1, 0)? else {
+        return Ok(());
+    };
     let arg1 = build_operand(sample, case.1, 1)?;
     let arg2 = build_operand(sample, case.1, 2)?;
     let arg3 = build_operand(sample, case.1, 3)?;
