@@ -59,6 +59,8 @@ def literal_text(scalar, value):
         return "i32(-2147483648)"
     if scalar == 3 and value == -2**63:
         return "i64(-9223372036854775807 - 1)"
+    if scalar > 4:
+        return f" float of bits {value}"
     return f"{value}{SUFFIX[scalar]}"
 
 
@@ -150,8 +152,8 @@ def generate_function(r):
         if r.random() < 0.9:
             es.append([1, ty, number])
     for _ in range(r.randint(0, 3)):
-        scalar = r.choice([0, 1, 2, 3, 4])
-        if scalar == 0:
+        scalar = r.choice([0, 1, 2, 3, 4]) if r.random() < 0.97 else r.choice([5, 6])
+        if scalar in (0, 5, 6):
             value = r.randint(0, 1)
         else:
             low, high = RANGES[scalar]
@@ -444,6 +446,21 @@ class Refused(Exception):
     pass
 
 
+class Formless(Exception):
+    """The last of the written expressions of a function that have no form, by its name."""
+
+
+def formless(e):
+    """How an expression without a form is named where it is written."""
+    if e[0] == 0 and e[2] > 4:
+        return "float literal"
+    if e[0] == 7 and MATH[e[2]][0] is None:
+        return "Unsupported math function: Outer"
+    if e[0] == 8 and RELATIONAL[e[2]] is None:
+        return "Unsupported relational function: IsNan"
+    return None
+
+
 def uses_of(f):
     uses = [0] * len(f.expressions)
     for e in f.expressions:
@@ -469,6 +486,7 @@ class Writer:
     def __init__(self, f, names, explicit):
         self.f, self.names, self.explicit = f, names, explicit
         self.uses = uses_of(f)
+        self.formless = {}
         self.constant = []
         for e in f.expressions:
             kids = operands(e)
@@ -528,6 +546,8 @@ class Writer:
     def own(self, h):
         e = self.f.expressions[h]
         kind = e[0]
+        if formless(e):
+            self.formless[h] = formless(e)
         if kind == 0:
             return literal_text(e[2], e[3])
         if kind == 1:
@@ -569,13 +589,15 @@ class Writer:
                 lines.append(f"    {self.reference(s[1])} = {self.value(s[2])};")
             else:
                 lines.append(f"    return {self.value(s[1])};")
+        if self.formless:
+            raise Formless(self.formless[max(self.formless)])
         return "\n".join(lines) + "\n}\n\n"
 
 
 def is_written(functions):
     for f in functions:
         for e in f.expressions:
-            if key_of(f, e) is not None and key_of(f, e)[0].startswith(" "):
+            if formless(e) is None and key_of(f, e) is not None and key_of(f, e)[0].startswith(" "):
                 return False
     return True
 
@@ -589,6 +611,8 @@ def text_of(functions, explicit):
             text += Writer(f, names, explicit).write()
         except Refused:
             return "refused: operand out of scope\n"
+        except Formless as name:
+            return f"refused: {name}\n"
     return text
 
 
@@ -761,7 +785,8 @@ def closed(s, bracket=")"):
 def main():
     program, modules, seed = sys.argv[1], int(sys.argv[2]), int(sys.argv[3])
     r = random.Random(seed)
-    answers = ["written", "of these with parts", "out of scope", "not yet written", "invalid"]
+    answers = ["written", "of these with parts", "out of scope", "named", "not yet written", "invalid"]
+    # "named": an expression without a form is written
     tally = dict.fromkeys([*answers, "functions run"], 0)
     batch = 5000
     for start in range(0, modules, batch):
@@ -794,8 +819,10 @@ def count(tally, functions, wanted, number):
         tally["invalid"] += 1
     elif wanted[0].startswith("refused: operand"):
         tally["out of scope"] += 1
-    elif wanted[0].startswith("refused"):
+    elif wanted[0].startswith("refused: not yet written"):
         tally["not yet written"] += 1
+    elif wanted[0].startswith("refused"):
+        tally["named"] += 1
     else:
         tally["written"] += 1
         tally["of these with parts"] += any(e[0] in PARTS for f in functions for e in f.expressions)

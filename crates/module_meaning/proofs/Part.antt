@@ -11,14 +11,14 @@ use Rattle.module_meaning.proofs.SideBySide.{paired_at}
 use Rattle.module_meaning.specs.InfoSizes.{all_paired}
 use Rattle.module_meaning.specs.Part.{is_value_type, declares_functions, types_allow_all}
 use Rattle.module_meaning.specs.Part.{is_written_so_far, function_is_written, local_is_written}
-use Rattle.module_meaning.specs.Part.{names_nothing, is_unbound, expression_is_written}
+use Rattle.module_meaning.specs.Part.{names_nothing, is_unbound, expression_is_of_part}
 use Rattle.module_meaning.specs.Part.{block_is_written, known_types_are_written}
 
 -- front ends name nothing in a function that is written, and the first values of its locals are
 -- written
 pub written_parts : (f : Function) → IsTrue (function_is_written f) → IsTrue (names_nothing f) × IsTrue (list_all (local_is_written f.expressions) f.local_variables)
 written_parts f written =
-    let expressions = list_all expression_is_written f.expressions in
+    let expressions = list_all expression_is_of_part f.expressions in
     let locals = list_all (local_is_written f.expressions) f.local_variables in
     let body = block_is_written f.body in
     let named = and_parts (names_nothing f) (is_unbound f && (expressions && (locals && body))) written in

@@ -118,6 +118,20 @@ expression_is_written (Math fun arg arg1 arg2 arg3) = is_some (math_word fun)
 expression_is_written (Relational fun argument) = is_some (relational_word fun)
 expression_is_written _ = false
 
+-- A float, an abstract literal, and a function of mathematics or a relation without a word are
+-- refused by name where they are written, and let be where they are not.
+abbrev pub literal_is_of_part : LiteralValue → Bool
+literal_is_of_part (literal.I16 value) = false
+literal_is_of_part (literal.U16 value) = false
+literal_is_of_part _ = true
+
+-- the expression is written, or refused so
+abbrev pub expression_is_of_part : Expression → Bool
+expression_is_of_part (Literal value) = literal_is_of_part value
+expression_is_of_part (Math fun arg arg1 arg2 arg3) = true
+expression_is_of_part (Relational fun argument) = true
+expression_is_of_part e = expression_is_written e
+
 -- the type that is known of the expression with this handle passes a test
 abbrev pub known_passes : List Type_ → List ExpressionInfo → (test : TypeInner → Bool) →
     (handle : ℕ) → Bool
@@ -173,7 +187,7 @@ names_nothing f = length (keys f.named_expressions) == 0
 -- a function without named expressions, of such locals, expressions and statements
 abbrev pub function_is_written : Function → Bool
 function_is_written f =
-    names_nothing f && (is_unbound f && (list_all expression_is_written f.expressions &&
+    names_nothing f && (is_unbound f && (list_all expression_is_of_part f.expressions &&
     (list_all (local_is_written f.expressions) f.local_variables && block_is_written f.body)))
 
 -- ---- modules

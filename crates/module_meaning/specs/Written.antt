@@ -1,17 +1,25 @@
--- What the statements of a function write by themselves: their operands, and the handles that a `let`
--- binds where they are emitted. What is written are these, the first values of locals, and the
+-- What is written of a function: what its statements write by themselves, which are their operands and
+-- the handles that a `let` binds where they are emitted, the first values of its locals, and the
 -- operands of what is written.
 --
 -- Throughout, binds says of each handle whether a `let` binds it, st is a statement, b the rest of a
--- block, and cases are those of a switch.
-use Rattle.std.specs.Prelude.{ℕ, Bool, List, [], ◌∷◌, ◌++◌, ◌-◌}
-use Rattle.std.specs.List.{filter}
+-- block, cases are those of a switch, f is a function and es its expressions, known is what is known
+-- of these, h and x are handles, and e is an expression.
+use Rattle.std.specs.Prelude.{◌≡◌, ℕ, Bool, List, [], ◌∷◌, ◌++◌, ◌-◌, Some, slice_get, IsTrue}
+use Rattle.std.specs.List.{IsAmong, filter, flat_map}
 use Rattle.std.specs.Option.{option_to_list}
-use Rattle.naga_ir.specs.Operands.{simple_operands}
+use Rattle.module_meaning.specs.FunctionShapes.{function_shape}
+use Rattle.module_meaning.specs.Part.{expression_is_written}
+use Rattle.naga_info.specs.declared.info.ExpressionInfo.{ExpressionInfo}
+use Rattle.naga_info.specs.declared.info.ModuleInfo.{ModuleInfo}
+use Rattle.naga_ir.specs.Operands.{expression_operands, simple_operands}
 use Rattle.naga_ir.specs.StatementTree.{SimpleStatement, emit, StatementTree, simple, block, branch}
 use Rattle.naga_ir.specs.StatementTree.{switch, loop, BlockTree, no_statements, statement}
 use Rattle.naga_ir.specs.StatementTree.{CaseTrees, no_cases, case}
-use Rattle.shader_runs.specs.Program.{from}
+use Rattle.naga_ir.specs.declared.expression.Expression.{Expression}
+use Rattle.naga_ir.specs.declared.module.Function.{Function}
+use Rattle.naga_ir.specs.declared.module.Module.{Module}
+use Rattle.shader_runs.specs.Program.{binds, from}
 
 -- the handles that a statement without blocks writes by itself: of an `Emit` those that are bound,
 -- else its operands
@@ -37,3 +45,31 @@ abbrev mutual
   cases_roots binds no_cases = []
   cases_roots binds (case value body falls cases) =
       block_roots binds body ++ cases_roots binds cases
+
+-- those of a function, with the first values of its locals
+abbrev pub function_roots : (binds : ℕ → Bool) → Function → List ℕ
+function_roots binds f =
+    flat_map (λ l. option_to_list l.init) f.local_variables ++ block_roots binds f.body
+
+-- these, and the operands of what is written
+pub data IsWritten (es : List Expression) (roots : List ℕ) : ℕ → Type 0 where
+  Root : (h : ℕ) → IsAmong roots h → IsWritten es roots h
+  OperandOf : (h x : ℕ) (e : Expression) → IsWritten es roots h → slice_get es h ≡ Some e →
+      IsAmong (expression_operands e) x → IsWritten es roots x
+
+-- the handle is written in a function of a module
+abbrev pub IsWrittenIn : Module → ModuleInfo → Function → List ExpressionInfo → ℕ → Type 0
+IsWrittenIn m info f known h =
+    IsWritten f.expressions (function_roots (binds (function_shape m info f known)) f) h
+
+-- each that is has a form
+abbrev pub WrittenHaveForms : Module → ModuleInfo → Function → List ExpressionInfo → Type 0
+WrittenHaveForms m info f known =
+    (h : ℕ) (e : Expression) → slice_get f.expressions h ≡ Some e → IsWrittenIn m info f known h →
+    IsTrue (expression_is_written e)
+
+-- so it is in each function
+abbrev pub AllWrittenHaveForms : Module → ModuleInfo → Type 0
+AllWrittenHaveForms m info =
+    (g : ℕ) (f : Function) (known : List ExpressionInfo) → slice_get m.functions g ≡ Some f →
+    slice_get info.functions.items g ≡ Some known → WrittenHaveForms m info f known

@@ -2,18 +2,17 @@
 
 ghost use Rattle.std.specs.Prelude.{◌≡◌, false, slice_get};
 ghost use Rattle.std.specs.List.{list_all};
-ghost use Rattle.std.specs.Option.{is_none, is_some, option_map_or};
+ghost use Rattle.std.specs.Option.{is_none, option_map_or};
 ghost use Rattle.naga_ir.specs.StatementViews.{tree_of};
 ghost use Rattle.naga_info.specs.Resolution.{inner_of};
 ghost use Rattle.module_meaning.specs.ExpressionOperators.{has_parts, is_composite};
 ghost use Rattle.module_meaning.specs.InfoSizes.{all_paired};
-ghost use Rattle.module_meaning.specs.OperatorTable.{relational_word};
 ghost use Rattle.module_meaning.specs.Part.{block_is_written, converts_to_written};
-ghost use Rattle.module_meaning.specs.Part.{expression_is_written};
+ghost use Rattle.module_meaning.specs.Part.{expression_is_of_part, literal_is_of_part};
 ghost use Rattle.module_meaning.specs.Part.{function_is_written, is_literal, is_unbound};
 ghost use Rattle.module_meaning.specs.Part.{is_written_so_far, local_is_written};
 ghost use Rattle.module_meaning.specs.Part.{declares_functions, is_value_at, is_value_type};
-ghost use Rattle.module_meaning.specs.Part.{is_written_literal, is_written_value};
+ghost use Rattle.module_meaning.specs.Part.{is_written_value};
 ghost use Rattle.module_meaning.specs.Part.{known_types_are_written, names_nothing};
 ghost use Rattle.module_meaning.specs.Part.{resolution_is_written, scalar_is_written};
 ghost use Rattle.module_meaning.specs.Part.{statement_is_written, type_is_written, types_allow};
@@ -24,10 +23,8 @@ use crate::parts::{inner_at, inner_of};
 use naga_info::{ExpressionInfo, FunctionInfo, ModuleInfo, TypeResolution};
 use naga_ir::{
     AddressSpace, Arena, Block, Expression, Function, FunctionArgument, Handle, Literal,
-    LocalVariable, Module, Place, RelationalFunction, Scalar, ScalarKind, Statement, Type_,
-    TypeInner, UniqueArena,
+    LocalVariable, Module, Place, Scalar, ScalarKind, Statement, Type_, TypeInner, UniqueArena,
 };
-use wgsl_words::TryToWgsl;
 
 /// Whether the module holds nothing but what is written so far: the types `bool`, `i32`, `u32`,
 /// `f32`, `i64`, `u64` and `f64`, vectors and matrices of these, and functions without names of
@@ -206,18 +203,19 @@ fn arguments_are_unbound(arguments: &[FunctionArgument]) -> bool
 }
 
 fn expressions_are_written(expressions: &Arena<Expression>) -> bool
-    ensures { result ≡ list_all expression_is_written expressions.now }
+    ensures { result ≡ list_all expression_is_of_part expressions.now }
 {
     for (_, expression) in expressions.iter() {
-        if !expression_is_written(expression) {
+        if !expression_is_of_part(expression) {
             return false;
         }
     }
     true
 }
 
-fn expression_is_written(expression: &Expression) -> bool
-    ensures { result ≡ expression_is_written expression.now }
+/// Whether an expression is of the part: it is written, or refused by name where it is written.
+fn expression_is_of_part(expression: &Expression) -> bool
+    ensures { result ≡ expression_is_of_part expression.now }
 {
     match expression {
         Expression::ZeroValue(_)
@@ -233,10 +231,10 @@ fn expression_is_written(expression: &Expression) -> bool
         | Expression::Splat { .. }
         | Expression::Swizzle { .. }
         | Expression::As { .. }
-        | Expression::Derivative { .. } => true,
-        Expression::Math { fun, .. } => fun.try_to_wgsl().is_some(),
-        Expression::Relational { fun, .. } => has_word(*fun),
-        Expression::Literal(literal) => is_written_literal(*literal),
+        | Expression::Derivative { .. }
+        | Expression::Math { .. }
+        | Expression::Relational { .. } => true,
+        Expression::Literal(literal) => literal_is_of_part(*literal),
         _ => false,
     }
 }
@@ -360,23 +358,12 @@ fn is_composite(inner: &TypeInner) -> bool
     }
 }
 
-/// Whether WGSL has a word for a relation.
-fn has_word(fun: RelationalFunction) -> bool
-    ensures { result ≡ is_some (relational_word fun) }
-{
-    match fun {
-        RelationalFunction::All | RelationalFunction::Any => true,
-        RelationalFunction::IsNan | RelationalFunction::IsInf => false,
-    }
-}
-
-fn is_written_literal(literal: Literal) -> bool
-    ensures { result ≡ is_written_literal literal }
+fn literal_is_of_part(literal: Literal) -> bool
+    ensures { result ≡ literal_is_of_part literal }
 {
     match literal {
-        Literal::Bool(_) | Literal::I32(_) | Literal::U32(_) | Literal::I64(_) | Literal::U64(_) =>
-            true,
-        _ => false,
+        Literal::I16(_) | Literal::U16(_) => false,
+        _ => true,
     }
 }
 

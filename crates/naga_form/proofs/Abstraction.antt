@@ -54,7 +54,8 @@ use Rattle.naga_info.specs.declared.info.ModuleInfo.{ModuleInfo}
 use Rattle.std.specs.List.{AllByRecursion, filter, list_all}
 use Rattle.std.specs.Option.{option_to_list}
 use Rattle.module_meaning.specs.Written.{block_roots, cases_roots, simple_roots, statement_roots}
-use Rattle.naga_form.proofs.WrittenHandles.{AreClosed, all_are_closed, all_front, all_map}
+use Rattle.naga_form.proofs.WrittenHandles.{AreClosed, all_front, all_map, written_are_closed}
+use Rattle.module_meaning.specs.Written.{IsWrittenIn, WrittenHaveForms}
 use Rattle.naga_form.proofs.WrittenHandles.{all_rest}
 use Rattle.module_meaning.specs.Part.{block_is_written, expression_is_written}
 use Rattle.module_meaning.specs.Part.{function_is_written, is_value_type, statement_is_written}
@@ -578,9 +579,8 @@ written_reads explicit m info g f es values have size formed W closed written =
       lines = lines_read names m info g f es values size W closed written (told_type explicit (type_names m) es) 0 f.body (at_start (function_shape m info f es)) have closed.body i;
     }
 
-pub function_reads : (explicit : Bool) (m : Module) (info : ModuleInfo) (g : ℕ) (f : ir_function.Function) (es : List ExpressionInfo) → IsTrue (list_all is_value_type m.types) → IsTrue (function_is_written f) → length f.expressions ≡ length es → LocalsHaveForms (type_names m) f.local_variables → function_read (function_form explicit (module_names m) m info g f es) ≡ form_function (function_naming (module_names m) m info g f es)
-function_reads explicit m info g f es values written size formed =
+pub function_reads : (explicit : Bool) (m : Module) (info : ModuleInfo) (g : ℕ) (f : ir_function.Function) (es : List ExpressionInfo) → IsTrue (list_all is_value_type m.types) → IsTrue (function_is_written f) → WrittenHaveForms m info f es → length f.expressions ≡ length es → LocalsHaveForms (type_names m) f.local_variables → function_read (function_form explicit (module_names m) m info g f es) ≡ form_function (function_naming (module_names m) m info g f es)
+function_reads explicit m info g f es values written have size formed =
     let parts = function_parts f written in
     written_reads explicit m info g f es values (written_have_forms f.body parts.body) size formed
-    (λ h. Unit {0}) (all_are_closed (binds (function_shape m info f es)) f)
-    (λ h e at w. list_all_at expression_is_written f.expressions h e parts.expressions at)
+    (IsWrittenIn m info f es) (written_are_closed m info f es) have

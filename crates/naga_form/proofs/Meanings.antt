@@ -46,6 +46,7 @@ use Rattle.module_meaning.proofs.ModuleShapes.{declares_functions_alone, points_
 use Rattle.module_meaning.proofs.Part.{functions_are_written, written_so_far_parts}
 use Rattle.naga_form.proofs.PartFits.{function_parts}
 use Rattle.naga_form.proofs.Runs.{module_fits, reads_as_shapes}
+use Rattle.module_meaning.specs.Written.{AllWrittenHaveForms}
 use Rattle.naga_form.proofs.ScopeRules.{scopes_are_checked}
 use Rattle.naga_form.proofs.WellFormed.{all_well_formed}
 
@@ -137,8 +138,8 @@ module _ (m : Module) (info : ModuleInfo) (written : IsTrue (is_written_so_far m
       steady_world shape settings meaning
       (λ w j n g vs. steady_calls (environment_of shape settings meaning) w meaning shape.functions all_written j n g vs [])
 
-  pub never_stuck : IsTrue (is_accepted m info) → (explicit : Bool) → ScopesHold m info → NamesAreCounted m → IsNeverStuck m info (written_program m info explicit)
-  never_stuck accepted explicit scope counted settings fit meaning typed g f found arguments typed_arguments world turns past =
+  pub never_stuck : IsTrue (is_accepted m info) → (explicit : Bool) → AllWrittenHaveForms m info → ScopesHold m info → NamesAreCounted m → IsNeverStuck m info (written_program m info explicit)
+  never_stuck accepted explicit have scope counted settings fit meaning typed g f found arguments typed_arguments world turns past =
       subst (λ (text : TextModule). IsNotStuck (run_module shape settings world meaning turns g arguments past) × (KeepsTypes (run_module shape settings world meaning turns g arguments past) → IsNotStuck (follow_module text settings world meaning is_request turns (function_name (module_names m) g) arguments past)))
-      (sym (reads_as_shapes m info explicit accepted written))
+      (sym (reads_as_shapes m info explicit accepted written have))
       (runs_are_not_stuck shape (outer_names (module_names m)) (namings (module_names m) m info) (module_fits m info accepted written ((scopes_are_checked m info accepted written).1 scope) counted) (all_well_formed m info accepted) settings fit meaning typed g f found arguments typed_arguments world turns past)

@@ -32,11 +32,17 @@ use Rattle.wgsl_text.specs.Types.{TypeSpecifier, Named, of_one}
 use Rattle.wgsl_text.specs.Words.{is_builtin}
 use Rattle.wgsl_words.specs.Words.{math_word}
 
--- it is no name: a sign, or a built-in word, that begins like no numbered name
+-- it has another sign than blanks
+abbrev pub is_signed : List ℕ → Bool
+is_signed [] = false
+is_signed (c ∷ rest) = not (nat_eq c 32) || is_signed rest
+
+-- it is no name: a sign, a built-in word, or no word at all, that begins like no numbered name
 abbrev pub names_no_item : List ℕ → Bool
 names_no_item [] = false
 names_no_item (c ∷ rest) =
-    not (nat_eq c 95) && (not (nat_eq c 32) && (not (is_word (c ∷ rest)) || is_builtin (c ∷ rest)))
+    not (nat_eq c 95) &&
+    (is_signed (c ∷ rest) && (not (is_word (c ∷ rest)) || is_builtin (c ∷ rest)))
 
 -- and it asks for nothing, or asks for an event
 abbrev pub operates_freely : List ℕ → Bool
@@ -83,25 +89,17 @@ splat_free Bi = refl
 splat_free Tri = refl
 splat_free Quad = refl
 
--- as are the words of functions of mathematics and of relations
-math_row : (fun : MathFunction) →
-    (if is_some (math_word fun) then operates_freely (run_word (Mathematical fun)) else true) ≡ true
+-- as are the words of functions of mathematics and of relations, and what stands for one that has
+-- no word
+pub math_free : (fun : MathFunction) → operates_freely (run_word (Mathematical fun)) ≡ true
 unfolding is_request is_builtin builtin_words
-math_row math.Abs = refl
-math_row _ = refl
+math_free math.Abs = refl
+math_free _ = refl
 
-pub math_free : (fun : MathFunction) → is_some (math_word fun) ≡ true →
-    operates_freely (run_word (Mathematical fun)) ≡ true
-math_free fun written =
-    sym (ap (λ b. if b then operates_freely (run_word (Mathematical fun)) else true) written)
-    ∙ math_row fun
-
-pub relation_free : (fun : RelationalFunction) → is_some (relational_word fun) ≡ true →
-    operates_freely (run_word (Relation fun)) ≡ true
+pub relation_free : (fun : RelationalFunction) → operates_freely (run_word (Relation fun)) ≡ true
 unfolding is_request is_builtin builtin_words
-relation_free relational.All written = refl
-relation_free relational.Any written = refl
-relation_free _ written = absurd cc
+relation_free relational.All = refl
+relation_free _ = refl
 
 -- as are the words of derivatives, which ask
 pub derivative_free : (along : DerivativeAxis) (how : DerivativeControl) →

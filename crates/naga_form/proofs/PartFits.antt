@@ -2,7 +2,7 @@
 -- the part that is written so far.
 use Rattle.std.proofs.Common.{[], ◌≡◌, ◌≢◌, ℕ, suc, zero, Bool, true, false, ◌<◌, List, ◌∷◌}
 use Rattle.std.proofs.Common.{length, Some, refl, sym, ap, subst, ◌∙◌, arith}
-use Rattle.std.proofs.Common.{take, nat_eq, true≢false}
+use Rattle.std.proofs.Common.{replicate, take, nat_eq, true≢false}
 use Rattle.std.specs.Prelude.{IsTrue, slice_get, get_or, not, Option, None}
 use Rattle.std.specs.Prelude.{◌&&◌, ◌||◌}
 use Rattle.std.proofs.lemmas.Bool.{and_parts}
@@ -31,6 +31,7 @@ use Rattle.wgsl_text.proofs.Text.{text-append}
 use Rattle.naga_form.proofs.AcceptedFunctions.{names_are_in_range}
 use Rattle.naga_form.proofs.OperatingWords.{operates_freely, unary_free, binary_free, choice_free}
 use Rattle.naga_form.proofs.OperatingWords.{asks_freely, bits_free, derivative_free}
+use Rattle.naga_form.proofs.OperatingWords.{is_signed}
 use Rattle.naga_form.proofs.OperatingWords.{splat_free, math_free, relation_free}
 use Rattle.naga_form.proofs.OperatingWords.{names_no_item}
 use Rattle.naga_form.proofs.TypeTrees.{resolution_row}
@@ -76,7 +77,7 @@ use Rattle.naga_form.proofs.WellFormed.{any_shape}
 use Rattle.naga_form.proofs.FunctionsFit.{IsLeft}
 use Rattle.naga_form.proofs.Regular.{AreWorded, IsWorded}
 use Rattle.module_meaning.specs.Writable.{only_empty_fall, only_empty_fall_in}
-use Rattle.module_meaning.specs.Part.{function_is_written, block_is_written, statement_is_written, is_value_type, is_unbound, expression_is_written, local_is_written, types_allow, types_allow_all}
+use Rattle.module_meaning.specs.Part.{function_is_written, block_is_written, statement_is_written, is_value_type, is_unbound, expression_is_of_part, local_is_written, types_allow, types_allow_all}
 use Rattle.module_meaning.specs.ExpressionShapes.{part_shape}
 use Rattle.naga_form.proofs.AllowedParts.{conversion, selected}
 use Rattle.naga_form.specs.TypeTrees.{type_tree}
@@ -88,21 +89,21 @@ use Rattle.std.specs.List.{list_all}
 -- all that a function's being written so far says here
 pub record FunctionParts (f : ir_function.Function) : Type 0 where
   pub unnamed : IsTrue (names_nothing f)
-  pub expressions : list_all expression_is_written f.expressions ≡ true
+  pub expressions : list_all expression_is_of_part f.expressions ≡ true
   pub body : block_is_written f.body ≡ true
 
 pub function_parts : (f : ir_function.Function) → IsTrue (function_is_written f) → FunctionParts f
 function_parts f written =
     let one = and_parts (names_nothing f) _ written in
     let two = and_parts (is_unbound f) _ one.1 in
-    let three = and_parts (list_all expression_is_written f.expressions) _ two.1 in
+    let three = and_parts (list_all expression_is_of_part f.expressions) _ two.1 in
     let four = and_parts (list_all (local_is_written f.expressions) f.local_variables) (block_is_written f.body) three.1 in
     record { unnamed = one.0; expressions = three.0; body = four.1 }
 
 -- no constant is named
 pub no_constant_named : (f : ir_function.Function) → IsTrue (function_is_written f) → (h c : ℕ) → slice_get f.expressions h ≡ Some (expression.Constant c) → ⊥
 no_constant_named f written h c at =
-    let is = list_all_at expression_is_written f.expressions h (expression.Constant c) (function_parts f written).expressions at in absurd cc
+    let is = list_all_at expression_is_of_part f.expressions h (expression.Constant c) (function_parts f written).expressions at in absurd cc
 
 -- no case falls through
 none_fall_in : (st : StatementTree) → statement_is_written st ≡ true → only_empty_fall_in st ≡ true
@@ -119,13 +120,18 @@ pub no_case_falls : (f : ir_function.Function) → IsTrue (function_is_written f
 no_case_falls f written = none_fall f.body (function_parts f written).body
 
 -- ---- signs
--- what begins with another byte than `_` and a blank is no numbered name
-not_numbered : (b : Bool) (h c : ℕ) (rest : List ℕ) → nat_eq c 95 ≡ false → nat_eq c 32 ≡ false → numbered_text b h ≡ c ∷ rest → ⊥
-not_numbered true h c rest one two e = true≢false (ap (λ l. nat_eq (get_or l 0 0) 95) e ∙ one)
-not_numbered false zero c rest one two e = absurd (cc)
-not_numbered false (suc h) c rest one two e = true≢false (ap (λ l. nat_eq (get_or l 0 0) 32) e ∙ two)
+-- what begins with another byte than `_`, and is not all blanks, is no numbered name
+blanks : (h : ℕ) → is_signed (replicate h 32) ≡ false
+blanks zero = refl
+blanks (suc h) = blanks h
 
-sign_not_numbered : (h c : ℕ) (rest : List ℕ) → nat_eq c 95 ≡ false → nat_eq c 32 ≡ false → numbered_name h ≡ c ∷ rest → ⊥
+not_numbered : (b : Bool) (h c : ℕ) (rest : List ℕ) → nat_eq c 95 ≡ false →
+    is_signed (c ∷ rest) ≡ true → numbered_text b h ≡ c ∷ rest → ⊥
+not_numbered true h c rest one two e = true≢false (ap (λ l. nat_eq (get_or l 0 0) 95) e ∙ one)
+not_numbered false h c rest one two e = true≢false (sym two ∙ (ap is_signed (sym e) ∙ blanks h))
+
+sign_not_numbered : (h c : ℕ) (rest : List ℕ) → nat_eq c 95 ≡ false →
+    is_signed (c ∷ rest) ≡ true → numbered_name h ≡ c ∷ rest → ⊥
 unfolding numbered_name
 sign_not_numbered h c rest one two e = not_numbered _ h c rest one two e
 
@@ -163,7 +169,7 @@ module _ (m : Module) (info : ModuleInfo) (values : IsTrue (list_all is_value_ty
 
   -- a word that operates freely is no name
   stands_free : (c : ℕ) (rest : List ℕ) →
-      nat_eq c 95 ≡ false → nat_eq c 32 ≡ false →
+      nat_eq c 95 ≡ false → is_signed (c ∷ rest) ≡ true →
       (not (is_word (c ∷ rest)) || is_builtin (c ∷ rest)) ≡ true → StandsFree p own (c ∷ rest)
   stands_free c rest one two other = (functions, no_name)
     where
@@ -189,10 +195,10 @@ module _ (m : Module) (info : ModuleInfo) (values : IsTrue (list_all is_value_ty
   free_word (c ∷ rest) free =
       let one =
       and_parts (not (nat_eq c 95))
-      (not (nat_eq c 32) && (not (is_word (c ∷ rest)) || is_builtin (c ∷ rest))) free in
+      (is_signed (c ∷ rest) && (not (is_word (c ∷ rest)) || is_builtin (c ∷ rest))) free in
       let two =
-      and_parts (not (nat_eq c 32)) (not (is_word (c ∷ rest)) || is_builtin (c ∷ rest)) one.1 in
-      stands_free c rest (is_no (nat_eq c 95) one.0) (is_no (nat_eq c 32) two.0) two.1
+      and_parts (is_signed (c ∷ rest)) (not (is_word (c ∷ rest)) || is_builtin (c ∷ rest)) one.1 in
+      stands_free c rest (is_no (nat_eq c 95) one.0) two.0 two.1
 
   operates : (w : List ℕ) → operates_freely w ≡ true → OperatesBy p own w
   operates w free =
@@ -237,7 +243,7 @@ module _ (m : Module) (info : ModuleInfo) (values : IsTrue (list_all is_value_ty
   zero_words word operates (Some r) = (operates, tt)
   zero_words word operates None = tt
 
-  words : (h : ℕ) (e : ir.Expression) → expression_is_written e ≡ true →
+  words : (h : ℕ) (e : ir.Expression) → expression_is_of_part e ≡ true →
       types_allow m.types es e ≡ true →
       names_in_range m callees (length f.arguments.items) (length f.local_variables) e ≡ true →
       WordFits p own (Some (shape_of d f.expressions h e))
@@ -288,16 +294,16 @@ module _ (m : Module) (info : ModuleInfo) (values : IsTrue (list_all is_value_ty
   words h (expression.Select condition accept reject) is may range = operates (run_word Choice) choice_free
   words h (expression.Splat size value) is may range = operates (run_word (Splat size)) (splat_free size)
   words h (expression.Math fun arg arg1 arg2 arg3) is may range =
-      operates (run_word (Mathematical fun)) (math_free fun is)
+      operates (run_word (Mathematical fun)) (math_free fun)
   words h (expression.Relational fun argument) is may range =
-      operates (run_word (Relation fun)) (relation_free fun is)
+      operates (run_word (Relation fun)) (relation_free fun)
   words h _ is may range = absurd cc
 
   words_at : (h : ℕ) (e : ir.Expression) → slice_get f.expressions h ≡ Some e →
       WordFits p own (Some (shape_of d f.expressions h e))
   words_at h e at =
       words h e
-      (list_all_at expression_is_written f.expressions h e (function_parts f written).expressions at)
+      (list_all_at expression_is_of_part f.expressions h e (function_parts f written).expressions at)
       (list_all_at (types_allow m.types es) f.expressions h e allowed at)
       (names_are_in_range m callees f ranges h e at)
 

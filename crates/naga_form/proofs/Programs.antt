@@ -85,7 +85,8 @@ use Rattle.naga_form.proofs.AllowedParts.{conversion}
 use Rattle.naga_form.proofs.Abstraction.{AreWritten}
 use Rattle.module_meaning.specs.Part.{names_nothing}
 use Rattle.module_meaning.specs.FunctionShapes.{function_shape}
-use Rattle.naga_form.proofs.WrittenHandles.{AreClosed, all_are_closed, all_front, all_map, all_rest}
+use Rattle.naga_form.proofs.WrittenHandles.{AreClosed, all_front, all_map, all_rest, written_are_closed}
+use Rattle.module_meaning.specs.Written.{AllWrittenHaveForms, IsWrittenIn, WrittenHaveForms}
 use Rattle.module_meaning.specs.Written.{block_roots, cases_roots, simple_roots, statement_roots}
 use Rattle.std.specs.List.{AllByRecursion, filter}
 use Rattle.std.specs.Prelude.{if◌then◌else◌}
@@ -599,21 +600,20 @@ module _ (m : Module) (info : ModuleInfo) (g : ℕ) (f : ir_function.Function) (
       }
 
 module _ (explicit : Bool) (m : Module) (info : ModuleInfo) (accepted : IsTrue (is_accepted m info)) (values : list_all is_value_type m.types ≡ true) where
-  one_is : (g : ℕ) (f : ir_function.Function) (found : slice_get m.functions g ≡ Some f) (es : List ExpressionInfo) (callees : ℕ) → function_in_range m callees f ≡ true → IsTrue (function_is_written f) → IsTrue (types_allow_all m.types f es) → list_all (λ k. resolution_is_written m.types k.ty) es ≡ true → length f.expressions ≤ 2 ^ 64 → (explicit : Bool) → IsFunction (function_form explicit (module_names m) m info g f es)
-  one_is g f found es callees ranges written may known few explicit =
+  one_is : (g : ℕ) (f : ir_function.Function) (found : slice_get m.functions g ≡ Some f) (es : List ExpressionInfo) (callees : ℕ) → function_in_range m callees f ≡ true → IsTrue (function_is_written f) → WrittenHaveForms m info f es → IsTrue (types_allow_all m.types f es) → list_all (λ k. resolution_is_written m.types k.ty) es ≡ true → length f.expressions ≤ 2 ^ 64 → (explicit : Bool) → IsFunction (function_form explicit (module_names m) m info g f es)
+  one_is g f found es callees ranges written have may known few explicit =
       let parts = function_parts f written in
-      function_is m info g f found es callees ranges parts.unnamed (λ h. Unit {0})
-      (all_are_closed (binds (function_shape m info f es)) f)
-      (λ h e at w. list_all_at expression_is_written f.expressions h e parts.expressions at)
+      function_is m info g f found es callees ranges parts.unnamed (IsWrittenIn m info f es)
+      (written_are_closed m info f es) have
       (λ h e at w. list_all_at (types_allow m.types es) f.expressions h e may at)
       known values few explicit (statements_fit f.body parts.body)
 
-  functions_are : (g : ℕ) (fs : List ir_function.Function) (ess : List (List ExpressionInfo)) → ((i : ℕ) (f : ir_function.Function) → slice_get fs i ≡ Some f → slice_get m.functions (g + i) ≡ Some f) → IsTrue (list_all function_is_written fs) →
+  functions_are : (g : ℕ) (fs : List ir_function.Function) (ess : List (List ExpressionInfo)) → ((i : ℕ) (f : ir_function.Function) → slice_get fs i ≡ Some f → slice_get m.functions (g + i) ≡ Some f) → IsTrue (list_all function_is_written fs) → ((i : ℕ) (f : ir_function.Function) (es : List ExpressionInfo) → slice_get fs i ≡ Some f → slice_get ess i ≡ Some es → WrittenHaveForms m info f es) →
       IsTrue (list_all (list_all (λ k. resolution_is_written m.types k.ty)) ess) → IsTrue (list_all (λ p. types_allow_all m.types p.0 p.1) (zip fs ess)) → IsTrue (list_all (λ f. nat_le (length f.expressions) (2 ^ 64)) fs) → Each IsFunction (functions_form explicit (module_names m) m info g fs ess)
-  functions_are g [] [] there written known allowed few = tt
-  functions_are g [] (es ∷ ess) there written known allowed few = tt
-  functions_are g (f ∷ fs) [] there written known allowed few = tt
-  functions_are g (f ∷ fs) (es ∷ ess) there written known allowed few =
+  functions_are g [] [] there written have known allowed few = tt
+  functions_are g [] (es ∷ ess) there written have known allowed few = tt
+  functions_are g (f ∷ fs) [] there written have known allowed few = tt
+  functions_are g (f ∷ fs) (es ∷ ess) there written have known allowed few =
       let here : g + 0 ≡ g = omega arith in
       let found = subst (λ h. slice_get m.functions h ≡ Some f) here (there 0 f refl) in
       let at = known_function m info accepted g f found in
@@ -622,12 +622,12 @@ module _ (explicit : Bool) (m : Module) (info : ModuleInfo) (accepted : IsTrue (
       let types = and_parts (list_all (λ k. resolution_is_written m.types k.ty) es) (list_all (list_all (λ k. resolution_is_written m.types k.ty)) ess) known in
       let may = and_parts (types_allow_all m.types f es) (list_all (λ p. types_allow_all m.types p.0 p.1) (zip fs ess)) allowed in
       let counted = and_parts (nat_le (length f.expressions) (2 ^ 64)) (list_all (λ f. nat_le (length f.expressions) (2 ^ 64)) fs) few in (
-        one_is g f found es is.callees is.ranges all.0 may.0 types.0 (leb-true (length f.expressions) (2 ^ 64) counted.0) explicit,
-        functions_are (g + 1) fs ess (further m.functions g f fs there) all.1 types.1 may.1 counted.1,
+        one_is g f found es is.callees is.ranges all.0 (have 0 f es refl refl) may.0 types.0 (leb-true (length f.expressions) (2 ^ 64) counted.0) explicit,
+        functions_are (g + 1) fs ess (further m.functions g f fs there) all.1 (λ i f es here known. have (suc i) f es here known) types.1 may.1 counted.1,
       )
 
-pub is_program : (m : Module) (info : ModuleInfo) (explicit : Bool) → IsTrue (is_accepted m info) → IsTrue (is_written_so_far m info) → IsTrue (handles_are_counted m) → IsProgram (written_program m info explicit)
-is_program m info explicit accepted written few =
+pub is_program : (m : Module) (info : ModuleInfo) (explicit : Bool) → IsTrue (is_accepted m info) → IsTrue (is_written_so_far m info) → AllWrittenHaveForms m info → IsTrue (handles_are_counted m) → IsProgram (written_program m info explicit)
+is_program m info explicit accepted written have few =
     let parts = written_so_far_parts m info written in
     record {
       enables = tt;
@@ -635,6 +635,6 @@ is_program m info explicit accepted written few =
       constants = tt;
       overrides = tt;
       globals = tt;
-      functions = functions_are explicit m info accepted parts.1 0 m.functions info.functions.items (from_start m.functions) parts.2 parts.3 (and_parts (length m.functions == length info.functions.items) _ parts.4).1 few;
+      functions = functions_are explicit m info accepted parts.1 0 m.functions info.functions.items (from_start m.functions) parts.2 (λ i f es here known. have i f es here known) parts.3 (and_parts (length m.functions == length info.functions.items) _ parts.4).1 few;
       entry_points = tt;
     }

@@ -41,6 +41,7 @@ use Rattle.naga_form.proofs.Fits.{mapped_length}
 use Rattle.naga_form.proofs.WellFormed.{any_shape, applied_any}
 use Rattle.naga_form.proofs.ScopeRules.{scopes_are_checked}
 use Rattle.naga_form.proofs.Runs.{reads_as_shapes, module_fits}
+use Rattle.module_meaning.specs.Written.{AllWrittenHaveForms}
 
 -- the arguments and locals of a function in range are its own
 module _ (m : Module) (info : ModuleInfo) (callees : ℕ) (f : ir_function.Function) (ranges : function_in_range m callees f ≡ true) (es : List ExpressionInfo) where
@@ -93,10 +94,10 @@ module _ (m : Module) (info : ModuleInfo) (accepted : IsTrue (is_accepted m info
       let is = accepted_at m info accepted g f known.0 known.1 in
       leaves_stand (g + 1) fs ess (further m.functions g f fs there) (function_naming (module_names m) m info g f es ∷ behind) (leaves_are_own m info is.callees f is.ranges es, all)
 
-pub resolves : (m : Module) (info : ModuleInfo) (explicit : Bool) → IsTrue (is_accepted m info) → IsTrue (is_written_so_far m info) → ScopesHold m info → NamesAreCounted m → ResolvesAs m info (written_program m info explicit)
-resolves m info explicit accepted written scope counted =
+pub resolves : (m : Module) (info : ModuleInfo) (explicit : Bool) → IsTrue (is_accepted m info) → IsTrue (is_written_so_far m info) → AllWrittenHaveForms m info → ScopesHold m info → NamesAreCounted m → ResolvesAs m info (written_program m info explicit)
+resolves m info explicit accepted written have scope counted =
     let names = module_names m in
-    ap text_targets (reads_as_shapes m info explicit accepted written)
+    ap text_targets (reads_as_shapes m info explicit accepted written have)
     ∙ resolves_as_meant (module_shape m info) (outer_names names) (namings names m info)
     (module_fits m info accepted written ((scopes_are_checked m info accepted written).1 scope) counted)
     (leaves_stand m info accepted 0 m.functions info.functions.items (from_start m.functions) [] tt)

@@ -48,6 +48,7 @@ use Rattle.module_meaning.specs.Namings.{namings_from, namings, outer_names, fun
 use Rattle.text_meaning.specs.Abstraction.{function_read, program_read}
 use Rattle.wgsl_text.specs.Requests.{is_request}
 use Rattle.module_meaning.specs.Faithful.{RunsAs}
+use Rattle.module_meaning.specs.Written.{AllWrittenHaveForms, WrittenHaveForms}
 use Rattle.naga_form.proofs.Facts.{further, from_start}
 use Rattle.naga_form.proofs.PartFits.{is_left, no_case_falls, no_constant_named}
 use Rattle.naga_form.proofs.FunctionsFit.{IsLeft, AllBehind, all_fit}
@@ -74,16 +75,16 @@ shapes_counted m info [] ess paired = refl
 shapes_counted m info (f ∷ fs) [] paired = absurd (omega (arith, paired))
 shapes_counted m info (f ∷ fs) (es ∷ ess) paired = ap suc (shapes_counted m info fs ess (omega (arith, paired)))
 
-functions_read : (explicit : Bool) (m : Module) (info : ModuleInfo) → IsTrue (list_all is_value_type m.types) → (g : ℕ) (fs : List ir_function.Function) (ess : List (List ExpressionInfo)) → IsTrue (list_all function_is_written fs) → ((i : ℕ) (f : ir_function.Function) (es : List ExpressionInfo) → slice_get fs i ≡ Some f → slice_get ess i ≡ Some es → length f.expressions ≡ length es) → ((i : ℕ) (f : ir_function.Function) → slice_get fs i ≡ Some f → LocalsHaveForms (type_names m) f.local_variables) →
+functions_read : (explicit : Bool) (m : Module) (info : ModuleInfo) → IsTrue (list_all is_value_type m.types) → (g : ℕ) (fs : List ir_function.Function) (ess : List (List ExpressionInfo)) → IsTrue (list_all function_is_written fs) → ((i : ℕ) (f : ir_function.Function) (es : List ExpressionInfo) → slice_get fs i ≡ Some f → slice_get ess i ≡ Some es → WrittenHaveForms m info f es) → ((i : ℕ) (f : ir_function.Function) (es : List ExpressionInfo) → slice_get fs i ≡ Some f → slice_get ess i ≡ Some es → length f.expressions ≡ length es) → ((i : ℕ) (f : ir_function.Function) → slice_get fs i ≡ Some f → LocalsHaveForms (type_names m) f.local_variables) →
     map function_read (functions_form explicit (module_names m) m info g fs ess) ≡ map form_function (namings_from (module_names m) g (function_shapes m info fs ess))
-functions_read explicit m info values g [] [] is sizes spelled = refl
-functions_read explicit m info values g [] (es ∷ ess) is sizes spelled = refl
-functions_read explicit m info values g (f ∷ fs) [] is sizes spelled = refl
-functions_read explicit m info values g (f ∷ fs) (es ∷ ess) is sizes spelled =
+functions_read explicit m info values g [] [] is have sizes spelled = refl
+functions_read explicit m info values g [] (es ∷ ess) is have sizes spelled = refl
+functions_read explicit m info values g (f ∷ fs) [] is have sizes spelled = refl
+functions_read explicit m info values g (f ∷ fs) (es ∷ ess) is have sizes spelled =
     let all = and_parts (function_is_written f) (list_all function_is_written fs) is in
     let own = spelled 0 f refl in
     let size = sizes 0 f es refl refl in
-    λ i. function_reads explicit m info g f es values all.0 size own i ∷ functions_read explicit m info values (g + 1) fs ess all.1 (λ i f es here known. sizes (suc i) f es here known) (λ i f there. spelled (suc i) f there) i
+    λ i. function_reads explicit m info g f es values all.0 (have 0 f es refl refl) size own i ∷ functions_read explicit m info values (g + 1) fs ess all.1 (λ i f es here known. have (suc i) f es here known) (λ i f es here known. sizes (suc i) f es here known) (λ i f there. spelled (suc i) f there) i
 
 -- what holds of all of a list that is turned round onto another holds of all of both
 behind_all : {X : Type 0} (test : X → Bool) (xs behind : List X) → IsTrue (list_all test (reverse_aux xs behind)) → IsTrue (list_all test behind)
@@ -95,10 +96,10 @@ all_reversed test [] behind all = refl
 all_reversed test (x ∷ xs) behind all = and_from (test x) (list_all test xs) (and_left (test x) (list_all test behind) (behind_all test xs (x ∷ behind) all)) (all_reversed test xs (x ∷ behind) all)
 
 -- the square: what is written of the module is read as its functions are written
-pub program_reads : (m : Module) (info : ModuleInfo) (explicit : Bool) → IsTrue (is_accepted m info) → IsTrue (is_written_so_far m info) → program_read (written_program m info explicit) ≡ form_module (functions_alone m info) (outer_names (module_names m)) (namings (module_names m) m info)
-program_reads m info explicit accepted written =
+pub program_reads : (m : Module) (info : ModuleInfo) (explicit : Bool) → IsTrue (is_accepted m info) → IsTrue (is_written_so_far m info) → AllWrittenHaveForms m info → program_read (written_program m info explicit) ≡ form_module (functions_alone m info) (outer_names (module_names m)) (namings (module_names m) m info)
+program_reads m info explicit accepted written have =
     let listed = namings_from (module_names m) 0 (function_shapes m info m.functions info.functions.items) in
-    let each = functions_read explicit m info (written_so_far_parts m info written).1 0 m.functions info.functions.items (functions_are_written m info written) sized formed in
+    let each = functions_read explicit m info (written_so_far_parts m info written).1 0 m.functions info.functions.items (functions_are_written m info written) (λ i f es here known. have i f es here known) sized formed in
     λ i. record {
       constants = [];
       overrides = [];
@@ -116,9 +117,9 @@ program_reads m info explicit accepted written =
         locals_have_forms m f (length f.expressions) (written_so_far_parts m info written).1 (locals_are_in_range m is.callees f is.ranges)
 
 -- and so as its program of shapes is
-pub reads_as_shapes : (m : Module) (info : ModuleInfo) (explicit : Bool) → IsTrue (is_accepted m info) → IsTrue (is_written_so_far m info) → program_read (written_program m info explicit) ≡ form_module (module_shape m info) (outer_names (module_names m)) (namings (module_names m) m info)
-reads_as_shapes m info explicit accepted written =
-    program_reads m info explicit accepted written
+pub reads_as_shapes : (m : Module) (info : ModuleInfo) (explicit : Bool) → IsTrue (is_accepted m info) → IsTrue (is_written_so_far m info) → AllWrittenHaveForms m info → program_read (written_program m info explicit) ≡ form_module (module_shape m info) (outer_names (module_names m)) (namings (module_names m) m info)
+reads_as_shapes m info explicit accepted written have =
+    program_reads m info explicit accepted written have
     ∙ ap (λ p. form_module p (outer_names (module_names m)) (namings (module_names m) m info)) (sym (declares_functions_alone m info written))
 
 -- ---- what the law of runs asks
@@ -223,11 +224,11 @@ module _ (m : Module) (info : ModuleInfo) (accepted : IsTrue (is_accepted m info
               (all_left 0 m.functions info.functions.items (from_start m.functions) (functions_are_written m info written) all_allowed (all_reversed fits_function listed [] scope) [] refl tt);
         }
 
-    runs : (explicit : Bool) → RunsAs m info (written_program m info explicit)
-    runs explicit settings fit meaning typed g f found arguments typed_arguments world turns past keeps =
-        ap (λ (text : TextModule). follow_module text settings world meaning is_request turns (function_name (module_names m) g) arguments past) (reads_as_shapes m info explicit accepted written)
+    runs : AllWrittenHaveForms m info → (explicit : Bool) → RunsAs m info (written_program m info explicit)
+    runs have explicit settings fit meaning typed g f found arguments typed_arguments world turns past keeps =
+        ap (λ (text : TextModule). follow_module text settings world meaning is_request turns (function_name (module_names m) g) arguments past) (reads_as_shapes m info explicit accepted written have)
         ∙ runs_alike (module_shape m info) (outer_names (module_names m)) (namings (module_names m) m info) module_fits settings fit meaning typed g f found arguments typed_arguments world turns past keeps
 
-pub runs_as : (m : Module) (info : ModuleInfo) (explicit : Bool) → IsTrue (is_accepted m info) → IsTrue (is_written_so_far m info) → ScopesHold m info → NamesAreCounted m → RunsAs m info (written_program m info explicit)
-runs_as m info explicit accepted written scope counted =
-    runs m info accepted written ((scopes_are_checked m info accepted written).1 scope) counted explicit
+pub runs_as : (m : Module) (info : ModuleInfo) (explicit : Bool) → IsTrue (is_accepted m info) → IsTrue (is_written_so_far m info) → AllWrittenHaveForms m info → ScopesHold m info → NamesAreCounted m → RunsAs m info (written_program m info explicit)
+runs_as m info explicit accepted written have scope counted =
+    runs m info accepted written ((scopes_are_checked m info accepted written).1 scope) counted have explicit

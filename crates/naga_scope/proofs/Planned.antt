@@ -1,6 +1,7 @@
 -- What a plan of a function says of its module.
-use Rattle.std.proofs.Common.{◌≡◌, ℕ, zero, suc, List, [], ◌∷◌, None, Some, subst}
-use Rattle.std.specs.Prelude.{IsSomeAnd, IsTrue, ◌↔◌, slice_get}
+use Rattle.std.proofs.Common.{◌≡◌, ℕ, zero, suc, List, [], ◌∷◌, None, Some, subst, sym, ◌∙◌}
+use Rattle.std.proofs.lemmas.Option.{same_Some}
+use Rattle.std.specs.Prelude.{Err, IfErr, IfOk, IsTrue, Ok, Result, ◌↔◌, slice_get}
 use Rattle.naga_ir.specs.declared.module.Function as ir_function
 use Rattle.naga_ir.specs.declared.module.Module.{Module}
 use Rattle.naga_info.specs.declared.info.ExpressionInfo.{ExpressionInfo}
@@ -16,7 +17,7 @@ use Rattle.module_meaning.specs.Premises.{OperandsStandBefore}
 use Rattle.module_meaning.specs.Surroundings.{declared, types_known}
 use Rattle.naga_form.proofs.Ordered.{shape_ordered}
 use Rattle.naga_form.proofs.WellFormed.{any_shape}
-use Rattle.naga_scope.specs.Plans.{IsPlan, IsPlanOf}
+use Rattle.naga_scope.specs.Plans.{IsPlan, IsPlanOf, OfFunctionAt}
 use Rattle.naga_scope.specs.declared.points.Standing.{Standing}
 
 -- the check of a function decides whether the rules of scope hold in it
@@ -47,7 +48,24 @@ shape_found m info (x ∷ fs) (y ∷ ess) (suc g) f es at known =
 pub plan_found : (m : Module) (info : ModuleInfo) (g : ℕ) (f : ir_function.Function)
     (es : List ExpressionInfo) (table : List Standing) → slice_get m.functions g ≡ Some f →
     slice_get info.functions.items g ≡ Some es → IsPlanOf m info g table →
-    IsPlan (function_shape m info f es) table
-plan_found m info g f es table at known plan =
-    let found = shape_found m info m.functions info.functions.items g f es at known in
-    subst (λ o. IsSomeAnd o (λ s. IsPlan s table)) found plan
+    IsPlan m info f es table
+plan_found m info g f es table at known plan = plan f es at known
+
+-- what holds of a function that there is, where a call has an answer, holds of the one with its handle
+module _ {T : Type 0} (Q : ir_function.Function → List ExpressionInfo → T → Type 0) (m : Module)
+    (info : ModuleInfo) (g : ℕ) (f : ir_function.Function) (es : List ExpressionInfo)
+    (at : slice_get m.functions g ≡ Some f) (known : slice_get info.functions.items g ≡ Some es) where
+  of_this : (x : T) → Q f es x → OfFunctionAt m info g (λ f es. Q f es x)
+  of_this x holds h hs here there =
+      subst (λ k. Q k hs x) (same_Some f h (sym at ∙ here))
+      (subst (λ ks. Q f ks x) (same_Some es hs (sym known ∙ there)) holds)
+
+  pub of_the_ok : {E : Type 0} (r : Result T E) → IfOk r (Q f es) →
+      IfOk r (λ x. OfFunctionAt m info g (λ f es. Q f es x))
+  of_the_ok (Ok x) holds = of_this x holds
+  of_the_ok (Err e) holds = tt
+
+  pub of_the_err : {Y : Type 0} (r : Result Y T) → IfErr r (Q f es) →
+      IfErr r (λ x. OfFunctionAt m info g (λ f es. Q f es x))
+  of_the_err (Ok y) holds = tt
+  of_the_err (Err x) holds = of_this x holds

@@ -34,7 +34,7 @@ use Rattle.module_meaning.specs.ExpressionShapes.{Declared, shape_of, applied_or
 use Rattle.module_meaning.specs.ExpressionShapes.{part_selector, part_shape}
 use Rattle.module_meaning.specs.FunctionShapes.{function_shape}
 use Rattle.module_meaning.specs.OperatorTable.{Operator as TableOperator, AtomicLoad, BinarySign}
-use Rattle.module_meaning.specs.Part.{expression_is_written, function_is_written, types_allow}
+use Rattle.module_meaning.specs.Part.{expression_is_of_part, function_is_written, types_allow}
 use Rattle.module_meaning.specs.Part.{types_allow_all}
 use Rattle.naga_form.proofs.AllowedParts.{selected}
 use Rattle.shader_runs.specs.Program.{greatest_count}
@@ -233,15 +233,15 @@ module _ (m : Module) (info : ModuleInfo) (f : ir_function.Function) (es : List 
   -- ---- a function that is written so far
   module _ (written : IsTrue (function_is_written f)) where
     written_at : (h : ℕ) (e : ir.Expression) → slice_get f.expressions h ≡ Some e →
-        expression_is_written e ≡ true
+        expression_is_of_part e ≡ true
     written_at h e at =
-        list_all_at expression_is_written f.expressions h e (function_parts f written).expressions at
+        list_all_at expression_is_of_part f.expressions h e (function_parts f written).expressions at
 
     -- every expression has its own operands
     pub operands_are : (h : ℕ) → operands_of (expression_of shape h) ≡ operands_at f.expressions h
     operands_are h = operands_by h (λ e at. own e (written_at h e at))
       where
-        own : (e : ir.Expression) → expression_is_written e ≡ true →
+        own : (e : ir.Expression) → expression_is_of_part e ≡ true →
             operands_of (Some (shape_of d f.expressions h e)) ≡ expression_operands e
         own
             (expression.ImageSample
@@ -279,7 +279,7 @@ module _ (m : Module) (info : ModuleInfo) (f : ir_function.Function) (es : List 
         ∙ own e (written_at h e at)
         (list_all_at (types_allow m.types es) f.expressions h e allowed at) may)
       where
-        own : (e : ir.Expression) → expression_is_written e ≡ true →
+        own : (e : ir.Expression) → expression_is_of_part e ≡ true →
             types_allow m.types es e ≡ true →
             is_emittable_kind (kind_of e) ≡ true →
             binds_as shape h (Some (shape_of d f.expressions h e)) ≡ nat_le (count_to_bind e) (count h)

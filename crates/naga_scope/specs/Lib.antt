@@ -1,2 +1,3 @@
 pub mod Standings
+pub mod Marks
 pub mod Plans

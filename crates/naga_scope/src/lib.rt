@@ -6,6 +6,7 @@ pub mod binding;
 pub mod check;
 pub mod plan;
 pub mod points;
+mod written;
 
 pub use binding::binds;
 pub use plan::{Plan, PlanError};

@@ -2,7 +2,6 @@
 
 ghost use Rattle.std.specs.Prelude.{◌≡◌, ◌<◌, List, IfErr, IfOk, IsTrue, length};
 ghost use Rattle.module_meaning.specs.Accepted.{is_accepted};
-ghost use Rattle.module_meaning.specs.FunctionShapes.{function_shape};
 ghost use Rattle.module_meaning.specs.Part.{function_is_written, is_written_so_far};
 ghost use Rattle.module_meaning.specs.Part.{types_allow_all};
 ghost use Rattle.module_meaning.specs.Premises.{OperandsStandBefore};
@@ -13,8 +12,9 @@ ghost use Rattle.naga_scope.specs.declared.plan.PlanError.TheVariants.{Memory};
 
 use crate::check::function_holds;
 use crate::points::Scope;
+use crate::written::written_without_form;
 use naga_info::{FunctionInfo, ModuleInfo};
-use naga_ir::{Function, Handle, Module};
+use naga_ir::{Expression, Function, Handle, Module};
 use std::alloc::{AllocError, Global};
 use std::marker::Model;
 
@@ -24,6 +24,8 @@ pub enum PlanError {
     /// The rules of scope don't hold in the function: an expression is used where it is out of
     /// scope, or an `Emit` is not allowed where it stands.
     OutOfScope,
+    /// The expression with this handle is written, and has no form.
+    WithoutForm(Handle<Expression>),
     /// Memory has run out.
     Memory(AllocError),
 }
@@ -37,7 +39,8 @@ impl From<AllocError> for PlanError {
 }
 
 /// What is decided of a function before its text: that each of its expressions is in scope where it
-/// is used and each `Emit` is allowed, and where the expressions stand at its start.
+/// is used and each `Emit` is allowed, that each that is written has a form, and where the
+/// expressions stand at its start.
 ///
 /// Which expressions a `let` binds is not kept: [`binds`](crate::binds) tells it of each as fast as
 /// a table would.
@@ -59,10 +62,10 @@ impl Model for Plan {
 impl Plan {
     /// The plan of the function with this handle, for a module that is accepted with what is known
     /// of it, and is of the part that is written so far. Where the rules of scope don't hold in the
-    /// function, or there is no memory, there is no plan.
+    /// function, a written expression has no form, or there is no memory, there is no plan.
     ///
-    /// It takes memory once: one table serves the check, is then set back to the function's start,
-    /// and serves the text.
+    /// It takes memory twice: one table serves the check, is then set back to the function's start,
+    /// and serves the text; another one has the marks of what is written, and is given back.
     pub fn of(
         alloc: Global,
         module: &Module,
@@ -87,14 +90,17 @@ impl Plan {
         requires written { IsTrue (function_is_written function.now) }
         ensures ok { (m : Module) (known : ModuleInfo) →
             IsTrue (types_allow_all m.types function.now info.now) →
-            IfOk result (IsPlan (function_shape m known function.now info.now)) }
+            IfOk result (IsPlan m known function.now info.now) }
         ensures err { (m : Module) (known : ModuleInfo) →
             IsTrue (types_allow_all m.types function.now info.now) →
-            IfErr result (IsRefusalToPlan (function_shape m known function.now info.now)) }
+            IfErr result (IsRefusalToPlan m known function.now info.now) }
     {
         let mut scope = Scope::start(alloc, function)?;
         if !function_holds(&mut scope, function, info) {
             return Err(PlanError::OutOfScope);
+        }
+        if let Some(handle) = written_without_form(alloc, function, info)? {
+            return Err(PlanError::WithoutForm(handle));
         }
         scope.restart(function);
         Ok(Plan { scope })

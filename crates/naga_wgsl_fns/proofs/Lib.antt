@@ -7,5 +7,6 @@ pub mod NameRows
 pub mod PartForms
 pub mod PartRows
 pub mod StatementRows
+pub mod TextHandles
 pub mod TypeRows
 pub mod Wanted

@@ -40,7 +40,7 @@ use Rattle.module_meaning.specs.ExpressionOperators.{applied_operator}
 use Rattle.module_meaning.specs.ExpressionOperators.{load_operator, points_to_atomic}
 use Rattle.module_meaning.specs.OperatorTable.{AtomicLoad, Operator, WithoutForm}
 use Rattle.module_meaning.specs.Names.{numbered_name}
-use Rattle.module_meaning.specs.Part.{expression_is_written}
+use Rattle.module_meaning.specs.Part.{expression_is_of_part}
 use Rattle.naga_form.specs.Expressions.{PlainForm, Source, ValueForm, applied_plain, as_reference}
 use Rattle.module_meaning.specs.ExpressionOperators.{type_known}
 use Rattle.naga_form.proofs.Operators.{IsCalled, cast_called, constructor_called}
@@ -52,7 +52,7 @@ use Rattle.naga_info.specs.declared.info.TypeResolution.TheVariants.{Handle}
 use Rattle.naga_scope.specs.Standings.{handles_of, standing_of}
 use Rattle.naga_scope.specs.declared.points.Standing.TheVariants as cell
 use Rattle.naga_wgsl_fns.proofs.ExpressionRows.{cell_form}
-use Rattle.naga_wgsl_fns.proofs.Wanted.{is_written}
+use Rattle.naga_wgsl_fns.proofs.Wanted.{is_of_part}
 use Rattle.naga_wgsl_fns.specs.Expressions.{own_form}
 use Rattle.naga_wgsl_fns.specs.FunctionText.{CanWrite, around, expressions, naming, source}
 use Rattle.shader_runs.specs.Scope.{Handles, Naming, Named as RunNamed, Standing as RunStanding}
@@ -354,10 +354,10 @@ signed_row f table handle can lt =
     own : (o : Option ir.Expression) → slice_get (expressions f) handle ≡ o →
         is_signed (as_value (own_if (naming f) (source f) operand o)) ≡ is_prefix o
     own None at = refl
-    own (Some e) at = of_written e at (is_written f can handle e at)
+    own (Some e) at = of_written e at (is_of_part f can handle e at)
       where
         of_written : (e : ir.Expression) → slice_get (expressions f) handle ≡ Some e →
-            IsTrue (expression_is_written e) →
+            IsTrue (expression_is_of_part e) →
             is_signed (as_value (own_plain (naming f) (source f) operand e)) ≡ is_prefix (Some e)
         of_written (expression.Literal value) at is = refl
         of_written (expression.ZeroValue ty) at is =

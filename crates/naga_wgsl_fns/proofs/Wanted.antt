@@ -75,7 +75,12 @@ use Rattle.wgsl_text.specs.Reading.{type_layout}
 use Rattle.wgsl_words.specs.Words.{math_word}
 use Rattle.wgsl_text.specs.Types.{Named}
 use Rattle.naga_wgsl_fns.specs.declared.functions.FunctionText.{FunctionText}
-use Rattle.naga_wgsl_fns.specs.FunctionText.{CanWrite, around, naming, tells_types}
+use Rattle.naga_wgsl_fns.specs.FunctionText.{CanWrite, IsInText, around, naming, tells_types}
+use Rattle.module_meaning.specs.Part.{expression_is_of_part}
+use Rattle.module_meaning.specs.Written.{IsWrittenIn}
+use Rattle.naga_form.proofs.WrittenHandles.{written_are_closed}
+use Rattle.std.specs.List.{AllByRecursion}
+use Rattle.std.proofs.Common.{◌∷◌}
 use Rattle.naga_wgsl_fns.specs.Types.{annotation_text, resolution_text, told_text}
 use Rattle.naga_wgsl_fns.specs.Types.{told_type_text}
 
@@ -102,6 +107,10 @@ IsNoOther e =
     ((fun : MathFunction) (x : ℕ) (y z w : Option ℕ) → e ≡ expression.Math fun x y z w → ⊥) →
     ((fun : RelationalFunction) (x : ℕ) → e ≡ expression.Relational fun x → ⊥) →
     ⊥
+
+-- a handle stands before this one, and is written
+abbrev pub IsOperand : FunctionText → (handle x : ℕ) → Type 0
+IsOperand t h x = (x < h) × IsInText t x
 
 module _ (t : FunctionText) (can : CanWrite t) where
   -- its module, its handle, the function, and what is known of its expressions
@@ -261,11 +270,15 @@ module _ (t : FunctionText) (can : CanWrite t) where
   untold_row h is = ap (λ b. told_type_text (told_type b (type_names m) es h)) is
 
   -- ---- expressions
-  pub is_written : (h : ℕ) (e : Expression) → slice_get f.expressions h ≡ Some e → IsTrue (expression_is_written e)
-  is_written h e here = list_all_at expression_is_written f.expressions h e (function_parts f can.written).expressions here
+  pub is_of_part : (h : ℕ) (e : Expression) → slice_get f.expressions h ≡ Some e → IsTrue (expression_is_of_part e)
+  is_of_part h e here = list_all_at expression_is_of_part f.expressions h e (function_parts f can.written).expressions here
 
-  pub literal_is_written : (h : ℕ) (e : Expression) (value : ir_literal.Literal) → slice_get f.expressions h ≡ Some e → e ≡ expression.Literal value → IsTrue (is_written_literal value)
-  literal_is_written h e value here is = ap expression_is_written (sym is) ∙ is_written h e here
+  -- one that is written has a form
+  pub has_form : (h : ℕ) (e : Expression) → slice_get f.expressions h ≡ Some e → IsInText t h → IsTrue (expression_is_written e)
+  has_form h e here is = can.formed h e here is.written
+
+  pub literal_is_written : (h : ℕ) (e : Expression) (value : ir_literal.Literal) → slice_get f.expressions h ≡ Some e → IsInText t h → e ≡ expression.Literal value → IsTrue (is_written_literal value)
+  literal_is_written h e value here within is = ap expression_is_written (sym is) ∙ has_form h e here within
 
   -- what an expression names is there
   names_there : (h : ℕ) (e own : Expression) → slice_get f.expressions h ≡ Some e → e ≡ own → IsTrue (names_in_range m g (length f.arguments.items) (length f.local_variables) own)
@@ -283,37 +296,40 @@ module _ (t : FunctionText) (can : CanWrite t) where
   pub all_before : (h : ℕ) (e : Expression) → slice_get f.expressions h ≡ Some e → AllBelow h (expression_operands e)
   all_before h e here = ordered h e here
 
-  pub operands_before : (h : ℕ) (e own : Expression) → slice_get f.expressions h ≡ Some e → e ≡ own →
-      AllBelow h (expression_operands own)
-  operands_before h e own here is =
-      subst (λ e. AllBelow h (expression_operands e)) is (all_before h e here)
+  -- the operands of what is written stand before it, and are written
+  pub operands_in : (h : ℕ) (e own : Expression) → slice_get f.expressions h ≡ Some e → e ≡ own →
+      IsInText t h → AllByRecursion (IsOperand t h) (expression_operands own)
+  operands_in h e own here is within =
+      subst (λ e. AllByRecursion (IsOperand t h) (expression_operands e)) is
+      (both (expression_operands e) (all_before h e here)
+      ((written_are_closed m t.module_info.now f es).operands h e here within.written))
+    where
+      both : (xs : List ℕ) → AllBelow h xs →
+          AllByRecursion (IsWrittenIn m t.module_info.now f es) xs →
+          AllByRecursion (IsOperand t h) xs
+      both [] below written = tt
+      both (x ∷ xs) below written =
+          let one = below.0 in
+          let other = within.there in (
+            (one, record { there = omega (arith, one, other); written = written.0 }),
+            both xs below.1 written.1,
+          )
 
-  -- what a part is taken of stands before it
-  part_before : (h : ℕ) (base : ℕ) (o : Option Expression) → slice_get f.expressions h ≡ o →
-      base_of o ≡ Some base → (base < h) × (h < length f.expressions)
-  part_before h base (Some (expression.Access b i)) at is = (
-    subst (λ x. x < h) (same_Some b base is) (all_before h (expression.Access b i) at).0,
-    slice_get_within f.expressions h (expression.Access b i) at,
-  )
-  part_before h base (Some (expression.AccessIndex b i)) at is = (
-    subst (λ x. x < h) (same_Some b base is) (all_before h (expression.AccessIndex b i) at).0,
-    slice_get_within f.expressions h (expression.AccessIndex b i) at,
-  )
-  part_before h base (Some _) at is = absurd cc
-  part_before h base None at is = absurd cc
+  -- so does what a part is taken of
+  part_in : (h : ℕ) (base : ℕ) (o : Option Expression) → slice_get f.expressions h ≡ o →
+      base_of o ≡ Some base → IsInText t h → IsOperand t h base
+  part_in h base (Some (expression.Access b i)) at is within =
+      subst (IsOperand t h) (same_Some b base is)
+      (operands_in h (expression.Access b i) (expression.Access b i) at refl within).0
+  part_in h base (Some (expression.AccessIndex b i)) at is within =
+      subst (IsOperand t h) (same_Some b base is)
+      (operands_in h (expression.AccessIndex b i) (expression.AccessIndex b i) at refl within).0
+  part_in h base (Some _) at is within = absurd cc
+  part_in h base None at is within = absurd cc
 
-  pub base_before : (h base : ℕ) → base_of (slice_get f.expressions h) ≡ Some base →
-      (base < h) × (h < length f.expressions)
-  base_before h base is = part_before h base (slice_get f.expressions h) refl is
-
-  pub base_there : (h base : ℕ) → base_of (slice_get f.expressions h) ≡ Some base →
-      (base < length f.expressions) × (base < length es)
-  base_there h base is =
-      let b = base_before h base is in
-      let first = b.0 in
-      let second = b.1 in
-      let there : base < length f.expressions = omega (arith, first, second) in
-      (there, known_within_infos base there)
+  pub base_in : (h base : ℕ) → base_of (slice_get f.expressions h) ≡ Some base → IsInText t h →
+      IsOperand t h base
+  base_in h base is within = part_in h base (slice_get f.expressions h) refl is within
 
   -- the types let a part that is written be written
   pub part_allowed : (h base : ℕ) (e : Expression) (b i : ℕ) → slice_get f.expressions h ≡ Some e →
@@ -360,14 +376,16 @@ module _ (t : FunctionText) (can : CanWrite t) where
 
   -- functions of mathematics and relations have words
   pub math_is_written : (h : ℕ) (e : Expression) (fun : MathFunction) (x : ℕ) (y z w : Option ℕ) →
-      slice_get f.expressions h ≡ Some e → e ≡ expression.Math fun x y z w →
+      slice_get f.expressions h ≡ Some e → IsInText t h → e ≡ expression.Math fun x y z w →
       IsTrue (is_some (math_word fun))
-  math_is_written h e fun x y z w here is = ap expression_is_written (sym is) ∙ is_written h e here
+  math_is_written h e fun x y z w here within is =
+      ap expression_is_written (sym is) ∙ has_form h e here within
 
   pub relation_is_written : (h : ℕ) (e : Expression) (fun : RelationalFunction) (x : ℕ) →
-      slice_get f.expressions h ≡ Some e → e ≡ expression.Relational fun x →
+      slice_get f.expressions h ≡ Some e → IsInText t h → e ≡ expression.Relational fun x →
       IsTrue (is_some (relational_word fun))
-  relation_is_written h e fun x here is = ap expression_is_written (sym is) ∙ is_written h e here
+  relation_is_written h e fun x here within is =
+      ap expression_is_written (sym is) ∙ has_form h e here within
 
   -- it loads and stores no atomic
   pub points_to_none : (h : ℕ) → points_to_atomic (around t) h ≡ false
@@ -383,9 +401,9 @@ module _ (t : FunctionText) (can : CanWrite t) where
 
   -- no other expression is written
   pub no_other_expression : (h : ℕ) (e : Expression) → slice_get f.expressions h ≡ Some e → IsNoOther e
-  no_other_expression h e here = by e (is_written h e here)
+  no_other_expression h e here = by e (is_of_part h e here)
     where
-      by : (e : Expression) → IsTrue (expression_is_written e) → IsNoOther e
+      by : (e : Expression) → IsTrue (expression_is_of_part e) → IsNoOther e
       by (expression.Literal v) is literal zero made element part argument local load unary binary select splat swizzle converted derivative mathematical relational = literal v refl
       by (expression.ZeroValue t) is literal zero made element part argument local load unary binary select splat swizzle converted derivative mathematical relational = zero t refl
       by (expression.Compose t xs) is literal zero made element part argument local load unary binary select splat swizzle converted derivative mathematical relational = made t xs refl

@@ -32,11 +32,15 @@ IsWant old new (FmtError e) = IsSinkWant old new e
 IsWant old new (Want e) = ⊤
 IsWant old new _ = ⊥
 
--- the refusal of what is not written so far, or want of memory for its text
+-- the refusal of what is not written, with this text, or want of memory for it
+abbrev pub IsUnimplemented : List ℕ → Error → Type 0
+IsUnimplemented text (Unimplemented message) = string_bytes message ≡ text
+IsUnimplemented text (Want e) = ⊤
+IsUnimplemented text _ = ⊥
+
+-- that of what is not written so far
 abbrev pub IsNotYetWritten : Error → Type 0
-IsNotYetWritten (Unimplemented message) = string_bytes message ≡ codes "not yet written"
-IsNotYetWritten (Want e) = ⊤
-IsNotYetWritten _ = ⊥
+IsNotYetWritten error = IsUnimplemented (codes "not yet written") error
 
 -- the refusal with this text, or want of memory for it
 abbrev pub IsCustom : List ℕ → Error → Type 0

@@ -1,5 +1,9 @@
 -- What the text of a function is made from, as the laws see it, and what it wants of its module.
-use Rattle.std.specs.Prelude.{◌≡◌, ℕ, Bool, List, Option, Some, IsTrue, slice_get, bit_and, ◌==◌}
+use Rattle.module_meaning.specs.FunctionShapes.{function_shape}
+use Rattle.module_meaning.specs.Written.{IsWrittenIn, WrittenHaveForms}
+use Rattle.shader_runs.specs.Program.{binds}
+use Rattle.std.specs.List.{AllByRecursion}
+use Rattle.std.specs.Prelude.{◌≡◌, ℕ, ◌<◌, Bool, List, Option, Some, IsTrue, slice_get, bit_and, ◌==◌}
 use Rattle.std.specs.Prelude.{length}
 use Rattle.std.specs.List.{list_all}
 use Rattle.naga_ir.specs.declared.expression.Expression.{Expression}
@@ -49,9 +53,23 @@ abbrev pub let_annotation : FunctionText → (handle : ℕ) → Option TypeSpeci
 let_annotation f handle =
     told_type (tells_types f.flags) (type_names f.shader.now) f.info.now handle
 
+-- the handle is written in the function, and has an expression
+pub record IsInText (f : FunctionText) (handle : ℕ) : Type 0 where
+  pub there : handle < length f.function.now.expressions
+  pub written : IsWrittenIn f.shader.now f.module_info.now f.function.now f.info.now handle
+
+-- the handle is bound where it is emitted
+abbrev pub bound : FunctionText → (handle : ℕ) → Bool
+bound f handle =
+    binds (function_shape f.shader.now f.module_info.now f.function.now f.info.now) handle
+
+-- these are in the text
+abbrev pub AreInText : FunctionText → (handles : List ℕ) → Type 0
+AreInText f handles = AllByRecursion (IsInText f) handles
+
 -- It is a function of its module, one of those that are written so far, and has its names. All that
 -- it names is there, if it may call the functions before it, and of each of its expressions one
--- type is known, which is written so far and lets it be written.
+-- type is known, which is written so far and lets it be written. Each that is written has a form.
 pub record CanWrite (f : FunctionText) : Type 0 where
   pub named : HasNamesOf f.shader.now (names_in f.names.now)
   pub function : slice_get f.shader.now.functions f.handle ≡ Some f.function.now
@@ -60,4 +78,5 @@ pub record CanWrite (f : FunctionText) : Type 0 where
   pub size : length f.function.now.expressions ≡ length f.info.now
   pub known : IsTrue (list_all (λ k. resolution_is_written f.shader.now.types k.ty) f.info.now)
   pub written : IsTrue (function_is_written f.function.now)
+  pub formed : WrittenHaveForms f.shader.now f.module_info.now f.function.now f.info.now
   pub allowed : IsTrue (types_allow_all f.shader.now.types f.function.now f.info.now)

@@ -7,7 +7,7 @@ ghost use Rattle.module_meaning.specs.Part.{resolution_is_written, types_allow};
 ghost use Rattle.naga_ir.specs.declared.expression.Expression.TheVariants.{As};
 ghost use Rattle.naga_wgsl_fns.specs.Expressions.{bitcast_text, callee_text, cast_text};
 ghost use Rattle.naga_wgsl_fns.specs.Expressions.{conversion_callee, made_text};
-ghost use Rattle.naga_wgsl_fns.specs.FunctionText.{CanWrite};
+ghost use Rattle.naga_wgsl_fns.specs.FunctionText.{CanWrite, IsInText};
 ghost use Rattle.naga_words.specs.Output.{Writes};
 
 use crate::functions::FunctionText;
@@ -31,7 +31,7 @@ impl FunctionText<'_> {
         out: &mut Output<'_, W>,
     )
         requires can { CanWrite self.now }
-        requires handle { handle < length self.now.function.now.expressions }
+        requires handle { IsInText self.now handle }
         requires allowed { IsTrue (types_allow self.now.shader.now.types self.now.info.now
             (As operand kind convert)) }
         ensures { Writes W.text W.failures out.old out.new

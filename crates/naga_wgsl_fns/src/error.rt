@@ -3,6 +3,7 @@
 ghost use Rattle.std.specs.Prelude.{◌≡◌, codes};
 ghost use Rattle.naga_wgsl_fns.specs.declared.error.Error.TheVariants.{Memory};
 ghost use Rattle.naga_wgsl_fns.specs.Errors.{error_of_sink, IsCustom, IsErrorOf, IsNotYetWritten};
+ghost use Rattle.naga_wgsl_fns.specs.Errors.{IsUnimplemented};
 ghost use Rattle.naga_words.specs.declared.error.TypeTextError.TheVariants as type_error;
 
 use naga_ir::RelationalFunction;
@@ -75,7 +76,15 @@ pub(crate) fn error_of_want(want: TypeTextError) -> Error
 pub fn not_yet_written(alloc: Global) -> Error
     ensures { IsNotYetWritten result }
 {
-    match String::from_str(alloc, "not yet written") {
+    unimplemented(alloc, "not yet written")
+}
+
+/// The refusal of what this writer does not write, which says `text`; want of memory where there is
+/// none for the text.
+pub fn unimplemented(alloc: Global, text: &str) -> Error
+    ensures { IsUnimplemented text.now result }
+{
+    match String::from_str(alloc, text) {
         Ok(text) => Error::Unimplemented(text),
         Err(error) => Error::Memory(error),
     }

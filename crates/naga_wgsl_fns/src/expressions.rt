@@ -9,7 +9,7 @@ ghost use Rattle.module_meaning.specs.Part.{is_value_at};
 ghost use Rattle.naga_form.specs.Expressions.{as_value};
 ghost use Rattle.naga_form.specs.Operators.{Infix, Prefix, operator_form, unary_form};
 ghost use Rattle.naga_words.specs.Output.{Writes};
-ghost use Rattle.naga_wgsl_fns.specs.FunctionText.{CanWrite};
+ghost use Rattle.naga_wgsl_fns.specs.FunctionText.{CanWrite, IsInText};
 ghost use Rattle.naga_wgsl_fns.specs.Expressions.{address_text, applied_text, called_text};
 ghost use Rattle.naga_wgsl_fns.specs.Expressions.{made_text, made_type, next_operand_text};
 ghost use Rattle.naga_wgsl_fns.specs.Expressions.{operands_text};
@@ -46,7 +46,7 @@ impl FunctionText<'_> {
         out: &mut Output<'_, W>,
     )
         requires can { CanWrite self.now }
-        requires handle { handle < length self.now.function.now.expressions }
+        requires handle { IsInText self.now handle }
         ensures { Writes W.text W.failures out.old out.new (value_text self.now scope.now handle) }
     {
         match scope.standing(handle) {
@@ -66,7 +66,7 @@ impl FunctionText<'_> {
         out: &mut Output<'_, W>,
     )
         requires can { CanWrite self.now }
-        requires handle { handle < length self.now.function.now.expressions }
+        requires handle { IsInText self.now handle }
         ensures { Writes W.text W.failures out.old out.new (own_text self.now scope.now handle) }
     {
         match &self.function.expressions[handle] {
@@ -125,7 +125,7 @@ impl FunctionText<'_> {
         out: &mut Output<'_, W>,
     )
         requires can { CanWrite self.now }
-        requires handle { handle < length self.now.function.now.expressions }
+        requires handle { IsInText self.now handle }
         ensures { Writes W.text W.failures out.old out.new
             (reference_text self.now scope.now handle) }
     {
@@ -155,7 +155,7 @@ impl FunctionText<'_> {
         out: &mut Output<'_, W>,
     )
         requires can { CanWrite self.now }
-        requires handle { handle < length self.now.function.now.expressions }
+        requires handle { IsInText self.now handle }
         ensures { Writes W.text W.failures out.old out.new
             (pointed_text self.now scope.now handle) }
     {
@@ -176,7 +176,7 @@ impl FunctionText<'_> {
         out: &mut Output<'_, W>,
     )
         requires can { CanWrite self.now }
-        requires operand { operand < length self.now.function.now.expressions }
+        requires operand { IsInText self.now operand }
         ensures { Writes W.text W.failures out.old out.new
             (applied_text self.now scope.now (Prefix (unary_form op)) (operand ∷ [])) }
     {
@@ -199,8 +199,8 @@ impl FunctionText<'_> {
         out: &mut Output<'_, W>,
     )
         requires can { CanWrite self.now }
-        requires left { left < length self.now.function.now.expressions }
-        requires right { right < length self.now.function.now.expressions }
+        requires left { IsInText self.now left }
+        requires right { IsInText self.now right }
         ensures { Writes W.text W.failures out.old out.new
             (applied_text self.now scope.now (Infix (operator_form op)) (left ∷ right ∷ [])) }
     {
@@ -225,7 +225,7 @@ impl FunctionText<'_> {
         out: &mut Output<'_, W>,
     )
         requires can { CanWrite self.now }
-        requires handle { handle < length self.now.function.now.expressions }
+        requires handle { IsInText self.now handle }
         ensures { Writes W.text W.failures out.old out.new
             (called_text self.now scope.now word.now handle) }
     {
@@ -246,7 +246,7 @@ impl FunctionText<'_> {
         out: &mut Output<'_, W>,
     )
         requires can { CanWrite self.now }
-        requires handle { handle < length self.now.function.now.expressions }
+        requires handle { IsInText self.now handle }
         requires value { IsTrue (is_value_at self.now.shader.now.types ty) }
         ensures { Writes W.text W.failures out.old out.new
             (made_text self.now scope.now (made_type self.now ty) handle) }
@@ -266,7 +266,7 @@ impl FunctionText<'_> {
         out: &mut Output<'_, W>,
     )
         requires can { CanWrite self.now }
-        requires handle { handle < length self.now.function.now.expressions }
+        requires handle { IsInText self.now handle }
         ensures { Writes W.text W.failures out.old out.new
             (operands_text self.now scope.now handle) }
     {
@@ -290,7 +290,7 @@ impl FunctionText<'_> {
         out: &mut Output<'_, W>,
     )
         requires can { CanWrite self.now }
-        requires operand { operand < length self.now.function.now.expressions }
+        requires operand { IsInText self.now operand }
         ensures { Writes W.text W.failures out.old out.new
             (next_operand_text self.now scope.now is_first operand) }
     {

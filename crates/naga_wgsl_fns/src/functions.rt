@@ -12,6 +12,8 @@ ghost use Rattle.naga_words.specs.Output.{Writes};
 ghost use Rattle.naga_words.specs.Sink.{IsBehind};
 ghost use Rattle.naga_wgsl_fns.specs.Errors.{IsWant};
 ghost use Rattle.naga_wgsl_fns.specs.FunctionText.{CanWrite};
+ghost use Rattle.naga_wgsl_fns.specs.FunctionText.{AreInText, IsInText};
+ghost use Rattle.std.specs.Option.{option_to_list};
 ghost use Rattle.naga_wgsl_fns.specs.Functions.{StartsAt, answer_text, argument_text};
 ghost use Rattle.naga_wgsl_fns.specs.Functions.{arguments_text, body_text, first_text};
 ghost use Rattle.naga_wgsl_fns.specs.Functions.{first_value_text, function_text, group_end_text};
@@ -251,7 +253,7 @@ impl FunctionText<'_> {
     )
         requires can { CanWrite self.now }
         requires start { StartsAt self.now scope.now }
-        requires value { IsTrue (is_below (length self.now.function.now.expressions) value) }
+        requires value { AreInText self.now (option_to_list value) }
         ensures { Writes W.text W.failures out.old out.new (first_text self.now value) }
     {
         match value {
@@ -270,7 +272,7 @@ impl FunctionText<'_> {
     )
         requires can { CanWrite self.now }
         requires start { StartsAt self.now scope.now }
-        requires value { value < length self.now.function.now.expressions }
+        requires value { IsInText self.now value }
         ensures { Writes W.text W.failures out.old out.new (first_value_text self.now value) }
     {
         out.put(" = ");

@@ -16,7 +16,7 @@ ghost use Rattle.naga_wgsl_fns.specs.Expressions.{has_components, is_vector_at};
 ghost use Rattle.module_meaning.specs.ExpressionOperators.{type_known};
 ghost use Rattle.module_meaning.specs.Part.{types_allow};
 ghost use Rattle.naga_ir.specs.declared.expression.Expression.TheVariants.{AccessIndex};
-ghost use Rattle.naga_wgsl_fns.specs.FunctionText.{CanWrite, around, source};
+ghost use Rattle.naga_wgsl_fns.specs.FunctionText.{CanWrite, IsInText, around, source};
 
 use crate::functions::FunctionText;
 use itoa::Buffer;
@@ -37,6 +37,7 @@ impl FunctionText<'_> {
         out: &mut Output<'_, W>,
     )
         requires can { CanWrite self.now }
+        requires handle { IsInText self.now handle }
         requires part { base_of (slice_get self.now.function.now.expressions handle) ≡ Some base }
         ensures { Writes W.text W.failures out.old out.new
             (part_value_text self.now scope.now handle base) }
@@ -59,6 +60,7 @@ impl FunctionText<'_> {
         out: &mut Output<'_, W>,
     )
         requires can { CanWrite self.now }
+        requires handle { IsInText self.now handle }
         requires part { base_of (slice_get self.now.function.now.expressions handle) ≡ Some base }
         ensures { Writes W.text W.failures out.old out.new
             (part_reference_text self.now scope.now handle base) }
@@ -82,6 +84,7 @@ impl FunctionText<'_> {
         out: &mut Output<'_, W>,
     )
         requires can { CanWrite self.now }
+        requires handle { IsInText self.now handle }
         requires part { base_of (slice_get self.now.function.now.expressions handle) ≡ Some base }
         ensures { Writes W.text W.failures out.old out.new
             (plain_address_text self.now scope.now handle) }
@@ -103,6 +106,7 @@ impl FunctionText<'_> {
         out: &mut Output<'_, W>,
     )
         requires can { CanWrite self.now }
+        requires handle { IsInText self.now handle }
         requires part { base_of (slice_get self.now.function.now.expressions handle) ≡ Some base }
         ensures { Writes W.text W.failures out.old out.new (plain_text self.now scope.now handle) }
     {
@@ -121,7 +125,7 @@ impl FunctionText<'_> {
         out: &mut Output<'_, W>,
     )
         requires can { CanWrite self.now }
-        requires base { base < length self.now.function.now.expressions }
+        requires base { IsInText self.now base }
         ensures { Writes W.text W.failures out.old out.new
             (part_base_text self.now scope.now base) }
     {
@@ -143,6 +147,7 @@ impl FunctionText<'_> {
         out: &mut Output<'_, W>,
     )
         requires can { CanWrite self.now }
+        requires handle { IsInText self.now handle }
         requires part { base_of (slice_get self.now.function.now.expressions handle) ≡ Some base }
         ensures { Writes W.text W.failures out.old out.new
             (part_end_text self.now scope.now handle) }
@@ -164,7 +169,7 @@ impl FunctionText<'_> {
         out: &mut Output<'_, W>,
     )
         requires can { CanWrite self.now }
-        requires index { index < length self.now.function.now.expressions }
+        requires index { IsInText self.now index }
         ensures { Writes W.text W.failures out.old out.new (index_text self.now scope.now index) }
     {
         out.put("[");
@@ -259,7 +264,7 @@ impl FunctionText<'_> {
         out: &mut Output<'_, W>,
     )
         requires can { CanWrite self.now }
-        requires vector { vector < length self.now.function.now.expressions }
+        requires vector { IsInText self.now vector }
         ensures { Writes W.text W.failures out.old out.new
             (member_text self.now scope.now vector (swizzle_letters size pattern.now)) }
     {
@@ -279,7 +284,7 @@ impl FunctionText<'_> {
         out: &mut Output<'_, W>,
     )
         requires can { CanWrite self.now }
-        requires handle { handle < length self.now.function.now.expressions }
+        requires handle { IsInText self.now handle }
         ensures { Writes W.text W.failures out.old out.new
             (base_text self.now scope.now handle) }
     {
@@ -300,7 +305,7 @@ impl FunctionText<'_> {
         out: &mut Output<'_, W>,
     )
         requires can { CanWrite self.now }
-        requires handle { handle < length self.now.function.now.expressions }
+        requires handle { IsInText self.now handle }
         ensures { Writes W.text W.failures out.old out.new
             (parenthesized_text self.now scope.now handle) }
     {
@@ -312,7 +317,7 @@ impl FunctionText<'_> {
     /// Whether an expression is written here as an operator before its operand.
     fn is_signed(&self, scope: &Scope, handle: Handle<Expression>) -> bool
         requires can { CanWrite self.now }
-        requires handle { handle < length self.now.function.now.expressions }
+        requires handle { IsInText self.now handle }
         ensures { result ≡ is_signed (as_value (form_at self.now scope.now handle)) }
     {
         match scope.standing(handle) {

@@ -10,7 +10,11 @@ ghost use Rattle.naga_scope.specs.Standings.{handles_of};
 ghost use Rattle.shader_runs.specs.Program.{from};
 ghost use Rattle.shader_runs.specs.Scope.{after, after_emit};
 ghost use Rattle.naga_words.specs.Output.{Writes};
-ghost use Rattle.naga_wgsl_fns.specs.FunctionText.{CanWrite, around, naming};
+ghost use Rattle.std.specs.List.{filter};
+ghost use Rattle.std.specs.Option.{option_to_list};
+ghost use Rattle.module_meaning.specs.Written.{block_roots, statement_roots};
+ghost use Rattle.naga_wgsl_fns.specs.FunctionText.{AreInText, CanWrite, IsInText, around, bound};
+ghost use Rattle.naga_wgsl_fns.specs.FunctionText.{naming};
 ghost use Rattle.naga_wgsl_fns.specs.Statements.{block_text, emitted_text, let_text, lets_text};
 ghost use Rattle.naga_wgsl_fns.specs.Statements.{line_start, return_text, return_value_text};
 ghost use Rattle.naga_wgsl_fns.specs.Statements.{statement_text, store_text};
@@ -39,6 +43,7 @@ impl FunctionText<'_> {
         requires in_range { IsTrue (block_in_range self.now.handle
             (length self.now.function.now.expressions) block.now) }
         requires written { IsTrue (block_is_written block.now) }
+        requires roots { AreInText self.now (block_roots (bound self.now) block.now) }
         ensures { Writes W.text W.failures out.old out.new
             (block_text self.now scope.old level.0 block.now) }
     {
@@ -65,6 +70,7 @@ impl FunctionText<'_> {
         requires in_range { IsTrue (statement_in_range self.now.handle
             (length self.now.function.now.expressions) (tree_of statement.now)) }
         requires written { IsTrue (statement_is_written (tree_of statement.now)) }
+        requires roots { AreInText self.now (statement_roots (bound self.now) (tree_of statement.now)) }
         ensures lines { Writes W.text W.failures out.old out.new
             (statement_text self.now scope.old level.0 (tree_of statement.now)) }
         ensures after { handles_of scope.new
@@ -96,6 +102,8 @@ impl FunctionText<'_> {
         requires can { CanWrite self.now }
         requires size { length scope.old ≡ length self.now.function.now.expressions }
         requires range { range.end ≤ length self.now.function.now.expressions }
+        requires roots { AreInText self.now
+            (filter (bound self.now) (from range.first (range.end - range.first))) }
         ensures lets { Writes W.text W.failures out.old out.new
             (lets_text self.now scope.old level.0 (from range.first (range.end - range.first))) }
         ensures after { handles_of scope.new
@@ -122,6 +130,7 @@ impl FunctionText<'_> {
     )
         requires can { CanWrite self.now }
         requires handle { handle < length self.now.function.now.expressions }
+        requires root { IsTrue (bound self.now handle) → IsInText self.now handle }
         ensures { Writes W.text W.failures out.old out.new
             (emitted_text self.now scope.now level.0 handle) }
     {
@@ -140,7 +149,7 @@ impl FunctionText<'_> {
         out: &mut Output<'_, W>,
     )
         requires can { CanWrite self.now }
-        requires handle { handle < length self.now.function.now.expressions }
+        requires handle { IsInText self.now handle }
         ensures { Writes W.text W.failures out.old out.new
             (let_text self.now scope.now level.0 handle) }
     {
@@ -163,8 +172,8 @@ impl FunctionText<'_> {
         out: &mut Output<'_, W>,
     )
         requires can { CanWrite self.now }
-        requires pointer { pointer < length self.now.function.now.expressions }
-        requires value { value < length self.now.function.now.expressions }
+        requires pointer { IsInText self.now pointer }
+        requires value { IsInText self.now value }
         ensures { Writes W.text W.failures out.old out.new
             (store_text self.now scope.now level.0 pointer value) }
     {
@@ -185,7 +194,7 @@ impl FunctionText<'_> {
         out: &mut Output<'_, W>,
     )
         requires can { CanWrite self.now }
-        requires value { IsTrue (is_below (length self.now.function.now.expressions) value) }
+        requires value { AreInText self.now (option_to_list value) }
         ensures { Writes W.text W.failures out.old out.new
             (return_text self.now scope.now level.0 value) }
     {
@@ -205,7 +214,7 @@ impl FunctionText<'_> {
         out: &mut Output<'_, W>,
     )
         requires can { CanWrite self.now }
-        requires value { value < length self.now.function.now.expressions }
+        requires value { IsInText self.now value }
         ensures { Writes W.text W.failures out.old out.new
             (return_value_text self.now scope.now level.0 value) }
     {

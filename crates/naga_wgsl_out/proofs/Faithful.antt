@@ -21,7 +21,6 @@ use Rattle.module_meaning.specs.Bindings.{BindsAs}
 use Rattle.naga_form.proofs.Bindings.{binds_as}
 use Rattle.module_meaning.specs.Resolution.{ResolvesAs}
 use Rattle.naga_form.proofs.Runs.{runs_as}
-use Rattle.naga_scope.specs.Plans.{ScopeHoldsIn}
 use Rattle.naga_words.specs.Sink.{IsBehind}
 use Rattle.naga_wgsl_fns.specs.Appends.{StoppedWithin}
 use Rattle.naga_wgsl_fns.specs.Errors.{IsWant, IsNotYetWritten}
@@ -34,9 +33,10 @@ use Rattle.naga_wgsl_out.specs.Writing.{HasPlan, MetNoPlan, WritesFunctions, Wro
 use Rattle.naga_wgsl_out.specs.Writing.{WroteFunctionsBefore, lines_before, module_lines}
 use Rattle.naga_wgsl_out.specs.Writing.{written_text}
 use Rattle.naga_wgsl_out.proofs.Functions.{lines_behind, lines_split, written_lines}
-use Rattle.naga_wgsl_out.proofs.Scopes.{all_planned_counted, all_planned_hold, scope_holds_in}
+use Rattle.naga_wgsl_out.proofs.Scopes.{all_planned_counted, all_planned_formed, all_planned_hold}
+use Rattle.naga_wgsl_out.proofs.Scopes.{fault_refuses, fault_told}
 use Rattle.naga_wgsl_out.specs.Refusals.{ComesBeforeText, HasAllNames, IsNamesRefusal, IsRefusal}
-use Rattle.naga_wgsl_out.specs.Refusals.{TellsOfModule, TellsOfScope}
+use Rattle.naga_wgsl_out.specs.Refusals.{TellsOfModule, TellsOfFunction}
 use Rattle.naga_wgsl_out.specs.Headline.{EachReading, FaithfulWriting}
 
 -- what stands behind the same text is the same
@@ -54,14 +54,6 @@ for_names m info (Custom message) before after is = inl is
 for_names m info (Memory e) before after is = tt
 for_names m info _ before after is = absurd is
 
--- and so is a function in which the rules of scope don't hold
-pub for_scope : (m : Module) (info : ModuleInfo) → IsTrue (is_written_so_far m info) →
-    (error : Error) (before after : ℕ) → TellsOfScope error → (i : ℕ) →
-    (ScopeHoldsIn m info i → ⊥) → IsRefusal m info before after error
-for_scope m info written (Custom message) before after told i fails =
-    inr (told, λ rules. fails (scope_holds_in m info written rules i))
-for_scope m info written _ before after told i fails = absurd told
-
 -- so are a sink that failed and want of memory
 pub for_want : (m : Module) (info : ModuleInfo) (error : Error) (before after : ℕ) → IsWant before after error → IsRefusal m info before after error
 for_want m info (FmtError e) before after is = is
@@ -70,7 +62,7 @@ for_want m info _ before after is = absurd is
 
 -- and so is what is not written so far
 pub for_part : (m : Module) (info : ModuleInfo) (error : Error) (before after : ℕ) → IsNotYetWritten error → is_written_so_far m info ≡ false → IsRefusal m info before after error
-for_part m info (Unimplemented message) before after is part = (is, part)
+for_part m info (Unimplemented message) before after is part = inl (is, part)
 for_part m info (Memory e) before after is part = tt
 for_part m info _ before after is part = absurd is
 
@@ -82,9 +74,10 @@ want_tells_nothing (FmtError e) before after is tells = tells
 want_tells_nothing (Memory e) before after is tells = tells
 want_tells_nothing _ before after is tells = is
 
-pub scope_tells_of_module : (error : Error) → TellsOfScope error → TellsOfModule error
-scope_tells_of_module (Custom message) told = tt
-scope_tells_of_module _ told = absurd told
+pub function_tells_of_module : (error : Error) → TellsOfFunction error → TellsOfModule error
+function_tells_of_module (Custom message) told = tt
+function_tells_of_module error (inr told) = told.0
+function_tells_of_module _ (inl told) = absurd told
 
 -- a text that was appended
 module _ (m : Module) (info : ModuleInfo) (flags : WriterFlags)
@@ -103,7 +96,7 @@ module _ (m : Module) (info : ModuleInfo) (flags : WriterFlags)
   one : AllPlanned → HasOneReading Reads (written_text m info flags) program
   one planned =
       program_has_one_reading program (is_program m info explicit accepted
-      written (all_planned_counted m info accepted planned))
+      written (all_planned_formed m info planned) (all_planned_counted m info accepted planned))
 
   each : AllPlanned → (held now : List ℕ) → now ≡ held ++ written_text m info flags →
       (Q : Program → Type 0) → Q program → EachReading held now Q
@@ -120,7 +113,7 @@ module _ (m : Module) (info : ModuleInfo) (flags : WriterFlags)
     pub text_ok : OnOk r (now ≡ held ++ written_text m info flags)
     pub text_err : OnErr r (IsBehind held (written_text m info flags) now)
     pub untouched : IfErr r (λ e. ComesBeforeText e → now ≡ held)
-    pub written_before : IfErr r (λ e. TellsOfScope e → WroteFunctionsBefore m info flags held now)
+    pub written_before : IfErr r (λ e. TellsOfFunction e → WroteFunctionsBefore m info flags held now)
     pub unfailed : IfErr r (λ e. TellsOfModule e → after ≡ before)
     pub failures_ok : OnOk r (after ≡ before)
 
@@ -133,12 +126,14 @@ module _ (m : Module) (info : ModuleInfo) (flags : WriterFlags)
     wrote w =
         let appended = w.wrote.appended ∙ ap (λ t. held ++ t) same_text in
         let rules = all_planned_hold m info written w.planned in
+        let formed = all_planned_formed m info w.planned in
         let reading = each w.planned held now appended in
         record {
           is_faithful = record {
             refusals = record {
               written = written;
               in_scope = rules;
+              formed = formed;
               told = has.told;
               keys = has.keys;
             };
@@ -150,11 +145,11 @@ module _ (m : Module) (info : ModuleInfo) (flags : WriterFlags)
             };
             interface = reading (HasInterfaceOf m) (has_interface m info explicit (functions_counted m info accepted));
             runs = reading (RunsAs m info)
-                (runs_as m info explicit accepted written rules has.counted);
+                (runs_as m info explicit accepted written formed rules has.counted);
           };
           resolved = reading (ResolvesAs m info)
-              (resolves m info explicit accepted written rules has.counted);
-          binds = reading (BindsAs m info explicit) (binds_as m info explicit accepted written);
+              (resolves m info explicit accepted written formed rules has.counted);
+          binds = reading (BindsAs m info explicit) (binds_as m info explicit accepted written formed);
           text_ok = appended;
           text_err = tt;
           untouched = tt;
@@ -174,7 +169,7 @@ module _ (m : Module) (info : ModuleInfo) (flags : WriterFlags)
       text_err = subst (λ t. IsBehind held t now) same_text s.behind;
       untouched = λ first. absurd (want_tells_nothing e before after s.reason first.0);
       written_before = λ told.
-          absurd (want_tells_nothing e before after s.reason (scope_tells_of_module e told));
+          absurd (want_tells_nothing e before after s.reason (function_tells_of_module e told));
       unfailed = λ tells. absurd (want_tells_nothing e before after s.reason tells);
       failures_ok = tt;
     }
@@ -183,7 +178,7 @@ module _ (m : Module) (info : ModuleInfo) (flags : WriterFlags)
         Concludes (Err e) held now before after
     met_no_plan e s = record {
       is_faithful = refused m info e held now before after
-          (for_scope m info written e before after s.told s.before.handle s.before.fails);
+          (fault_refuses m info s.before.handle before after written e s.tells s.fault);
       resolved = tt;
       binds = tt;
       text_ok = tt;
@@ -193,7 +188,8 @@ module _ (m : Module) (info : ModuleInfo) (flags : WriterFlags)
         sym (lines_split m info flags s.before.handle),
         s.before.written,
       );
-      untouched = λ first. absurd (first.1 s.told);
+      untouched = λ first.
+          absurd (first.1 (fault_told m info s.before.handle e s.tells s.fault));
       written_before = λ told. s.before;
       unfailed = λ tells. s.kept;
       failures_ok = tt;

@@ -21,20 +21,20 @@ use Rattle.wgsl_text.proofs.Text.{text-append}
 use Rattle.naga_names.proofs.Refusal.{element}
 use Rattle.naga_form.proofs.AcceptedFunctions.{functions_counted}
 use Rattle.wgsl_text.specs.Text.{text}
-use Rattle.naga_scope.specs.Plans.{IsPlanOf, ScopeHoldsIn}
+use Rattle.naga_scope.specs.Plans.{IsPlanOf}
 use Rattle.naga_scope.specs.declared.points.Standing.{Standing}
 use Rattle.module_meaning.specs.Names.{module_names}
 use Rattle.naga_wgsl_fns.specs.Appends.{StoppedWithin, Wrote}
 use Rattle.naga_wgsl_fns.specs.FunctionText.{tells_types}
 use Rattle.naga_wgsl_fns.specs.Functions.{known_of, text_of_function}
 use Rattle.naga_wgsl_fns.specs.declared.error.Error.{Error}
-use Rattle.naga_wgsl_fns.specs.declared.error.Error.TheVariants.{Custom, Memory}
+use Rattle.naga_wgsl_fns.specs.declared.error.Error.TheVariants.{Memory}
 use Rattle.naga_wgsl_fns.proofs.Appending.{stopped_first, stopped_then, wrote_nothing, wrote_then}
 use Rattle.naga_back.specs.declared.flags.WriterFlags.{WriterFlags}
-use Rattle.naga_wgsl_out.specs.Refusals.{IsPlanRefusal}
+use Rattle.naga_wgsl_out.specs.Refusals.{IsFault, IsPlanRefusal, TellsOfModule}
 use Rattle.naga_wgsl_out.specs.Writing.{HasPlan, MetNoPlan, WritesFunctions, WroteFunctions}
 use Rattle.naga_wgsl_out.specs.Writing.{line_of, lines_before, lines_of, module_lines, written_text}
-use Rattle.naga_wgsl_out.proofs.Scopes.{planned_holds}
+use Rattle.naga_wgsl_out.proofs.Scopes.{fault_fails, planned_holds}
 
 functions_text : (m : Module) (info : ModuleInfo) (flags : WriterFlags) (g : ℕ) (fs : List Function) (ess : List (List ExpressionInfo)) → length fs ≡ length ess → ((i : ℕ) (es : List ExpressionInfo) → slice_get ess i ≡ Some es → known_of info (g + i) ≡ es) → text (functions_pieces (functions_form (tells_types flags) (module_names m) m info g fs ess)) ≡ lines_of m info flags (enumerate_from g fs)
 functions_text m info flags g [] [] size known = refl
@@ -190,6 +190,23 @@ module _ (m : Module) (info : ModuleInfo) (flags : WriterFlags) {n : ℕ} {held 
         (stopped_then so_far.wrote (stopped_first (lines_behind m info flags (n + 1)) stopped))))
 
     -- it has no plan
+    unplanned : (error : Error) → TellsOfModule error → IsFault m info handle error →
+        MetNoPlan m info flags held failed middle among error
+    unplanned error tells fault = record {
+      before = record {
+        handle = n;
+        fails = fault_fails m info n error here_fault;
+        hold = λ i below. planned_holds m info i (so_far.planned i below);
+        written = so_far.wrote.appended;
+      };
+      tells = tells;
+      fault = here_fault;
+      kept = so_far.wrote.kept;
+    }
+      where
+        here_fault : IsFault m info n error
+        here_fault = subst (λ h. IsFault m info h error) is fault
+
     pub up_to_unplanned : (r : Result Unit Error) (error : Error) → IsErrAnd r (λ e. e ≡ error) →
         IsPlanRefusal m info handle error → WritesFunctions m info flags r held failed middle among
     up_to_unplanned r error told refusal = writes_err r told (by error refusal)
@@ -206,14 +223,4 @@ module _ (m : Module) (info : ModuleInfo) (flags : WriterFlags) {n : ℕ} {held 
           );
           reason = tt;
         })
-        by (Custom message) refusal = inr (record {
-          told = refusal.0;
-          before = record {
-            handle = n;
-            fails = λ holds. refusal.1 (subst (ScopeHoldsIn m info) (sym is) holds);
-            hold = λ i below. planned_holds m info i (so_far.planned i below);
-            written = so_far.wrote.appended;
-          };
-          kept = so_far.wrote.kept;
-        })
-        by _ refusal = absurd refusal
+        by _ refusal = inr (unplanned _ refusal.0 refusal.1)

@@ -1,29 +1,48 @@
 -- The rules of scope in the functions of a module, one by one and in all.
 use Rattle.std.proofs.Common.{◌≡◌, ◌<◌, ◌^◌, ◌∙◌, ℕ, Bool, true, zero, suc, List, [], ◌∷◌}
-use Rattle.std.proofs.Common.{None, Option, Some, ap, arith, length, nat_le, refl, subst, sym}
-use Rattle.std.specs.Prelude.{IfSome, IsSomeAnd, IsTrue, slice_get}
+use Rattle.std.proofs.Common.{None, Option, Some, ap, arith, inl, inr, length, nat_le, refl, subst}
+use Rattle.std.proofs.Common.{codes, sym}
+use Rattle.std.specs.Prelude.{IfSome, IsFalse, IsSomeAnd, IsTrue, slice_get}
 use Rattle.std.specs.List.{list_all}
 use Rattle.std.proofs.lemmas.Bool.{and_from}
 use Rattle.std.proofs.lemmas.Option.{slice_get_within}
 use mathlib.Core.List.{reverse_aux}
+use Rattle.naga_ir.specs.declared.expression.Expression.{Expression}
+use Rattle.naga_ir.specs.declared.expression.Expression.TheVariants.{Literal, Math, Relational}
+use Rattle.naga_ir.specs.declared.expression.Literal.{Literal as LiteralValue}
+use Rattle.naga_ir.specs.declared.expression.Literal.TheVariants as literal
 use Rattle.naga_ir.specs.declared.module.Function as ir_function
 use Rattle.naga_ir.specs.declared.module.Module.{Module}
+use Rattle.naga_info.specs.declared.info.ExpressionInfo.{ExpressionInfo}
 use Rattle.naga_info.specs.declared.info.ModuleInfo.{ModuleInfo}
 use Rattle.shader_runs.specs.Program as shapes
 use Rattle.shader_runs.specs.Program.{Function}
 use Rattle.shader_runs.specs.ScopeRules.{ScopeHolds}
 use Rattle.module_meaning.specs.Accepted.{is_accepted}
+use Rattle.module_meaning.specs.Part.{expression_is_written, function_is_written}
 use Rattle.module_meaning.specs.Part.{is_written_so_far}
+use Rattle.module_meaning.proofs.Lists.{list_all_at}
+use Rattle.module_meaning.proofs.Part.{functions_are_written}
+use Rattle.module_meaning.specs.Written.{AllWrittenHaveForms}
 use Rattle.module_meaning.specs.Premises.{EachScopeHolds, ScopesHold, handles_are_counted}
-use Rattle.module_meaning.specs.FunctionShapes.{function_shapes}
-use Rattle.module_meaning.specs.Surroundings.{declared, types_known}
+use Rattle.module_meaning.specs.FunctionShapes.{function_shape, function_shapes}
 use Rattle.module_meaning.proofs.ModuleShapes.{declares_functions_alone}
-use Rattle.naga_form.proofs.ModulePlaces.{shapes_length}
 use Rattle.naga_form.proofs.AcceptedFunctions.{functions_counted}
 use Rattle.naga_names.proofs.Refusal.{element}
-use Rattle.naga_scope.specs.Plans.{IsPlan, ScopeHoldsIn, function_shape_at}
-use Rattle.naga_scope.proofs.Planned.{plan_found}
-use Rattle.naga_wgsl_out.specs.Writing.{HasPlan}
+use Rattle.naga_scope.specs.Plans.{IsRefusalToPlanOf, ScopeHoldsIn}
+use Rattle.naga_scope.specs.declared.plan.PlanError.{PlanError}
+use Rattle.naga_scope.specs.declared.plan.PlanError.TheVariants.{OutOfScope, WithoutForm}
+use Rattle.naga_scope.specs.declared.plan.PlanError.TheVariants as plan_error
+use Rattle.naga_scope.proofs.Planned.{shape_found}
+use Rattle.naga_wgsl_fns.specs.declared.error.Error.{Error}
+use Rattle.naga_wgsl_fns.specs.declared.error.Error.TheVariants.{Custom, FmtError, Memory}
+use Rattle.naga_wgsl_fns.specs.declared.error.Error.TheVariants.{Unimplemented}
+use Rattle.naga_words.specs.declared.sink.SinkError.{SinkError}
+use Rattle.naga_wgsl_fns.specs.Errors.{IsCustom}
+use Rattle.naga_wgsl_out.specs.Refusals.{IsFault, IsOfPlan, IsPlanRefusal, IsRefusal}
+use Rattle.naga_wgsl_out.specs.Refusals.{NamesExpression, NamesFormless, NamesLiteral}
+use Rattle.naga_wgsl_out.specs.Refusals.{TellsOfFunction, TellsOfModule, TellsPlanError}
+use Rattle.naga_wgsl_out.specs.Writing.{HasPlan, IsWritableAt}
 
 -- ---- a list of functions and its reverse
 turned : (fs behind : List Function) → EachScopeHolds fs → EachScopeHolds behind →
@@ -57,13 +76,24 @@ scope_holds_in m info written rules i =
     each_at own (turned_back own [] of_part).0 i
 
 -- ---- functions with a plan
+-- what holds of the shape of each function that there is holds of the shape with its handle
+of_shape : (m : Module) (info : ModuleInfo) (fs : List ir_function.Function)
+    (ess : List (List ExpressionInfo)) (i : ℕ) (Q : Function → Type 0) →
+    ((f : ir_function.Function) (es : List ExpressionInfo) → slice_get fs i ≡ Some f →
+    slice_get ess i ≡ Some es → Q (function_shape m info f es)) →
+    IfSome (slice_get (function_shapes m info fs ess) i) Q
+of_shape m info [] ess i Q each = tt
+of_shape m info (f ∷ fs) [] i Q each = tt
+of_shape m info (f ∷ fs) (es ∷ ess) zero Q each = each f es refl refl
+of_shape m info (f ∷ fs) (es ∷ ess) (suc i) Q each = of_shape m info fs ess i Q each
+
 pub planned_holds : (m : Module) (info : ModuleInfo) (i : ℕ) → HasPlan m info i →
-    ScopeHoldsIn m info i
-planned_holds m info i has = by (function_shape_at m info i) has.plan
-  where
-    by : (o : Option Function) → IsSomeAnd o (λ f. IsPlan f has.table) → IfSome o ScopeHolds
-    by None plan = tt
-    by (Some f) plan = plan.in_scope
+    IsWritableAt m info i
+planned_holds m info i has = record {
+  in_scope = of_shape m info m.functions info.functions.items i ScopeHolds
+      (λ f es at known. (has.plan f es at known).in_scope);
+  formed = λ f es at known. (has.plan f es at known).formed;
+}
 
 -- more shapes than functions there are none
 shapes_below : (m : Module) (info : ModuleInfo) (i : ℕ) →
@@ -86,7 +116,7 @@ all_planned_hold m info written planned =
     subst (λ (p : shapes.Module). EachScopeHolds p.functions)
     (sym (declares_functions_alone m info written))
     (turned own []
-    (each_from own (λ i lt. planned_holds m info i (planned i (shapes_below m info i lt)))) tt)
+    (each_from own (λ i lt. (planned_holds m info i (planned i (shapes_below m info i lt))).in_scope)) tt)
 
 -- a test that each item passes
 all_pass : {X : Type 0} (test : X → Bool) (xs : List X) →
@@ -108,8 +138,135 @@ all_planned_counted m info accepted planned =
         let within = slice_get_within m.functions i f is in
         let counted = functions_counted m info accepted in
         let known = element info.functions.items i (omega (arith, within, counted)) in
-        let has = planned i within in
-        let plan = plan_found m info i f known.0 has.table is known.1 has.plan in
-        let d = declared m info (types_known known.0) in
-        ap (λ n. nat_le n (2 ^ 64)) (sym (shapes_length d f.expressions 0 f.expressions))
-        ∙ plan.counted
+        ((planned i within).plan f known.0 is known.1).counted
+
+-- and each written handle has a form
+pub all_planned_formed : (m : Module) (info : ModuleInfo) →
+    ((i : ℕ) → i < length m.functions → HasPlan m info i) → AllWrittenHaveForms m info
+all_planned_formed m info planned g f known at is =
+    ((planned g (slice_get_within m.functions g f at)).plan f known at is).formed
+
+-- ---- functions without one
+-- what is named stands in the function, and has no form
+module _ (m : Module) (info : ModuleInfo) (i : ℕ) (error : Error)
+    (n : NamesFormless m info i error) where
+  named : (x : Expression) × (slice_get n.function.expressions n.expression ≡ Some x)
+      × IsFalse (expression_is_written x) × NamesExpression x error
+  named = by (slice_get n.function.expressions n.expression) refl n.named
+    where
+      by : (o : Option Expression) → slice_get n.function.expressions n.expression ≡ o →
+          IsSomeAnd o (λ e. IsFalse (expression_is_written e) × NamesExpression e error) →
+          (x : Expression) × (slice_get n.function.expressions n.expression ≡ Some x)
+          × IsFalse (expression_is_written x) × NamesExpression x error
+      by None at is = absurd is
+      by (Some x) at is = (x, at, is.0, is.1)
+
+  pub formless_fails : IsWritableAt m info i → ⊥
+  formless_fails w =
+      let formed = w.formed n.function n.known n.stands n.is_known n.expression named.0 named.1 n.written in
+      let formless = named.2 in
+      absurd cc
+
+  pub formless_told : TellsOfModule error → TellsOfFunction error
+  formless_told tells = inr (tells, (named.0, named.3))
+
+-- what a fault is
+module _ (m : Module) (info : ModuleInfo) (i : ℕ) where
+  pub fault_fails : (error : Error) → IsFault m info i error → IsWritableAt m info i → ⊥
+  fault_fails error (inl scope) w = scope.1 w.in_scope
+  fault_fails error (inr formless) w = formless_fails m info i error formless w
+
+  pub fault_told : (error : Error) → TellsOfModule error → IsFault m info i error →
+      TellsOfFunction error
+  fault_told error tells (inl scope) = inl scope.0
+  fault_told error tells (inr formless) = formless_told m info i error formless tells
+
+  pub fault_refuses : (before after : ℕ) → IsTrue (is_written_so_far m info) → (error : Error) →
+      TellsOfModule error → IsFault m info i error → IsRefusal m info before after error
+  fault_refuses before after written (FmtError e) tells fault = absurd tells
+  fault_refuses before after written (Memory e) tells fault = absurd tells
+  fault_refuses before after written (Custom message) tells (inl scope) =
+      inr (inl (scope.0, λ rules. scope.1 (scope_holds_in m info written rules i)))
+  fault_refuses before after written (Custom message) tells (inr formless) = inr (inr (i, formless))
+  fault_refuses before after written (Unimplemented message) tells (inl scope) = absurd scope.0
+  fault_refuses before after written (Unimplemented message) tells (inr formless) =
+      inr (i, formless)
+  fault_refuses before after written _ tells (inl scope) = absurd scope.0
+  fault_refuses before after written _ tells (inr formless) = (i, formless)
+
+-- ---- what is told of a plan's error
+-- no refusal that names an expression is the sink's
+names_no_sink : (e : Expression) (reason : SinkError) → NamesExpression e (FmtError reason) → ⊥
+names_no_sink (Literal value) reason named = by value named
+  where
+    by : (value : LiteralValue) → NamesLiteral value (FmtError reason) → ⊥
+    by (literal.F64 bits) named = named
+    by (literal.F32 bits) named = named
+    by (literal.F16 bits) named = named
+    by (literal.AbstractInt value) named = named
+    by (literal.AbstractFloat bits) named = named
+    by _ named = named
+names_no_sink (Math fun arg arg1 arg2 arg3) reason named = named
+names_no_sink (Relational fun argument) reason named = absurd cc
+names_no_sink _ reason named = named
+
+module _ (m : Module) (info : ModuleInfo) (accepted : IsTrue (is_accepted m info))
+    (written : IsTrue (is_written_so_far m info)) (i : ℕ) (f : ir_function.Function)
+    (stands : slice_get m.functions i ≡ Some f) where
+  counted : length m.functions ≡ length info.functions.items
+  counted = functions_counted m info accepted
+
+  within : i < length m.functions
+  within = slice_get_within m.functions i f stands
+
+  known : (es : List ExpressionInfo) × (slice_get info.functions.items i ≡ Some es)
+  known = element info.functions.items i (omega (arith, within, counted))
+
+  pub function_written : IsTrue (function_is_written f)
+  function_written =
+      list_all_at function_is_written m.functions i f (functions_are_written m info written) stands
+
+  -- where the check of the function fails, the rules don't hold in it
+  out_of_scope : IsRefusalToPlanOf m info i OutOfScope → ScopeHoldsIn m info i → ⊥
+  out_of_scope refusal holds =
+      refusal f known.0 stands known.1 (subst (λ o. IfSome o ScopeHolds)
+      (shape_found m info m.functions info.functions.items i f known.0 stands known.1) holds)
+
+  pub is_of_plan : (error : PlanError) → IsRefusalToPlanOf m info i error → IsOfPlan f error
+  is_of_plan OutOfScope refusal = tt
+  is_of_plan (WithoutForm h) refusal = (refusal f known.0 stands known.1).1
+  is_of_plan (plan_error.Memory e) refusal = tt
+
+  for_scope : (told : Error) → IsCustom (codes "operand out of scope") told →
+      (ScopeHoldsIn m info i → ⊥) → IsPlanRefusal m info i told
+  for_scope (Custom message) is fails = (tt, inl (is, fails))
+  for_scope (Memory e) is fails = tt
+  for_scope _ is fails = absurd is
+
+  for_form : (told : Error) → NamesFormless m info i told → IsPlanRefusal m info i told
+  for_form (FmtError reason) n =
+      let at = named m info i (FmtError reason) n in
+      absurd (names_no_sink at.0 reason at.3)
+  for_form (Memory e) n = tt
+  for_form _ n = (tt, inr n)
+
+  pub plan_refusal : (error : PlanError) (told : Error) → IsRefusalToPlanOf m info i error →
+      TellsPlanError f error told → IsPlanRefusal m info i told
+  plan_refusal OutOfScope told refusal is = for_scope told is (out_of_scope refusal)
+  plan_refusal (WithoutForm h) told refusal is =
+      let here = refusal f known.0 stands known.1 in
+      for_form told (record {
+        function = f;
+        known = known.0;
+        stands = stands;
+        is_known = known.1;
+        expression = h;
+        written = here.0;
+        named = both _ _ (slice_get f.expressions h) here.1 is;
+      })
+    where
+      both : (P Q : Expression → Type 0) (o : Option Expression) → IsSomeAnd o P →
+          IsSomeAnd o Q → IsSomeAnd o (λ e. P e × Q e)
+      both P Q None p q = absurd p
+      both P Q (Some e) p q = (p, q)
+  plan_refusal (plan_error.Memory e) told refusal is = subst (IsPlanRefusal m info i) (sym is) tt

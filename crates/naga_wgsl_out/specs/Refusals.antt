@@ -2,9 +2,16 @@
 --
 -- Throughout, m is the module, and e an error of memory.
 use Rattle.std.specs.Prelude.{◌≡◌, ⊤, ℕ, List, ◌⊎◌, codes, string_bytes, IsTrue, IsFalse, Result}
-use Rattle.std.specs.Prelude.{Ok, Err}
+use Rattle.std.specs.Prelude.{Ok, Err, IsSomeAnd, Some, slice_get}
+use Rattle.naga_ir.specs.declared.expression.Expression.{Expression}
+use Rattle.naga_ir.specs.declared.expression.Expression.TheVariants.{Literal, Math, Relational}
+use Rattle.naga_ir.specs.declared.expression.Literal.{Literal as LiteralValue}
+use Rattle.naga_ir.specs.declared.expression.Literal.TheVariants as literal
+use Rattle.naga_ir.specs.declared.module.Function.{Function}
 use Rattle.naga_ir.specs.declared.module.Module.{Module}
-use Rattle.module_meaning.specs.Part.{is_written_so_far}
+use Rattle.module_meaning.specs.Part.{expression_is_written, is_written_so_far}
+use Rattle.module_meaning.specs.Written.{AllWrittenHaveForms, IsWrittenIn}
+use Rattle.naga_info.specs.declared.info.ExpressionInfo.{ExpressionInfo}
 use Rattle.naga_info.specs.declared.info.ModuleInfo.{ModuleInfo}
 use Rattle.naga_names.specs.Refusal.{SomeNameIsFull, SomeKeyIsFull}
 use Rattle.naga_names.specs.declared.error.NamerError.{NamerError}
@@ -14,10 +21,14 @@ use Rattle.naga_names.specs.Reset.{labelled_items}
 use Rattle.module_meaning.specs.Names.{wgsl_names, HasNamesOf, NamesAreCounted}
 use Rattle.module_meaning.specs.Premises.{ScopesHold}
 use Rattle.naga_scope.specs.Plans.{ScopeHoldsIn}
-use Rattle.naga_wgsl_fns.specs.Errors.{IsCustom, IsSinkWant}
+use Rattle.naga_scope.specs.declared.plan.PlanError.{PlanError}
+use Rattle.naga_scope.specs.declared.plan.PlanError.TheVariants.{OutOfScope, WithoutForm}
+use Rattle.naga_scope.specs.declared.plan.PlanError.TheVariants as plan_error
+use Rattle.naga_wgsl_fns.specs.Errors.{IsCustom, IsSinkWant, IsUnimplemented}
 use Rattle.naga_wgsl_fns.specs.declared.error.Error.{Error}
 use Rattle.naga_wgsl_fns.specs.declared.error.Error.TheVariants.{FmtError, Custom, Unimplemented}
-use Rattle.naga_wgsl_fns.specs.declared.error.Error.TheVariants.{Memory}
+use Rattle.naga_wgsl_fns.specs.declared.error.Error.TheVariants.{Memory, Unsupported}
+use Rattle.naga_wgsl_fns.specs.declared.error.Error.TheVariants.{UnsupportedRelationalFunction}
 
 -- the names of some items of the module can't be told: so many of them have one base, or the key of
 -- one is out of range
@@ -45,6 +56,51 @@ IsErrorOfNames namer_error.Full error = IsCustom (codes "namer is full") error
 IsErrorOfNames namer_error.KeyFull error = IsCustom (codes "name key out of range") error
 IsErrorOfNames (namer_error.Memory e) error = error ≡ Memory e
 
+-- ---- expressions without a form
+-- The refusals that name them, or want of memory for their text. A literal is a float or an abstract
+-- one; a function of mathematics or a relation has no word.
+abbrev pub FloatLiteral : Error → Type 0
+FloatLiteral error = IsUnimplemented (codes "float literal") error
+
+abbrev pub AbstractLiteral : Error → Type 0
+AbstractLiteral error =
+    IsCustom (codes "Abstract types should not appear in IR presented to backends") error
+
+abbrev pub NamesLiteral : LiteralValue → Error → Type 0
+NamesLiteral (literal.F64 bits) error = FloatLiteral error
+NamesLiteral (literal.F32 bits) error = FloatLiteral error
+NamesLiteral (literal.F16 bits) error = FloatLiteral error
+NamesLiteral (literal.AbstractInt value) error = AbstractLiteral error
+NamesLiteral (literal.AbstractFloat bits) error = AbstractLiteral error
+NamesLiteral _ error = ⊥
+
+abbrev pub NamesFunction : Error → Type 0
+NamesFunction (Unsupported kind value) = kind.now ≡ codes "math function"
+NamesFunction (Memory e) = ⊤
+NamesFunction _ = ⊥
+
+abbrev pub NamesExpression : Expression → Error → Type 0
+NamesExpression (Literal value) error = NamesLiteral value error
+NamesExpression (Math fun arg arg1 arg2 arg3) error = NamesFunction error
+NamesExpression (Relational fun argument) error = error ≡ UnsupportedRelationalFunction fun
+NamesExpression _ error = ⊥
+
+-- an expression is written in the function with this handle that has no form, and is named
+pub record NamesFormless (m : Module) (info : ModuleInfo) (handle : ℕ) (error : Error) : Type 0 where
+  pub function : Function
+  pub known : List ExpressionInfo
+  pub stands : slice_get m.functions handle ≡ Some function
+  pub is_known : slice_get info.functions.items handle ≡ Some known
+  pub expression : ℕ
+  pub written : IsWrittenIn m info function known expression
+  pub named : IsSomeAnd (slice_get function.expressions expression) (λ e.
+      IsFalse (expression_is_written e) × NamesExpression e error)
+
+-- so it is in some function
+abbrev pub HasFormless : Module → ModuleInfo → Error → Type 0
+HasFormless m info error = (handle : ℕ) × NamesFormless m info handle error
+
+-- ---- refusals
 -- the rules of scope don't hold in some function: an operand is used where it is out of scope, or
 -- an `Emit` isn't allowed
 abbrev pub IsOutOfScope : Module → ModuleInfo → (message : List ℕ) → Type 0
@@ -52,15 +108,18 @@ IsOutOfScope m info message = (message ≡ codes "operand out of scope") × (Sco
 
 -- Why a module is refused, of which this is known, where the sink had failed so often before and
 -- has failed so often now: the sink failed, memory ran out, the names can't be told, an operand is
--- out of scope, or the module holds what is not written so far.
+-- out of scope, an expression without a form is written, or the module holds what is not written so
+-- far.
 abbrev pub IsRefusal : Module → ModuleInfo → (before now : ℕ) → Error → Type 0
 IsRefusal m info before now (FmtError e) = IsSinkWant before now e
 IsRefusal m info before now (Memory e) = ⊤
 IsRefusal m info before now (Custom message) =
-    IsToldOf m (string_bytes message) ⊎ IsOutOfScope m info (string_bytes message)
+    IsToldOf m (string_bytes message)
+    ⊎ (IsOutOfScope m info (string_bytes message) ⊎ HasFormless m info (Custom message))
 IsRefusal m info before now (Unimplemented message) =
-    (string_bytes message ≡ codes "not yet written") × IsFalse (is_written_so_far m info)
-IsRefusal m info before now _ = ⊥
+    ((string_bytes message ≡ codes "not yet written") × IsFalse (is_written_so_far m info))
+    ⊎ HasFormless m info (Unimplemented message)
+IsRefusal m info before now error = HasFormless m info error
 
 -- the error tells of the module, and not of memory or of the sink
 abbrev pub TellsOfModule : Error → Type 0
@@ -73,23 +132,46 @@ abbrev pub TellsOfScope : Error → Type 0
 TellsOfScope (Custom message) = string_bytes message ≡ codes "operand out of scope"
 TellsOfScope _ = ⊥
 
--- the error comes before any text: it tells of the module, and not of scope, which is looked at
--- function by function, each before its text
-abbrev pub ComesBeforeText : Error → Type 0
-ComesBeforeText error = TellsOfModule error × (TellsOfScope error → ⊥)
+-- the error names some expression without a form, and is not want of memory
+abbrev pub TellsOfForm : Error → Type 0
+TellsOfForm error = TellsOfModule error × ((e : Expression) × NamesExpression e error)
 
--- why the function with this handle has no plan: the rules of scope don't hold in it, or memory
--- ran out
+-- the error tells of one of the functions, of which each is looked at before its text
+abbrev pub TellsOfFunction : Error → Type 0
+TellsOfFunction error = TellsOfScope error ⊎ TellsOfForm error
+
+-- the error comes before any text: it tells of the module, and not of one of its functions
+abbrev pub ComesBeforeText : Error → Type 0
+ComesBeforeText error = TellsOfModule error × (TellsOfFunction error → ⊥)
+
+-- why the function with this handle has no plan: the rules of scope don't hold in it, or an
+-- expression without a form is written in it; or memory ran out
+abbrev pub IsFault : Module → ModuleInfo → (handle : ℕ) → Error → Type 0
+IsFault m info handle error =
+    (TellsOfScope error × (ScopeHoldsIn m info handle → ⊥)) ⊎ NamesFormless m info handle error
+
 abbrev pub IsPlanRefusal : Module → ModuleInfo → (handle : ℕ) → Error → Type 0
-IsPlanRefusal m info handle (Custom message) =
-    TellsOfScope (Custom message) × (ScopeHoldsIn m info handle → ⊥)
 IsPlanRefusal m info handle (Memory e) = ⊤
-IsPlanRefusal m info handle _ = ⊥
+IsPlanRefusal m info handle error = TellsOfModule error × IsFault m info handle error
+
+-- the handle that an error of a plan tells of has an expression without a form, and what is told is
+-- the name of that, or what else the error says
+abbrev pub IsOfPlan : Function → PlanError → Type 0
+IsOfPlan f (WithoutForm handle) =
+    IsSomeAnd (slice_get f.expressions handle) (λ e. IsFalse (expression_is_written e))
+IsOfPlan f error = ⊤
+
+abbrev pub TellsPlanError : Function → PlanError → Error → Type 0
+TellsPlanError f OutOfScope told = IsCustom (codes "operand out of scope") told
+TellsPlanError f (WithoutForm handle) told =
+    IsSomeAnd (slice_get f.expressions handle) (λ e. NamesExpression e told)
+TellsPlanError f (plan_error.Memory e) told = told ≡ Memory e
 
 -- no reason stands in the module
 pub record IsWritable (m : Module) (info : ModuleInfo) : Type 0 where
   pub written : IsTrue (is_written_so_far m info)
   pub in_scope : ScopesHold m info
+  pub formed : AllWrittenHaveForms m info
   pub told : NamerIsFull m → ⊥
   pub keys : KeyIsOutOfRange m → ⊥
 

@@ -6,7 +6,8 @@ use Rattle.std.specs.List.{enumerate_from, flat_map}
 use Rattle.naga_ir.specs.declared.module.Function.{Function}
 use Rattle.naga_ir.specs.declared.module.Module.{Module}
 use Rattle.naga_info.specs.declared.info.ModuleInfo.{ModuleInfo}
-use Rattle.naga_scope.specs.Plans.{IsPlanOf, ScopeHoldsIn}
+use Rattle.module_meaning.specs.Written.{WrittenHaveForms}
+use Rattle.naga_scope.specs.Plans.{IsPlanOf, OfFunctionAt, ScopeHoldsIn}
 use Rattle.naga_scope.specs.declared.points.Standing.{Standing}
 use Rattle.wgsl_text.specs.Functions.{function_pieces}
 use Rattle.naga_form.specs.Functions.{function_form}
@@ -18,7 +19,7 @@ use Rattle.naga_wgsl_fns.specs.Appends.{StoppedWithin, Wrote}
 use Rattle.naga_wgsl_fns.specs.FunctionText.{tells_types}
 use Rattle.naga_wgsl_fns.specs.Functions.{known_of}
 use Rattle.naga_wgsl_fns.specs.declared.error.Error.{Error}
-use Rattle.naga_wgsl_out.specs.Refusals.{TellsOfScope}
+use Rattle.naga_wgsl_out.specs.Refusals.{IsFault, TellsOfModule}
 use Rattle.naga_back.specs.declared.flags.WriterFlags.{WriterFlags}
 
 pub record Writing (W : Type 0) : Type 0 where
@@ -47,15 +48,20 @@ abbrev pub lines_before : Module → ModuleInfo → WriterFlags → (handle : �
 lines_before m info flags handle =
     lines_of m info flags (take handle (enumerate_from 0 m.functions))
 
--- Behind what the sink held stand the functions in front of the first one in which the rules of
--- scope don't hold, an empty line behind each, and nothing else.
+-- the rules of scope hold in the function with this handle, and each written handle of it has a form
+pub record IsWritableAt (m : Module) (info : ModuleInfo) (handle : ℕ) : Type 0 where
+  pub in_scope : ScopeHoldsIn m info handle
+  pub formed : OfFunctionAt m info handle (WrittenHaveForms m info)
+
+-- Behind what the sink held stand the functions in front of the first one for which that does not
+-- hold, an empty line behind each, and nothing else.
 pub record WroteFunctionsBefore (m : Module) (info : ModuleInfo) (flags : WriterFlags)
     (held now : List ℕ) : Type 0 where
   -- that function
   pub handle : ℕ
-  pub fails : ScopeHoldsIn m info handle → ⊥
+  pub fails : IsWritableAt m info handle → ⊥
   -- and those in front of it
-  pub hold : (i : ℕ) → i < handle → ScopeHoldsIn m info i
+  pub hold : (i : ℕ) → i < handle → IsWritableAt m info i
   pub written : now ≡ held ++ lines_before m info flags handle
 
 -- there is a plan of the function with this handle
@@ -72,8 +78,9 @@ pub record WroteFunctions (m : Module) (info : ModuleInfo) (flags : WriterFlags)
 -- the first one without a plan was met, and told
 pub record MetNoPlan (m : Module) (info : ModuleInfo) (flags : WriterFlags) (held : List ℕ)
     (failed : ℕ) (now : List ℕ) (failures : ℕ) (error : Error) : Type 0 where
-  pub told : TellsOfScope error
   pub before : WroteFunctionsBefore m info flags held now
+  pub tells : TellsOfModule error
+  pub fault : IsFault m info before.handle error
   pub kept : failures ≡ failed
 
 -- what a call that writes the functions did, by its answer

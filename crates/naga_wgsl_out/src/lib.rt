@@ -8,6 +8,7 @@
 
 pub mod back;
 pub mod diagnostics;
+mod forms;
 pub mod info;
 pub mod to_wgsl;
 pub mod types;

@@ -3,6 +3,7 @@
 ghost use Rattle.std.specs.Prelude.{◌≡◌, ◌<◌, ◌++◌, [], IfErr, IfOk, IsTrue, OnErr, OnOk};
 ghost use Rattle.std.specs.Prelude.{codes, length, string_bytes};
 ghost use Rattle.module_meaning.specs.Accepted.{is_accepted};
+ghost use Rattle.module_meaning.specs.Part.{function_is_written};
 ghost use Rattle.module_meaning.specs.Part.{is_written_so_far};
 ghost use Rattle.naga_names.specs.Keys.{names_in};
 ghost use Rattle.naga_words.specs.Sink.{IsBehind};
@@ -16,15 +17,17 @@ ghost use Rattle.naga_wgsl_fns.specs.FunctionText.{tells_types};
 ghost use Rattle.naga_wgsl_fns.specs.Functions.{text_of_function};
 ghost use Rattle.naga_wgsl_out.specs.Headline.{EachReading, FaithfulWriting, answer_of, text_of};
 ghost use Rattle.naga_wgsl_out.specs.Refusals.{ComesBeforeText, HasAllNames, IsErrorOfNames};
-ghost use Rattle.naga_wgsl_out.specs.Refusals.{IsNamesRefusal, IsPlanRefusal};
-ghost use Rattle.naga_wgsl_out.specs.Refusals.{TellsOfModule, TellsOfScope};
+ghost use Rattle.naga_wgsl_out.specs.Refusals.{IsNamesRefusal, IsPlanRefusal, IsOfPlan};
+ghost use Rattle.naga_wgsl_out.specs.Refusals.{TellsPlanError};
+ghost use Rattle.naga_wgsl_out.specs.Refusals.{TellsOfModule, TellsOfFunction};
 ghost use Rattle.naga_wgsl_out.specs.Writing.{WritesFunctions, Writing, WroteFunctionsBefore};
 ghost use Rattle.naga_wgsl_out.specs.Writing.{written_text};
 
+use crate::forms::without_form;
 use naga_acceptance::is_written_so_far;
 use naga_back::WriterFlags;
 use naga_info::ModuleInfo;
-use naga_ir::{Function, Handle, Module, Place};
+use naga_ir::{Expression, Function, Handle, Module, Place};
 use naga_names::by_bytes::{builtin_words, reserved_words};
 use naga_names::keyword_set::CaseInsensitiveKeywordSet;
 use naga_names::namer::{NameKey, Namer, NamerError};
@@ -81,23 +84,27 @@ impl<W: TextSink> Writer<W> {
     /// afresh.
     ///
     /// An expression that is used where it is out of scope, and an `Emit` that is not allowed where
-    /// it stands, are refused as `Custom`, `operand out of scope`. Each function is looked at
-    /// before its text, so the functions in front of the first such one then stand behind what the
-    /// sink held, whole, an empty line behind each. Any other refusal leaves the sink's text as it
-    /// was. None of them is a failure of the sink.
+    /// it stands, are refused as `Custom`, `operand out of scope`. An expression without a form is
+    /// refused where it is written, and let be where it is not: a float literal as `Unimplemented`,
+    /// `float literal`; a function of mathematics without a word as `Unsupported`, of the kind `math
+    /// function`, with its debug text; a relation without one as `UnsupportedRelationalFunction`.
+    /// Where several such stand in a module, one is told. Each function is looked at before its
+    /// text, so the functions in front of the first that has one then stand behind what the sink
+    /// held, whole, an empty line behind each. Any other refusal leaves the sink's text as it was.
+    /// None of them is a failure of the sink.
     ///
     /// So far a module is refused as `Unimplemented`, `not yet written`, unless it declares nothing
     /// but types and functions: the types `bool`, `i32`, `u32`, `f32`, `i64`, `u64` and `f64`, and
     /// vectors and matrices of these; functions whose locals have a literal as first value or none,
-    /// whose expressions are arguments, locals, literals of `bool` and of the integer types, zero
-    /// values, values of a type composed of others, loads, choices, operators with a sign, vectors
-    /// of one value, swizzles, parts at an index of vectors, of matrices and of what is pointed at,
-    /// conversions to such types, derivatives, and calls of functions of mathematics that have a
-    /// word, of `all` and of `any`, without names of their own, and whose statements are `Emit`s,
-    /// `Store`s and `Return`s.
+    /// whose expressions are arguments, locals, literals, zero values, values of a type composed of
+    /// others, loads, choices, operators with a sign, vectors of one value, swizzles, parts at an
+    /// index of vectors, of matrices and of what is pointed at, conversions to such types,
+    /// derivatives, functions of mathematics, and relations, without names of their own, and whose
+    /// statements are `Emit`s, `Store`s and `Return`s.
     ///
     /// An emitted expression is bound by a `let` where it is a `Load` or a derivative that is used
-    /// at all, or another operator, but no part at an index, that is used at least twice; `EXPLICIT_TYPES` has each `let` tell its type.
+    /// at all, or another operator, but no part at an index, that is used at least twice;
+    /// `EXPLICIT_TYPES` has each `let` tell its type.
     pub fn write(&mut self, module: &Module, info: &ModuleInfo) -> Result<(), Error>
         requires accepted { IsTrue (is_accepted «module».now info.now) }
         ensures faithful { FaithfulWriting «module».now info.now result
@@ -117,8 +124,8 @@ impl<W: TextSink> Writer<W> {
         ensures failures_ok { OnOk result (W.failures self.new.sink ≡ W.failures self.old.sink) }
         ensures untouched { IfErr result (λ e. ComesBeforeText e →
             W.text self.new.sink ≡ W.text self.old.sink) }
-        // What stands in front of the function whose scope is refused.
-        ensures written_before { IfErr result (λ e. TellsOfScope e →
+        // What stands in front of the function that is refused.
+        ensures written_before { IfErr result (λ e. TellsOfFunction e →
             WroteFunctionsBefore «module».now info.now self.old.flags
             (W.text self.old.sink) (W.text self.new.sink)) }
         ensures unfailed { IfErr result (λ e. TellsOfModule e →
@@ -134,7 +141,7 @@ impl<W: TextSink> Writer<W> {
 }
 
 /// Writes the functions of the module, an empty line behind each, up to the first in which an
-/// operand is out of scope.
+/// operand is out of scope or an expression without a form is written.
 fn write_functions<W: TextSink>(
     alloc: Global,
     module: &Module,
@@ -172,8 +179,20 @@ fn plan_of(
 {
     match Plan::of(alloc, module, info, handle) {
         Ok(plan) => Ok(plan),
-        Err(PlanError::OutOfScope) => Err(custom(alloc, "operand out of scope")),
-        Err(PlanError::Memory(error)) => Err(Error::Memory(error)),
+        Err(error) => Err(error_of_plan(alloc, &module.functions[handle], error)),
+    }
+}
+
+/// What is told of this function where there is no plan of it.
+fn error_of_plan(alloc: Global, function: &Function, error: PlanError) -> Error
+    requires written { IsTrue (function_is_written function.now) }
+    requires formless { IsOfPlan function.now error }
+    ensures { TellsPlanError function.now error result }
+{
+    match error {
+        PlanError::OutOfScope => custom(alloc, "operand out of scope"),
+        PlanError::WithoutForm(handle) => without_form(alloc, &function.expressions[handle]),
+        PlanError::Memory(error) => Error::Memory(error),
     }
 }
 

@@ -148,6 +148,7 @@ fn first_holds(
     match Plan::of(alloc, module, info, Place::from_index(0)) {
         Ok(_) => Ok(Some(true)),
         Err(PlanError::OutOfScope) => Ok(Some(false)),
+        Err(PlanError::WithoutForm(_)) => Ok(None),
         Err(PlanError::Memory(error)) => Err(error),
     }
 }

@@ -12,6 +12,7 @@ use std::test::Fail;
 
 mod converted;
 mod derived;
+mod formless;
 mod indexed;
 mod made;
 mod mathematics;

@@ -2,8 +2,6 @@ use Rattle.std.proofs.Common.{◌≡◌, ◌<◌, ◌∙◌, Some, arith, ap, le
 use Rattle.naga_form.proofs.AcceptedFunctions.{functions_counted}
 use Rattle.naga_words.proofs.Writing.{held_part_as, held_whole_as, never_formless, reason_given}
 use Rattle.naga_words.proofs.Writing.{same_sink, writes_as}
-use Rattle.module_meaning.specs.Surroundings.{declared, types_known}
-use Rattle.naga_form.proofs.ModulePlaces.{shapes_length}
 use Rattle.naga_scope.proofs.Planned.{plan_found}
 use Rattle.naga_wgsl_fns.specs.Errors.{IsWant}
 use Rattle.naga_wgsl_fns.proofs.FunctionRows.{can_write, reason_told, text_of_function_at}
@@ -13,6 +11,8 @@ pub write_declaration-requires-clause-can : goal.write_declaration-requires-clau
 write_declaration-requires-clause-can g c =
     can_write _ c.args.info.now c.requires.accepted c.requires.written c.requires.names c.index.ensures
     c.index-2.ensures
+    (plan_found c.args.module.now c.args.info.now c.args.handle c.index.result.now
+    c.index-2.result.now c.args.plan c.index.ensures c.index-2.ensures c.requires.planned).formed
 
 pub write_declaration-requires-clause-start : goal.write_declaration-requires-clause-start
 write_declaration-requires-clause-start g c =
@@ -25,8 +25,6 @@ write_declaration-requires-clause-size g c =
     let plan = plan_found c.args.module.now c.args.info.now c.args.handle f c.index-2.result.now
     c.args.plan c.index.ensures c.index-2.ensures c.requires.planned in
     plan.size
-    ∙ shapes_length (declared c.args.module.now c.args.info.now (types_known c.index-2.result.now))
-    f.expressions 0 f.expressions
 
 pub index-requires-2 : goal.index-requires-2
 index-requires-2 g c =

@@ -1,9 +1,9 @@
 //! Functions of mathematics, each with its word. `Modf` and `Frexp` give structs, which are not
 //! written so far.
 
-use crate::program::tests::operators::{is_not_yet_written, is_written};
+use crate::program::tests::operators::is_written;
 use crate::program::tests::values::{
-    MAT3X2_F32, VEC2_F32, VEC3_F32, Value, add_type, build_argument, build_return,
+    MAT2X2_F32, MAT3X2_F32, VEC2_F32, VEC3_F32, Value, add_type, build_argument, build_return,
 };
 use naga_wgsl_out::ir::{Expression, Handle, MathFunction, Scalar, VectorSize};
 use sample_modules::Sample;
@@ -15,8 +15,6 @@ const F32: Value = Value::Scalar(Scalar::F32);
 const I32: Value = Value::Scalar(Scalar::I32);
 
 const MAT2X3_F32: Value = Value::Matrix(VectorSize::Bi, VectorSize::Tri, Scalar::F32);
-
-const MAT2X2_F32: Value = Value::Matrix(VectorSize::Bi, VectorSize::Bi, Scalar::F32);
 
 const U32: Value = Value::Scalar(Scalar::U32);
 
@@ -483,9 +481,6 @@ const APPLIED: &[Applied] = &[
     ),
 ];
 
-/// Functions that WGSL has no word for.
-const WORDLESS: [MathFunction; 2] = [MathFunction::Inverse, MathFunction::Outer];
-
 const LABELS: [&str; 4] = ["x", "y", "z", "w"];
 
 /// The argument with this number, if there are so many.
@@ -535,23 +530,6 @@ fn applied_gives(alloc: Global, case: &Applied) -> Result<bool, AllocError> {
 fn functions_are_called_by_their_words(rt: HostRuntime) -> Result<(), Fail> {
     for case in APPLIED {
         assert!(rt; applied_gives(rt.alloc(), case)?, "{}", case.3);
-    }
-    Ok(())
-}
-
-fn wordless_is_refused(alloc: Global, fun: MathFunction) -> Result<bool, AllocError> {
-    let mut sample = Sample::new(alloc);
-    let built = build_applied(&mut sample, &(fun, &[MAT2X2_F32], MAT2X2_F32, ""));
-    let refused = is_not_yet_written(alloc, &sample);
-    drop(sample);
-    built?;
-    Ok(refused)
-}
-
-#[test]
-fn functions_without_words_are_refused(rt: HostRuntime) -> Result<(), Fail> {
-    for fun in WORDLESS {
-        assert!(rt; wordless_is_refused(rt.alloc(), fun)?, "{fun:?}");
     }
     Ok(())
 }

@@ -184,12 +184,6 @@ const RELATIONS: &[(RelationalFunction, &str)] = &[
     ),
 ];
 
-/// Relations that WGSL has no word for.
-const WORDLESS_RELATIONS: [RelationalFunction; 2] = [
-    RelationalFunction::IsNan,
-    RelationalFunction::IsInf,
-];
-
 /// A function of these arguments that returns what the operator gives of them.
 fn build_between(
     sample: &mut Sample,
@@ -347,30 +341,10 @@ fn relation_gives(alloc: Global, case: &(RelationalFunction, &str)) -> Result<bo
     Ok(given)
 }
 
-fn wordless_relation_is_refused(
-    alloc: Global,
-    fun: RelationalFunction,
-) -> Result<bool, AllocError> {
-    let mut sample = Sample::new(alloc);
-    let built = build_relation(&mut sample, fun);
-    let refused = is_not_yet_written(alloc, &sample);
-    drop(sample);
-    built?;
-    Ok(refused)
-}
-
 #[test]
 fn relations_are_written(rt: HostRuntime) -> Result<(), Fail> {
     for case in RELATIONS {
         assert!(rt; relation_gives(rt.alloc(), case)?, "{}", case.1);
-    }
-    Ok(())
-}
-
-#[test]
-fn wordless_relations_are_refused(rt: HostRuntime) -> Result<(), Fail> {
-    for fun in WORDLESS_RELATIONS {
-        assert!(rt; wordless_relation_is_refused(rt.alloc(), fun)?, "{fun:?}");
     }
     Ok(())
 }

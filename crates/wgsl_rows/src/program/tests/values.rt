@@ -3,8 +3,8 @@
 use crate::program::tests::operators::{is_not_yet_written, is_text, is_written};
 use bitflags::Flags;
 use naga_wgsl_out::ir::{
-    BinaryOperator, Expression, Handle, Literal, MathFunction, Scalar, ScalarKind, Type_,
-    TypeInner, VectorSize,
+    BinaryOperator, Expression, Handle, MathFunction, Scalar, ScalarKind, Type_, TypeInner,
+    VectorSize,
 };
 use naga_wgsl_out::wgsl::WriterFlags;
 use sample_modules::Sample;
@@ -40,6 +40,8 @@ pub(super) const VEC2_F32: Value = Value::Vector(VectorSize::Bi, Scalar::F32);
 pub(super) const VEC3_F32: Value = Value::Vector(VectorSize::Tri, Scalar::F32);
 
 pub(super) const VEC4_BOOL: Value = Value::Vector(VectorSize::Quad, Scalar::BOOL);
+
+pub(super) const MAT2X2_F32: Value = Value::Matrix(VectorSize::Bi, VectorSize::Bi, Scalar::F32);
 
 pub(super) const MAT3X2_F32: Value = Value::Matrix(VectorSize::Tri, VectorSize::Bi, Scalar::F32);
 
@@ -201,15 +203,6 @@ fn build_local(sample: &mut Sample) -> Result<(), AllocError> {
     sample.end_with(sum)
 }
 
-/// A function that returns a literal of the type of floats of 32 bits.
-fn build_float_literal(sample: &mut Sample) -> Result<(), AllocError> {
-    sample.label("f")?;
-    let ty = sample.scalar(Scalar::F32)?;
-    sample.returns(ty);
-    let value = sample.literal(Literal::F32(0), ty)?;
-    sample.end_with(value)
-}
-
 /// A function that returns its argument, a float of 16 bits.
 fn build_half(sample: &mut Sample) -> Result<(), AllocError> {
     sample.label("f")?;
@@ -253,15 +246,6 @@ fn local_gives(alloc: Global, flags: WriterFlags, want: &str) -> Result<bool, Al
     Ok(given)
 }
 
-fn float_literal_is_refused(alloc: Global) -> Result<bool, AllocError> {
-    let mut sample = Sample::new(alloc);
-    let built = build_float_literal(&mut sample);
-    let refused = is_not_yet_written(alloc, &sample);
-    drop(sample);
-    built?;
-    Ok(refused)
-}
-
 fn half_is_refused(alloc: Global) -> Result<bool, AllocError> {
     let mut sample = Sample::new(alloc);
     let built = build_half(&mut sample);
@@ -302,7 +286,6 @@ fn locals_of_matrices_are_written(rt: HostRuntime) -> Result<(), Fail> {
 
 #[test]
 fn floats_of_other_forms_are_refused(rt: HostRuntime) -> Result<(), Fail> {
-    assert!(rt; float_literal_is_refused(rt.alloc())?, "literal");
     assert!(rt; half_is_refused(rt.alloc())?, "half");
     Ok(())
 }

@@ -1,12 +1,11 @@
 use Rattle.std.proofs.Common.{◌≡◌, ◌<◌, ◌∙◌, length, subst, sym}
-use Rattle.std.specs.Prelude.{IfErr, IfOk, IsSomeAnd}
 use Rattle.module_meaning.specs.Part.{function_is_written}
 use Rattle.module_meaning.proofs.Lists.{list_all_at}
 use Rattle.module_meaning.proofs.Part.{functions_allow, functions_are_written}
 use Rattle.naga_form.proofs.AcceptedFunctions.{accepted_at, function_there, functions_counted}
 use Rattle.naga_form.proofs.Ordered.{operands_stand_before}
 use Rattle.naga_scope.specs.Plans.{IsPlan, IsRefusalToPlan}
-use Rattle.naga_scope.proofs.Planned.{shape_found}
+use Rattle.naga_scope.proofs.Planned.{of_the_err, of_the_ok}
 use Rattle.naga_scope.proofs.plan.Plan.of.Goals as goal
 
 pub index-requires-2 : goal.index-requires-2
@@ -33,14 +32,14 @@ of_function-requires c =
 pub returns : goal.returns
 returns c =
     let m = c.args.module.now in
-    let r = c.of_function.result in
-    let found = shape_found m c.args.info.now m.functions c.args.info.now.functions.items c.args.handle
-    c.index.result.now c.index-2.result.now c.index.ensures c.index-2.ensures in
-    let allowed = functions_allow m c.args.info.now c.requires.written c.args.handle c.index.result.now
-    c.index-2.result.now c.index.ensures c.index-2.ensures in
+    let info = c.args.info.now in
+    let g = c.args.handle in
+    let f = c.index.result.now in
+    let es = c.index-2.result.now in
+    let allowed = functions_allow m info c.requires.written g f es c.index.ensures c.index-2.ensures in
     record {
-      ok = subst (λ o. IfOk r (λ table. IsSomeAnd o (λ f. IsPlan f table))) (sym found)
-          (c.of_function.ensures.ok m c.args.info.now allowed);
-      err = subst (λ o. IfErr r (λ e. IsSomeAnd o (λ f. IsRefusalToPlan f e))) (sym found)
-          (c.of_function.ensures.err m c.args.info.now allowed);
+      ok = of_the_ok (IsPlan m info) m info g f es c.index.ensures c.index-2.ensures
+          c.of_function.result (c.of_function.ensures.ok m info allowed);
+      err = of_the_err (IsRefusalToPlan m info) m info g f es c.index.ensures c.index-2.ensures
+          c.of_function.result (c.of_function.ensures.err m info allowed);
     }

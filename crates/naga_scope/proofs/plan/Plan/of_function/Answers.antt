@@ -1,7 +1,8 @@
-use Rattle.std.proofs.Common.{◌∙◌, None, ap, sym, true≢false}
-use Rattle.std.specs.Prelude.{nat_le, ◌^◌}
-use Rattle.module_meaning.specs.Surroundings.{declared, types_known}
-use Rattle.naga_form.proofs.ModulePlaces.{shapes_length}
+use Rattle.std.proofs.Common.{◌∙◌, None, subst, sym, true≢false}
+use Rattle.module_meaning.specs.FunctionShapes.{function_shape}
+use Rattle.module_meaning.specs.Written.{function_roots}
+use Rattle.naga_scope.specs.Marks.{Sweeps}
+use Rattle.shader_runs.specs.Program.{binds}
 use Rattle.naga_scope.proofs.Planned.{check_is_the_rules}
 use Rattle.naga_scope.proofs.plan.Plan.of_function.Goals as goal
 
@@ -23,11 +24,19 @@ returns-clause-ok c m known allowed =
     let es = c.args.info.now in
     let holds = sym (c.function_holds.ensures.scope (λ key. None) m known 0 allowed)
     ∙ c.if-not-function_holds.false in
-    let shaped = shapes_length (declared m known (types_known es)) f.expressions 0 f.expressions in
+    let roots = function_roots (binds (function_shape m known f es)) f in
     record {
       in_scope = (check_is_the_rules m known f es c.requires.ordered).0 holds;
       starts = c.restart.ensures.start m known es;
       size = c.restart.ensures.size
-          ∙ (c.function_holds.ensures.size ∙ (c.in_ok-scope.ensures.size ∙ sym shaped));
-      counted = ap (λ n. nat_le n (2 ^ 64)) shaped ∙ c.in_ok-scope.ensures.counted;
+          ∙ (c.function_holds.ensures.size ∙ c.in_ok-scope.ensures.size);
+      counted = c.in_ok-scope.ensures.counted;
+      formed = subst (Sweeps f.expressions roots) c.in_default.is
+          (c.in_ok-handle.ensures m known allowed);
     }
+
+pub returns-in-Some-clause-err : goal.returns-in-Some-clause-err
+returns-in-Some-clause-err c m known allowed =
+    let f = c.args.function.now in
+    let roots = function_roots (binds (function_shape m known f c.args.info.now)) f in
+    subst (Sweeps f.expressions roots) c.in-Some.is (c.in_ok-handle.ensures m known allowed)

@@ -1,27 +1,27 @@
-use Rattle.std.proofs.Common.{[], ap, arith, ◌<◌, ◌∙◌, length, refl, subst, sym, true}
+use Rattle.std.proofs.Common.{[], ap, arith, ◌∙◌, refl, subst, sym, true}
 use Rattle.std.specs.Option.{option_map_or}
 use Rattle.naga_ir.specs.Operands.{expression_operands}
-use Rattle.shader_runs.specs.Premises.{AllBelow}
+use Rattle.std.specs.List.{AllByRecursion}
 use Rattle.naga_words.proofs.Writing.{leaves_as, leaves_last, leaves_more, leaves_start}
 use Rattle.naga_words.proofs.Writing.{writes_as, writes_then}
 use Rattle.naga_wgsl_fns.proofs.PartRows.{base_pointed, base_signed, base_unpointed, base_unsigned}
 use Rattle.naga_wgsl_fns.proofs.PartRows.{element_end, plain_row, reference_pointed}
 use Rattle.naga_wgsl_fns.proofs.PartRows.{reference_unpointed, selected_end, value_pointed}
 use Rattle.naga_wgsl_fns.proofs.PartRows.{value_unpointed}
-use Rattle.naga_wgsl_fns.proofs.Wanted.{base_before, base_there, no_other_part, part_allowed}
+use Rattle.naga_wgsl_fns.proofs.Wanted.{base_in, known_within_infos, no_other_part, part_allowed}
 use Rattle.naga_wgsl_fns.specs.Expressions.{operands_left, operands_text}
 use Rattle.naga_wgsl_fns.proofs.ExpressionRows.{operands_more, operands_none, operands_start}
 use Rattle.naga_wgsl_fns.proofs.ExpressionRows.{own_called, own_made}
 use Rattle.naga_wgsl_fns.proofs.ConversionRows.{conversion_row, own_conversion}
 use Rattle.naga_wgsl_fns.proofs.Wanted.{conversion_allowed}
-use Rattle.naga_wgsl_fns.proofs.Wanted.{all_before, argument_within, literal_is_written, local_within}
-use Rattle.naga_wgsl_fns.proofs.Wanted.{made_value, math_is_written, no_other_expression, operands_before}
+use Rattle.naga_wgsl_fns.proofs.Wanted.{IsOperand, argument_within, literal_is_written, local_within}
+use Rattle.naga_wgsl_fns.proofs.Wanted.{made_value, math_is_written, no_other_expression, operands_in}
 use Rattle.naga_wgsl_fns.proofs.Wanted.{relation_is_written}
 use Rattle.naga_wgsl_fns.proofs.functions.FunctionText.+expression.Goals as goal
 
 pub write_own-write_literal-requires : goal.write_own-write_literal-requires
 write_own-write_literal-requires g t c =
-    literal_is_written c.args.self.now c.requires.can c.args.handle c.index.result.now c.in-Literal.literal c.index.ensures c.in-Literal.is
+    literal_is_written c.args.self.now c.requires.can c.args.handle c.index.result.now c.in-Literal.literal c.index.ensures c.requires.handle c.in-Literal.is
 
 pub write_own-write_argument_name-requires-clause-argument : goal.write_own-write_argument_name-requires-clause-argument
 write_own-write_argument_name-requires-clause-argument g t c =
@@ -33,41 +33,37 @@ write_own-write_address-requires-clause-local g t c =
 
 pub write_own-write_reference-requires : goal.write_own-write_reference-requires
 write_own-write_reference-requires g t c κs within =
-    let before =
-    (operands_before c.args.self.now c.requires.can c.args.handle c.index.result.now _
-    c.index.ensures c.in-Load.is).0 in
-    let bound : c.args.handle < length c.args.self.now.function.now.expressions = c.requires.handle in
-    (omega (arith, before, c.decreases), (within, (c.requires.can, omega (arith, before, bound))))
+    let operand =
+    (operands_in c.args.self.now c.requires.can c.args.handle c.index.result.now _
+    c.index.ensures c.in-Load.is c.requires.handle).0 in
+    let before = operand.0 in
+    (omega (arith, before, c.decreases), (within, (c.requires.can, operand.1)))
 
 pub write_own-write_swizzle-requires : goal.write_own-write_swizzle-requires
 write_own-write_swizzle-requires g t c κs within =
-    let before =
-    (operands_before c.args.self.now c.requires.can c.args.handle c.index.result.now _
-    c.index.ensures c.in-Swizzle.is).0 in
-    let bound : c.args.handle < length c.args.self.now.function.now.expressions = c.requires.handle in
-    (omega (arith, before, c.decreases), (within, (c.requires.can, omega (arith, before, bound))))
+    let operand =
+    (operands_in c.args.self.now c.requires.can c.args.handle c.index.result.now _
+    c.index.ensures c.in-Swizzle.is c.requires.handle).0 in
+    let before = operand.0 in
+    (omega (arith, before, c.decreases), (within, (c.requires.can, operand.1)))
 
 pub write_own-write_prefix-requires : goal.write_own-write_prefix-requires
 write_own-write_prefix-requires g t c κs within =
-    let before =
-    operands_before c.args.self.now c.requires.can c.args.handle c.index.result.now _
-    c.index.ensures c.in-Unary.is in
-    let bound : c.args.handle < length c.args.self.now.function.now.expressions = c.requires.handle in (
-      omega (arith, before.0, c.decreases),
-      (within, (c.requires.can, omega (arith, before.0, bound))),
-    )
+    let operand =
+    (operands_in c.args.self.now c.requires.can c.args.handle c.index.result.now _
+    c.index.ensures c.in-Unary.is c.requires.handle).0 in
+    let before = operand.0 in
+    (omega (arith, before, c.decreases), (within, (c.requires.can, operand.1)))
 
 pub write_own-write_infix-requires : goal.write_own-write_infix-requires
 write_own-write_infix-requires g t c κs within =
-    let before =
-    operands_before c.args.self.now c.requires.can c.args.handle c.index.result.now _
-    c.index.ensures c.in-Binary.is in
-    let bound : c.args.handle < length c.args.self.now.function.now.expressions = c.requires.handle in (
-      omega (arith, before.0, before.1.0, c.decreases),
-      (
-        within,
-        (c.requires.can, (omega (arith, before.0, bound), omega (arith, before.1.0, bound))),
-      ),
+    let operands =
+    operands_in c.args.self.now c.requires.can c.args.handle c.index.result.now _
+    c.index.ensures c.in-Binary.is c.requires.handle in
+    let left = operands.0.0 in
+    let right = operands.1.0.0 in (
+      omega (arith, left, right, c.decreases),
+      (within, (c.requires.can, (operands.0.1, operands.1.0.1))),
     )
 
 pub write_own-unreachable-requires : goal.write_own-unreachable-requires
@@ -129,7 +125,7 @@ write_own-returns-in-Splat g t c =
 pub write_own-math_function_str-requires : goal.write_own-math_function_str-requires
 write_own-math_function_str-requires g t c =
     math_is_written c.args.self.now c.requires.can c.args.handle c.index.result.now _ _ _ _ _
-    c.index.ensures c.in-Math.is
+    c.index.ensures c.requires.handle c.in-Math.is
 
 pub write_own-returns-in-Derivative : goal.write_own-returns-in-Derivative
 write_own-returns-in-Derivative g t c =
@@ -148,7 +144,7 @@ write_own-returns-in-Math g t c =
 pub write_own-relational_function_str-requires : goal.write_own-relational_function_str-requires
 write_own-relational_function_str-requires g t c =
     relation_is_written c.args.self.now c.requires.can c.args.handle c.index.result.now _ _
-    c.index.ensures c.in-Relational.is
+    c.index.ensures c.requires.handle c.in-Relational.is
 
 pub write_own-returns-in-Relational : goal.write_own-returns-in-Relational
 write_own-returns-in-Relational g t c =
@@ -168,15 +164,15 @@ write_operands-loop-operand-init g t c =
       writes = leaves_as
           (operands_start self scope h ∙ ap (operands_left self scope true) (there ∙ sym items))
           (leaves_start _ (operands_text self scope h));
-      before = subst (AllBelow h) (sym items)
-          (all_before self c.requires.can h c.index.result.now c.index.ensures);
+      before = subst (AllByRecursion (IsOperand self h)) (sym items)
+          (operands_in self c.requires.can h c.index.result.now _ c.index.ensures refl c.requires.handle);
     }
 
 pub write_operands-write_next_operand-requires : goal.write_operands-write_next_operand-requires
 write_operands-write_next_operand-requires g t c κs within =
-    let first = (subst (AllBelow c.args.handle) c.in-Some.ensures.steps c.loop-operand.invariant.before).0 in
-    let bound : c.args.handle < length c.args.self.now.function.now.expressions = c.requires.handle in
-    (omega (arith, first, c.decreases), (within, (c.requires.can, omega (arith, first, bound))))
+    let first = (subst (AllByRecursion (IsOperand c.args.self.now c.args.handle)) c.in-Some.ensures.steps c.loop-operand.invariant.before).0 in
+    let before = first.0 in
+    (omega (arith, before, c.decreases), (within, (c.requires.can, first.1)))
 
 pub write_operands-loop-operand-preserved : goal.write_operands-loop-operand-preserved
 write_operands-loop-operand-preserved g t c =
@@ -189,7 +185,7 @@ write_operands-loop-operand-preserved g t c =
           (ap (operands_left self scope first) steps
           ∙ operands_more self scope first c.in-Some.operand c.next.new.self)
           c.write_next_operand.ensures;
-      before = (subst (AllBelow c.args.handle) steps c.loop-operand.invariant.before).1;
+      before = (subst (AllByRecursion (IsOperand self c.args.handle)) steps c.loop-operand.invariant.before).1;
     }
 
 pub write_operands-returns : goal.write_operands-returns
@@ -219,7 +215,8 @@ write_base-returns-else-is_signed g t c =
 
 pub write_part_value-points-requires-clause-handle : goal.write_part_value-points-requires-clause-handle
 write_part_value-points-requires-clause-handle g t c =
-    (base_there c.args.self.now c.requires.can c.args.handle c.args.base c.requires.part).1
+    let base = base_in c.args.self.now c.requires.can c.args.handle c.args.base c.requires.part c.requires.handle in
+    known_within_infos c.args.self.now c.requires.can c.args.base base.1.there
 
 pub write_part_value-returns-then-points : goal.write_part_value-returns-then-points
 write_part_value-returns-then-points g t c =
@@ -237,12 +234,12 @@ write_part_value-returns-else-points g t c =
 
 pub write_part_reference-points-requires-clause-handle : goal.write_part_reference-points-requires-clause-handle
 write_part_reference-points-requires-clause-handle g t c =
-    (base_there c.args.self.now c.requires.can c.args.handle c.args.base c.requires.part).1
+    let base = base_in c.args.self.now c.requires.can c.args.handle c.args.base c.requires.part c.requires.handle in
+    known_within_infos c.args.self.now c.requires.can c.args.base base.1.there
 
 pub write_part_reference-write_dereference-requires : goal.write_part_reference-write_dereference-requires
 write_part_reference-write_dereference-requires g t c κs within =
-    let there = (base_before c.args.self.now c.requires.can c.args.handle c.args.base c.requires.part).1 in
-    (omega (arith, c.decreases), (within, (c.requires.can, there)))
+    (omega (arith, c.decreases), (within, (c.requires.can, c.requires.handle)))
 
 pub write_part_reference-returns-then-points : goal.write_part_reference-returns-then-points
 write_part_reference-returns-then-points g t c =
@@ -260,9 +257,9 @@ write_part_reference-returns-else-points g t c =
 
 pub write_part-write_part_base-requires : goal.write_part-write_part_base-requires
 write_part-write_part_base-requires g t c κs within =
-    let before = (base_before c.args.self.now c.requires.can c.args.handle c.args.base c.requires.part).0 in
-    let there = (base_there c.args.self.now c.requires.can c.args.handle c.args.base c.requires.part).0 in
-    (omega (arith, before, c.decreases), (within, (c.requires.can, there)))
+    let base = base_in c.args.self.now c.requires.can c.args.handle c.args.base c.requires.part c.requires.handle in
+    let before = base.0 in
+    (omega (arith, before, c.decreases), (within, (c.requires.can, base.1)))
 
 pub write_part-returns : goal.write_part-returns
 write_part-returns g t c =
@@ -288,11 +285,11 @@ write_part_base-returns-else-points g t c =
 
 pub write_part_end-write_index-requires : goal.write_part_end-write_index-requires
 write_part_end-write_index-requires g t c κs within =
-    let before =
-    (operands_before c.args.self.now c.requires.can c.args.handle c.index.result.now _
-    c.index.ensures c.in-Access.is).1.0 in
-    let bound = (base_before c.args.self.now c.requires.can c.args.handle c.args.base c.requires.part).1 in
-    (omega (arith, before, c.decreases), (within, (c.requires.can, omega (arith, before, bound))))
+    let index =
+    (operands_in c.args.self.now c.requires.can c.args.handle c.index.result.now _
+    c.index.ensures c.in-Access.is c.requires.handle).1.0 in
+    let before = index.0 in
+    (omega (arith, before, c.decreases), (within, (c.requires.can, index.1)))
 
 pub write_part_end-write_selector-requires-clause-allowed : goal.write_part_end-write_selector-requires-clause-allowed
 write_part_end-write_selector-requires-clause-allowed g t c =

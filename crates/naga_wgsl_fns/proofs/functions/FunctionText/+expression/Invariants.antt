@@ -1,7 +1,8 @@
 use Rattle.std.proofs.Common.{◌+◌, ◌*◌, ℕ, Bool, List, max}
 use Rattle.naga_words.specs.Output.{OutputView, output_view}
 use Rattle.naga_words.proofs.Writing.{Leaves}
-use Rattle.shader_runs.specs.Premises.{AllBelow}
+use Rattle.std.specs.List.{AllByRecursion}
+use Rattle.naga_wgsl_fns.proofs.Wanted.{IsOperand}
 use Rattle.naga_scope.specs.declared.points.Standing.{Standing}
 use Rattle.naga_wgsl_fns.specs.Expressions.{operands_left, operands_text}
 use Rattle.naga_wgsl_fns.specs.declared.functions.FunctionText.{FunctionText}
@@ -72,11 +73,11 @@ decreases-write_prefix g l = 16 * l.operand + 6
 abbrev pub decreases-write_next_operand : goal.decreases-write_next_operand
 decreases-write_next_operand g l = 16 * l.operand + 6
 
--- what is left to be written of the operands, which stand before the expression
+-- what is left to be written of the operands, which stand before the expression and are written
 pub record OperandsLeft (start now : OutputView) (f : FunctionText) (table : List Standing)
     (handle : ℕ) (first : Bool) (left : List ℕ) : Type 0 where
   pub writes : Leaves start now (operands_text f table handle) (operands_left f table first left)
-  pub before : AllBelow handle left
+  pub before : AllByRecursion (IsOperand f handle) left
 
 abbrev pub invariant-write_operands-loop-operand : goal.invariant-write_operands-loop-operand
 invariant-write_operands-loop-operand g l =

@@ -4,6 +4,9 @@ use Rattle.module_meaning.specs.Ranges.{block_in_range}
 use Rattle.naga_ir.specs.StatementTree.{BlockTree}
 use Rattle.naga_ir.specs.StatementViews.{tree_of, block_of}
 use Rattle.naga_words.proofs.Writing.{leaves_as, leaves_more, leaves_start}
+use Rattle.module_meaning.specs.Written.{block_roots, statement_roots}
+use Rattle.naga_form.proofs.WrittenHandles.{all_front, all_rest}
+use Rattle.naga_wgsl_fns.specs.FunctionText.{AreInText, IsInText, bound}
 use Rattle.naga_wgsl_fns.specs.Statements.{block_text}
 use Rattle.naga_wgsl_fns.proofs.StatementRows.{block_step, range_parts, statements_more}
 use Rattle.naga_wgsl_fns.proofs.StatementRows.{written_parts}
@@ -18,6 +21,7 @@ loop-statement-init g c =
       size = refl;
       in_range = subst (λ (b : BlockTree). IsTrue (block_in_range self.handle (length self.function.now.expressions) b)) items c.requires.in_range;
       written = subst (λ (b : BlockTree). IsTrue (block_is_written b)) items c.requires.written;
+      roots = subst (λ (b : BlockTree). AreInText self (block_roots (bound self) b)) items c.requires.roots;
     }
 
 pub write_statement-requires-clause-size : goal.write_statement-requires-clause-size
@@ -38,6 +42,15 @@ write_statement-requires-clause-written g c =
     (written_parts (block_of (drop i items)) (block_of (drop (i + 1) items)) (tree_of c.statement-item.result) c.loop-statement.invariant.written
     (block_step items i c.statement-item.result c.loop-statement-test.true c.statement-item.is)).0
 
+pub write_statement-requires-clause-roots : goal.write_statement-requires-clause-roots
+write_statement-requires-clause-roots g c =
+    let self = c.args.self.now in
+    let items = c.as_slice-statement-items.result.now in
+    let i = c.loop-statement.statement-index in
+    let step = block_step items i c.statement-item.result c.loop-statement-test.true c.statement-item.is in
+    all_front (IsInText self) (statement_roots (bound self) (tree_of c.statement-item.result)) (block_roots (bound self) (block_of (drop (i + 1) items)))
+    (subst (λ (b : BlockTree). AreInText self (block_roots (bound self) b)) step c.loop-statement.invariant.roots)
+
 pub loop-statement-preserved : goal.loop-statement-preserved
 loop-statement-preserved g c =
     let self = c.args.self.now in
@@ -51,4 +64,6 @@ loop-statement-preserved g c =
       size = c.write_statement.ensures.size ∙ c.loop-statement.invariant.size;
       in_range = (range_parts self.handle (length self.function.now.expressions) (block_of (drop i items)) (block_of (drop (i + 1) items)) (tree_of c.statement-item.result) c.loop-statement.invariant.in_range step).1;
       written = (written_parts (block_of (drop i items)) (block_of (drop (i + 1) items)) (tree_of c.statement-item.result) c.loop-statement.invariant.written step).1;
+      roots = all_rest (IsInText self) (statement_roots (bound self) (tree_of c.statement-item.result)) (block_roots (bound self) (block_of (drop (i + 1) items)))
+          (subst (λ (b : BlockTree). AreInText self (block_roots (bound self) b)) step c.loop-statement.invariant.roots);
     }

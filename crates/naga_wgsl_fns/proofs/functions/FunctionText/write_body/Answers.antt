@@ -2,6 +2,7 @@ use Rattle.naga_form.proofs.AcceptedFunctions.{ranges_are}
 use Rattle.naga_form.proofs.PartFits.{function_parts}
 use Rattle.naga_words.proofs.Writing.{writes_as, writes_then}
 use Rattle.naga_wgsl_fns.proofs.FunctionRows.{body_row}
+use Rattle.naga_wgsl_fns.proofs.TextHandles.{body_in_text}
 use Rattle.naga_wgsl_fns.proofs.functions.FunctionText.write_body.Goals as goal
 
 pub write_block-requires-clause-in_range : goal.write_block-requires-clause-in_range
@@ -12,6 +13,9 @@ write_block-requires-clause-in_range g c =
 pub write_block-requires-clause-written : goal.write_block-requires-clause-written
 write_block-requires-clause-written g c =
     (function_parts c.args.self.now.function.now c.requires.can.written).body
+
+pub write_block-requires-clause-roots : goal.write_block-requires-clause-roots
+write_block-requires-clause-roots g c = body_in_text c.args.self.now c.requires.can
 
 pub returns : goal.returns
 returns g c =

@@ -4,7 +4,8 @@ use Rattle.shader_runs.specs.Program.{from}
 use Rattle.shader_runs.specs.Scope.{after_emit}
 use Rattle.naga_words.specs.Output.{output_view}
 use Rattle.naga_words.proofs.Writing.{Leaves}
-use Rattle.naga_wgsl_fns.specs.FunctionText.{naming}
+use Rattle.naga_wgsl_fns.specs.FunctionText.{AreInText, bound, naming}
+use Rattle.std.specs.List.{filter}
 use Rattle.naga_wgsl_fns.specs.Statements.{lets_text}
 use Rattle.naga_wgsl_fns.proofs.functions.FunctionText.write_emit.Given as goal
 
@@ -14,4 +15,5 @@ invariant-loop-index g l = record {
       (lets_text l.self l.scope l.level.0 (from l.index (l.fn.range.end - l.index)));
   after : after_emit (naming l.self) 0 (from l.index (l.fn.range.end - l.index)) (handles_of l.scope) ≡ after_emit (naming l.self) 0 (from l.fn.range.first (l.fn.range.end - l.fn.range.first)) (handles_of l.initial.scope);
   size : length l.scope ≡ length l.initial.scope;
+  roots : AreInText l.self (filter (bound l.self) (from l.index (l.fn.range.end - l.index)));
 }

@@ -1,9 +1,8 @@
-use Rattle.std.proofs.Common.{subst, length, IsTrue}
-use Rattle.std.proofs.lemmas.Bool.{ltb-true}
-use Rattle.module_meaning.specs.Ranges.{is_below}
+use Rattle.std.proofs.Common.{subst}
+use Rattle.std.specs.Option.{option_to_list}
+use Rattle.naga_wgsl_fns.specs.FunctionText.{AreInText}
 use Rattle.naga_wgsl_fns.proofs.functions.FunctionText.write_first_value.Goals as goal
 
 pub write_first-requires-clause-value : goal.write_first-requires-clause-value
 write_first-requires-clause-value g c =
-    let count = length c.args.self.now.function.now.expressions in
-    ltb-true c.in-Some.value count (subst (λ o. IsTrue (is_below count o)) c.in-Some.is c.requires.value)
+    (subst (λ o. AreInText c.args.self.now (option_to_list o)) c.in-Some.is c.requires.value).0

@@ -1,14 +1,15 @@
 use Rattle.std.proofs.Common.{sym}
 use Rattle.naga_words.proofs.Writing.{writes_as, writes_then}
 use Rattle.naga_wgsl_fns.proofs.FunctionRows.{local_row}
-use Rattle.naga_wgsl_fns.proofs.Wanted.{first_within, local_is_value}
+use Rattle.naga_wgsl_fns.proofs.TextHandles.{first_in_range}
+use Rattle.naga_wgsl_fns.proofs.Wanted.{local_is_value}
 use Rattle.naga_wgsl_fns.proofs.functions.FunctionText.write_local.Goals as goal
 
 pub write_type-requires-clause-value : goal.write_type-requires-clause-value
 write_type-requires-clause-value g c = local_is_value c.args.self.now c.requires.can c.args.handle c.index-local.result.now c.index-local.ensures
 
 pub write_first_value-requires-clause-value : goal.write_first_value-requires-clause-value
-write_first_value-requires-clause-value g c = first_within c.args.self.now c.requires.can c.args.handle c.index-local.result.now c.index-local.ensures
+write_first_value-requires-clause-value g c = first_in_range c.args.self.now c.requires.can c.args.handle c.index-local.result.now c.index-local.ensures
 
 pub returns : goal.returns
 returns g c =

@@ -1,0 +1,107 @@
+-- Marks of the handles of a list, one after another.
+use Rattle.std.proofs.Common.{◌≡◌, ℕ, Bool, true, false, List, [], ◌∷◌, ◌++◌, ◌&&◌, ◌||◌, refl, sym}
+use Rattle.std.proofs.Common.{ap, ◌∙◌, length, nat_eq, nat_lt, suc, ◌+◌, ◌<◌, ◌≤◌, drop}
+use Rattle.std.proofs.Common.{slice_index_or}
+use Rattle.std.specs.Prelude.{if◌then◌else◌}
+use Rattle.std.specs.List.{enumerate_from, flat_map, list_any}
+use Rattle.std.specs.Option.{option_to_list}
+use Rattle.module_meaning.proofs.Fitting.{drop_first}
+use Rattle.module_meaning.specs.Written.{block_roots, statement_roots}
+use Rattle.std.proofs.lemmas.List.{drop_all}
+use Rattle.naga_ir.specs.StatementViews.{block_of, tree_of}
+use Rattle.naga_ir.specs.declared.module.LocalVariable.{LocalVariable}
+use Rattle.naga_ir.specs.declared.statement.Statement.{Statement}
+use Rattle.naga_scope.specs.Marks.{MarksJust, is_marked, is_one_of, marked_with}
+use Rattle.std.proofs.Common.{replicate, zero}
+
+-- in turn is as all together
+one_then : (m e a l : Bool) → ((m || ((e || false) && l)) || (a && l)) ≡ (m || ((e || a) && l))
+one_then true e a l = refl
+one_then false true true true = refl
+one_then false true true false = refl
+one_then false true false true = refl
+one_then false true false false = refl
+one_then false false a l = refl
+
+none_then : (m a l : Bool) → ((m || (false && l)) || (a && l)) ≡ (m || (a && l))
+none_then true a l = refl
+none_then false a l = refl
+
+pub marked_none : (m l : Bool) → m ≡ (m || (false && l))
+marked_none true l = refl
+marked_none false l = refl
+
+module _ (old new : List Bool) (size : length new ≡ length old) (h : ℕ) where
+  -- with the first of some, and then with the others
+  pub marked_then : (b : Bool) (x : ℕ) (xs : List ℕ) →
+      is_marked new h ≡ marked_with old (if b then x ∷ [] else []) h →
+      marked_with new xs h ≡ marked_with old (if b then x ∷ xs else xs) h
+  marked_then true x xs is =
+      (λ i. is i || (is_one_of xs h && nat_lt h (size i)))
+      ∙ one_then (is_marked old h) (nat_eq h x) (is_one_of xs h) (nat_lt h (length old))
+  marked_then false x xs is =
+      (λ i. is i || (is_one_of xs h && nat_lt h (size i)))
+      ∙ none_then (is_marked old h) (is_one_of xs h) (nat_lt h (length old))
+
+  -- with some, and then with others
+  pub marked_both : (xs ys : List ℕ) → is_marked new h ≡ marked_with old xs h →
+      marked_with new ys h ≡ marked_with old (xs ++ ys) h
+  marked_both xs ys is =
+      (λ i. is i || (is_one_of ys h && nat_lt h (size i)))
+      ∙ (both (is_marked old h) (is_one_of xs h) (is_one_of ys h) (nat_lt h (length old))
+      ∙ ap (λ b. is_marked old h || (b && nat_lt h (length old))) (sym (any_append xs)))
+    where
+      any_append : (zs : List ℕ) → is_one_of (zs ++ ys) h ≡ (is_one_of zs h || is_one_of ys h)
+      any_append [] = refl
+      any_append (z ∷ zs) = by (nat_eq h z) (any_append zs)
+        where
+          by : (b : Bool) → is_one_of (zs ++ ys) h ≡ (is_one_of zs h || is_one_of ys h) →
+              (b || is_one_of (zs ++ ys) h) ≡ ((b || is_one_of zs h) || is_one_of ys h)
+          by true same = refl
+          by false same = same
+
+      both : (m a b l : Bool) → ((m || (a && l)) || (b && l)) ≡ (m || ((a || b) && l))
+      both true a b l = refl
+      both false true true true = refl
+      both false true true false = refl
+      both false true false true = refl
+      both false true false false = refl
+      both false false b l = refl
+
+-- ---- lists that a loop goes through
+-- the first values of locals with their handles
+abbrev pub firsts_of : List (ℕ × LocalVariable) → List ℕ
+firsts_of ps = flat_map (λ p. option_to_list p.1.init) ps
+
+pub firsts_listed : (k : ℕ) (ls : List LocalVariable) →
+    firsts_of (enumerate_from k ls) ≡ flat_map (λ l. option_to_list l.init) ls
+firsts_listed k [] = refl
+firsts_listed k (l ∷ ls) = ap (λ hs. option_to_list l.init ++ hs) (firsts_listed (k + 1) ls)
+
+-- the roots of the statements from some on
+pub roots_more : (binds : ℕ → Bool) (i : ℕ) (items : List Statement) (x : Statement) →
+    i < length items → x ≡ slice_index_or items i x →
+    block_roots binds (block_of (drop i items)) ≡
+    statement_roots binds (tree_of x) ++ block_roots binds (block_of (drop (i + 1) items))
+roots_more binds i items x lt is =
+    ap (λ xs. block_roots binds (block_of xs))
+    (drop_first i items x lt ∙ ap (λ y. y ∷ drop (i + 1) items) (sym is))
+
+pub roots_end : (binds : ℕ → Bool) (items : List Statement) (i : ℕ) → length items ≤ i →
+    block_roots binds (block_of (drop i items)) ≡ []
+roots_end binds items i le = ap (λ xs. block_roots binds (block_of xs)) (drop_all i items le)
+
+-- a table without marks
+pub unmarked : (n h : ℕ) → is_marked (replicate n false) h ≡ false
+unmarked zero h = refl
+unmarked (suc n) zero = refl
+unmarked (suc n) (suc h) = unmarked n h
+
+-- the marks of a table that had none
+pub just_marked : (first marks : List Bool) (roots : List ℕ) (n : ℕ) → first ≡ replicate n false →
+    length marks ≡ length first → ((h : ℕ) → is_marked marks h ≡ marked_with first roots h) →
+    MarksJust roots marks
+just_marked first marks roots n none size are h =
+    are h
+    ∙ ((λ i. (ap (λ l. is_marked l h) none ∙ unmarked n h) i || (is_one_of roots h && nat_lt h (length first)))
+    ∙ ap (λ l. is_one_of roots h && nat_lt h l) (sym size))
