@@ -73,7 +73,7 @@ load_among : (columns rows : CooperativeSize) (role : CooperativeRole) (row_majo
 load_among columns rows role row_major None = refl
 load_among columns rows role row_major (Some w) = refl
 
-query_asks : (q : ImageQuery) → asks (query_operator q) ≡ true
+pub query_asks : (q : ImageQuery) → asks (query_operator q) ≡ true
 query_asks (query.Size level) = refl
 query_asks _ = refl
 

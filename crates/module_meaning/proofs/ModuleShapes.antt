@@ -23,22 +23,20 @@ use Rattle.module_meaning.specs.ExpressionOperators.{is_atomic, points_to_atomic
 use Rattle.module_meaning.specs.ExpressionTypes.{variable_type}
 use Rattle.module_meaning.specs.FunctionShapes.{function_shape, function_shapes}
 use Rattle.module_meaning.specs.ModuleShapes.{module_shape, initialiser, part_words}
-use Rattle.module_meaning.specs.Part.{is_value_type, is_written_value, is_written_so_far}
+use Rattle.module_meaning.specs.Part.{type_is_of_part, needs_nothing, is_written_so_far}
 use Rattle.module_meaning.specs.Types.{declared_type, type_of_values}
 use Rattle.module_meaning.proofs.Lists.{list_all_at}
 use Rattle.module_meaning.proofs.Part.{written_so_far_parts}
 use Rattle.shader_runs.specs.Program.{Module}
 
 -- ---- nothing is atomic
--- a scalar, a vector and a matrix are no atomics
-no_atomic : (it : TypeInner) → is_written_value it ≡ true → is_atomic it ≡ false
-no_atomic (inner.Scalar s) is = refl
-no_atomic (inner.Vector size s) is = refl
-no_atomic (inner.Matrix columns rows s) is = refl
-no_atomic _ is = absurd cc
+-- a type of the part is no atomic
+no_atomic : (it : TypeInner) → needs_nothing it ≡ true → is_atomic it ≡ false
+no_atomic (inner.Atomic s) is = absurd cc
+no_atomic _ is = refl
 
 -- a pointer points to no atomic among such types
-no_atomic_behind : (types : List Type_) → list_all is_value_type types ≡ true →
+no_atomic_behind : (types : List Type_) → list_all type_is_of_part types ≡ true →
     (o : Option TypeInner) →
     option_map_or is_atomic (option_and_then (type_behind types) o) false ≡ false
 no_atomic_behind types values None = refl
@@ -47,10 +45,10 @@ no_atomic_behind types values (Some (inner.Pointer base space)) = by (slice_get 
     by : (o : Option Type_) → slice_get types base ≡ o →
         option_map_or is_atomic (option_map (λ t. t.inner) o) false ≡ false
     by None at = refl
-    by (Some t) at = no_atomic t.inner (list_all_at is_value_type types base t values at)
+    by (Some t) at = no_atomic t.inner (list_all_at type_is_of_part types base t values at)
 no_atomic_behind types values (Some _) = refl
 
-pub points_plainly : (a : Surroundings) → list_all is_value_type a.types ≡ true → (h : ℕ) →
+pub points_plainly : (a : Surroundings) → list_all type_is_of_part a.types ≡ true → (h : ℕ) →
     points_to_atomic a h ≡ false
 points_plainly a values h = no_atomic_behind a.types values (type_known a h)
 

@@ -24,6 +24,7 @@ pub mod Part
 pub mod Premises
 pub mod Ranges
 pub mod Resolution
+pub mod Sampling
 pub mod ShapeKinds
 pub mod Shapes
 pub mod Soundness

@@ -310,15 +310,16 @@ formless_code (MatrixLoad columns rows role row_major) =
     3 ∷ cooperative_number columns ∷ cooperative_number rows
     ∷ role_number role ∷ truth_number row_major ∷ []
 
--- What has no word is called by one with a blank in front, which no text can spell.
+-- What has no word is called by one that no text can spell: with a blank in front or, where it asks
+-- an image, the word of such an operation with a blank and what is no number behind it.
 abbrev pub own_word : Operator → List ℕ
 own_word (Mathematical fun) = own_math_word fun
 own_word (Relation fun) = own_relational_word fun
 own_word (Sample level compares clamped arrayed offset) =
-    codes " sample" ++ own_form_word level compares clamped
+    codes "textureSample " ++ own_form_word level compares clamped
 own_word (Gather component level compares clamped arrayed offset) =
-    codes " gather" ++ (own_form_word level compares clamped ++ component_word component)
-own_word (Texel arrayed of_) = codes " textureLoad"
+    codes "textureGather " ++ (own_form_word level compares clamped ++ component_word component)
+own_word (Texel arrayed of_) = codes "textureLoad Both"
 own_word (TexelChange way arrayed) = codes " textureAtomicCompareExchangeWeak"
 own_word (Collective op collective) = own_collective_word op collective
 own_word RayStep = codes " step"

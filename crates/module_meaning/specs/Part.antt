@@ -3,7 +3,7 @@
 -- Throughout, m is a module and info what is known of it, f a function, es are its expressions, e
 -- is one, k is what is known of one, h is a handle, l a local, a an argument, r a result, s a
 -- statement, t a type, and b the rest of a block.
-use Rattle.std.specs.Prelude.{ℕ, Bool, true, false, ◌&&◌, ◌||◌, List, length, ◌==◌, Option, Some}
+use Rattle.std.specs.Prelude.{ℕ, Bool, true, false, ◌&&◌, ◌||◌, not, List, length, ◌==◌, Option, Some}
 use Rattle.std.specs.Prelude.{slice_get}
 use Rattle.std.specs.List.{list_all}
 use Rattle.std.specs.Option.{option_map_or, is_none, is_some}
@@ -17,13 +17,15 @@ use Rattle.naga_ir.specs.declared.expression.Expression.TheVariants.{LocalVariab
 use Rattle.naga_ir.specs.declared.expression.Expression.TheVariants.{Binary, Select, Math}
 use Rattle.naga_ir.specs.declared.expression.Expression.TheVariants.{Relational, Splat, Swizzle}
 use Rattle.naga_ir.specs.declared.expression.Expression.TheVariants.{Access, AccessIndex, As}
-use Rattle.naga_ir.specs.declared.expression.Expression.TheVariants.{Derivative}
+use Rattle.naga_ir.specs.declared.expression.Expression.TheVariants.{Derivative, ArrayLength}
+use Rattle.naga_ir.specs.declared.expression.Expression.TheVariants.{CooperativeMultiplyAdd}
+use Rattle.naga_ir.specs.declared.expression.Expression.TheVariants.{ImageSample, ImageLoad}
+use Rattle.naga_ir.specs.declared.expression.Expression.TheVariants.{ImageQuery}
 use Rattle.naga_ir.specs.declared.expression.Literal.{Literal as LiteralValue}
 use Rattle.naga_ir.specs.declared.expression.Literal.TheVariants as literal
 use Rattle.naga_ir.specs.declared.module.Function.{Function}
 use Rattle.naga_ir.specs.declared.module.LocalVariable.{LocalVariable as Local}
 use Rattle.naga_ir.specs.declared.module.Module.{Module}
-use Rattle.naga_ir.specs.declared.types.AddressSpace.TheVariants.{Function as OfFunction}
 use Rattle.naga_ir.specs.declared.types.Scalar.{Scalar}
 use Rattle.naga_ir.specs.declared.types.ScalarKind.{ScalarKind}
 use Rattle.naga_ir.specs.declared.types.ScalarKind.TheVariants as kind
@@ -33,11 +35,14 @@ use Rattle.naga_ir.specs.declared.types.TypeInner.TheVariants as inner
 use Rattle.naga_info.specs.Resolution.{inner_of}
 use Rattle.naga_info.specs.declared.info.ExpressionInfo.{ExpressionInfo}
 use Rattle.naga_info.specs.declared.info.ModuleInfo.{ModuleInfo}
-use Rattle.naga_info.specs.declared.info.TypeResolution.{TypeResolution}
+use Rattle.naga_info.specs.declared.info.TypeResolution.TheVariants.{Handle, Value}
+use Rattle.module_meaning.specs.AlikeTypes.{has_form}
 use Rattle.module_meaning.specs.Conversions.{conversion_target}
 use Rattle.module_meaning.specs.ExpressionOperators.{has_parts}
 use Rattle.module_meaning.specs.InfoSizes.{all_paired}
 use Rattle.module_meaning.specs.OperatorTable.{relational_word}
+use Rattle.module_meaning.specs.Ranges.{all_placed}
+use Rattle.module_meaning.specs.Sampling.{own_offset_is_written, sampling_is_written}
 use Rattle.wgsl_words.specs.Words.{math_word}
 
 -- nothing is declared but types and functions
@@ -47,42 +52,34 @@ declares_functions m =
     (length m.global_expressions == 0 && length m.entry_points.items == 0)))
 
 -- ---- types
--- the kinds and widths in bytes of the scalars that are written so far: `bool`, and integers and
--- floats of 32 and of 64 bits
-abbrev pub width_is_written : ScalarKind → (width : ℕ) → Bool
-width_is_written kind.Bool width = width == 1
-width_is_written kind.Sint width = width == 4 || width == 8
-width_is_written kind.Uint width = width == 4 || width == 8
-width_is_written kind.Float width = width == 4 || width == 8
-width_is_written _ width = false
+-- for an integer or a float of 16 bits a module enables an extension
+abbrev pub width_is_extended : ScalarKind → (width : ℕ) → Bool
+width_is_extended kind.Sint width = width == 2
+width_is_extended kind.Uint width = width == 2
+width_is_extended kind.Float width = width == 2
+width_is_extended _ width = false
 
-abbrev pub scalar_is_written : Scalar → Bool
-scalar_is_written s = width_is_written s.kind s.width
+abbrev pub is_extended : Scalar → Bool
+is_extended s = width_is_extended s.kind s.width
 
--- the type is such a scalar, or a vector or a matrix of such scalars
-abbrev pub is_written_value : TypeInner → Bool
-is_written_value (inner.Scalar s) = scalar_is_written s
-is_written_value (inner.Vector size s) = scalar_is_written s
-is_written_value (inner.Matrix columns rows s) = scalar_is_written s
-is_written_value _ = false
+-- A module declares nothing for the type and enables nothing for it; and, so far, it is no atomic.
+abbrev pub needs_nothing : TypeInner → Bool
+needs_nothing (inner.Scalar s) = not (is_extended s)
+needs_nothing (inner.Vector size s) = not (is_extended s)
+needs_nothing (inner.Matrix columns rows s) = not (is_extended s)
+needs_nothing (inner.CooperativeMatrix columns rows s role) = false
+needs_nothing (inner.Atomic s) = false
+needs_nothing (inner.Struct members span) = false
+needs_nothing (inner.AccelerationStructure vertex_return) = false
+needs_nothing (inner.BindingArray base size) = false
+needs_nothing _ = true
 
-abbrev pub is_value_type : Type_ → Bool
-is_value_type t = is_written_value t.inner
+abbrev pub type_is_of_part : Type_ → Bool
+type_is_of_part t = needs_nothing t.inner
 
--- the type with this handle is
-abbrev pub is_value_at : List Type_ → (handle : ℕ) → Bool
-is_value_at types handle = option_map_or is_value_type (slice_get types handle) false
-
--- the type is such a value's, or that of a pointer to a local of one, or to a component or a column
--- of that
-abbrev pub type_is_written : List Type_ → TypeInner → Bool
-type_is_written types (inner.Pointer base OfFunction) = is_value_at types base
-type_is_written types (inner.ValuePointer size s OfFunction) = scalar_is_written s
-type_is_written types it = is_written_value it
-
--- so is what is known of an expression's type
-abbrev pub resolution_is_written : List Type_ → TypeResolution → Bool
-resolution_is_written types r = option_map_or (type_is_written types) (inner_of r types) false
+-- each type of a module has a form, so far
+abbrev pub types_have_forms : List Type_ → Bool
+types_have_forms types = all_placed (λ h t. has_form types (Handle h)) types
 
 -- ---- functions
 -- the literal is of `bool` or of one of these integer types
@@ -94,32 +91,60 @@ is_written_literal (literal.I64 value) = true
 is_written_literal (literal.U64 value) = true
 is_written_literal _ = false
 
--- a literal of `bool` or of an integer type, the zero value of a type, a value of a type from its
--- parts, a part at an index, an argument, a local, a load, an operator with a sign, the choice of
--- one of two values, a vector of one value, components of a vector, a conversion, a derivative, or a
--- function of mathematics or a relation that has a word
-abbrev pub expression_is_written : Expression → Bool
-expression_is_written (Literal value) = is_written_literal value
-expression_is_written (ZeroValue ty) = true
-expression_is_written (Compose ty components) = true
-expression_is_written (Access base index) = true
-expression_is_written (AccessIndex base index) = true
-expression_is_written (FunctionArgument number) = true
-expression_is_written (LocalVariable handle) = true
-expression_is_written (Load pointer) = true
-expression_is_written (Unary op expr) = true
-expression_is_written (Binary op left right) = true
-expression_is_written (Select condition accept reject) = true
-expression_is_written (Splat size value) = true
-expression_is_written (Swizzle size vector pattern) = true
-expression_is_written (As expr kind convert) = true
-expression_is_written (Derivative axis ctrl expr) = true
-expression_is_written (Math fun arg arg1 arg2 arg3) = is_some (math_word fun)
-expression_is_written (Relational fun argument) = is_some (relational_word fun)
-expression_is_written _ = false
+-- the type that is known of the expression with this handle passes a test
+abbrev pub known_passes : List Type_ → List ExpressionInfo → (test : TypeInner → Bool) →
+    (handle : ℕ) → Bool
+known_passes types es test h =
+    option_map_or (λ k. option_map_or test (inner_of k.ty types) false) (slice_get es h) false
 
--- A float, an abstract literal, and a function of mathematics or a relation without a word are
--- refused by name where they are written, and let be where they are not.
+-- a value of this type is converted to one of a type that has a form
+abbrev pub converts : List Type_ → ScalarKind → (convert : Option ℕ) → TypeInner → Bool
+converts types kind convert it =
+    option_map_or (λ new. has_form types (Value new)) (conversion_target it kind convert) false
+
+-- A literal of `bool` or of an integer type, the zero value of a type, a value of a type from its
+-- parts, a part at an index, an argument, a local, a load, an operator with a sign, the choice of
+-- one of two values, a vector of one value, components of a vector, a conversion, a derivative, an
+-- operation on an image that has a form, the length of an array, a product of cooperative matrices,
+-- or a function of mathematics or a relation that has a word. A type that it spells has a form.
+abbrev pub expression_is_written : List Type_ → List ExpressionInfo → Expression → Bool
+expression_is_written types es (Literal value) = is_written_literal value
+expression_is_written types es (ZeroValue ty) = has_form types (Handle ty)
+expression_is_written types es (Compose ty components) = has_form types (Handle ty)
+expression_is_written types es (Access base index) = true
+expression_is_written types es (AccessIndex base index) = true
+expression_is_written types es (FunctionArgument number) = true
+expression_is_written types es (LocalVariable handle) = true
+expression_is_written types es (Load pointer) = true
+expression_is_written types es (Unary op expr) = true
+expression_is_written types es (Binary op left right) = true
+expression_is_written types es (Select condition accept reject) = true
+expression_is_written types es (Splat size value) = true
+expression_is_written types es (Swizzle size vector pattern) = true
+expression_is_written types es (As expr kind convert) =
+    known_passes types es (converts types kind convert) expr
+expression_is_written types es (Derivative axis ctrl expr) = true
+expression_is_written types es
+    (ImageSample image sampler gather coordinate array_index offset level depth_ref clamp) =
+    sampling_is_written gather level (is_some depth_ref) clamp
+expression_is_written types es (ImageLoad image coordinate array_index sample level) =
+    is_none sample || is_none level
+expression_is_written types es (ImageQuery image query) = true
+expression_is_written types es (ArrayLength array) = true
+expression_is_written types es (CooperativeMultiplyAdd a b c) = true
+expression_is_written types es (Math fun arg arg1 arg2 arg3) = is_some (math_word fun)
+expression_is_written types es (Relational fun argument) = is_some (relational_word fun)
+expression_is_written types es _ = false
+
+-- it is written, and so is the offset of a sampling, as a constant of these expressions
+abbrev pub expression_has_form : List Type_ → List ExpressionInfo → List Expression → Expression →
+    Bool
+expression_has_form types known es e =
+    expression_is_written types known e && own_offset_is_written es e
+
+-- What has no form is refused by name where it is written, and let be where it is not: a float, an
+-- abstract literal, a function of mathematics or a relation without a word, an operation on an image
+-- without a form, and what spells a type without a form.
 abbrev pub literal_is_of_part : LiteralValue → Bool
 literal_is_of_part (literal.I16 value) = false
 literal_is_of_part (literal.U16 value) = false
@@ -128,27 +153,33 @@ literal_is_of_part _ = true
 -- the expression is written, or refused so
 abbrev pub expression_is_of_part : Expression → Bool
 expression_is_of_part (Literal value) = literal_is_of_part value
+expression_is_of_part (ZeroValue ty) = true
+expression_is_of_part (Compose ty components) = true
+expression_is_of_part (Access base index) = true
+expression_is_of_part (AccessIndex base index) = true
+expression_is_of_part (FunctionArgument number) = true
+expression_is_of_part (LocalVariable handle) = true
+expression_is_of_part (Load pointer) = true
+expression_is_of_part (Unary op expr) = true
+expression_is_of_part (Binary op left right) = true
+expression_is_of_part (Select condition accept reject) = true
+expression_is_of_part (Splat size value) = true
+expression_is_of_part (Swizzle size vector pattern) = true
+expression_is_of_part (As expr kind convert) = true
+expression_is_of_part (Derivative axis ctrl expr) = true
 expression_is_of_part (Math fun arg arg1 arg2 arg3) = true
 expression_is_of_part (Relational fun argument) = true
-expression_is_of_part e = expression_is_written e
+expression_is_of_part
+    (ImageSample image sampler gather coordinate array_index offset level depth_ref clamp) = true
+expression_is_of_part (ImageLoad image coordinate array_index sample level) = true
+expression_is_of_part (ImageQuery image query) = true
+expression_is_of_part (ArrayLength array) = true
+expression_is_of_part (CooperativeMultiplyAdd a b c) = true
+expression_is_of_part _ = false
 
--- the type that is known of the expression with this handle passes a test
-abbrev pub known_passes : List Type_ → List ExpressionInfo → (test : TypeInner → Bool) →
-    (handle : ℕ) → Bool
-known_passes types es test h =
-    option_map_or (λ k. option_map_or test (inner_of k.ty types) false) (slice_get es h) false
-
--- a value of this type is converted to one of a type that is written so far
-abbrev pub converts_to_written : ScalarKind → (convert : Option ℕ) → TypeInner → Bool
-converts_to_written kind convert it =
-    option_map_or is_written_value (conversion_target it kind convert) false
-
--- The types of its operands let an expression be written: a known index is that of what has parts,
--- and a conversion is to such a type.
+-- The types of its operands let an expression be written: a known index is that of what has parts.
 abbrev pub types_allow : List Type_ → List ExpressionInfo → Expression → Bool
 types_allow types es (AccessIndex base index) = known_passes types es (has_parts types) base
-types_allow types es (As expr kind convert) =
-    known_passes types es (converts_to_written kind convert) expr
 types_allow types es _ = true
 
 -- so they do in a function
@@ -191,15 +222,15 @@ function_is_written f =
     (list_all (local_is_written f.expressions) f.local_variables && block_is_written f.body)))
 
 -- ---- modules
--- each type that is known of an expression of a function is written so far
-abbrev pub known_types_are_written : List Type_ → ModuleInfo → Bool
-known_types_are_written types info =
-    list_all (list_all (λ k. resolution_is_written types k.ty)) info.functions.items
+-- each type that is known of an expression of a function has a form, so far
+abbrev pub known_types_have_forms : List Type_ → ModuleInfo → Bool
+known_types_have_forms types info =
+    list_all (list_all (λ k. has_form types k.ty)) info.functions.items
 
--- such types of values and such functions, of whose expressions such types are known, and pointers
--- to them, that let these be written
+-- Such types and such functions, of whose expressions such types are known, and the types of whose
+-- operands let their expressions be written.
 unfoldable pub is_written_so_far : Module → ModuleInfo → Bool
 is_written_so_far m info =
-    declares_functions m && (list_all is_value_type m.types &&
-    (list_all function_is_written m.functions && (known_types_are_written m.types info &&
-    all_paired (types_allow_all m.types) m.functions info.functions.items)))
+    declares_functions m && (list_all type_is_of_part m.types && (types_have_forms m.types &&
+    (list_all function_is_written m.functions && (known_types_have_forms m.types info &&
+    all_paired (types_allow_all m.types) m.functions info.functions.items))))

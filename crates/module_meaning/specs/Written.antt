@@ -1,23 +1,31 @@
 -- What is written of a function: what its statements write by themselves, which are their operands and
 -- the handles that a `let` binds where they are emitted, the first values of its locals, and the
--- operands of what is written.
+-- operands of what is written. And which types its text spells.
 --
 -- Throughout, binds says of each handle whether a `let` binds it, st is a statement, b the rest of a
 -- block, cases are those of a switch, f is a function and es its expressions, known is what is known
--- of these, h and x are handles, and e is an expression.
-use Rattle.std.specs.Prelude.{◌≡◌, ℕ, Bool, List, [], ◌∷◌, ◌++◌, ◌-◌, Some, slice_get, IsTrue}
+-- of these, h and x are handles, e is an expression,
+-- r a type, and explicit says whether `let`s tell types.
+use Rattle.std.specs.Prelude.{◌≡◌, ℕ, Bool, true, List, [], ◌∷◌, ◌++◌, ◌-◌, Some, slice_get}
+use Rattle.std.specs.Prelude.{IsTrue}
 use Rattle.std.specs.List.{IsAmong, filter, flat_map}
 use Rattle.std.specs.Option.{option_to_list}
+use Rattle.module_meaning.specs.AlikeTypes.{has_form}
 use Rattle.module_meaning.specs.FunctionShapes.{function_shape}
-use Rattle.module_meaning.specs.Part.{expression_is_written}
+use Rattle.module_meaning.specs.Part.{expression_has_form}
 use Rattle.naga_info.specs.declared.info.ExpressionInfo.{ExpressionInfo}
 use Rattle.naga_info.specs.declared.info.ModuleInfo.{ModuleInfo}
+use Rattle.naga_info.specs.declared.info.TypeResolution.{TypeResolution}
+use Rattle.naga_info.specs.declared.info.TypeResolution.TheVariants.{Handle}
 use Rattle.naga_ir.specs.Operands.{expression_operands, simple_operands}
 use Rattle.naga_ir.specs.StatementTree.{SimpleStatement, emit, StatementTree, simple, block, branch}
 use Rattle.naga_ir.specs.StatementTree.{switch, loop, BlockTree, no_statements, statement}
 use Rattle.naga_ir.specs.StatementTree.{CaseTrees, no_cases, case}
 use Rattle.naga_ir.specs.declared.expression.Expression.{Expression}
 use Rattle.naga_ir.specs.declared.module.Function.{Function}
+use Rattle.naga_ir.specs.declared.module.FunctionArgument.{FunctionArgument}
+use Rattle.naga_ir.specs.declared.module.FunctionResult.{FunctionResult}
+use Rattle.naga_ir.specs.declared.module.LocalVariable.{LocalVariable}
 use Rattle.naga_ir.specs.declared.module.Module.{Module}
 use Rattle.shader_runs.specs.Program.{binds, from}
 
@@ -62,14 +70,59 @@ abbrev pub IsWrittenIn : Module → ModuleInfo → Function → List ExpressionI
 IsWrittenIn m info f known h =
     IsWritten f.expressions (function_roots (binds (function_shape m info f known)) f) h
 
--- each that is has a form
-abbrev pub WrittenHaveForms : Module → ModuleInfo → Function → List ExpressionInfo → Type 0
-WrittenHaveForms m info f known =
+-- ---- types
+-- the handles that the `Emit`s of a statement, of a block and of cases give
+abbrev mutual
+  pub statement_emits : StatementTree → List ℕ
+  statement_emits (simple (emit first end)) = from first (end - first)
+  statement_emits (simple st) = []
+  statement_emits (block b) = block_emits b
+  statement_emits (branch condition accept reject) = block_emits accept ++ block_emits reject
+  statement_emits (switch selector cases) = cases_emits cases
+  statement_emits (loop body continuing break_if) = block_emits body ++ block_emits continuing
+
+  pub block_emits : BlockTree → List ℕ
+  block_emits no_statements = []
+  block_emits (statement st b) = statement_emits st ++ block_emits b
+
+  pub cases_emits : CaseTrees → List ℕ
+  cases_emits no_cases = []
+  cases_emits (case value body falls cases) = block_emits body ++ cases_emits cases
+
+-- The types that the text of a function spells, beside those that its expressions spell: of its
+-- arguments, its result and its locals, and where its `let`s tell types, of the handles that one
+-- binds.
+pub data IsSpelledIn (explicit : Bool) (m : Module) (info : ModuleInfo) (f : Function)
+    (known : List ExpressionInfo) : TypeResolution → Type 0 where
+  OfArgument : (n : ℕ) (a : FunctionArgument) → slice_get f.arguments.items n ≡ Some a →
+      IsSpelledIn explicit m info f known (Handle a.ty)
+  OfResult : (r : FunctionResult) → f.result ≡ Some r →
+      IsSpelledIn explicit m info f known (Handle r.ty)
+  OfLocal : (l : ℕ) (v : LocalVariable) → slice_get f.local_variables l ≡ Some v →
+      IsSpelledIn explicit m info f known (Handle v.ty)
+  OfLet : (h : ℕ) (k : ExpressionInfo) → explicit ≡ true → IsAmong (block_emits f.body) h →
+      binds (function_shape m info f known) h ≡ true → slice_get known h ≡ Some k →
+      IsSpelledIn explicit m info f known k.ty
+
+-- ---- what has a form
+-- Each expression that is written has a form,
+abbrev pub ExpressionsHaveForms : Module → ModuleInfo → Function → List ExpressionInfo → Type 0
+ExpressionsHaveForms m info f known =
     (h : ℕ) (e : Expression) → slice_get f.expressions h ≡ Some e → IsWrittenIn m info f known h →
-    IsTrue (expression_is_written e)
+    IsTrue (expression_has_form m.types known f.expressions e)
+
+-- and so has each type that is spelled beside them.
+pub record WrittenHaveForms (explicit : Bool) (m : Module) (info : ModuleInfo) (f : Function)
+    (known : List ExpressionInfo) : Type 0 where
+  pub expressions : ExpressionsHaveForms m info f known
+  pub types : (r : TypeResolution) → IsSpelledIn explicit m info f known r →
+      IsTrue (has_form m.types r)
 
 -- so it is in each function
-abbrev pub AllWrittenHaveForms : Module → ModuleInfo → Type 0
-AllWrittenHaveForms m info =
+abbrev pub OfEachFunction : Module → ModuleInfo → (Function → List ExpressionInfo → Type 0) → Type 0
+OfEachFunction m info Holds =
     (g : ℕ) (f : Function) (known : List ExpressionInfo) → slice_get m.functions g ≡ Some f →
-    slice_get info.functions.items g ≡ Some known → WrittenHaveForms m info f known
+    slice_get info.functions.items g ≡ Some known → Holds f known
+
+abbrev pub AllWrittenHaveForms : (explicit : Bool) → Module → ModuleInfo → Type 0
+AllWrittenHaveForms explicit m info = OfEachFunction m info (WrittenHaveForms explicit m info)

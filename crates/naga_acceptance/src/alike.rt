@@ -357,6 +357,13 @@ pub(crate) fn has_form(types: &UniqueArena<Type_>, ty: &GivenType) -> bool
     top_has_form(types, given_top(types, ty))
 }
 
+/// Whether WGSL spells an expression's type.
+pub(crate) fn is_spelled(types: &UniqueArena<Type_>, ty: &TypeResolution) -> bool
+    ensures { result ≡ has_form types.now ty.now }
+{
+    top_has_form(types, resolution_top(types, ty))
+}
+
 /// What `over` is, if it is something that has a level.
 pub(crate) fn next(types: &UniqueArena<Type_>, over: Over) -> Option<Top>
     ensures form { next_form over (top_form types.now result) ≡ over_form types.now over }

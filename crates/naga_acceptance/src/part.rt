@@ -7,43 +7,41 @@ ghost use Rattle.naga_ir.specs.StatementViews.{tree_of};
 ghost use Rattle.naga_info.specs.Resolution.{inner_of};
 ghost use Rattle.module_meaning.specs.ExpressionOperators.{has_parts, is_composite};
 ghost use Rattle.module_meaning.specs.InfoSizes.{all_paired};
-ghost use Rattle.module_meaning.specs.Part.{block_is_written, converts_to_written};
+ghost use Rattle.module_meaning.specs.AlikeTypes.{has_form};
+ghost use Rattle.module_meaning.specs.Part.{block_is_written, declares_functions};
 ghost use Rattle.module_meaning.specs.Part.{expression_is_of_part, literal_is_of_part};
 ghost use Rattle.module_meaning.specs.Part.{function_is_written, is_literal, is_unbound};
-ghost use Rattle.module_meaning.specs.Part.{is_written_so_far, local_is_written};
-ghost use Rattle.module_meaning.specs.Part.{declares_functions, is_value_at, is_value_type};
-ghost use Rattle.module_meaning.specs.Part.{is_written_value};
-ghost use Rattle.module_meaning.specs.Part.{known_types_are_written, names_nothing};
-ghost use Rattle.module_meaning.specs.Part.{resolution_is_written, scalar_is_written};
-ghost use Rattle.module_meaning.specs.Part.{statement_is_written, type_is_written, types_allow};
-ghost use Rattle.module_meaning.specs.Part.{types_allow_all};
+ghost use Rattle.module_meaning.specs.Part.{is_extended, is_written_so_far, local_is_written};
+ghost use Rattle.module_meaning.specs.Part.{known_types_have_forms, names_nothing, needs_nothing};
+ghost use Rattle.module_meaning.specs.Part.{statement_is_written, type_is_of_part, types_allow};
+ghost use Rattle.module_meaning.specs.Part.{types_allow_all, types_have_forms};
 
-use crate::operator_keys::converted_scalar;
+use crate::alike::is_spelled;
 use crate::parts::{inner_at, inner_of};
 use naga_info::{ExpressionInfo, FunctionInfo, ModuleInfo, TypeResolution};
 use naga_ir::{
-    AddressSpace, Arena, Block, Expression, Function, FunctionArgument, Handle, Literal,
-    LocalVariable, Module, Place, Scalar, ScalarKind, Statement, Type_, TypeInner, UniqueArena,
+    Arena, Block, Expression, Function, FunctionArgument, Handle, Literal, LocalVariable, Module,
+    Place, Scalar, ScalarKind, Statement, Type_, TypeInner, UniqueArena,
 };
 
-/// Whether the module holds nothing but what is written so far: the types `bool`, `i32`, `u32`,
-/// `f32`, `i64`, `u64` and `f64`, vectors and matrices of these, and functions without names of
-/// their expressions, whose arguments and result are bound to nothing, whose locals have a literal
-/// as first value or none, whose expressions are arguments, locals, literals of `bool` and of the
-/// integer types, zero values, values of a type composed of others, loads, operators with a sign,
-/// choices, vectors of one value, swizzles, parts at an index, conversions, derivatives, and calls
-/// of functions of mathematics that have a word, of `all` and of `any`, and whose statements are
-/// `Emit`s, `Store`s and `Return`s. And whether nothing else is known of these expressions' types than such
-/// a type, or a pointer to a local of one or to its components and columns, a known index is that
-/// of what has parts, and a conversion is to such a type.
+/// Whether the module is of the part that is written so far: it declares nothing but functions and
+/// types that need no extension, no declaration and are no atomics; the types have forms, and so has
+/// what is known of the functions' expressions. The functions have no names of their expressions;
+/// their arguments and results are bound to nothing, their locals have a literal as first value or
+/// none; their expressions are arguments, locals, literals of all types but 16 bits, zero values,
+/// values of a type composed of others, loads, operators with a sign, choices, vectors of one value,
+/// swizzles, parts at an index, conversions, derivatives, operations on images, lengths of arrays,
+/// products of cooperative matrices, and calls of functions of mathematics and of relations; and
+/// their statements are `Emit`s, `Store`s and `Return`s. A known index is that of what has parts.
 #[tactic(auto, unfolding(module_meaning::specs::Part::is_written_so_far))]
 pub fn is_written_so_far(module: &Module, info: &ModuleInfo) -> bool
     ensures { result ≡ is_written_so_far «module».now info.now }
 {
     declares_functions(module)
-        && types_are_values(&module.types)
+        && types_are_of_part(&module.types)
+        && types_have_forms(&module.types)
         && functions_are_written(&module.functions)
-        && known_types_are_written(&module.types, info)
+        && known_types_have_forms(&module.types, info)
         && types_allow_functions(&module.types, &module.functions, info.functions.as_slice())
 }
 
@@ -57,106 +55,88 @@ fn declares_functions(module: &Module) -> bool
         && module.entry_points.is_empty()
 }
 
-/// Whether a scalar type is one of those that are written so far.
-fn scalar_is_written(scalar: Scalar) -> bool
-    ensures { result ≡ scalar_is_written scalar }
+/// Whether a module enables an extension for the scalar: an integer or a float of 16 bits.
+fn is_extended(scalar: Scalar) -> bool
+    ensures { result ≡ is_extended scalar }
 {
     match scalar.kind {
-        ScalarKind::Bool => scalar.width == 1,
-        ScalarKind::Sint | ScalarKind::Uint | ScalarKind::Float => {
-            scalar.width == 4 || scalar.width == 8
-        }
-        _ => false,
+        ScalarKind::Sint | ScalarKind::Uint | ScalarKind::Float => scalar.width == 2,
+        ScalarKind::Bool | ScalarKind::AbstractInt | ScalarKind::AbstractFloat => false,
     }
 }
 
-/// Whether a type is such a scalar, or a vector or a matrix of such scalars.
-fn is_written_value(inner: &TypeInner) -> bool
-    ensures { result ≡ is_written_value inner.now }
+/// Whether a module declares and enables nothing for the type, and it is no atomic.
+fn needs_nothing(inner: &TypeInner) -> bool
+    ensures { result ≡ needs_nothing inner.now }
 {
     match inner {
         TypeInner::Scalar(scalar)
         | TypeInner::Vector { scalar, .. }
-        | TypeInner::Matrix { scalar, .. } => scalar_is_written(*scalar),
-        _ => false,
+        | TypeInner::Matrix { scalar, .. } => !is_extended(*scalar),
+        TypeInner::CooperativeMatrix { .. }
+        | TypeInner::Atomic(_)
+        | TypeInner::Struct { .. }
+        | TypeInner::AccelerationStructure { .. }
+        | TypeInner::BindingArray { .. } => false,
+        TypeInner::Pointer { .. }
+        | TypeInner::ValuePointer { .. }
+        | TypeInner::Array { .. }
+        | TypeInner::Image { .. }
+        | TypeInner::Sampler { .. }
+        | TypeInner::RayQuery { .. } => true,
     }
 }
 
-fn types_are_values(types: &UniqueArena<Type_>) -> bool
-    ensures { result ≡ list_all is_value_type types.now }
+fn types_are_of_part(types: &UniqueArena<Type_>) -> bool
+    ensures { result ≡ list_all type_is_of_part types.now }
 {
     for (_, ty) in types.iter() {
-        if !is_written_value(&ty.inner) {
+        if !needs_nothing(&ty.inner) {
             return false;
         }
     }
     true
 }
 
-fn is_value_at(types: &UniqueArena<Type_>, handle: Handle<Type_>) -> bool
-    ensures { result ≡ is_value_at types.now handle }
+/// Whether each type of the module has a form.
+fn types_have_forms(types: &UniqueArena<Type_>) -> bool
+    ensures { result ≡ types_have_forms types.now }
 {
-    match inner_at(types, handle) {
-        Some(inner) => is_written_value(inner),
-        None => false,
+    for (handle, _) in types.iter() {
+        if !is_spelled(types, &TypeResolution::Handle(handle)) {
+            return false;
+        }
     }
+    true
 }
 
-/// Whether a type is such a value's, or a pointer to a local of one, or to its components or
-/// columns.
-fn type_is_written(types: &UniqueArena<Type_>, inner: &TypeInner) -> bool
-    ensures { result ≡ type_is_written types.now inner.now }
-{
-    match inner {
-        TypeInner::Pointer {
-            base,
-            space: AddressSpace::Function,
-        } => is_value_at(types, *base),
-        TypeInner::ValuePointer {
-            scalar,
-            space: AddressSpace::Function,
-            ..
-        } => scalar_is_written(*scalar),
-        _ => is_written_value(inner),
-    }
-}
-
-fn resolution_is_written(types: &UniqueArena<Type_>, ty: &TypeResolution) -> bool
-    ensures { result ≡ resolution_is_written types.now ty.now }
-{
-    match inner_of(types, ty) {
-        Some(inner) => type_is_written(types, inner),
-        None => false,
-    }
-}
-
-fn expression_types_are_written(types: &UniqueArena<Type_>, infos: &[ExpressionInfo]) -> bool
-    ensures { result ≡ list_all (λ k. resolution_is_written types.now k.ty) infos.now }
+fn expression_types_have_forms(types: &UniqueArena<Type_>, infos: &[ExpressionInfo]) -> bool
+    ensures { result ≡ list_all (λ k. has_form types.now k.ty) infos.now }
 {
     for info in infos {
-        if !resolution_is_written(types, &info.ty) {
+        if !is_spelled(types, &info.ty) {
             return false;
         }
     }
     true
 }
 
-fn function_types_are_written(types: &UniqueArena<Type_>, infos: &[FunctionInfo]) -> bool
-    ensures { result ≡ list_all (list_all (λ k. resolution_is_written types.now k.ty)) infos.now }
+fn function_types_have_forms(types: &UniqueArena<Type_>, infos: &[FunctionInfo]) -> bool
+    ensures { result ≡ list_all (list_all (λ k. has_form types.now k.ty)) infos.now }
 {
     for info in infos {
-        if !expression_types_are_written(types, info.expressions.as_slice()) {
+        if !expression_types_have_forms(types, info.expressions.as_slice()) {
             return false;
         }
     }
     true
 }
 
-/// Whether each type that is known of an expression of a function is one of those.
-fn known_types_are_written(types: &UniqueArena<Type_>, info: &ModuleInfo) -> bool
-    ensures { result ≡ known_types_are_written types.now info.now }
+/// Whether each type that is known of an expression of a function has a form.
+fn known_types_have_forms(types: &UniqueArena<Type_>, info: &ModuleInfo) -> bool
+    ensures { result ≡ known_types_have_forms types.now info.now }
 {
-    function_types_are_written(types, info.functions.as_slice())
+    function_types_have_forms(types, info.functions.as_slice())
 }
 
 fn functions_are_written(functions: &Arena<Function>) -> bool
@@ -233,7 +213,12 @@ fn expression_is_of_part(expression: &Expression) -> bool
         | Expression::As { .. }
         | Expression::Derivative { .. }
         | Expression::Math { .. }
-        | Expression::Relational { .. } => true,
+        | Expression::Relational { .. }
+        | Expression::ImageSample { .. }
+        | Expression::ImageLoad { .. }
+        | Expression::ImageQuery { .. }
+        | Expression::ArrayLength(_)
+        | Expression::CooperativeMultiplyAdd { .. } => true,
         Expression::Literal(literal) => literal_is_of_part(*literal),
         _ => false,
     }
@@ -272,21 +257,13 @@ fn types_allow_all(types: &UniqueArena<Type_>, function: &Function, info: &Funct
 }
 
 /// Whether the types of its operands let an expression be written: a known index is that of what
-/// has parts, and a conversion is to a type that is written so far.
+/// has parts.
 fn types_allow(types: &UniqueArena<Type_>, info: &FunctionInfo, expression: &Expression) -> bool
     ensures { result ≡ types_allow types.now info.now expression.now }
 {
     match expression {
         Expression::AccessIndex { base, .. } => match info.expressions.get(base.index()) {
             Some(known) => resolution_has_parts(types, &known.ty),
-            None => false,
-        },
-        Expression::As {
-            expr,
-            kind,
-            convert,
-        } => match info.expressions.get(expr.index()) {
-            Some(known) => resolution_converts(types, &known.ty, *kind, *convert),
             None => false,
         },
         _ => true,
@@ -299,35 +276,6 @@ fn resolution_has_parts(types: &UniqueArena<Type_>, ty: &TypeResolution) -> bool
     match inner_of(types, ty) {
         Some(inner) => has_parts(types, inner),
         None => false,
-    }
-}
-
-fn resolution_converts(
-    types: &UniqueArena<Type_>,
-    ty: &TypeResolution,
-    kind: ScalarKind,
-    convert: Option<u8>,
-) -> bool
-    ensures { result ≡ option_map_or (converts_to_written kind convert)
-        (inner_of ty.now types.now) false }
-{
-    match inner_of(types, ty) {
-        Some(inner) => converts_to_written(inner, kind, convert),
-        None => false,
-    }
-}
-
-/// Whether a value of a type is converted to one of a type that is written so far.
-fn converts_to_written(inner: &TypeInner, kind: ScalarKind, convert: Option<u8>) -> bool
-    ensures { result ≡ converts_to_written kind convert inner.now }
-{
-    match inner {
-        TypeInner::Scalar(scalar)
-        | TypeInner::Vector { scalar, .. }
-        | TypeInner::Matrix { scalar, .. } => {
-            scalar_is_written(converted_scalar(*scalar, kind, convert))
-        }
-        _ => false,
     }
 }
 

@@ -1,6 +1,5 @@
 -- What is written of a function is read as the function's shape says: the abstraction of its form
 -- is the form of its shape.
-use Rattle.module_meaning.specs.Ranges.{local_in_range, is_below}
 use Rattle.std.proofs.Common.{◌≡◌, ℕ, suc, Bool, true, false, List, [], ◌∷◌, ◌++◌, length, refl}
 use Rattle.std.proofs.Common.{sym, ap, ◌∙◌, arith, zero, ◌+◌, pos, negsuc, map, Option, Some, None}
 use Rattle.std.proofs.Common.{add-one, add-zero, zero-add, ◌-◌}
@@ -20,8 +19,25 @@ use Rattle.naga_form.specs.Expressions.{operator_type}
 use Rattle.naga_form.proofs.Operators.{SpellsIf, SpellsTypes, constructor_spelled, operator_spelled}
 use Rattle.naga_form.proofs.Operators.{untyped, zero_read}
 use Rattle.naga_form.proofs.TypeTrees.{resolution_row}
+use Rattle.std.specs.Prelude.{◌||◌}
+use Rattle.module_meaning.proofs.Part.{has_form_parts}
+use Rattle.module_meaning.specs.ExpressionOperators.{is_depth_image, level_of, sample_operator}
+use Rattle.module_meaning.specs.ExpressionOperators.{type_known}
+use Rattle.module_meaning.specs.ExpressionShapes.{constant_tree, offset_left, trees, written_zero}
+use Rattle.module_meaning.specs.Sampling.{offset_is_written}
+use Rattle.module_meaning.specs.Writable.{is_written_out}
+use Rattle.naga_form.proofs.ConstantForms.{read_out}
+use Rattle.naga_form.proofs.Images.{offset_alone, sampling_read, without_offset}
+use Rattle.naga_form.proofs.Operators.{AllReadLike}
+use Rattle.naga_form.specs.Expressions.{constant_form, value_forms}
+use Rattle.naga_form.specs.Images.{sampling_form, zero_is_written}
+use Rattle.naga_ir.specs.Operands.{level_operands}
+use Rattle.shader_runs.specs.Form.{constant_forms}
+use Rattle.shader_runs.specs.Program.{ConstantTree}
+use Rattle.shader_runs.specs.Text as trees_of_text
+use Rattle.shader_runs.specs.Text.{Apply}
 use Rattle.std.proofs.Common.{subst, ◌<◌}
-use Rattle.std.proofs.lemmas.Bool.{and_from, and_parts, ltb-true}
+use Rattle.std.proofs.lemmas.Bool.{and_from, and_parts}
 use Rattle.std.proofs.Common.{nat_lt}
 use Rattle.std.proofs.lemmas.List.{map-append}
 use Rattle.naga_ir.specs.declared.statement.SwitchValue.{SwitchValue}
@@ -55,10 +71,10 @@ use Rattle.std.specs.List.{AllByRecursion, filter, list_all}
 use Rattle.std.specs.Option.{option_to_list}
 use Rattle.module_meaning.specs.Written.{block_roots, cases_roots, simple_roots, statement_roots}
 use Rattle.naga_form.proofs.WrittenHandles.{AreClosed, all_front, all_map, written_are_closed}
-use Rattle.module_meaning.specs.Written.{IsWrittenIn, WrittenHaveForms}
+use Rattle.module_meaning.specs.Written.{IsWrittenIn, OfLocal, WrittenHaveForms}
 use Rattle.naga_form.proofs.WrittenHandles.{all_rest}
-use Rattle.module_meaning.specs.Part.{block_is_written, expression_is_written}
-use Rattle.module_meaning.specs.Part.{function_is_written, is_value_type, statement_is_written}
+use Rattle.module_meaning.specs.Part.{block_is_written, expression_has_form, expression_is_written}
+use Rattle.module_meaning.specs.Part.{function_is_written, type_is_of_part, statement_is_written}
 use Rattle.module_meaning.proofs.Lists.{list_all_at}
 use Rattle.naga_names.specs.Keys.{NameMap}
 use Rattle.wgsl_text.specs.Reading.{type_layout}
@@ -90,7 +106,7 @@ use Rattle.module_meaning.specs.Names.{function_name, argument_name, module_name
 use Rattle.naga_form.specs.Types.{type_form, told_type, LocalsHaveForms}
 use Rattle.naga_form.specs.TypeTrees.{type_tree}
 use Rattle.naga_form.proofs.TypeTrees.{inner_tree_row}
-use Rattle.naga_form.proofs.WrittenTypes.{values_at, type_has_form}
+use Rattle.naga_form.proofs.WrittenTypes.{tree_there}
 use Rattle.module_meaning.specs.Types.{local_pointer, declared_type, type_names}
 use Rattle.module_meaning.specs.TypeIdentity.{identity, word_of_unspelled_type}
 use Rattle.module_meaning.specs.ExpressionOperators.{load_operator}
@@ -238,7 +254,7 @@ ArePlain operand like hs = AllByRecursion (λ x. plain_read (operand x) ≡ like
 
 module _ (n : Naming) (code : Source) (spells : SpellsTypes code.declared.around code.type_names)
     (places : (h : ℕ) → is_place (handle_type n.function h) ≡ points code.declared.around h)
-    (all : List ir.Expression) where
+    (all : List ir.Expression) (types : List Type_) (es : List ExpressionInfo) where
   -- an operator where one is applied, and what stands there where none is
   applied_reads : (operand : ℕ → PlainForm) (like : ℕ → Plain) (hs : List ℕ) →
       ArePlain operand like hs → (k : ValueType) (otherwise : PlainForm) →
@@ -283,14 +299,33 @@ module _ (n : Naming) (code : Source) (spells : SpellsTypes code.declared.around
       (constructor_spelled code.declared.around (Handle ty) 0 (type_tree code.type_names ty) (spells (Handle ty))))
   zero_reads operand like k ty None known = absurd cc
 
+  -- what is written out as a constant is read as that
+  abbrev pub ReadsOut : ℕ → Type 0
+  ReadsOut x =
+      (c : ConstantTree)
+      × (constant_tree code.declared all x ≡ Some c)
+      × (expression_read (constant_form code x) ≡ runs.constant_form n.names.outer c)
+
+  -- so is the offset of a sampling
+  abbrev pub OffsetReads : ir.Expression → Type 0
+  OffsetReads
+      (expression.ImageSample
+      image sampler gather coordinate array_index offset level depth_ref clamp) =
+      AllByRecursion ReadsOut (option_to_list offset)
+  OffsetReads e = Unit {0}
+
+  -- a type is known of the handle, and its offset, if it has one, is read so
+  abbrev pub IsKnown : (h : ℕ) → ir.Expression → Type 0
+  IsKnown h e = (is_some (code.declared.around.known h) ≡ true) × OffsetReads e
+
   own_reads : (operand : ℕ → PlainForm) (like : ℕ → Plain) (k : ValueType) (h : ℕ)
       (e : ir.Expression) → ArePlain operand like (expression_operands e) →
-      expression_is_written e ≡ true → is_some (code.declared.around.known h) ≡ true →
+      expression_is_written types es e ≡ true → IsKnown h e →
       plain_read (own_plain n code operand e) ≡ runs.own_form n like k (Some (shape_of code.declared all h e))
   own_reads operand like k h (expression.Literal value) same w known =
       ap (λ v. AsValue (LiteralOf v)) (literal_read value w)
   own_reads operand like k h (expression.ZeroValue ty) same w known =
-      zero_reads operand like k ty (code.declared.around.known h) known
+      zero_reads operand like k ty (code.declared.around.known h) known.0
   own_reads operand like k h (expression.Compose ty components) same w known =
       applies operand like k (expression.Compose ty components) same
   own_reads operand like k h (expression.As e kind convert) same w known =
@@ -331,6 +366,70 @@ module _ (n : Naming) (code : Source) (spells : SpellsTypes code.declared.around
   own_reads operand like k h (expression.LocalVariable handle) same w known = refl
   own_reads operand like k h (expression.Derivative axis how expr) same w known =
       applies operand like k (expression.Derivative axis how expr) same
+  own_reads operand like k h
+      (expression.ImageSample
+      image sampler gather coordinate array_index offset level depth_ref clamp) same w known =
+      ap AsValue (by offset known.1)
+    where
+      hs : List ℕ
+      hs =
+          sampler ∷ coordinate ∷ option_to_list array_index ++ option_to_list depth_ref ++
+          level_operands level ++ []
+
+      reads : AllReadLike operand like (image ∷ hs)
+      reads =
+          all_map (λ h is. value_is (operand h) ∙ ap runs.value_form is) (image ∷ hs)
+          (without_offset (λ x. plain_read (operand x) ≡ like x) image sampler coordinate
+          (option_to_list array_index) (option_to_list depth_ref) (level_operands level)
+          (option_to_list offset) same)
+
+      unwritten : Bool
+      unwritten = is_some gather || (is_some depth_ref || clamp)
+
+      of_depths : Bool
+      of_depths = option_map_or is_depth_image (type_known code.declared.around image) false
+
+      tree_of : ℕ → Option ConstantTree
+      tree_of = constant_tree code.declared all
+
+      by : (o : Option ℕ) → AllByRecursion ReadsOut (option_to_list o) →
+          (let op =
+          sample_operator of_depths gather (level_of level) (is_some depth_ref) clamp
+          (is_some array_index) (is_some o) in
+          let c = option_and_then tree_of o in
+          expression_read
+          (sampling_form op (zero_is_written level unwritten) (value_forms operand (image ∷ hs))
+          (map (constant_form code) (option_to_list o))) ≡
+          Apply (run_word op)
+          (runs.value_forms_then like
+          (image ∷ sampler ∷ coordinate ∷ option_to_list array_index ++ option_to_list depth_ref ++
+          level_operands level ++ option_to_list (offset_left c o))
+          (constant_forms n.names.outer (trees (written_zero level unwritten ++ option_to_list c)))))
+      by None out =
+          sampling_read operand like n.names.outer gather level (is_some depth_ref) clamp
+          (is_some array_index) false of_depths unwritten w image hs reads [] None refl
+      by (Some x) out =
+          let op =
+          sample_operator of_depths gather (level_of level) (is_some depth_ref) clamp
+          (is_some array_index) true in
+          sampling_read operand like n.names.outer gather level (is_some depth_ref) clamp
+          (is_some array_index) true of_depths unwritten w image hs reads
+          (constant_form code x ∷ []) (Some out.0.0) (ap (λ e. trees_of_text.more e trees_of_text.no_more) out.0.2)
+          ∙ ap
+          (λ c. Apply (run_word op)
+          (runs.value_forms_then like
+          (image ∷ sampler ∷ coordinate ∷ option_to_list array_index ++ option_to_list depth_ref ++
+          level_operands level ++ option_to_list (offset_left c (Some x)))
+          (constant_forms n.names.outer (trees (written_zero level unwritten ++ option_to_list c)))))
+          (sym out.0.1)
+  own_reads operand like k h (expression.ImageLoad image coordinate array_index x level) same w known =
+      applies operand like k (expression.ImageLoad image coordinate array_index x level) same
+  own_reads operand like k h (expression.ImageQuery image query) same w known =
+      applies operand like k (expression.ImageQuery image query) same
+  own_reads operand like k h (expression.ArrayLength array) same w known =
+      applies operand like k (expression.ArrayLength array) same
+  own_reads operand like k h (expression.CooperativeMultiplyAdd x y z) same w known =
+      applies operand like k (expression.CooperativeMultiplyAdd x y z) same
   own_reads operand like k h (expression.Unary op expr) same w known =
       applies operand like k (expression.Unary op expr) same
   own_reads operand like k h (expression.Binary op left right) same w known =
@@ -348,25 +447,26 @@ module _ (n : Naming) (code : Source) (spells : SpellsTypes code.declared.around
   own_if_reads : (operand : ℕ → PlainForm) (like : ℕ → Plain) (k : ValueType) (h : ℕ) →
       (e : Option ir.Expression) →
       ((x : ir.Expression) → e ≡ Some x → ArePlain operand like (expression_operands x)) →
-      ((x : ir.Expression) → e ≡ Some x → expression_is_written x ≡ true) →
-      ((x : ir.Expression) → e ≡ Some x → is_some (code.declared.around.known h) ≡ true) →
+      ((x : ir.Expression) → e ≡ Some x → expression_is_written types es x ≡ true) →
+      ((x : ir.Expression) → e ≡ Some x → IsKnown h x) →
       plain_read (own_if n code operand e) ≡
       runs.own_form n like k (option_map (shape_of code.declared all h) e)
   own_if_reads operand like k h (Some e) same w known =
       own_reads operand like k h e (same e refl) (w e refl) (known e refl)
   own_if_reads operand like k h None same w known = refl
 
--- these handles, where there is an expression, are of the part
-abbrev pub AreWritten : (W : ℕ → Type 0) → ir_function.Function → Type 0
-AreWritten W f =
+-- these handles, where there is an expression, have a form
+abbrev pub AreWritten : (W : ℕ → Type 0) → Module → ir_function.Function → List ExpressionInfo →
+    Type 0
+AreWritten W m f es =
     (h : ℕ) (e : ir.Expression) → slice_get f.expressions h ≡ Some e → W h →
-    expression_is_written e ≡ true
+    expression_has_form m.types es f.expressions e ≡ true
 
 standing_reads : (s : Standing) (p : PlainForm) (q : Plain) → plain_read p ≡ q → plain_read (standing_plain s p) ≡ runs.standing_form s q
 standing_reads (Named x) p q e = refl
 standing_reads _ p q e = e
 
-module _ (names : NameMap) (m : Module) (info : ModuleInfo) (g : ℕ) (f : ir_function.Function) (es : List ExpressionInfo) (values : IsTrue (list_all is_value_type m.types)) (size : length f.expressions ≡ length es) (W : ℕ → Type 0) (closed : AreClosed W (binds (function_shape m info f es)) f) (written : AreWritten W f) where
+module _ (names : NameMap) (m : Module) (info : ModuleInfo) (g : ℕ) (f : ir_function.Function) (es : List ExpressionInfo) (values : IsTrue (list_all type_is_of_part m.types)) (size : length f.expressions ≡ length es) (W : ℕ → Type 0) (closed : AreClosed W (binds (function_shape m info f es)) f) (written : AreWritten W m f es) where
   abbrev own : Naming
   own = function_naming names m info g f es
 
@@ -392,14 +492,49 @@ module _ (names : NameMap) (m : Module) (info : ModuleInfo) (g : ℕ) (f : ir_fu
   places_are : (h : ℕ) → is_place (handle_type own.function h) ≡ points d.around h
   places_are h = places_in m es h
 
+  -- a constant that is written out
+  out_reads : (x : ℕ) → W x → is_written_out f.expressions x ≡ true →
+      ReadsOut own source types_spelled places_are f.expressions m.types es x
+  out_reads x w is =
+      read_out own.names.outer d source.type_names types_spelled W m.types es f.expressions known_at
+      closed.operands
+      (λ h e at w. (has_form_parts m.types es f.expressions e (written h e at w)).0) (suc x) x w is
+
+  offset_reads : (h : ℕ) (e : ir.Expression) → slice_get f.expressions h ≡ Some e → W h →
+      OffsetReads own source types_spelled places_are f.expressions m.types es e
+  offset_reads h
+      (expression.ImageSample
+      image sampler gather coordinate array_index offset level depth_ref clamp) at w =
+      by offset
+      (has_form_parts m.types es f.expressions
+      (expression.ImageSample
+      image sampler gather coordinate array_index offset level depth_ref clamp)
+      (written h
+      (expression.ImageSample
+      image sampler gather coordinate array_index offset level depth_ref clamp) at w)).1
+      (offset_alone W image sampler coordinate (option_to_list array_index)
+      (option_to_list depth_ref) (level_operands level) (option_to_list offset)
+      (closed.operands h
+      (expression.ImageSample
+      image sampler gather coordinate array_index offset level depth_ref clamp) at w))
+    where
+      by : (o : Option ℕ) → offset_is_written f.expressions o ≡ true →
+          AllByRecursion W (option_to_list o) →
+          AllByRecursion (ReadsOut own source types_spelled places_are f.expressions m.types es)
+          (option_to_list o)
+      by None is w = tt
+      by (Some x) is w = (out_reads x w.0 is, tt)
+  offset_reads h _ at w = tt
+
   -- a handle's expression, over operands that are read so
   handle_reads : (operand : ℕ → PlainForm) (like : ℕ → Plain) →
       ((x : ℕ) → W x → plain_read (operand x) ≡ like x) → (h : ℕ) → W h →
       plain_read (own_if own source operand (slice_get f.expressions h)) ≡ runs.own_form own like (handle_type own.function h) (expression_of own.function h)
   handle_reads operand like same h w =
-      own_if_reads own source types_spelled places_are f.expressions operand like (handle_type own.function h) h (slice_get f.expressions h)
+      own_if_reads own source types_spelled places_are f.expressions m.types es operand like (handle_type own.function h) h (slice_get f.expressions h)
       (λ e at. all_map same (expression_operands e) (closed.operands h e at w))
-      (λ e at. written h e at w) (λ e. known_at h e)
+      (λ e at. (has_form_parts m.types es f.expressions e (written h e at w)).0)
+      (λ e at. (known_at h e at, offset_reads h e at w))
       ∙ ap (runs.own_form own like (handle_type own.function h)) (sym (expression_is m info f es h))
 
   below_reads : (s : Handles) (k h : ℕ) → W h → plain_read (plain_below own source s k h) ≡ written_below own s k h
@@ -540,7 +675,7 @@ pointer_reads m ty t at =
     (inner_tree_row text-append (type_names m) (λ handle. true) (inner.Pointer ty space.Function)
     ∙ ap (λ o. option_map type_layout (option_map (pointer_tree (codes "function") None) o)) at))
 
-module _ (m : Module) (info : ModuleInfo) (g : ℕ) (f : ir_function.Function) (es : List ExpressionInfo) (values : IsTrue (list_all is_value_type m.types)) (size : length f.expressions ≡ length es) (W : ℕ → Type 0) (closed : AreClosed W (binds (function_shape m info f es)) f) (written : AreWritten W f) where
+module _ (m : Module) (info : ModuleInfo) (g : ℕ) (f : ir_function.Function) (es : List ExpressionInfo) (values : IsTrue (list_all type_is_of_part m.types)) (size : length f.expressions ≡ length es) (W : ℕ → Type 0) (closed : AreClosed W (binds (function_shape m info f es)) f) (written : AreWritten W m f es) where
   abbrev own_names : Naming
   own_names = function_naming (module_names m) m info g f es
 
@@ -560,15 +695,12 @@ module _ (m : Module) (info : ModuleInfo) (g : ℕ) (f : ir_function.Function) (
           let same : suc k + l ≡ k + (l + 1) = omega arith in
           at (suc k) ∙ ap (slice_get f.local_variables) same
 
--- the type of each local in range has a form
-pub locals_have_forms : (m : Module) (f : ir_function.Function) (count : ℕ) → IsTrue (list_all is_value_type m.types) → list_all (local_in_range (length m.types) count) f.local_variables ≡ true → LocalsHaveForms (type_names m) f.local_variables
-locals_have_forms m f count values ranges l v at =
-    let parts = and_parts (nat_lt v.ty (length m.types)) (is_below count v.init) (list_all_at (local_in_range (length m.types) count) f.local_variables l v ranges at) in
-    let form = type_has_form m.types v.ty (values_at m.types v.ty values (ltb-true v.ty (length m.types) parts.0)) in
-    (form.tree, form.is (module_names m))
+-- the type of each local has a form where what is written has
+pub locals_have_forms : (explicit : Bool) (m : Module) (info : ModuleInfo) (f : ir_function.Function) (es : List ExpressionInfo) → WrittenHaveForms explicit m info f es → LocalsHaveForms (type_names m) f.local_variables
+locals_have_forms explicit m info f es have l v at = tree_there (type_names m) (Handle v.ty) (have.types (Handle v.ty) (OfLocal l v at))
 
 -- whatever is written of a function is read as its shape is
-pub written_reads : (explicit : Bool) (m : Module) (info : ModuleInfo) (g : ℕ) (f : ir_function.Function) (es : List ExpressionInfo) → IsTrue (list_all is_value_type m.types) → have_forms f.body ≡ true → length f.expressions ≡ length es → LocalsHaveForms (type_names m) f.local_variables → (W : ℕ → Type 0) → AreClosed W (binds (function_shape m info f es)) f → AreWritten W f → function_read (function_form explicit (module_names m) m info g f es) ≡ form_function (function_naming (module_names m) m info g f es)
+pub written_reads : (explicit : Bool) (m : Module) (info : ModuleInfo) (g : ℕ) (f : ir_function.Function) (es : List ExpressionInfo) → IsTrue (list_all type_is_of_part m.types) → have_forms f.body ≡ true → length f.expressions ≡ length es → LocalsHaveForms (type_names m) f.local_variables → (W : ℕ → Type 0) → AreClosed W (binds (function_shape m info f es)) f → AreWritten W m f es → function_read (function_form explicit (module_names m) m info g f es) ≡ form_function (function_naming (module_names m) m info g f es)
 written_reads explicit m info g f es values have size formed W closed written =
     let names = module_names m in
     let locals = locals_read m info g f es values size W closed written formed 0 f.local_variables (λ k. ap (slice_get f.local_variables) (sym (add-zero k))) in
@@ -579,8 +711,9 @@ written_reads explicit m info g f es values have size formed W closed written =
       lines = lines_read names m info g f es values size W closed written (told_type explicit (type_names m) es) 0 f.body (at_start (function_shape m info f es)) have closed.body i;
     }
 
-pub function_reads : (explicit : Bool) (m : Module) (info : ModuleInfo) (g : ℕ) (f : ir_function.Function) (es : List ExpressionInfo) → IsTrue (list_all is_value_type m.types) → IsTrue (function_is_written f) → WrittenHaveForms m info f es → length f.expressions ≡ length es → LocalsHaveForms (type_names m) f.local_variables → function_read (function_form explicit (module_names m) m info g f es) ≡ form_function (function_naming (module_names m) m info g f es)
-function_reads explicit m info g f es values written have size formed =
+pub function_reads : (explicit : Bool) (m : Module) (info : ModuleInfo) (g : ℕ) (f : ir_function.Function) (es : List ExpressionInfo) → IsTrue (list_all type_is_of_part m.types) → IsTrue (function_is_written f) → WrittenHaveForms explicit m info f es → length f.expressions ≡ length es → function_read (function_form explicit (module_names m) m info g f es) ≡ form_function (function_naming (module_names m) m info g f es)
+function_reads explicit m info g f es values written have size =
     let parts = function_parts f written in
-    written_reads explicit m info g f es values (written_have_forms f.body parts.body) size formed
-    (IsWrittenIn m info f es) (written_are_closed m info f es) have
+    written_reads explicit m info g f es values (written_have_forms f.body parts.body) size
+    (locals_have_forms explicit m info f es have)
+    (IsWrittenIn m info f es) (written_are_closed m info f es) have.expressions

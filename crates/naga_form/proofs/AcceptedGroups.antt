@@ -24,6 +24,7 @@ use Rattle.naga_ir.specs.declared.types.Type_.{Type_}
 use Rattle.naga_ir.specs.declared.types.TypeInner.{TypeInner}
 use Rattle.naga_ir.specs.declared.types.TypeInner.TheVariants as inner
 use Rattle.naga_ir.specs.declared.types.VectorSize.{VectorSize}
+use Rattle.naga_info.specs.Resolution.{InRange}
 use Rattle.naga_info.specs.declared.info.ExpressionInfo.{ExpressionInfo}
 use Rattle.naga_info.specs.declared.info.ModuleInfo.{ModuleInfo}
 use Rattle.naga_info.specs.declared.info.TypeResolution.{TypeResolution}
@@ -61,6 +62,11 @@ inner_counted : (it : TypeInner) → type_fits_32_bits it ≡ true → InnerIsCo
 inner_counted (inner.Array base n stride) fits = size_counted n (and_parts (size_fits_32_bits n) (fits_32_bits stride) fits).0
 inner_counted (inner.BindingArray base n) fits = size_counted n fits
 inner_counted _ fits = tt
+
+-- a type that is fit is one by itself or among the module's
+pub fits_in_range : (overrides : ℕ) (types : List Type_) (r : TypeResolution) → resolution_fits overrides (length types) r ≡ true → InRange r types
+fits_in_range overrides types (Handle h) fits = ltb-true h (length types) fits
+fits_in_range overrides types (Value it) fits = tt
 
 -- ---- what is known of expressions that stand together, in a function if in one
 pub record IsSoundGroup (m : Module) (info : ModuleInfo) (f : Option Function) (g : Group) : Type 0 where
@@ -186,6 +192,16 @@ module _ (m : Module) (info : ModuleInfo) where
         (paired_at (function_is_sound m) m.functions info.functions.items sound_parts.1 k f es here there)
 
     -- each entry point
+    -- what is known of a function's expressions is fit, and names what is there
+    pub known_is_fit : (k : ℕ) (es : List ExpressionInfo) → slice_get info.functions.items k ≡ Some es → (h : ℕ) (e : ExpressionInfo) → slice_get es h ≡ Some e → resolution_fits (length m.overrides) (length m.types) e.ty ≡ true
+    known_is_fit k es there h e at =
+        list_all_at (λ k. resolution_fits (length m.overrides) (length m.types) k.ty) es h e
+        (list_all_at (list_all (λ k. resolution_fits (length m.overrides) (length m.types) k.ty)) info.functions.items k es (and_parts _ _ ranges_parts.3).0 there)
+        at
+
+    pub known_fits : (k : ℕ) (es : List ExpressionInfo) → slice_get info.functions.items k ≡ Some es → (h : ℕ) (e : ExpressionInfo) → slice_get es h ≡ Some e → IsFit m e.ty
+    known_fits k es there h e at = fit_of e.ty (known_is_fit k es there h e at)
+
     pub entry_points_are : (k : ℕ) (p : EntryPoint) (es : List ExpressionInfo) → slice_get m.entry_points.items k ≡ Some p → slice_get info.entry_points.items k ≡ Some es → IsSoundGroup m info (Some p.function) (function_group p.function es)
     entry_points_are k p es here there =
         let sizes = and_parts _ _ ranges_parts.0 in let more = and_parts _ _ sizes.1 in

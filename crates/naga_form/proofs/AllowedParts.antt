@@ -6,11 +6,14 @@ use Rattle.std.specs.Prelude.{slice_get}
 use Rattle.std.specs.List.{list_all}
 use Rattle.std.proofs.lemmas.Option.{same_Some, slice_get-map}
 use Rattle.naga_ir.specs.declared.expression.SwizzleComponent.TheVariants as component
-use Rattle.naga_ir.specs.declared.types.AddressSpace.TheVariants as space
 use Rattle.naga_ir.specs.declared.types.Type_.{Type_}
-use Rattle.module_meaning.proofs.Lists.{list_all_at}
-use Rattle.module_meaning.specs.Part.{is_value_type, is_written_value, resolution_is_written}
-use Rattle.module_meaning.specs.Part.{known_passes, type_is_written}
+use Rattle.module_meaning.specs.AlikeTypes.{has_form}
+use Rattle.module_meaning.specs.Part.{converts, expression_is_written, known_passes}
+use Rattle.module_meaning.specs.Part.{type_is_of_part}
+use Rattle.module_meaning.specs.Types.{type_names}
+use Rattle.naga_info.specs.declared.info.TypeResolution.TheVariants.{Value}
+use Rattle.naga_words.specs.Spelling.{is_struct}
+use Rattle.wgsl_text.specs.Types.{TypeSpecifier}
 use Rattle.wgsl_text.specs.Literals.{IsPlainNumber}
 use Rattle.wgsl_text.specs.Words.{IsWord}
 use Rattle.naga_form.proofs.Letters.{letter_is_a_word}
@@ -22,8 +25,9 @@ use Rattle.naga_ir.specs.declared.expression.Expression.TheVariants.{AccessIndex
 use Rattle.naga_ir.specs.declared.types.ScalarKind.{ScalarKind}
 use Rattle.module_meaning.specs.Conversions.{conversion_target}
 use Rattle.module_meaning.specs.ExpressionOperators.{Surroundings, type_known}
-use Rattle.module_meaning.specs.Part.{converts_to_written}
-use Rattle.naga_form.proofs.WrittenTypes.{HasTree, has_tree}
+use Rattle.naga_form.proofs.SameValues.{IsFit}
+use Rattle.naga_form.proofs.WrittenTypes.{no_struct, no_struct_known, tree_there}
+use Rattle.naga_form.specs.TypeTrees.{inner_tree}
 use Rattle.naga_ir.specs.declared.module.Module.{Module}
 use Rattle.naga_ir.specs.declared.types.TypeInner.{TypeInner}
 use Rattle.naga_ir.specs.declared.types.TypeInner.TheVariants as inner
@@ -70,39 +74,39 @@ component_well (suc (suc zero)) lt = letter_is_a_word component.Z
 component_well (suc (suc (suc zero))) lt = letter_is_a_word component.W
 component_well (suc (suc (suc (suc index)))) lt = lt
 
--- the parts of the values that are written so far
+-- the parts of what is no struct
 own_well : (d : Declared) (whole : Option ℕ) (it : TypeInner) (index : ℕ) →
-    is_written_value it ≡ true → index < 2 ^ 32 → (x : Selector) →
+    is_struct it ≡ false → index < 2 ^ 32 → (x : Selector) →
     own_selector d whole it index ≡ Some x → IsWellSelected x
 own_well d whole (inner.Vector size s) index is lt x e =
     subst IsWellSelected (same_Some _ x e) (component_well index lt)
 own_well d whole (inner.Matrix columns rows s) index is lt x e =
     subst IsWellSelected (same_Some _ x e) lt
-own_well d whole (inner.Scalar s) index is lt x e = absurd cc
+own_well d whole (inner.Array base size stride) index is lt x e =
+    subst IsWellSelected (same_Some _ x e) lt
+own_well d whole (inner.BindingArray base size) index is lt x e =
+    subst IsWellSelected (same_Some _ x e) lt
+own_well d whole (inner.Struct members span) index is lt x e = absurd cc
 own_well d whole _ index is lt x e = absurd cc
 
-inner_well : (d : Declared) (whole : Option ℕ) (it : TypeInner) (index : ℕ) →
-    type_is_written d.around.types it ≡ true → index < 2 ^ 32 → (x : Selector) →
-    selector d whole it index ≡ Some x → IsWellSelected x
-inner_well d whole (inner.Pointer base space.Function) index is lt x e =
-    by (slice_get d.around.types base) is e
+-- and of what is behind a pointer, where no type of the module is a struct
+inner_well : (d : Declared) →
+    ((h : ℕ) (t : Type_) → slice_get d.around.types h ≡ Some t → is_struct t.inner ≡ false) →
+    (whole : Option ℕ) (it : TypeInner) (index : ℕ) → is_struct it ≡ false → index < 2 ^ 32 →
+    (x : Selector) → selector d whole it index ≡ Some x → IsWellSelected x
+inner_well d none whole (inner.Pointer base space) index is lt x e =
+    by (slice_get d.around.types base) refl e
   where
-    by : (o : Option Type_) → option_map_or is_value_type o false ≡ true →
+    by : (o : Option Type_) → slice_get d.around.types base ≡ o →
         option_and_then (λ it. own_selector d (Some base) it index) (option_map (λ t. t.inner) o) ≡
         Some x →
         IsWellSelected x
-    by (Some t) is e = own_well d (Some base) t.inner index is lt x e
-    by None is e = absurd cc
-inner_well d whole (inner.Pointer base _) index is lt x e = absurd cc
-inner_well d whole (inner.ValuePointer (Some size) s at) index is lt x e =
+    by (Some t) at e = own_well d (Some base) t.inner index (none base t at) lt x e
+    by None at e = absurd cc
+inner_well d none whole (inner.ValuePointer (Some size) s at) index is lt x e =
     subst IsWellSelected (same_Some _ x e) lt
-inner_well d whole (inner.ValuePointer None s at) index is lt x e = absurd cc
-inner_well d whole (inner.Vector size s) index is lt x e =
-    own_well d whole (inner.Vector size s) index is lt x e
-inner_well d whole (inner.Matrix columns rows s) index is lt x e =
-    own_well d whole (inner.Matrix columns rows s) index is lt x e
-inner_well d whole (inner.Scalar s) index is lt x e = absurd cc
-inner_well d whole _ index is lt x e = absurd cc
+inner_well d none whole (inner.ValuePointer None s at) index is lt x e = absurd cc
+inner_well d none whole it index is lt x e = own_well d whole it index is lt x e
 
 -- what is known of an operand whose type passes a test
 pub record KnownOperand (m : Module) (es : List ExpressionInfo) (test : TypeInner → Bool) (h : ℕ) : Type 0 where
@@ -142,8 +146,17 @@ pub record Conversion (m : Module) (a : Surroundings) (operand : ℕ) (kind : Sc
   pub known : type_known a operand ≡ Some from
   pub to : TypeInner
   pub target : conversion_target from kind convert ≡ Some to
-  pub written : is_written_value to ≡ true
-  pub has : HasTree to
+  pub written : has_form m.types (Value to) ≡ true
+  pub tree : TypeSpecifier
+  pub is : inner_tree (type_names m) to ≡ Some tree
+
+-- what it gives is a scalar, a vector or a matrix, which is fit
+pub target_fit : (m : Module) (from to : TypeInner) (kind : ScalarKind) (convert : Option ℕ) →
+    conversion_target from kind convert ≡ Some to → IsFit m (Value to)
+target_fit m (inner.Scalar s) to kind convert is = subst (λ it. IsFit m (Value it)) (same_Some _ to is) (refl, tt, refl)
+target_fit m (inner.Vector size s) to kind convert is = subst (λ it. IsFit m (Value it)) (same_Some _ to is) (refl, tt, refl)
+target_fit m (inner.Matrix columns rows s) to kind convert is = subst (λ it. IsFit m (Value it)) (same_Some _ to is) (refl, tt, refl)
+target_fit m _ to kind convert is = absurd cc
 
 module _ (m : Module) (info : ModuleInfo) (es : List ExpressionInfo) where
   abbrev d : Declared
@@ -156,24 +169,28 @@ module _ (m : Module) (info : ModuleInfo) (es : List ExpressionInfo) where
       (slice_get-map (λ k. k.ty) es h ∙ ap (option_map (λ k. k.ty)) at)
 
   pub conversion : (operand : ℕ) (kind : ScalarKind) (convert : Option ℕ) →
-      types_allow m.types es (As operand kind convert) ≡ true →
+      expression_is_written m.types es (As operand kind convert) ≡ true →
       Conversion m d.around operand kind convert
   conversion operand kind convert may =
-      let k = known_operand m es (converts_to_written kind convert) operand may in
+      let k = known_operand m es (converts m.types kind convert) operand may in
       by k.type (type_known_is operand k.known k.there ∙ k.is)
       (conversion_target k.type kind convert) refl k.passes
     where
       by : (it : TypeInner) → type_known d.around operand ≡ Some it → (o : Option TypeInner) →
-          conversion_target it kind convert ≡ o → option_map_or is_written_value o false ≡ true →
+          conversion_target it kind convert ≡ o →
+          option_map_or (λ new. has_form m.types (Value new)) o false ≡ true →
           Conversion m d.around operand kind convert
-      by it known (Some new) target written = record {
-        from = it;
-        known = known;
-        to = new;
-        target = target;
-        written = written;
-        has = has_tree new written;
-      }
+      by it known (Some new) target written =
+          let t = tree_there (type_names m) (Value new) written in
+          record {
+            from = it;
+            known = known;
+            to = new;
+            target = target;
+            written = written;
+            tree = t.0;
+            is = t.1;
+          }
       by it known None target written = absurd cc
 
   pub selector_is : (base index : ℕ) → (b : KnownBase m es base) →
@@ -193,13 +210,13 @@ module _ (m : Module) (info : ModuleInfo) (es : List ExpressionInfo) where
       let x = inner_selected d (handle_of b.known.ty) b.type index b.passes in
       (x.0, selector_is base index b ∙ x.1)
 
-  -- by a word or a number of the grammar
+  -- by a word or a number of the grammar, where no type is a struct
   pub selected_well : (base index : ℕ) → types_allow m.types es (AccessIndex base index) ≡ true →
-      list_all (λ k. resolution_is_written m.types k.ty) es ≡ true → index < 2 ^ 32 →
+      list_all type_is_of_part m.types ≡ true →
+      ((h : ℕ) (k : ExpressionInfo) → slice_get es h ≡ Some k → IsFit m k.ty) → index < 2 ^ 32 →
       (x : Selector) → part_selector d base index ≡ Some x → IsWellSelected x
-  selected_well base index may known lt x e =
+  selected_well base index may part fits lt x e =
       let b = known_base m es base index may in
-      let written = list_all_at (λ k. resolution_is_written m.types k.ty) es base b.known known b.there in
-      inner_well d (handle_of b.known.ty) b.type index
-      (ap (λ o. option_map_or (type_is_written m.types) o false) (sym b.is) ∙ written)
+      inner_well d (no_struct m.types part) (handle_of b.known.ty) b.type index
+      (no_struct_known m part b.known.ty (fits base b.known b.there) b.type b.is)
       lt x (sym (selector_is base index b) ∙ e)

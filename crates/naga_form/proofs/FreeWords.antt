@@ -23,11 +23,11 @@ use Rattle.naga_form.proofs.OperatorEvents.{asks_as_told}
 use Rattle.naga_form.proofs.OperatorTable.{mathematical, others, first_with, operator_of, told}
 use Rattle.naga_form.proofs.TypedWords.{head_is, no_blank}
 
--- the words without a text that ask for events, by their second letter: samplings, steps and scans,
--- gathers, texels, and loads of matrices whose type has no form
+-- the words with a blank in front that ask for events, by their second letter: steps and scans,
+-- texels, and loads of matrices whose type has no form
 abbrev own_request : List ℕ → Bool
 own_request (b ∷ c ∷ w) =
-    nat_eq b 32 && (nat_eq c 115 || (nat_eq c 103 || (nat_eq c 116 || nat_eq c 3)))
+    nat_eq b 32 && (nat_eq c 115 || (nat_eq c 116 || nat_eq c 3))
 own_request _ = false
 
 -- a word that asks for an event, whether a text has it or not
@@ -114,7 +114,7 @@ no_own_request [] is = refl
 no_own_request (b ∷ []) is = refl
 no_own_request (b ∷ c ∷ w) is = by (nat_eq b 32) refl
   where
-    by : (x : Bool) → nat_eq b 32 ≡ x → (x && (nat_eq c 115 || (nat_eq c 103 || (nat_eq c 116 || nat_eq c 3)))) ≡ false
+    by : (x : Bool) → nat_eq b 32 ≡ x → (x && (nat_eq c 115 || (nat_eq c 116 || nat_eq c 3))) ≡ false
     by true at = absurd (no_blank (b ∷ c ∷ w) (c ∷ w) is (ap (λ a. a ∷ c ∷ w) (eqb-true b 32 at)))
     by false at = refl
 

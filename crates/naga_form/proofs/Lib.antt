@@ -13,6 +13,7 @@ pub mod AlikeTypes
 pub mod AllowedParts
 pub mod Bindings
 pub mod ConsistentModules
+pub mod ConstantForms
 pub mod ConstantInitialisers
 pub mod ConstantOrder
 pub mod ConstantTrees
@@ -23,6 +24,7 @@ pub mod FreeModules
 pub mod FreeNames
 pub mod FreeWords
 pub mod FunctionsFit
+pub mod Images
 pub mod Interface
 pub mod Leaves
 pub mod Letters
@@ -39,6 +41,7 @@ pub mod OperatorTable
 pub mod OperatingWords
 pub mod Operators
 pub mod Ordered
+pub mod PartTypes
 pub mod PartFits
 pub mod PartsFit
 pub mod PointerParts

@@ -34,7 +34,7 @@ use Rattle.module_meaning.specs.Meanings.{HasTypedWorld, IsNeverStuck}
 use Rattle.module_meaning.specs.ModuleShapes.{module_shape}
 use Rattle.module_meaning.specs.Names.{NamesAreCounted, module_names, function_name}
 use Rattle.module_meaning.specs.Part.{block_is_written, function_is_written, is_written_so_far}
-use Rattle.module_meaning.specs.Part.{is_value_type, statement_is_written}
+use Rattle.module_meaning.specs.Part.{type_is_of_part, statement_is_written}
 use Rattle.module_meaning.specs.Premises.{ScopesHold}
 use Rattle.module_meaning.specs.ExpressionOperators.{Surroundings}
 use Rattle.module_meaning.specs.FunctionShapes.{statement_shape, statements_shape, function_shape}
@@ -54,7 +54,7 @@ use Rattle.naga_form.proofs.WellFormed.{all_well_formed}
 -- a body is that of a function that is written so far, among types of values
 pub record IsWrittenBody (body : shapes.Statements) : Type 0 where
   pub around : Surroundings
-  pub values : IsTrue (list_all is_value_type around.types)
+  pub values : IsTrue (list_all type_is_of_part around.types)
   pub block : BlockTree
   pub written : block_is_written block ≡ true
   pub same : body ≡ statements_shape around block
@@ -64,7 +64,7 @@ abbrev AllAreWritten : List shapes.Function → Type 0
 AllAreWritten [] = Unit {0}
 AllAreWritten (f ∷ fs) = IsWrittenBody f.body × AllAreWritten fs
 
-all_are_written : (m : Module) (info : ModuleInfo) → IsTrue (list_all is_value_type m.types) → (fs : List ir_function.Function) (ess : List (List ExpressionInfo)) → list_all function_is_written fs ≡ true → (behind : List shapes.Function) → AllAreWritten behind → AllAreWritten (reverse_aux (function_shapes m info fs ess) behind)
+all_are_written : (m : Module) (info : ModuleInfo) → IsTrue (list_all type_is_of_part m.types) → (fs : List ir_function.Function) (ess : List (List ExpressionInfo)) → list_all function_is_written fs ≡ true → (behind : List shapes.Function) → AllAreWritten behind → AllAreWritten (reverse_aux (function_shapes m info fs ess) behind)
 all_are_written m info values [] ess written behind all = all
 all_are_written m info values (f ∷ fs) [] written behind all = all
 all_are_written m info values (f ∷ fs) (es ∷ ess) written behind all =
@@ -81,7 +81,7 @@ all_are_written m info values (f ∷ fs) (es ∷ ess) written behind all =
     )
 
 -- no statement that is written so far makes turns
-module _ (c : Call) (j n : ℕ) (a : Surroundings) (values : IsTrue (list_all is_value_type a.types)) where
+module _ (c : Call) (j n : ℕ) (a : Surroundings) (values : IsTrue (list_all type_is_of_part a.types)) where
   steady_line : (s : StatementTree) → statement_is_written s ≡ true → (kept : KeptValues) (t : List Event) → run c j (statement_shape a s) kept t ≡ run c n (statement_shape a s) kept t
   steady_line (simple (emit first last)) is kept t = refl
   steady_line (simple (store pointer value)) is kept t =
@@ -138,7 +138,7 @@ module _ (m : Module) (info : ModuleInfo) (written : IsTrue (is_written_so_far m
       steady_world shape settings meaning
       (λ w j n g vs. steady_calls (environment_of shape settings meaning) w meaning shape.functions all_written j n g vs [])
 
-  pub never_stuck : IsTrue (is_accepted m info) → (explicit : Bool) → AllWrittenHaveForms m info → ScopesHold m info → NamesAreCounted m → IsNeverStuck m info (written_program m info explicit)
+  pub never_stuck : IsTrue (is_accepted m info) → (explicit : Bool) → AllWrittenHaveForms explicit m info → ScopesHold m info → NamesAreCounted m → IsNeverStuck m info (written_program m info explicit)
   never_stuck accepted explicit have scope counted settings fit meaning typed g f found arguments typed_arguments world turns past =
       subst (λ (text : TextModule). IsNotStuck (run_module shape settings world meaning turns g arguments past) × (KeepsTypes (run_module shape settings world meaning turns g arguments past) → IsNotStuck (follow_module text settings world meaning is_request turns (function_name (module_names m) g) arguments past)))
       (sym (reads_as_shapes m info explicit accepted written have))

@@ -1,12 +1,23 @@
 -- Words of operators that no name hides: the signs, words and types of the operators that are written
 -- so far.
 use Rattle.std.proofs.Common.{◌≡◌, ℕ, Bool, true, false, List, [], ◌∷◌, refl, sym, ap, ◌∙◌, nat_eq}
-use Rattle.std.proofs.Common.{codes}
+use Rattle.std.proofs.Common.{codes, ◌++◌}
+use Rattle.std.specs.List.{AllByRecursion}
 use Rattle.std.specs.Prelude.{◌&&◌, ◌||◌, if◌then◌else◌, not}
 use Rattle.std.specs.Option.{is_some}
 use Rattle.module_meaning.specs.OperatorTable.{BinarySign, UnarySign, Choice, Mathematical}
 use Rattle.module_meaning.specs.OperatorTable.{Relation, Splat, relational_word, run_word}
-use Rattle.module_meaning.specs.OperatorTable.{Derivative, with_type}
+use Rattle.module_meaning.specs.OperatorTable.{Derivative, with_type, Formless, Cast, PartAt}
+use Rattle.module_meaning.specs.OperatorTable.{ValueOf, MatrixLoad, WithoutForm}
+use Rattle.module_meaning.specs.OperatorTable.{ArrayLength, Automatic}
+use Rattle.module_meaning.specs.OperatorTable.{Biased, CooperativeMultiplyAdd, Exact, Gather, Graded}
+use Rattle.module_meaning.specs.OperatorTable.{Level, Sample, Texel, Zero}
+use Rattle.module_meaning.specs.ExpressionOperators.{query_operator, sample_operator, texel_of}
+use Rattle.naga_ir.specs.declared.expression.ImageQuery.{ImageQuery}
+use Rattle.naga_ir.specs.declared.expression.ImageQuery.TheVariants as query
+use Rattle.naga_ir.specs.declared.expression.SwizzleComponent.{SwizzleComponent}
+use Rattle.naga_ir.specs.declared.expression.SwizzleComponent.TheVariants as component
+use Rattle.std.proofs.Common.{Option, Some, None}
 use Rattle.naga_ir.specs.declared.operators.DerivativeAxis.{DerivativeAxis}
 use Rattle.naga_ir.specs.declared.operators.DerivativeAxis.TheVariants as axis
 use Rattle.naga_ir.specs.declared.operators.DerivativeControl.{DerivativeControl}
@@ -22,13 +33,11 @@ use Rattle.naga_ir.specs.declared.operators.UnaryOperator.TheVariants as unary
 use Rattle.naga_ir.specs.declared.types.VectorSize.{VectorSize}
 use Rattle.naga_ir.specs.declared.types.VectorSize.TheVariants.{Bi, Tri, Quad}
 use Rattle.naga_keywords.specs.Plain.{is_word}
-use Rattle.naga_words.specs.Words.{matrix_word, vector_word}
 use Rattle.wgsl_text.proofs.Words.{all_words}
 use Rattle.wgsl_text.specs.Keywords.{builtin_words}
 use Rattle.wgsl_text.specs.Reading.{type_layout}
 use Rattle.wgsl_text.specs.Requests.{is_request}
-use Rattle.wgsl_text.specs.Tables.{scalar_words}
-use Rattle.wgsl_text.specs.Types.{TypeSpecifier, Named, of_one}
+use Rattle.wgsl_text.specs.Types.{Named, plain_type_words, type_templates}
 use Rattle.wgsl_text.specs.Words.{is_builtin}
 use Rattle.wgsl_words.specs.Words.{math_word}
 
@@ -115,35 +124,189 @@ derivative_free axis.Width control.Coarse = refl
 derivative_free axis.Width control.Fine = refl
 derivative_free axis.Width control.None = refl
 
+-- as are the words of operations on images, whether they have a form or not
+pub sample_free : (l : Level) (compares clamped arrayed offset : Bool) →
+    asks_freely (run_word (Sample l compares clamped arrayed offset)) ≡ true
+unfolding is_request is_builtin builtin_words
+sample_free Automatic true true arrayed offset = refl
+sample_free Automatic true false arrayed offset = refl
+sample_free Automatic false true arrayed offset = refl
+sample_free Automatic false false arrayed offset = refl
+sample_free Zero true true arrayed offset = refl
+sample_free Zero true false arrayed offset = refl
+sample_free Zero false true arrayed offset = refl
+sample_free Zero false false arrayed offset = refl
+sample_free Exact true true arrayed offset = refl
+sample_free Exact true false arrayed offset = refl
+sample_free Exact false true arrayed offset = refl
+sample_free Exact false false arrayed offset = refl
+sample_free Biased true true arrayed offset = refl
+sample_free Biased true false arrayed offset = refl
+sample_free Biased false true arrayed offset = refl
+sample_free Biased false false arrayed offset = refl
+sample_free Graded true true arrayed offset = refl
+sample_free Graded true false arrayed offset = refl
+sample_free Graded false true arrayed offset = refl
+sample_free Graded false false arrayed offset = refl
+
+gather_free : (c : Option SwizzleComponent) (l : Level) (compares clamped arrayed offset : Bool) →
+    asks_freely (run_word (Gather c l compares clamped arrayed offset)) ≡ true
+unfolding is_request is_builtin builtin_words
+gather_free None Automatic true true arrayed offset = refl
+gather_free None Automatic true false arrayed offset = refl
+gather_free None Automatic false true arrayed offset = refl
+gather_free None Automatic false false arrayed offset = refl
+gather_free None Zero true true arrayed offset = refl
+gather_free None Zero true false arrayed offset = refl
+gather_free None Zero false true arrayed offset = refl
+gather_free None Zero false false arrayed offset = refl
+gather_free None Exact true true arrayed offset = refl
+gather_free None Exact true false arrayed offset = refl
+gather_free None Exact false true arrayed offset = refl
+gather_free None Exact false false arrayed offset = refl
+gather_free None Biased true true arrayed offset = refl
+gather_free None Biased true false arrayed offset = refl
+gather_free None Biased false true arrayed offset = refl
+gather_free None Biased false false arrayed offset = refl
+gather_free None Graded true true arrayed offset = refl
+gather_free None Graded true false arrayed offset = refl
+gather_free None Graded false true arrayed offset = refl
+gather_free None Graded false false arrayed offset = refl
+gather_free (Some component.X) Automatic true true arrayed offset = refl
+gather_free (Some component.X) Automatic true false arrayed offset = refl
+gather_free (Some component.X) Automatic false true arrayed offset = refl
+gather_free (Some component.X) Automatic false false arrayed offset = refl
+gather_free (Some component.X) Zero true true arrayed offset = refl
+gather_free (Some component.X) Zero true false arrayed offset = refl
+gather_free (Some component.X) Zero false true arrayed offset = refl
+gather_free (Some component.X) Zero false false arrayed offset = refl
+gather_free (Some component.X) Exact true true arrayed offset = refl
+gather_free (Some component.X) Exact true false arrayed offset = refl
+gather_free (Some component.X) Exact false true arrayed offset = refl
+gather_free (Some component.X) Exact false false arrayed offset = refl
+gather_free (Some component.X) Biased true true arrayed offset = refl
+gather_free (Some component.X) Biased true false arrayed offset = refl
+gather_free (Some component.X) Biased false true arrayed offset = refl
+gather_free (Some component.X) Biased false false arrayed offset = refl
+gather_free (Some component.X) Graded true true arrayed offset = refl
+gather_free (Some component.X) Graded true false arrayed offset = refl
+gather_free (Some component.X) Graded false true arrayed offset = refl
+gather_free (Some component.X) Graded false false arrayed offset = refl
+gather_free (Some component.Y) Automatic true true arrayed offset = refl
+gather_free (Some component.Y) Automatic true false arrayed offset = refl
+gather_free (Some component.Y) Automatic false true arrayed offset = refl
+gather_free (Some component.Y) Automatic false false arrayed offset = refl
+gather_free (Some component.Y) Zero true true arrayed offset = refl
+gather_free (Some component.Y) Zero true false arrayed offset = refl
+gather_free (Some component.Y) Zero false true arrayed offset = refl
+gather_free (Some component.Y) Zero false false arrayed offset = refl
+gather_free (Some component.Y) Exact true true arrayed offset = refl
+gather_free (Some component.Y) Exact true false arrayed offset = refl
+gather_free (Some component.Y) Exact false true arrayed offset = refl
+gather_free (Some component.Y) Exact false false arrayed offset = refl
+gather_free (Some component.Y) Biased true true arrayed offset = refl
+gather_free (Some component.Y) Biased true false arrayed offset = refl
+gather_free (Some component.Y) Biased false true arrayed offset = refl
+gather_free (Some component.Y) Biased false false arrayed offset = refl
+gather_free (Some component.Y) Graded true true arrayed offset = refl
+gather_free (Some component.Y) Graded true false arrayed offset = refl
+gather_free (Some component.Y) Graded false true arrayed offset = refl
+gather_free (Some component.Y) Graded false false arrayed offset = refl
+gather_free (Some component.Z) Automatic true true arrayed offset = refl
+gather_free (Some component.Z) Automatic true false arrayed offset = refl
+gather_free (Some component.Z) Automatic false true arrayed offset = refl
+gather_free (Some component.Z) Automatic false false arrayed offset = refl
+gather_free (Some component.Z) Zero true true arrayed offset = refl
+gather_free (Some component.Z) Zero true false arrayed offset = refl
+gather_free (Some component.Z) Zero false true arrayed offset = refl
+gather_free (Some component.Z) Zero false false arrayed offset = refl
+gather_free (Some component.Z) Exact true true arrayed offset = refl
+gather_free (Some component.Z) Exact true false arrayed offset = refl
+gather_free (Some component.Z) Exact false true arrayed offset = refl
+gather_free (Some component.Z) Exact false false arrayed offset = refl
+gather_free (Some component.Z) Biased true true arrayed offset = refl
+gather_free (Some component.Z) Biased true false arrayed offset = refl
+gather_free (Some component.Z) Biased false true arrayed offset = refl
+gather_free (Some component.Z) Biased false false arrayed offset = refl
+gather_free (Some component.Z) Graded true true arrayed offset = refl
+gather_free (Some component.Z) Graded true false arrayed offset = refl
+gather_free (Some component.Z) Graded false true arrayed offset = refl
+gather_free (Some component.Z) Graded false false arrayed offset = refl
+gather_free (Some component.W) Automatic true true arrayed offset = refl
+gather_free (Some component.W) Automatic true false arrayed offset = refl
+gather_free (Some component.W) Automatic false true arrayed offset = refl
+gather_free (Some component.W) Automatic false false arrayed offset = refl
+gather_free (Some component.W) Zero true true arrayed offset = refl
+gather_free (Some component.W) Zero true false arrayed offset = refl
+gather_free (Some component.W) Zero false true arrayed offset = refl
+gather_free (Some component.W) Zero false false arrayed offset = refl
+gather_free (Some component.W) Exact true true arrayed offset = refl
+gather_free (Some component.W) Exact true false arrayed offset = refl
+gather_free (Some component.W) Exact false true arrayed offset = refl
+gather_free (Some component.W) Exact false false arrayed offset = refl
+gather_free (Some component.W) Biased true true arrayed offset = refl
+gather_free (Some component.W) Biased true false arrayed offset = refl
+gather_free (Some component.W) Biased false true arrayed offset = refl
+gather_free (Some component.W) Biased false false arrayed offset = refl
+gather_free (Some component.W) Graded true true arrayed offset = refl
+gather_free (Some component.W) Graded true false arrayed offset = refl
+gather_free (Some component.W) Graded false true arrayed offset = refl
+gather_free (Some component.W) Graded false false arrayed offset = refl
+
+pub sampling_free : (of_depths : Bool) (gather : Option SwizzleComponent) (l : Level)
+    (compares clamped arrayed offset : Bool) →
+    asks_freely (run_word (sample_operator of_depths gather l compares clamped arrayed offset)) ≡ true
+sampling_free of_depths None l compares clamped arrayed offset =
+    sample_free l compares clamped arrayed offset
+sampling_free of_depths (Some c) l compares clamped arrayed offset =
+    gather_free (if of_depths then None else Some c) l compares clamped arrayed offset
+
+pub texel_free : (arrayed sample level : Bool) →
+    asks_freely (run_word (Texel arrayed (texel_of sample level))) ≡ true
+unfolding is_request is_builtin builtin_words
+texel_free arrayed true true = refl
+texel_free arrayed true false = refl
+texel_free arrayed false true = refl
+texel_free arrayed false false = refl
+
+pub query_free : (query : ImageQuery) → asks_freely (run_word (query_operator query)) ≡ true
+unfolding is_request is_builtin builtin_words
+query_free (query.Size level) = refl
+query_free query.NumLevels = refl
+query_free query.NumLayers = refl
+query_free query.NumSamples = refl
+
+-- as are the words of these two, which ask for nothing
+pub length_free : operates_freely (run_word ArrayLength) ≡ true
+unfolding is_request is_builtin builtin_words
+length_free = refl
+
+pub product_free : operates_freely (run_word CooperativeMultiplyAdd) ≡ true
+unfolding is_request is_builtin builtin_words
+product_free = refl
+
 -- as is the cast of bits to any type
 pub bits_free : (word : List ℕ) → operates_freely (with_type (codes "bitcast") word) ≡ true
 unfolding is_request is_builtin builtin_words
 bits_free word = refl
 
--- as are scalars, vectors and matrices
-abbrev is_free_type : TypeSpecifier → Bool
-is_free_type t = operates_freely (type_layout t)
-
-pub scalars_free : all_words (λ w. is_free_type (Named w)) scalar_words ≡ true
+-- what stands for what has no form: a blank, and behind it no blank
+pub formless_free : (what : Formless) → operates_freely (run_word (WithoutForm what)) ≡ true
 unfolding is_request is_builtin builtin_words
-scalars_free = refl
+formless_free (Cast kind width) = refl
+formless_free (PartAt index) = refl
+formless_free (ValueOf numbers components) = refl
+formless_free (MatrixLoad columns rows role row_major) = refl
 
-pub vectors_free : (size : VectorSize) →
-    all_words (λ w. is_free_type (of_one (vector_word size) (Named w))) scalar_words ≡ true
+-- as are the types of one word, and words of types with parts, whatever these are
+pub plain_types_free :
+    all_words (λ w. operates_freely (type_layout (Named w))) plain_type_words ≡ true
 unfolding is_request is_builtin builtin_words
-vectors_free Bi = refl
-vectors_free Tri = refl
-vectors_free Quad = refl
+plain_types_free = refl
 
-pub matrices_free : (columns rows : VectorSize) →
-    all_words (λ w. is_free_type (of_one (matrix_word columns rows) (Named w))) scalar_words ≡ true
+pub templates_free : (rest : List ℕ) →
+    AllByRecursion
+    (λ row. all_words (λ w. operates_freely (w ++ 60 ∷ rest)) row.0 ≡ true) type_templates
 unfolding is_request is_builtin builtin_words
-matrices_free Bi Bi = refl
-matrices_free Bi Tri = refl
-matrices_free Bi Quad = refl
-matrices_free Tri Bi = refl
-matrices_free Tri Tri = refl
-matrices_free Tri Quad = refl
-matrices_free Quad Bi = refl
-matrices_free Quad Tri = refl
-matrices_free Quad Quad = refl
+templates_free rest =
+    (refl, (refl, (refl, (refl, (refl, (refl, (refl, (refl, (refl, tt)))))))))

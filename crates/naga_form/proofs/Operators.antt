@@ -2,9 +2,9 @@
 -- grammar.
 use Rattle.std.proofs.Common.{◌≡◌, ℕ, Bool, true, false, List, [], ◌∷◌, Option, Some, None}
 use Rattle.std.proofs.Common.{refl, sym, ap, subst, ◌∙◌, length, codes, ◌++◌}
-use Rattle.std.specs.Prelude.{IsTrue, if◌then◌else◌, unwrap_or}
+use Rattle.std.specs.Prelude.{IsTrue, if◌then◌else◌, unwrap_or, ◌||◌}
 use Rattle.std.specs.List.{AllByRecursion}
-use Rattle.std.specs.Option.{is_some, option_map, option_map_or, option_and_then}
+use Rattle.std.specs.Option.{is_none, is_some, option_map, option_map_or, option_and_then}
 use Rattle.naga_ir.specs.declared.expression.Expression as ir
 use Rattle.naga_ir.specs.declared.expression.Expression.TheVariants as expression
 use Rattle.naga_ir.specs.declared.operators.BinaryOperator.{BinaryOperator}
@@ -27,7 +27,12 @@ use Rattle.naga_ir.specs.declared.operators.RelationalFunction.{RelationalFuncti
 use Rattle.naga_ir.specs.declared.types.VectorSize.{VectorSize}
 use Rattle.module_meaning.specs.OperatorTable.{Choice, Splat, Relation, Mathematical, Construct}
 use Rattle.module_meaning.specs.OperatorTable.{WithoutForm, ValueOf, relational_word, Cast}
-use Rattle.module_meaning.specs.OperatorTable.{Derivative, with_type}
+use Rattle.module_meaning.specs.OperatorTable.{Derivative, with_type, ArrayLength}
+use Rattle.module_meaning.specs.OperatorTable.{CooperativeMultiplyAdd, Texel, OnlyTexel, SampleTexel}
+use Rattle.module_meaning.specs.OperatorTable.{LevelTexel, ImageSize, CountOf, Levels, Layers, Samples}
+use Rattle.module_meaning.specs.ExpressionOperators.{query_operator, texel_of}
+use Rattle.naga_ir.specs.declared.expression.ImageQuery.{ImageQuery}
+use Rattle.naga_ir.specs.declared.expression.ImageQuery.TheVariants as query
 use Rattle.naga_ir.specs.declared.operators.DerivativeAxis.{DerivativeAxis}
 use Rattle.naga_ir.specs.declared.operators.DerivativeAxis.TheVariants as axis
 use Rattle.naga_ir.specs.declared.operators.DerivativeControl.{DerivativeControl}
@@ -38,11 +43,14 @@ use Rattle.module_meaning.specs.ExpressionShapes.{applied_shape, asking}
 use Rattle.module_meaning.specs.OperatorTable.{Operator, BinarySign, UnarySign, AtomicLoad, asks}
 use Rattle.module_meaning.specs.OperatorTable.{own_math_word, run_word}
 use Rattle.module_meaning.specs.Part.{expression_is_written}
+use Rattle.naga_ir.specs.declared.types.Type_.{Type_}
+use Rattle.naga_info.specs.declared.info.ExpressionInfo.{ExpressionInfo}
 use Rattle.module_meaning.specs.Shapes.{operator_shape}
-use Rattle.naga_ir.specs.Operands.{expression_operands}
+use Rattle.naga_ir.specs.Operands.{expression_operands, query_operands}
 use Rattle.naga_ir.specs.declared.types.VectorSize.TheVariants.{Bi, Tri, Quad}
 use Rattle.wgsl_text.specs.Types.{TypeSpecifier, Named, NoParts, has_gaps, of_one}
 use Rattle.wgsl_text.specs.Expressions.{Call, operands, binary_pieces, unary_mark, IsExpression}
+use Rattle.wgsl_text.specs.Expressions.{Expression}
 use Rattle.naga_form.specs.Expressions.{PlainForm, as_value, value_forms}
 use Rattle.wgsl_text.specs.Functions.{Each}
 use Rattle.wgsl_text.proofs.Building.{called_words}
@@ -92,7 +100,7 @@ unary_row unary.LogicalNot = refl
 unary_row unary.BitwiseNot = refl
 
 -- the type by which an operator is called, if it is called by one, is spelled by the operator's word
-abbrev Spells : Option TypeSpecifier → Operator → Type 0
+abbrev pub Spells : Option TypeSpecifier → Operator → Type 0
 Spells None op = Unit {0}
 Spells (Some t) op = type_layout t ≡ run_word op
 
@@ -100,7 +108,7 @@ abbrev pub SpellsIf : Option TypeSpecifier → Option Operator → Type 0
 SpellsIf type None = Unit {0}
 SpellsIf type (Some op) = Spells type op
 
-called_word : (type : Option TypeSpecifier) (op : Operator) → Spells type op →
+pub called_word : (type : Option TypeSpecifier) (op : Operator) → Spells type op →
     type_layout (unwrap_or type (Named (run_word op))) ≡ run_word op
 called_word None op spelled = named_text (run_word op)
 called_word (Some t) op spelled = spelled
@@ -317,6 +325,22 @@ pub typed_notation : (op : Operator) → IsCalled op → (type : Option TypeSpec
 typed_notation op called type t is =
     called type ∙ ap (λ o. Called (unwrap_or o (Named (run_word op)))) is
 
+-- such an operator is read as its word over whatever it is called with
+pub called_applied : (op : Operator) → IsCalled op → (type : Option TypeSpecifier) →
+    Spells type op → (es : List Expression) →
+    expression_read (applied_form (notation type op) es) ≡
+    Apply (run_word op) (arguments_read (operands es))
+called_applied op called type spelled es =
+    ap (λ n. expression_read (applied_form n es)) (called type)
+    ∙ (by (unwrap_or type (Named (run_word op))) es
+    ∙ ap (λ w. Apply w (arguments_read (operands es))) (called_word type op spelled))
+  where
+    by : (t : TypeSpecifier) (es : List Expression) →
+        expression_read (Call t (operands es)) ≡
+        Apply (type_layout t) (arguments_read (operands es))
+    by t [] = refl
+    by t (e ∷ es) = refl
+
 -- a value of a type that has a form
 pub constructor_notated : (a : Surroundings) (r : TypeResolution) (components : ℕ) (hs : List ℕ) →
     (type : Option TypeSpecifier) (t : TypeSpecifier) → type ≡ Some t → IsType t →
@@ -343,14 +367,14 @@ cast_callee false t is = called_words.type t is
 cast_callee true t is = called_words.taking_type (codes "bitcast") t refl is
 
 -- a built-in word may be called
-callee_of : (w : List ℕ) → is_builtin w ≡ true → IsCallee (Named w)
+pub callee_of : (w : List ℕ) → is_builtin w ≡ true → IsCallee (Named w)
 callee_of w is = called_words.builtin w is
 
 choice_called : IsCallee (Named (run_word Choice))
 unfolding is_builtin builtin_words
 choice_called = callee_of (run_word Choice) refl
 
-splat_called : (size : VectorSize) → IsCallee (Named (run_word (Splat size)))
+pub splat_called : (size : VectorSize) → IsCallee (Named (run_word (Splat size)))
 unfolding is_builtin builtin_words
 splat_called Bi = callee_of (run_word (Splat Bi)) refl
 splat_called Tri = callee_of (run_word (Splat Tri)) refl
@@ -379,6 +403,36 @@ derivative_called axis.Width control.Fine =
 derivative_called axis.Width control.None =
     callee_of (run_word (Derivative axis.Width control.None)) refl
 
+length_called : IsCallee (Named (run_word ArrayLength))
+unfolding is_builtin builtin_words
+length_called = callee_of (run_word ArrayLength) refl
+
+product_called : IsCallee (Named (run_word CooperativeMultiplyAdd))
+unfolding is_builtin builtin_words
+product_called = callee_of (run_word CooperativeMultiplyAdd) refl
+
+-- so may what loads a texel, but of a sample and a level, and what asks an image for its sizes
+texel_called : (arrayed : Bool) (sample level : Option ℕ) → (is_none sample || is_none level) ≡ true →
+    IsCallee (Named (run_word (Texel arrayed (texel_of (is_some sample) (is_some level)))))
+unfolding is_builtin builtin_words
+texel_called arrayed None None written = callee_of (run_word (Texel arrayed OnlyTexel)) refl
+texel_called arrayed (Some s) None written = callee_of (run_word (Texel arrayed SampleTexel)) refl
+texel_called arrayed None (Some l) written = callee_of (run_word (Texel arrayed LevelTexel)) refl
+texel_called arrayed (Some s) (Some l) written = absurd cc
+
+pub query_is_called : (query : ImageQuery) → IsCalled (query_operator query)
+query_is_called (query.Size level) type = refl
+query_is_called query.NumLevels type = refl
+query_is_called query.NumLayers type = refl
+query_is_called query.NumSamples type = refl
+
+query_called : (query : ImageQuery) → IsCallee (Named (run_word (query_operator query)))
+unfolding is_builtin builtin_words
+query_called (query.Size level) = callee_of (run_word (ImageSize (is_some level))) refl
+query_called query.NumLevels = callee_of (run_word (CountOf Levels)) refl
+query_called query.NumLayers = callee_of (run_word (CountOf Layers)) refl
+query_called query.NumSamples = callee_of (run_word (CountOf Samples)) refl
+
 atomic_called : IsCallee (Named (run_word AtomicLoad))
 unfolding is_builtin builtin_words
 atomic_called = callee_of (run_word AtomicLoad) refl
@@ -405,42 +459,58 @@ TypeIsFormed a t (expression.As operand kind convert) =
     × (operator_type a t (expression.As operand kind convert) ≡ Some tree) × IsCallee tree
 TypeIsFormed a t _ = Unit {0}
 
--- A part at a known index applies an operator only where there is none, and that has no notation.
+-- A part at a known index applies an operator only where there is none, and that has no notation; a
+-- sampling has a form of its own.
 abbrev pub HasNotation : ir.Expression → Type 0
 HasNotation (expression.AccessIndex base index) = ⊥
+HasNotation
+    (expression.ImageSample
+    image sampler gather coordinate array_index offset level depth_ref clamp) =
+    ⊥
 HasNotation e = Unit {0}
 
 -- each expression that is written and applies an operator has its operands
-pub notated : (a : Surroundings) (t : TypeNames) (e : ir.Expression) →
-    expression_is_written e ≡ true → HasNotation e → TypeIsFormed a t e →
+pub notated : (a : Surroundings) (t : TypeNames) (types : List Type_) (es : List ExpressionInfo) →
+    (e : ir.Expression) → expression_is_written types es e ≡ true → HasNotation e → TypeIsFormed a t e →
     IsNotated (operator_type a t e) (expression_operands e) (applied_operator a e)
-notated a t (expression.Unary op expr) written has formed = tt
-notated a t (expression.Binary op left right) written has formed = tt
-notated a t (expression.Select condition accept reject) written has formed = choice_called
-notated a t (expression.Splat size value) written has formed = splat_called size
-notated a t (expression.Math fun arg arg1 arg2 arg3) written has formed =
+notated a t types es (expression.Unary op expr) written has formed = tt
+notated a t types es (expression.Binary op left right) written has formed = tt
+notated a t types es (expression.Select condition accept reject) written has formed = choice_called
+notated a t types es (expression.Splat size value) written has formed = splat_called size
+notated a t types es (expression.Math fun arg arg1 arg2 arg3) written has formed =
     callee_of (run_word (Mathematical fun))
     (word_is_builtin (math_word fun) (own_math_word fun) (value_words.functions fun) written)
-notated a t (expression.Relational fun argument) written has formed = relation_called fun written
-notated a t (expression.Compose ty parts) written has formed =
+notated a t types es (expression.Relational fun argument) written has formed = relation_called fun written
+notated a t types es (expression.Compose ty parts) written has formed =
     constructor_notated a (Handle ty) (length parts.items) parts.items (type_tree t ty)
     formed.0 formed.1 formed.2
-notated a t (expression.As operand kind convert) written has formed =
+notated a t types es (expression.As operand kind convert) written has formed =
     subst (λ n. NotationFits n (operand ∷ []))
     (sym
     (typed_notation _ (cast_called a kind convert (type_known a operand))
     (operator_type a t (expression.As operand kind convert)) formed.0 formed.1))
     formed.2
-notated a t (expression.Derivative along how expr) written has formed = derivative_called along how
-notated a t (expression.Swizzle size vector pattern) written has formed = tt
-notated a t (expression.Access base index) written has formed = tt
-notated a t (expression.Literal value) written has formed = tt
-notated a t (expression.ZeroValue ty) written has formed = tt
-notated a t (expression.FunctionArgument number) written has formed = tt
-notated a t (expression.LocalVariable handle) written has formed = tt
-notated a t (expression.Load pointer) written has formed = load_notated a pointer
-notated a t (expression.AccessIndex base index) written has formed = absurd has
-notated a t _ written has formed = absurd cc
+notated a t types es (expression.Derivative along how expr) written has formed = derivative_called along how
+notated a t types es (expression.ImageLoad image coordinate array_index sample level) written has formed =
+    texel_called (is_some array_index) sample level written
+notated a t types es (expression.ImageQuery image query) written has formed =
+    subst (λ n. NotationFits n (image ∷ query_operands query)) (sym (query_is_called query None))
+    (query_called query)
+notated a t types es (expression.ArrayLength array) written has formed = length_called
+notated a t types es (expression.CooperativeMultiplyAdd x y z) written has formed = product_called
+notated a t types es
+    (expression.ImageSample
+    image sampler gather coordinate array_index offset level depth_ref clamp) written has formed =
+    absurd has
+notated a t types es (expression.Swizzle size vector pattern) written has formed = tt
+notated a t types es (expression.Access base index) written has formed = tt
+notated a t types es (expression.Literal value) written has formed = tt
+notated a t types es (expression.ZeroValue ty) written has formed = tt
+notated a t types es (expression.FunctionArgument number) written has formed = tt
+notated a t types es (expression.LocalVariable handle) written has formed = tt
+notated a t types es (expression.Load pointer) written has formed = load_notated a pointer
+notated a t types es (expression.AccessIndex base index) written has formed = absurd has
+notated a t types es _ written has formed = absurd cc
 
 module _ (operand : ℕ → PlainForm) where
   abbrev pub AreExpressions : List ℕ → Type 0

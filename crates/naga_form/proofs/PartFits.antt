@@ -25,17 +25,17 @@ use Rattle.naga_info.specs.declared.info.TypeResolution.TheVariants.{Handle, Val
 use Rattle.shader_runs.specs.Program.{Constructed, no_constant}
 use Rattle.std.specs.Option.{option_map, option_map_or, option_and_then}
 use Rattle.std.specs.Prelude.{codes}
-use Rattle.std.proofs.lemmas.Bool.{ltb-true}
 use Rattle.wgsl_text.specs.Reading.{type_layout}
 use Rattle.wgsl_text.proofs.Text.{text-append}
 use Rattle.naga_form.proofs.AcceptedFunctions.{names_are_in_range}
 use Rattle.naga_form.proofs.OperatingWords.{operates_freely, unary_free, binary_free, choice_free}
 use Rattle.naga_form.proofs.OperatingWords.{asks_freely, bits_free, derivative_free}
-use Rattle.naga_form.proofs.OperatingWords.{is_signed}
+use Rattle.naga_form.proofs.OperatingWords.{formless_free, is_signed}
 use Rattle.naga_form.proofs.OperatingWords.{splat_free, math_free, relation_free}
 use Rattle.naga_form.proofs.OperatingWords.{names_no_item}
 use Rattle.naga_form.proofs.TypeTrees.{resolution_row}
-use Rattle.naga_form.proofs.WrittenTypes.{free_form, values_at}
+use Rattle.naga_form.proofs.SameValues.{IsFit, TypesAreCounted}
+use Rattle.naga_form.proofs.WrittenTypes.{free_form}
 use Rattle.module_meaning.specs.Surroundings.{declared, types_known}
 use Rattle.module_meaning.proofs.ExpressionShapes.{plain_load, plain_store}
 use Rattle.module_meaning.proofs.ModuleShapes.{points_plainly}
@@ -77,10 +77,33 @@ use Rattle.naga_form.proofs.WellFormed.{any_shape}
 use Rattle.naga_form.proofs.FunctionsFit.{IsLeft}
 use Rattle.naga_form.proofs.Regular.{AreWorded, IsWorded}
 use Rattle.module_meaning.specs.Writable.{only_empty_fall, only_empty_fall_in}
-use Rattle.module_meaning.specs.Part.{function_is_written, block_is_written, statement_is_written, is_value_type, is_unbound, expression_is_of_part, local_is_written, types_allow, types_allow_all}
+use Rattle.module_meaning.specs.Part.{function_is_written, block_is_written, statement_is_written, type_is_of_part, is_unbound, expression_is_of_part, local_is_written, types_allow, types_allow_all}
 use Rattle.module_meaning.specs.ExpressionShapes.{part_shape}
-use Rattle.naga_form.proofs.AllowedParts.{conversion, selected}
-use Rattle.naga_form.specs.TypeTrees.{type_tree}
+use Rattle.module_meaning.specs.Conversions.{conversion_target}
+use Rattle.module_meaning.specs.ExpressionOperators.{type_known}
+use Rattle.naga_form.proofs.AllowedParts.{selected, target_fit}
+use Rattle.naga_form.specs.TypeTrees.{resolution_tree}
+use Rattle.naga_ir.specs.declared.types.ScalarKind.{ScalarKind}
+use Rattle.naga_ir.specs.declared.types.TypeInner.{TypeInner}
+use Rattle.wgsl_text.specs.Types.{TypeSpecifier}
+use Rattle.module_meaning.proofs.ExpressionShapes.{query_asks}
+use Rattle.module_meaning.specs.ExpressionOperators.{is_depth_image, level_of, query_operator}
+use Rattle.module_meaning.specs.ExpressionOperators.{sample_operator, texel_of}
+use Rattle.module_meaning.specs.ExpressionShapes.{asking, built, constant_tree, tree_over, tree_then}
+use Rattle.module_meaning.specs.ExpressionShapes.{tree_within, trees, trees_of, written_zero}
+use Rattle.module_meaning.specs.OperatorTable.{ArrayLength, CooperativeMultiplyAdd, Texel, asks}
+use Rattle.module_meaning.specs.Shapes.{operator_shape}
+use Rattle.naga_form.proofs.OperatingWords.{length_free, product_free, query_free, sampling_free}
+use Rattle.naga_form.proofs.OperatingWords.{texel_free}
+use Rattle.naga_ir.specs.Operands.{query_operands}
+use Rattle.naga_ir.specs.declared.expression.SampleLevel.{SampleLevel}
+use Rattle.naga_ir.specs.declared.expression.SampleLevel.TheVariants as level
+use Rattle.naga_ir.specs.declared.types.VectorSize.{VectorSize}
+use Rattle.shader_runs.specs.Premises.{ConstantWords, ConstantsWords}
+use Rattle.shader_runs.specs.Program.{ConstantTree}
+use Rattle.std.proofs.Common.{◌++◌}
+use Rattle.std.specs.Option.{is_some, option_to_list}
+use Rattle.std.specs.Prelude.{if◌then◌else◌}
 use Rattle.module_meaning.proofs.Lists.{list_all_at}
 use Rattle.std.proofs.lemmas.Bool.{and_from}
 use Rattle.std.specs.List.{list_all}
@@ -139,7 +162,7 @@ none_listed : (i : ℕ) (ts : List ValueType) → ts ≡ [] → i < length ts �
 none_listed i ts e lt = let none : i < 0 = subst (λ ts. i < length ts) e lt in omega (arith, none)
 
 -- ---- one function
-module _ (m : Module) (info : ModuleInfo) (values : IsTrue (list_all is_value_type m.types)) (g : ℕ) (f : ir_function.Function) (found : slice_get m.functions g ≡ Some f) (es : List ExpressionInfo) (callees : ℕ) (ranges : function_in_range m callees f ≡ true) (written : IsTrue (function_is_written f)) (allowed : IsTrue (types_allow_all m.types f es)) (p : shapes.Module) (constants : p.constant_types ≡ []) (globals : p.global_types ≡ []) (counted : length p.functions ≡ length m.functions) where
+module _ (m : Module) (info : ModuleInfo) (values : IsTrue (list_all type_is_of_part m.types)) (are : TypesAreCounted m) (g : ℕ) (f : ir_function.Function) (found : slice_get m.functions g ≡ Some f) (es : List ExpressionInfo) (callees : ℕ) (ranges : function_in_range m callees f ≡ true) (written : IsTrue (function_is_written f)) (allowed : IsTrue (types_allow_all m.types f es)) (p : shapes.Module) (constants : p.constant_types ≡ []) (globals : p.global_types ≡ []) (counted : length p.functions ≡ length m.functions) where
   abbrev own : Naming
   own = function_naming (module_names m) m info g f es
 
@@ -209,32 +232,65 @@ module _ (m : Module) (info : ModuleInfo) (values : IsTrue (list_all is_value_ty
   asks_by w free =
       let both = and_parts (is_request w) (names_no_item w) free in (both.0, free_word w both.1)
 
-  -- what makes a value of a type of the module is called by the type
-  called_type : (ty : ℕ) → ty < length m.types →
-      (word : List ℕ) × (d.around.spelled (Handle ty) ≡ Some word) × OperatesBy p own word
-  called_type ty lt =
-      let form = free_form m.types ty (values_at m.types ty values lt) (module_names m) in (
-        type_layout form.0,
-        resolution_row text-append (type_names m) (λ handle. true) (Handle ty)
-            ∙ ap (option_map type_layout) form.1,
-        operates (type_layout form.0) form.2,
-      )
+  -- what is spelled by a type is called by that, or by what no text has where it has no form
+  spelled_words : (r : TypeResolution) → IsFit m r → (P : Operator → Type 0) →
+      (makes : List ℕ → Operator) → (without : Operator) →
+      ((word : List ℕ) → operates_freely word ≡ true → P (makes word)) → P without →
+      P (option_map_or makes (d.around.spelled r) without)
+  spelled_words r fit P makes without is none = by (resolution_tree (type_names m) r) refl
+    where
+      row : d.around.spelled r ≡ option_map type_layout (resolution_tree (type_names m) r)
+      row = resolution_row text-append (type_names m) (λ handle. true) r
 
-  made_words : (components : ℕ) (ty : ℕ) → ty < length m.types → (P : Operator → Type 0) →
+      by : (o : Option TypeSpecifier) → resolution_tree (type_names m) r ≡ o →
+          P (option_map_or makes (d.around.spelled r) without)
+      by (Some t) at =
+          subst (λ o. P (option_map_or makes o without)) (sym (row ∙ ap (option_map type_layout) at))
+          (is (type_layout t) (free_form m are values r fit t at))
+      by None at =
+          subst (λ o. P (option_map_or makes o without)) (sym (row ∙ ap (option_map type_layout) at))
+          none
+
+  abbrev unmade : (components ty : ℕ) → Operator
+  unmade components ty = WithoutForm (ValueOf (d.around.numbers (Handle ty)) components)
+
+  made_words : (components : ℕ) (ty : ℕ) → (P : Operator → Type 0) →
       ((word : List ℕ) → OperatesBy p own word → P (Construct word components)) →
+      (OperatesBy p own (run_word (unmade components ty)) → P (unmade components ty)) →
       P (constructor d.around (Handle ty) components)
-  made_words components ty lt P makes =
-      let called = called_type ty lt in
-      subst
-      (λ o. P
-      (option_map_or (λ spelling. Construct spelling components) o
-      (WithoutForm (ValueOf (d.around.numbers (Handle ty)) components))))
-      (sym called.1) (makes called.0 called.2)
+  made_words components ty P makes without =
+      spelled_words (Handle ty) tt P (λ spelling. Construct spelling components) (unmade components ty)
+      (λ word free. makes word (operates word free))
+      (without
+      (operates (run_word (unmade components ty))
+      (formless_free (ValueOf (d.around.numbers (Handle ty)) components))))
 
   cast_words : (bits : Bool) (word : List ℕ) (operand : ℕ) → operates_freely word ≡ true →
       WordFits p own (Some (applied_shape (cast_to bits word) (operand ∷ [])))
   cast_words false word operand free = operates word free
   cast_words true word operand free = operates (with_type (codes "bitcast") word) (bits_free word)
+
+  -- a conversion to a type, or what no text has
+  converted_words : (bits : Bool) (kind : ScalarKind) (convert : Option ℕ) (operand : ℕ)
+      (from : Option TypeInner) (new : Option TypeInner) →
+      ((it : TypeInner) → new ≡ Some it → IsFit m (Value it)) →
+      WordFits p own
+      (Some
+      (applied_shape
+      (option_map_or (cast_to bits) (option_and_then (λ it. d.around.spelled (Value it)) new)
+      (WithoutForm (Cast kind convert)))
+      (operand ∷ [])))
+  converted_words bits kind convert operand from (Some it) fit =
+      spelled_words (Value it) (fit it refl) (λ op. WordFits p own (Some (applied_shape op (operand ∷ []))))
+      (cast_to bits) (WithoutForm (Cast kind convert)) (λ word free. cast_words bits word operand free)
+      (operates (run_word (WithoutForm (Cast kind convert))) (formless_free (Cast kind convert)))
+  converted_words bits kind convert operand from None fit =
+      operates (run_word (WithoutForm (Cast kind convert))) (formless_free (Cast kind convert))
+
+  target_is_fit : (kind : ScalarKind) (convert : Option ℕ) (o : Option TypeInner) (it : TypeInner) →
+      option_and_then (λ it. conversion_target it kind convert) o ≡ Some it → IsFit m (Value it)
+  target_is_fit kind convert (Some from) it is = target_fit m from it kind convert is
+  target_is_fit kind convert None it is = absurd cc
 
   zero_words : (word : List ℕ) → OperatesBy p own word → (o : Option TypeResolution) →
       WordFits p own
@@ -243,39 +299,161 @@ module _ (m : Module) (info : ModuleInfo) (values : IsTrue (list_all is_value_ty
   zero_words word operates (Some r) = (operates, tt)
   zero_words word operates None = tt
 
+  query_words : (op : Operator) → asks op ≡ true → asks_freely (run_word op) ≡ true →
+      (xs : List ℕ) → WordFits p own (Some (applied_shape op xs))
+  query_words op is free xs =
+      subst
+      (λ b. WordFits p own
+      (Some
+      (if b then shapes.Request (asking op) (run_word op) xs no_constant
+      else operator_shape op xs)))
+      (sym is) (asks_by (run_word op) free, tt)
+
+  -- ---- constants that are written out
+  abbrev WordsIf : Option ConstantTree → Type 0
+  WordsIf (Some c) = ConstantWords p own c
+  WordsIf None = Unit {0}
+
+  abbrev AllWordsIf : Option (List ConstantTree) → Type 0
+  AllWordsIf (Some cs) = ConstantsWords p own (trees cs)
+  AllWordsIf None = Unit {0}
+
+  then_words : (one : Option ConstantTree) (more : Option (List ConstantTree)) → WordsIf one →
+      AllWordsIf more → AllWordsIf (tree_then one more)
+  then_words (Some c) (Some cs) one more = (one, more)
+  then_words (Some c) None one more = tt
+  then_words None more one all = tt
+
+  each_words : (tree_of : ℕ → Option ConstantTree) → ((x : ℕ) → WordsIf (tree_of x)) →
+      (xs : List ℕ) → AllWordsIf (trees_of tree_of xs)
+  each_words tree_of each [] = tt
+  each_words tree_of each (x ∷ xs) =
+      then_words (tree_of x) (trees_of tree_of xs) (each x) (each_words tree_of each xs)
+
+  built_words : (h : ℕ) (op : Operator) (cs : List ConstantTree) → OperatesBy p own (run_word op) →
+      ConstantsWords p own (trees cs) → WordsIf (built d h op cs)
+  built_words h op cs operates all = by (d.around.known h)
+    where
+      by : (o : Option TypeResolution) →
+          WordsIf (option_map (λ r. Constructed (run_word op) (d.value_type r) (trees cs)) o)
+      by (Some r) = (operates, all)
+      by None = tt
+
+  composed_words : (h : ℕ) (op : Operator) → OperatesBy p own (run_word op) →
+      (cs : Option (List ConstantTree)) → AllWordsIf cs →
+      WordsIf (option_and_then (built d h op) cs)
+  composed_words h op operates (Some cs) all = built_words h op cs operates all
+  composed_words h op operates None all = tt
+
+  splat_words : (h : ℕ) (size : VectorSize) (c : Option ConstantTree) → WordsIf c →
+      WordsIf (option_and_then (λ c. built d h (Splat size) (c ∷ [])) c)
+  splat_words h size (Some c) word =
+      built_words h (Splat size) (c ∷ []) (operates (run_word (Splat size)) (splat_free size))
+      (word, tt)
+  splat_words h size None word = tt
+
+  made_operates : (components ty : ℕ) →
+      OperatesBy p own (run_word (constructor d.around (Handle ty) components))
+  made_operates components ty =
+      made_words components ty (λ op. OperatesBy p own (run_word op)) (λ word operates. operates)
+      (λ operates. operates)
+
+  over_words : (tree_of : ℕ → Option ConstantTree) → ((x : ℕ) → WordsIf (tree_of x)) → (h : ℕ)
+      (e : ir.Expression) → expression_is_of_part e ≡ true →
+      names_in_range m callees (length f.arguments.items) (length f.local_variables) e ≡ true →
+      WordsIf (tree_over d tree_of h e)
+  over_words tree_of each h (expression.Literal value) is range = tt
+  over_words tree_of each h (expression.ZeroValue ty) is range =
+      built_words h (constructor d.around (Handle ty) 0) []
+      (made_operates 0 ty) tt
+  over_words tree_of each h (expression.Compose ty components) is range =
+      let count = length components.items in
+      composed_words h (constructor d.around (Handle ty) count)
+      (made_operates count ty)
+      (trees_of tree_of components.items) (each_words tree_of each components.items)
+  over_words tree_of each h (expression.Splat size value) is range =
+      splat_words h size (tree_of value) (each value)
+  over_words tree_of each h (expression.Constant handle) is range = absurd cc
+  over_words tree_of each h (expression.Override handle) is range = absurd cc
+  over_words tree_of each h _ is range = tt
+
+  -- the words of a constant that is written out are no names
+  out_words : (levels x : ℕ) → WordsIf (tree_within levels d f.expressions x)
+  out_words zero x = tt
+  out_words (suc levels) x = by (slice_get f.expressions x) refl (out_words levels)
+    where
+      by : (o : Option ir.Expression) → slice_get f.expressions x ≡ o →
+          ((x : ℕ) → WordsIf (tree_within levels d f.expressions x)) →
+          WordsIf (option_and_then (tree_over d (tree_within levels d f.expressions) x) o)
+      by None at each = tt
+      by (Some e) at each =
+          over_words (tree_within levels d f.expressions) each x e
+          (list_all_at expression_is_of_part f.expressions x e
+          (function_parts f written).expressions at)
+          (names_are_in_range m callees f ranges x e at)
+
+  offset_words : (offset : Option ℕ) →
+      ConstantsWords p own
+      (trees (option_to_list (option_and_then (constant_tree d f.expressions) offset)))
+  offset_words None = tt
+  offset_words (Some x) = by (constant_tree d f.expressions x) (out_words (suc x) x)
+    where
+      by : (o : Option ConstantTree) → WordsIf o → ConstantsWords p own (trees (option_to_list o))
+      by (Some c) word = (word, tt)
+      by None word = tt
+
+  level_words : (l : SampleLevel) (unwritten : Bool) (cs : List ConstantTree) →
+      ConstantsWords p own (trees cs) → ConstantsWords p own (trees (written_zero l unwritten ++ cs))
+  level_words level.Zero false cs all = (tt, all)
+  level_words level.Zero true cs all = all
+  level_words _ unwritten cs all = all
+
   words : (h : ℕ) (e : ir.Expression) → expression_is_of_part e ≡ true →
       types_allow m.types es e ≡ true →
       names_in_range m callees (length f.arguments.items) (length f.local_variables) e ≡ true →
       WordFits p own (Some (shape_of d f.expressions h e))
   words h (expression.ZeroValue ty) is may range =
-      made_words 0 ty (ltb-true ty (length m.types) range)
+      made_words 0 ty
       (λ op. WordFits p own
       (Some
       (constant_shape
       (option_map (λ r. Constructed (run_word op) (d.value_type r) no_constant)
       (d.around.known h)))))
       (λ word operates. zero_words word operates (d.around.known h))
+      (λ operates. zero_words (run_word (unmade 0 ty)) operates (d.around.known h))
   words h (expression.Compose ty components) is may range =
-      made_words (length components.items) ty (ltb-true ty (length m.types) range)
+      made_words (length components.items) ty
       (λ op. WordFits p own (Some (applied_shape op components.items)))
-      (λ word operates. operates)
+      (λ word operates. operates) (λ operates. operates)
   words h (expression.As operand kind convert) is may range =
-      let c = conversion m info es operand kind convert may in
-      let tree = c.has.is (type_names m) (type_tree (type_names m)) in
-      let spelled = resolution_row text-append (type_names m) (λ handle. true) (Value c.to)
-      ∙ ap (option_map type_layout) tree in
-      subst (λ o. WordFits p own (Some (applied_shape (cast d.around kind convert o) (operand ∷ []))))
-      (sym c.known)
-      (subst
-      (λ o. WordFits p own
-      (Some
-      (applied_shape
-      (option_map_or (cast_to (keeps_bits c.from convert)) o (WithoutForm (Cast kind convert)))
-      (operand ∷ []))))
-      (sym (ap (option_and_then (λ it. d.around.spelled (Value it))) c.target ∙ spelled))
-      (cast_words (keeps_bits c.from convert) (type_layout c.has.tree) operand c.has.free))
+      converted_words (option_map_or (λ it. keeps_bits it convert) (type_known d.around operand) false)
+      kind convert operand (type_known d.around operand)
+      (option_and_then (λ it. conversion_target it kind convert) (type_known d.around operand))
+      (target_is_fit kind convert (type_known d.around operand))
   words h (expression.Derivative axis how expr) is may range =
       (asks_by (run_word (Derivative axis how)) (derivative_free axis how), tt)
+  words h
+      (expression.ImageSample
+      image sampler gather coordinate array_index offset level depth_ref clamp) is may range =
+      let of_depths = option_map_or is_depth_image (type_known d.around image) false in
+      let op =
+      sample_operator of_depths gather (level_of level) (is_some depth_ref) clamp
+      (is_some array_index) (is_some offset) in (
+        asks_by (run_word op)
+            (sampling_free of_depths gather (level_of level) (is_some depth_ref) clamp
+            (is_some array_index) (is_some offset)),
+        level_words level (is_some gather || (is_some depth_ref || clamp)) _ (offset_words offset),
+      )
+  words h (expression.ImageLoad image coordinate array_index sample level) is may range =
+      let op = Texel (is_some array_index) (texel_of (is_some sample) (is_some level)) in
+      (asks_by (run_word op) (texel_free (is_some array_index) (is_some sample) (is_some level)), tt)
+  words h (expression.ImageQuery image query) is may range =
+      query_words (query_operator query) (query_asks query) (query_free query)
+      (image ∷ query_operands query)
+  words h (expression.ArrayLength array) is may range =
+      operates (run_word ArrayLength) length_free
+  words h (expression.CooperativeMultiplyAdd x y z) is may range =
+      operates (run_word CooperativeMultiplyAdd) product_free
   words h (expression.Access base index) is may range = tt
   words h (expression.AccessIndex base index) is may range =
       let x = selected m info es base index may in

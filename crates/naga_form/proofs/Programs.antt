@@ -39,7 +39,7 @@ use Rattle.naga_ir.specs.declared.module.FunctionResult.{FunctionResult}
 use Rattle.naga_ir.specs.declared.module.Module.{Module}
 use Rattle.naga_info.specs.declared.info.ExpressionInfo.{ExpressionInfo}
 use Rattle.naga_info.specs.declared.info.ModuleInfo.{ModuleInfo}
-use Rattle.module_meaning.specs.Part.{is_value_type, resolution_is_written}
+use Rattle.module_meaning.specs.Part.{type_is_of_part}
 use Rattle.module_meaning.specs.Ranges.{is_below}
 use Rattle.wgsl_text.specs.Words.{stands_in, is_builtin, IsIdentifier, is_letter, is_word_byte}
 use Rattle.wgsl_text.specs.Words.{all_word_bytes, is_reserved}
@@ -69,6 +69,9 @@ use Rattle.module_meaning.specs.Premises.{handles_are_counted}
 use Rattle.module_meaning.specs.Names.{module_names, wgsl_names, numbered_text, numbered_name}
 use Rattle.module_meaning.specs.Types.{type_names}
 use Rattle.naga_form.specs.Types.{told_type}
+use Rattle.naga_form.proofs.AcceptedGroups.{known_fits, types_are_counted}
+use Rattle.naga_form.proofs.SameValues.{IsFit, TypesAreCounted, tree_is}
+use Rattle.naga_form.proofs.ToldItems.{written_are_told}
 use Rattle.naga_form.proofs.WrittenTypes.{is_type_at, told_is}
 use Rattle.module_meaning.specs.ExpressionOperators.{applied_operator, load_operator}
 use Rattle.module_meaning.specs.ExpressionOperators.{points_to_atomic}
@@ -81,12 +84,22 @@ use Rattle.naga_form.proofs.Operators.{HasFormAt, IsNotated, TypeIsFormed, appli
 use Rattle.naga_form.proofs.Operators.{cast_callee, constructor_notated, conversion_is}
 use Rattle.naga_form.proofs.Operators.{load_notated, notated}
 use Rattle.module_meaning.specs.Conversions.{keeps_bits}
-use Rattle.naga_form.proofs.AllowedParts.{conversion}
+use Rattle.module_meaning.specs.AlikeTypes.{has_form as type_has_form}
+use Rattle.naga_form.proofs.AllowedParts.{conversion, target_fit}
+use Rattle.std.proofs.Common.{map}
+use Rattle.std.specs.Option.{is_some}
+use Rattle.module_meaning.proofs.Part.{has_form_parts}
+use Rattle.module_meaning.specs.ExpressionOperators.{is_depth_image, type_known}
+use Rattle.naga_form.proofs.ConstantForms.{form_out_is}
+use Rattle.naga_form.proofs.Images.{offset_alone, sampling_is, without_offset}
+use Rattle.naga_form.specs.Expressions.{constant_form, value_forms}
+use Rattle.naga_ir.specs.Operands.{level_operands}
 use Rattle.naga_form.proofs.Abstraction.{AreWritten}
 use Rattle.module_meaning.specs.Part.{names_nothing}
 use Rattle.module_meaning.specs.FunctionShapes.{function_shape}
 use Rattle.naga_form.proofs.WrittenHandles.{AreClosed, all_front, all_map, all_rest, written_are_closed}
-use Rattle.module_meaning.specs.Written.{AllWrittenHaveForms, IsWrittenIn, WrittenHaveForms}
+use Rattle.module_meaning.specs.Written.{AllWrittenHaveForms, IsSpelledIn, IsWrittenIn, OfArgument}
+use Rattle.module_meaning.specs.Written.{OfLocal, OfResult, WrittenHaveForms}
 use Rattle.module_meaning.specs.Written.{block_roots, cases_roots, simple_roots, statement_roots}
 use Rattle.std.specs.List.{AllByRecursion, filter}
 use Rattle.std.specs.Prelude.{if◌then◌else◌}
@@ -99,7 +112,9 @@ use Rattle.naga_form.specs.TypeTrees.{type_tree}
 use Rattle.naga_info.specs.declared.info.TypeResolution.TheVariants.{Handle}
 use Rattle.module_meaning.specs.ExpressionOperators.{constructor}
 use Rattle.module_meaning.specs.Ranges.{names_in_range}
-use Rattle.naga_form.proofs.WrittenTypes.{type_has_form, values_at}
+use Rattle.naga_form.proofs.WrittenTypes.{tree_there}
+use Rattle.naga_info.specs.declared.info.TypeResolution.{TypeResolution}
+use Rattle.naga_info.specs.declared.info.TypeResolution.TheVariants.{Value}
 use Rattle.naga_form.proofs.Facts.{further, from_start}
 use Rattle.naga_form.proofs.Literals.{literal_is}
 use Rattle.naga_form.proofs.Names.{item_is_identifier, function_item, argument_item, function_there}
@@ -274,7 +289,7 @@ AreAllowed W m es f =
     (h : ℕ) (e : ir.Expression) → slice_get f.expressions h ≡ Some e → W h →
     types_allow m.types es e ≡ true
 
-module _ (m : Module) (info : ModuleInfo) (g : ℕ) (f : ir_function.Function) (found : slice_get m.functions g ≡ Some f) (es : List ExpressionInfo) (callees : ℕ) (ranges : function_in_range m callees f ≡ true) (unnamed : IsTrue (names_nothing f)) (W : ℕ → Type 0) (closed : AreClosed W (binds (function_shape m info f es)) f) (written : AreWritten W f) (allowed : AreAllowed W m es f) (known : list_all (λ k. resolution_is_written m.types k.ty) es ≡ true) (values : list_all is_value_type m.types ≡ true) (few : length f.expressions ≤ 2 ^ 64) where
+module _ (m : Module) (info : ModuleInfo) (g : ℕ) (f : ir_function.Function) (found : slice_get m.functions g ≡ Some f) (es : List ExpressionInfo) (callees : ℕ) (ranges : function_in_range m callees f ≡ true) (unnamed : IsTrue (names_nothing f)) (W : ℕ → Type 0) (closed : AreClosed W (binds (function_shape m info f es)) f) (written : AreWritten W m f es) (allowed : AreAllowed W m es f) (are : TypesAreCounted m) (fits : (h : ℕ) (k : ExpressionInfo) → slice_get es h ≡ Some k → IsFit m k.ty) (values : list_all type_is_of_part m.types ≡ true) (explicit : Bool) (spelled : (r : TypeResolution) → IsSpelledIn explicit m info f es r → type_has_form m.types r ≡ true) (few : length f.expressions ≤ 2 ^ 64) where
   abbrev own : Naming
   own = function_naming (module_names m) m info g f es
 
@@ -294,30 +309,76 @@ module _ (m : Module) (info : ModuleInfo) (g : ℕ) (f : ir_function.Function) (
       (all_map (λ h. value_is_one (operand h)) hs all) is
 
   -- the type of which an expression makes a value has a form
-  type_at : (ty : ℕ) → nat_lt ty (length m.types) ≡ true → HasFormAt (type_names m) ty
-  type_at ty range =
-      let form =
-      type_has_form m.types ty (values_at m.types ty values (ltb-true ty (length m.types) range)) in
-      (form.tree, form.is (module_names m), form.form)
+  type_at : (ty : ℕ) → type_has_form m.types (Handle ty) ≡ true → HasFormAt (type_names m) ty
+  type_at ty is =
+      let t = tree_there (type_names m) (Handle ty) is in
+      (t.0, t.1, tree_is m are (Handle ty) tt t.0 t.1)
 
-  type_formed : (e : ir.Expression) → types_allow m.types es e ≡ true →
-      names_in_range m callees (length f.arguments.items) (length f.local_variables) e ≡ true →
+  type_formed : (e : ir.Expression) → expression_is_written m.types es e ≡ true →
       TypeIsFormed d.around (type_names m) e
-  type_formed (expression.ZeroValue ty) may range = type_at ty range
-  type_formed (expression.Compose ty components) may range = type_at ty range
-  type_formed (expression.As operand kind convert) may range =
-      let c = conversion m info es operand kind convert may in
-      let tree = c.has.is (type_names m) (type_tree (type_names m)) in (
-        cast_tree (keeps_bits c.from convert) c.has.tree,
-        conversion_is d.around (type_names m) operand kind convert c.from c.to c.has.tree c.known
-            c.target tree,
-        cast_callee (keeps_bits c.from convert) c.has.tree c.has.itself,
+  type_formed (expression.ZeroValue ty) is = type_at ty is
+  type_formed (expression.Compose ty components) is = type_at ty is
+  type_formed (expression.As operand kind convert) is =
+      let c = conversion m info es operand kind convert is in
+      let fit = target_fit m c.from c.to kind convert c.target in (
+        cast_tree (keeps_bits c.from convert) c.tree,
+        conversion_is d.around (type_names m) operand kind convert c.from c.to c.tree c.known
+            c.target c.is,
+        cast_callee (keeps_bits c.from convert) c.tree (tree_is m are (Value c.to) fit c.tree c.is),
       )
-  type_formed _ may range = tt
+  type_formed _ is = tt
 
-  own_is : (operand : ℕ → PlainForm) → (h : ℕ) (e : ir.Expression) → slice_get f.expressions h ≡ Some e → expression_is_written e ≡ true → types_allow m.types es e ≡ true → ArePlain operand (expression_operands e) → IsPlainForm (own_plain own source operand e)
+  values_are : (operand : ℕ → PlainForm) (hs : List ℕ) → ArePlain operand hs →
+      Each IsExpression (value_forms operand hs)
+  values_are operand [] all = tt
+  values_are operand (h ∷ hs) all = (value_is_one (operand h) all.0, values_are operand hs all.1)
+
+  constants_are : (hs : List ℕ) → AllByRecursion (λ x. IsExpression (constant_form source x)) hs →
+      Each IsExpression (map (constant_form source) hs)
+  constants_are [] all = tt
+  constants_are (h ∷ hs) all = (all.0, constants_are hs all.1)
+
+  -- the offset of a sampling is written out as a constant of the grammar
+  abbrev OffsetIs : ir.Expression → Type 0
+  OffsetIs
+      (expression.ImageSample
+      image sampler gather coordinate array_index offset level depth_ref clamp) =
+      AllByRecursion (λ x. IsExpression (constant_form source x)) (option_to_list offset)
+  OffsetIs e = Unit {0}
+
+  offset_is : (h : ℕ) (e : ir.Expression) → slice_get f.expressions h ≡ Some e → W h → OffsetIs e
+  offset_is h
+      (expression.ImageSample
+      image sampler gather coordinate array_index offset level depth_ref clamp) at w =
+      all_map (λ x w. out_is x w) (option_to_list offset)
+      (offset_alone W image sampler coordinate (option_to_list array_index)
+      (option_to_list depth_ref) (level_operands level) (option_to_list offset)
+      (closed.operands h
+      (expression.ImageSample
+      image sampler gather coordinate array_index offset level depth_ref clamp) at w))
+    where
+      out_is : (x : ℕ) → W x → IsExpression (constant_form source x)
+      out_is x w =
+          form_out_is d.around (type_names m) f.expressions W closed.operands
+          (λ h value at w.
+          literal_is value
+          (has_form_parts m.types es f.expressions (expression.Literal value)
+          (written h (expression.Literal value) at w)).0
+          (names_are_in_range m callees f ranges h (expression.Literal value) at))
+          (λ h ty at w.
+          type_at ty
+          (has_form_parts m.types es f.expressions (expression.ZeroValue ty)
+          (written h (expression.ZeroValue ty) at w)).0)
+          (λ h ty parts at w.
+          type_at ty
+          (has_form_parts m.types es f.expressions (expression.Compose ty parts)
+          (written h (expression.Compose ty parts) at w)).0)
+          (suc x) x w
+  offset_is h _ at w = tt
+
+  own_is : (operand : ℕ → PlainForm) → (h : ℕ) (e : ir.Expression) → slice_get f.expressions h ≡ Some e → (expression_is_written m.types es e ≡ true) × OffsetIs e → types_allow m.types es e ≡ true → ArePlain operand (expression_operands e) → IsPlainForm (own_plain own source operand e)
   own_is operand h (expression.Literal v) at is may all =
-      literal_is v is
+      literal_is v is.0
       (names_are_in_range m callees f ranges h (expression.Literal v) at)
   own_is operand h (expression.FunctionArgument n) at is may all =
       let a = element f.arguments.items n (ltb-true n (length f.arguments.items) (names_are_in_range m callees f ranges h (expression.FunctionArgument n) at)) in
@@ -326,7 +387,7 @@ module _ (m : Module) (info : ModuleInfo) (g : ℕ) (f : ir_function.Function) (
       let l = element f.local_variables v (ltb-true v (length f.local_variables) (names_are_in_range m callees f ranges h (expression.LocalVariable v) at)) in
       (item_is_identifier m (local_item g v l.0) (local_stands wgsl_names m g f v l.0 found l.1), refl)
   own_is operand h (expression.ZeroValue ty) at is may all =
-      let form = type_at ty (names_are_in_range m callees f ranges h (expression.ZeroValue ty) at) in
+      let form = type_at ty is.0 in
       applied_is operand (notation (type_tree (type_names m) ty) (constructor d.around (Handle ty) 0)) [] tt
       (constructor_notated d.around (Handle ty) 0 [] (type_tree (type_names m) ty) form.0 form.1 form.2)
   own_is operand h (expression.Access base index) at is may all =
@@ -344,7 +405,7 @@ module _ (m : Module) (info : ModuleInfo) (g : ℕ) (f : ir_function.Function) (
           (λ x. part_plain (points d.around base) (selected_part x) (operand base)) o
           (applied_plain no_form None operand (base ∷ []) (Some (WithoutForm (PartAt index))))))
           (sym s.1)
-          (selected_is (points d.around base) s.0 (selected_well m info es base index may known lt s.0 s.1) (operand base) all.0)
+          (selected_is (points d.around base) s.0 (selected_well m info es base index may values fits lt s.0 s.1) (operand base) all.0)
   own_is operand h (expression.Swizzle size v pattern) at is may all =
       let whole =
       names_are_in_range m callees f ranges h (expression.Swizzle size v pattern) at in
@@ -352,18 +413,30 @@ module _ (m : Module) (info : ModuleInfo) (g : ℕ) (f : ir_function.Function) (
   own_is operand h (expression.Load q) at is may all =
       application_is (ValueForm (as_reference (operand q))) (reference_is_one (operand q) all.0).0
       operand None (q ∷ []) all (load_operator d.around q) (load_notated d.around q)
+  own_is operand h
+      (expression.ImageSample
+      image sampler gather coordinate array_index offset level depth_ref clamp) at is may all =
+      let behind = option_to_list array_index ++ option_to_list depth_ref ++ level_operands level ++ [] in
+      sampling_is (as_value (operand image)) (value_forms operand (sampler ∷ coordinate ∷ behind))
+      (map (constant_form source) (option_to_list offset))
+      (values_are operand (image ∷ sampler ∷ coordinate ∷ behind)
+      (without_offset (λ x. IsPlainForm (operand x)) image sampler coordinate
+      (option_to_list array_index) (option_to_list depth_ref) (level_operands level)
+      (option_to_list offset) all))
+      (constants_are (option_to_list offset) is.1) gather level (is_some depth_ref) clamp
+      (is_some array_index) (is_some offset)
+      (option_map_or is_depth_image (type_known d.around image) false) is.0
   own_is operand h e at is may all =
       application_is no_form tt operand (operator_type d.around (type_names m) e) (expression_operands e) all
       (applied_operator d.around e)
-      (notated d.around (type_names m) e
-      is tt
-      (type_formed e may
-      (names_are_in_range m callees f ranges h e at)))
+      (notated d.around (type_names m) m.types es e
+      is.0 tt (type_formed e is.0))
 
   own_if_is : (operand : ℕ → PlainForm) → ((x : ℕ) → W x → IsPlainForm (operand x)) → (h : ℕ) → W h → (o : Option ir.Expression) → slice_get f.expressions h ≡ o → IsPlainForm (own_if own source operand o)
   own_if_is operand all h w None at = tt
   own_if_is operand all h w (Some e) at =
-      own_is operand h e at (written h e at w) (allowed h e at w)
+      own_is operand h e at
+      ((has_form_parts m.types es f.expressions e (written h e at w)).0, offset_is h e at w) (allowed h e at w)
       (all_map all (expression_operands e) (closed.operands h e at w))
 
   standing_is : (s : Standing) (p : PlainForm) → ((x : List ℕ) → s ≡ Named x → IsIdentifier x) → IsPlainForm p → IsPlainForm (standing_plain s p)
@@ -554,7 +627,7 @@ module _ (m : Module) (info : ModuleInfo) (g : ℕ) (f : ir_function.Function) (
       let parts = and_parts (nat_lt v.ty (length m.types)) (is_below (length f.expressions) v.init) both.0 in (
         record {
           name = item_is_identifier m (local_item g l here.0) (local_stands wgsl_names m g f l here.0 found here.1);
-          type = is_type_at m.types values (module_names m) v.ty (ltb-true v.ty (length m.types) parts.0);
+          type = is_type_at m are v.ty (spelled (Handle v.ty) (OfLocal l v (ap (slice_get f.local_variables) (sym (zero-add l)) ∙ sym (at 0))));
           value = first_is v.init (closed.firsts l v (ap (slice_get f.local_variables) (sym (zero-add l)) ∙ sym (at 0)));
         },
         locals_are (l + 1) vs next later both.1,
@@ -569,64 +642,68 @@ module _ (m : Module) (info : ModuleInfo) (g : ℕ) (f : ir_function.Function) (
       first_is None w = tt
       first_is (Some h) w = value_is_one (plain_form own source (at_start own.function) h) (plain_is (at_start own.function) start_is h w.0)
 
-  parameters_are : (n : ℕ) (args : List FunctionArgument) → n + length args ≡ length f.arguments.items → IsTrue (list_all (λ a. nat_lt a.ty (length m.types)) args) → Each IsParameter (parameters_form (module_names m) m.types g n args)
-  parameters_are n [] size fit = tt
-  parameters_are n (a ∷ args) size fit =
-      let lt : n < length f.arguments.items = omega (arith, size) in
+  parameters_are : (n : ℕ) (args : List FunctionArgument) → n + length args ≡ length f.arguments.items → ((k : ℕ) → slice_get args k ≡ slice_get f.arguments.items (k + n)) → Each IsParameter (parameters_form (module_names m) m.types g n args)
+  parameters_are n [] size at = tt
+  parameters_are n (a ∷ args) size at =
       let next : (n + 1) + length args ≡ length f.arguments.items = omega (arith, size) in
-      let there = element f.arguments.items n lt in
-      let here = and_left (nat_lt a.ty (length m.types)) (list_all (λ a. nat_lt a.ty (length m.types)) args) fit in (
-        record { attributes = tt; binding = refl; name = item_is_identifier m (argument_item m g n there.0) (argument_there m g f n there.0 found there.1); type = is_type_at m.types values (module_names m) a.ty (ltb-true a.ty (length m.types) here) },
-        parameters_are (n + 1) args next (and_right (nat_lt a.ty (length m.types)) (list_all (λ a. nat_lt a.ty (length m.types)) args) fit),
+      let here : slice_get f.arguments.items n ≡ Some a = ap (slice_get f.arguments.items) (sym (zero-add n)) ∙ sym (at 0) in (
+        record { attributes = tt; binding = refl; name = item_is_identifier m (argument_item m g n a) (argument_there m g f n a found here); type = is_type_at m are a.ty (spelled (Handle a.ty) (OfArgument n a here)) },
+        parameters_are (n + 1) args next later,
       )
+    where
+      later : (k : ℕ) → slice_get args k ≡ slice_get f.arguments.items (k + (n + 1))
+      later k =
+          let same : suc k + n ≡ k + (n + 1) = omega arith in
+          at (suc k) ∙ ap (slice_get f.arguments.items) same
 
-  result_is : (r : Option FunctionResult) → IsTrue (is_below (length m.types) (option_map (λ r. r.ty) r)) → IsResult (result_form (type_names m) r)
-  result_is None fit = tt
-  result_is (Some r) fit = (tt, refl, is_type_at m.types values (module_names m) r.ty (ltb-true r.ty (length m.types) fit))
+  result_is : (r : Option FunctionResult) → f.result ≡ r → IsResult (result_form (type_names m) r)
+  result_is None at = tt
+  result_is (Some r) at = (tt, refl, is_type_at m are r.ty (spelled (Handle r.ty) (OfResult r at)))
 
-  function_is : (explicit : Bool) → AllFit f.body → IsFunction (function_form explicit (module_names m) m info g f es)
-  function_is explicit fit =
-      let signature = (and_parts (signature_types_fit (length m.types) f) (signature_fits_32_bits f) (and_parts (signature_fits (length m.types) f) _ ranges).0).0 in
-      let args = list_all (λ a. nat_lt a.ty (length m.types)) f.arguments.items in
-      let answer = is_below (length m.types) (option_map (λ r. r.ty) f.result) in
+  function_is : AllFit f.body → IsFunction (function_form explicit (module_names m) m info g f es)
+  function_is fit =
       let all : 0 + length f.arguments.items ≡ length f.arguments.items = omega arith in
       let all_locals : 0 + length f.local_variables ≡ length f.local_variables = omega arith in
       record {
         name = item_is_identifier m (function_item m g f) (function_there m g f found);
-        parameters = parameters_are 0 f.arguments.items all (and_left args answer signature);
-        result = result_is f.result (and_right args answer signature);
+        parameters = parameters_are 0 f.arguments.items all (λ k. ap (slice_get f.arguments.items) (sym (add-zero k)));
+        result = result_is f.result refl;
         locals = locals_are 0 f.local_variables all_locals (λ k. ap (slice_get f.local_variables) (sym (add-zero k))) (locals_are_in_range m callees f ranges);
-        body = lines_are (told_type explicit (type_names m) es) (told_is m.types values (module_names m) explicit es known) 0 f.body fit (at_start own.function) start_is closed.body;
+        body = lines_are (told_type explicit (type_names m) es) (told_is m are explicit es fits) 0 f.body fit (at_start own.function) start_is closed.body;
       }
 
-module _ (explicit : Bool) (m : Module) (info : ModuleInfo) (accepted : IsTrue (is_accepted m info)) (values : list_all is_value_type m.types ≡ true) where
-  one_is : (g : ℕ) (f : ir_function.Function) (found : slice_get m.functions g ≡ Some f) (es : List ExpressionInfo) (callees : ℕ) → function_in_range m callees f ≡ true → IsTrue (function_is_written f) → WrittenHaveForms m info f es → IsTrue (types_allow_all m.types f es) → list_all (λ k. resolution_is_written m.types k.ty) es ≡ true → length f.expressions ≤ 2 ^ 64 → (explicit : Bool) → IsFunction (function_form explicit (module_names m) m info g f es)
-  one_is g f found es callees ranges written have may known few explicit =
+module _ (explicit : Bool) (m : Module) (info : ModuleInfo) (accepted : IsTrue (is_accepted m info)) (of_part : IsTrue (is_written_so_far m info)) where
+  are : TypesAreCounted m
+  are = types_are_counted m info accepted (written_are_told m info of_part).types
+
+  one_is : (g : ℕ) (f : ir_function.Function) (found : slice_get m.functions g ≡ Some f) (es : List ExpressionInfo) → slice_get info.functions.items g ≡ Some es → (callees : ℕ) → function_in_range m callees f ≡ true → IsTrue (function_is_written f) → WrittenHaveForms explicit m info f es → IsTrue (types_allow_all m.types f es) → length f.expressions ≤ 2 ^ 64 → IsFunction (function_form explicit (module_names m) m info g f es)
+  one_is g f found es here callees ranges written have may few =
       let parts = function_parts f written in
       function_is m info g f found es callees ranges parts.unnamed (IsWrittenIn m info f es)
-      (written_are_closed m info f es) have
+      (written_are_closed m info f es) have.expressions
       (λ h e at w. list_all_at (types_allow m.types es) f.expressions h e may at)
-      known values few explicit (statements_fit f.body parts.body)
+      are (known_fits m info accepted g es here) (written_so_far_parts m info of_part).1 explicit
+      have.types few (statements_fit f.body parts.body)
 
-  functions_are : (g : ℕ) (fs : List ir_function.Function) (ess : List (List ExpressionInfo)) → ((i : ℕ) (f : ir_function.Function) → slice_get fs i ≡ Some f → slice_get m.functions (g + i) ≡ Some f) → IsTrue (list_all function_is_written fs) → ((i : ℕ) (f : ir_function.Function) (es : List ExpressionInfo) → slice_get fs i ≡ Some f → slice_get ess i ≡ Some es → WrittenHaveForms m info f es) →
-      IsTrue (list_all (list_all (λ k. resolution_is_written m.types k.ty)) ess) → IsTrue (list_all (λ p. types_allow_all m.types p.0 p.1) (zip fs ess)) → IsTrue (list_all (λ f. nat_le (length f.expressions) (2 ^ 64)) fs) → Each IsFunction (functions_form explicit (module_names m) m info g fs ess)
-  functions_are g [] [] there written have known allowed few = tt
-  functions_are g [] (es ∷ ess) there written have known allowed few = tt
-  functions_are g (f ∷ fs) [] there written have known allowed few = tt
-  functions_are g (f ∷ fs) (es ∷ ess) there written have known allowed few =
+  functions_are : (g : ℕ) (fs : List ir_function.Function) (ess : List (List ExpressionInfo)) → ((i : ℕ) (f : ir_function.Function) → slice_get fs i ≡ Some f → slice_get m.functions (g + i) ≡ Some f) → ((i : ℕ) (es : List ExpressionInfo) → slice_get ess i ≡ Some es → slice_get info.functions.items (g + i) ≡ Some es) → IsTrue (list_all function_is_written fs) → ((i : ℕ) (f : ir_function.Function) (es : List ExpressionInfo) → slice_get fs i ≡ Some f → slice_get ess i ≡ Some es → WrittenHaveForms explicit m info f es) →
+      IsTrue (list_all (λ p. types_allow_all m.types p.0 p.1) (zip fs ess)) → IsTrue (list_all (λ f. nat_le (length f.expressions) (2 ^ 64)) fs) → Each IsFunction (functions_form explicit (module_names m) m info g fs ess)
+  functions_are g [] [] there known written have allowed few = tt
+  functions_are g [] (es ∷ ess) there known written have allowed few = tt
+  functions_are g (f ∷ fs) [] there known written have allowed few = tt
+  functions_are g (f ∷ fs) (es ∷ ess) there known written have allowed few =
       let here : g + 0 ≡ g = omega arith in
       let found = subst (λ h. slice_get m.functions h ≡ Some f) here (there 0 f refl) in
+      let own = subst (λ h. slice_get info.functions.items h ≡ Some es) here (known 0 es refl) in
       let at = known_function m info accepted g f found in
       let is = accepted_at m info accepted g f at.0 at.1 in
       let all = and_parts (function_is_written f) (list_all function_is_written fs) written in
-      let types = and_parts (list_all (λ k. resolution_is_written m.types k.ty) es) (list_all (list_all (λ k. resolution_is_written m.types k.ty)) ess) known in
       let may = and_parts (types_allow_all m.types f es) (list_all (λ p. types_allow_all m.types p.0 p.1) (zip fs ess)) allowed in
       let counted = and_parts (nat_le (length f.expressions) (2 ^ 64)) (list_all (λ f. nat_le (length f.expressions) (2 ^ 64)) fs) few in (
-        one_is g f found es is.callees is.ranges all.0 (have 0 f es refl refl) may.0 types.0 (leb-true (length f.expressions) (2 ^ 64) counted.0) explicit,
-        functions_are (g + 1) fs ess (further m.functions g f fs there) all.1 (λ i f es here known. have (suc i) f es here known) types.1 may.1 counted.1,
+        one_is g f found es own is.callees is.ranges all.0 (have 0 f es refl refl) may.0 (leb-true (length f.expressions) (2 ^ 64) counted.0),
+        functions_are (g + 1) fs ess (further m.functions g f fs there) (further info.functions.items g es ess known) all.1 (λ i f es here known. have (suc i) f es here known) may.1 counted.1,
       )
 
-pub is_program : (m : Module) (info : ModuleInfo) (explicit : Bool) → IsTrue (is_accepted m info) → IsTrue (is_written_so_far m info) → AllWrittenHaveForms m info → IsTrue (handles_are_counted m) → IsProgram (written_program m info explicit)
+pub is_program : (m : Module) (info : ModuleInfo) (explicit : Bool) → IsTrue (is_accepted m info) → IsTrue (is_written_so_far m info) → AllWrittenHaveForms explicit m info → IsTrue (handles_are_counted m) → IsProgram (written_program m info explicit)
 is_program m info explicit accepted written have few =
     let parts = written_so_far_parts m info written in
     record {
@@ -635,6 +712,6 @@ is_program m info explicit accepted written have few =
       constants = tt;
       overrides = tt;
       globals = tt;
-      functions = functions_are explicit m info accepted parts.1 0 m.functions info.functions.items (from_start m.functions) parts.2 (λ i f es here known. have i f es here known) parts.3 (and_parts (length m.functions == length info.functions.items) _ parts.4).1 few;
+      functions = functions_are explicit m info accepted written 0 m.functions info.functions.items (from_start m.functions) (from_start info.functions.items) parts.2 (λ i f es here known. have i f es here known) (and_parts (length m.functions == length info.functions.items) _ parts.3).1 few;
       entry_points = tt;
     }

@@ -1,7 +1,7 @@
 -- The program that is written for a module does what the module does.
 use Rattle.naga_form.proofs.AcceptedFunctions.{accepted_at, locals_are_in_range}
 use Rattle.naga_form.proofs.AcceptedFunctions.{function_there as function_there_known}
-use Rattle.module_meaning.specs.Part.{is_value_type}
+use Rattle.module_meaning.specs.Part.{type_is_of_part}
 use Rattle.module_meaning.specs.Types.{type_names}
 use Rattle.naga_form.specs.Types.{LocalsHaveForms}
 use Rattle.std.proofs.Common.{[], ◌≡◌, ℕ, suc, ◌+◌, ◌<◌, Bool, List, ◌∷◌, map, length}
@@ -64,6 +64,7 @@ use Rattle.naga_ir.specs.declared.module.EntryPoint.{EntryPoint}
 use Rattle.std.proofs.lemmas.List.{nil_from_length}
 use Rattle.std.proofs.lemmas.Bool.{and_parts, eqb-true}
 use Rattle.std.specs.Prelude.{◌==◌}
+use Rattle.naga_form.proofs.AcceptedGroups.{types_are_counted}
 use Rattle.naga_form.proofs.ScopeRules.{same_functions, scopes_are_checked}
 
 pub form_functions-map : (ns : List Naming) → form_functions ns ≡ map form_function ns
@@ -75,16 +76,15 @@ shapes_counted m info [] ess paired = refl
 shapes_counted m info (f ∷ fs) [] paired = absurd (omega (arith, paired))
 shapes_counted m info (f ∷ fs) (es ∷ ess) paired = ap suc (shapes_counted m info fs ess (omega (arith, paired)))
 
-functions_read : (explicit : Bool) (m : Module) (info : ModuleInfo) → IsTrue (list_all is_value_type m.types) → (g : ℕ) (fs : List ir_function.Function) (ess : List (List ExpressionInfo)) → IsTrue (list_all function_is_written fs) → ((i : ℕ) (f : ir_function.Function) (es : List ExpressionInfo) → slice_get fs i ≡ Some f → slice_get ess i ≡ Some es → WrittenHaveForms m info f es) → ((i : ℕ) (f : ir_function.Function) (es : List ExpressionInfo) → slice_get fs i ≡ Some f → slice_get ess i ≡ Some es → length f.expressions ≡ length es) → ((i : ℕ) (f : ir_function.Function) → slice_get fs i ≡ Some f → LocalsHaveForms (type_names m) f.local_variables) →
+functions_read : (explicit : Bool) (m : Module) (info : ModuleInfo) → IsTrue (list_all type_is_of_part m.types) → (g : ℕ) (fs : List ir_function.Function) (ess : List (List ExpressionInfo)) → IsTrue (list_all function_is_written fs) → ((i : ℕ) (f : ir_function.Function) (es : List ExpressionInfo) → slice_get fs i ≡ Some f → slice_get ess i ≡ Some es → WrittenHaveForms explicit m info f es) → ((i : ℕ) (f : ir_function.Function) (es : List ExpressionInfo) → slice_get fs i ≡ Some f → slice_get ess i ≡ Some es → length f.expressions ≡ length es) →
     map function_read (functions_form explicit (module_names m) m info g fs ess) ≡ map form_function (namings_from (module_names m) g (function_shapes m info fs ess))
-functions_read explicit m info values g [] [] is have sizes spelled = refl
-functions_read explicit m info values g [] (es ∷ ess) is have sizes spelled = refl
-functions_read explicit m info values g (f ∷ fs) [] is have sizes spelled = refl
-functions_read explicit m info values g (f ∷ fs) (es ∷ ess) is have sizes spelled =
+functions_read explicit m info values g [] [] is have sizes = refl
+functions_read explicit m info values g [] (es ∷ ess) is have sizes = refl
+functions_read explicit m info values g (f ∷ fs) [] is have sizes = refl
+functions_read explicit m info values g (f ∷ fs) (es ∷ ess) is have sizes =
     let all = and_parts (function_is_written f) (list_all function_is_written fs) is in
-    let own = spelled 0 f refl in
     let size = sizes 0 f es refl refl in
-    λ i. function_reads explicit m info g f es values all.0 (have 0 f es refl refl) size own i ∷ functions_read explicit m info values (g + 1) fs ess all.1 (λ i f es here known. have (suc i) f es here known) (λ i f es here known. sizes (suc i) f es here known) (λ i f there. spelled (suc i) f there) i
+    λ i. function_reads explicit m info g f es values all.0 (have 0 f es refl refl) size i ∷ functions_read explicit m info values (g + 1) fs ess all.1 (λ i f es here known. have (suc i) f es here known) (λ i f es here known. sizes (suc i) f es here known) i
 
 -- what holds of all of a list that is turned round onto another holds of all of both
 behind_all : {X : Type 0} (test : X → Bool) (xs behind : List X) → IsTrue (list_all test (reverse_aux xs behind)) → IsTrue (list_all test behind)
@@ -96,10 +96,10 @@ all_reversed test [] behind all = refl
 all_reversed test (x ∷ xs) behind all = and_from (test x) (list_all test xs) (and_left (test x) (list_all test behind) (behind_all test xs (x ∷ behind) all)) (all_reversed test xs (x ∷ behind) all)
 
 -- the square: what is written of the module is read as its functions are written
-pub program_reads : (m : Module) (info : ModuleInfo) (explicit : Bool) → IsTrue (is_accepted m info) → IsTrue (is_written_so_far m info) → AllWrittenHaveForms m info → program_read (written_program m info explicit) ≡ form_module (functions_alone m info) (outer_names (module_names m)) (namings (module_names m) m info)
+pub program_reads : (m : Module) (info : ModuleInfo) (explicit : Bool) → IsTrue (is_accepted m info) → IsTrue (is_written_so_far m info) → AllWrittenHaveForms explicit m info → program_read (written_program m info explicit) ≡ form_module (functions_alone m info) (outer_names (module_names m)) (namings (module_names m) m info)
 program_reads m info explicit accepted written have =
     let listed = namings_from (module_names m) 0 (function_shapes m info m.functions info.functions.items) in
-    let each = functions_read explicit m info (written_so_far_parts m info written).1 0 m.functions info.functions.items (functions_are_written m info written) (λ i f es here known. have i f es here known) sized formed in
+    let each = functions_read explicit m info (written_so_far_parts m info written).1 0 m.functions info.functions.items (functions_are_written m info written) (λ i f es here known. have i f es here known) sized in
     λ i. record {
       constants = [];
       overrides = [];
@@ -110,14 +110,8 @@ program_reads m info explicit accepted written have =
     sized : (i : ℕ) (f : ir_function.Function) (es : List ExpressionInfo) → slice_get m.functions i ≡ Some f → slice_get info.functions.items i ≡ Some es → length f.expressions ≡ length es
     sized i f es here known = eqb-true (length f.expressions) (length es) (paired_at function_size_fits m.functions info.functions.items (functions_paired m info accepted) i f es here known)
 
-    formed : (i : ℕ) (f : ir_function.Function) → slice_get m.functions i ≡ Some f → LocalsHaveForms (type_names m) f.local_variables
-    formed i f at =
-        let known = function_there_known m info accepted i f at in
-        let is = accepted_at m info accepted i f known.0 known.1 in
-        locals_have_forms m f (length f.expressions) (written_so_far_parts m info written).1 (locals_are_in_range m is.callees f is.ranges)
-
 -- and so as its program of shapes is
-pub reads_as_shapes : (m : Module) (info : ModuleInfo) (explicit : Bool) → IsTrue (is_accepted m info) → IsTrue (is_written_so_far m info) → AllWrittenHaveForms m info → program_read (written_program m info explicit) ≡ form_module (module_shape m info) (outer_names (module_names m)) (namings (module_names m) m info)
+pub reads_as_shapes : (m : Module) (info : ModuleInfo) (explicit : Bool) → IsTrue (is_accepted m info) → IsTrue (is_written_so_far m info) → AllWrittenHaveForms explicit m info → program_read (written_program m info explicit) ≡ form_module (module_shape m info) (outer_names (module_names m)) (namings (module_names m) m info)
 reads_as_shapes m info explicit accepted written have =
     program_reads m info explicit accepted written have
     ∙ ap (λ p. form_module p (outer_names (module_names m)) (namings (module_names m) m info)) (sym (declares_functions_alone m info written))
@@ -164,7 +158,7 @@ module _ (m : Module) (info : ModuleInfo) (accepted : IsTrue (is_accepted m info
       by (AsEntryPoint j e number here known of) = absurd (none m.entry_points.items j e no_entry_points here)
 
   all_allowed : IsTrue (list_all (λ p. types_allow_all m.types p.0 p.1) (zip m.functions info.functions.items))
-  all_allowed = (and_parts (length m.functions == length info.functions.items) _ (written_so_far_parts m info written).4).1
+  all_allowed = (and_parts (length m.functions == length info.functions.items) _ (written_so_far_parts m info written).3).1
 
   -- no struct and no override is named
   told : TypesAreTold m
@@ -194,7 +188,7 @@ module _ (m : Module) (info : ModuleInfo) (accepted : IsTrue (is_accepted m info
         let scopes = and_parts (fits_function own) (list_all fits_function (namings_from (module_names m) (g + 1) (function_shapes m info fs ess))) scoped in
         let at_function = function_there_known m info accepted g f found in
         let fits = accepted_at m info accepted g f at_function.0 at_function.1 in
-        let this = is_left m info (written_so_far_parts m info written).1 g f found es fits.callees fits.ranges all.0 may.0 p no_constant_types no_global_types all_counted (functions_of behind) (length-functions_of behind ∙ at) counted scopes.0 in
+        let this = is_left m info (written_so_far_parts m info written).1 (types_are_counted m info accepted told) g f found es fits.callees fits.ranges all.0 may.0 p no_constant_types no_global_types all_counted (functions_of behind) (length-functions_of behind ∙ at) counted scopes.0 in
         all_left (g + 1) fs ess (further m.functions g f fs there) all.1 may.1 scopes.1 (own ∷ behind) (ap suc at ∙ sym (add-one g)) (this, so_far)
 
     no_constants : ConstantsFit (functions_alone m info) (outer_names (module_names m))
@@ -224,11 +218,11 @@ module _ (m : Module) (info : ModuleInfo) (accepted : IsTrue (is_accepted m info
               (all_left 0 m.functions info.functions.items (from_start m.functions) (functions_are_written m info written) all_allowed (all_reversed fits_function listed [] scope) [] refl tt);
         }
 
-    runs : AllWrittenHaveForms m info → (explicit : Bool) → RunsAs m info (written_program m info explicit)
-    runs have explicit settings fit meaning typed g f found arguments typed_arguments world turns past keeps =
+    runs : (explicit : Bool) → AllWrittenHaveForms explicit m info → RunsAs m info (written_program m info explicit)
+    runs explicit have settings fit meaning typed g f found arguments typed_arguments world turns past keeps =
         ap (λ (text : TextModule). follow_module text settings world meaning is_request turns (function_name (module_names m) g) arguments past) (reads_as_shapes m info explicit accepted written have)
         ∙ runs_alike (module_shape m info) (outer_names (module_names m)) (namings (module_names m) m info) module_fits settings fit meaning typed g f found arguments typed_arguments world turns past keeps
 
-pub runs_as : (m : Module) (info : ModuleInfo) (explicit : Bool) → IsTrue (is_accepted m info) → IsTrue (is_written_so_far m info) → AllWrittenHaveForms m info → ScopesHold m info → NamesAreCounted m → RunsAs m info (written_program m info explicit)
+pub runs_as : (m : Module) (info : ModuleInfo) (explicit : Bool) → IsTrue (is_accepted m info) → IsTrue (is_written_so_far m info) → AllWrittenHaveForms explicit m info → ScopesHold m info → NamesAreCounted m → RunsAs m info (written_program m info explicit)
 runs_as m info explicit accepted written have scope counted =
-    runs m info accepted written ((scopes_are_checked m info accepted written).1 scope) counted have explicit
+    runs m info accepted written ((scopes_are_checked m info accepted written).1 scope) counted explicit have

@@ -16,7 +16,7 @@ use Rattle.naga_names.proofs.Refusal.{element}
 use Rattle.naga_words.specs.Spelling.{is_struct}
 use Rattle.module_meaning.specs.Names.{ItemsAreCounted, ItemsAreTold, NamesAreCounted}
 use Rattle.module_meaning.specs.Names.{TypesAreTold, module_names, name_in, wgsl_names}
-use Rattle.module_meaning.specs.Part.{is_value_type, is_written_value, is_written_so_far}
+use Rattle.module_meaning.specs.Part.{is_written_so_far, needs_nothing, type_is_of_part}
 use Rattle.module_meaning.proofs.Lists.{list_all_at}
 use Rattle.module_meaning.proofs.Part.{written_so_far_parts}
 use Rattle.naga_form.proofs.MemberNames.{member_names_tell}
@@ -62,18 +62,14 @@ module _ (m : Module) where
         member_names_tell m counted.names counted.keys h t at i j a b x y e;
   }
 
-  -- ---- types of values
-  no_struct : (it : TypeInner) → is_written_value it ≡ true → is_struct it ≡ true → ⊥
-  no_struct (inner.Scalar s) value is = absurd (cc)
-  no_struct (inner.Vector size s) value is = absurd (cc)
-  no_struct (inner.Matrix columns rows s) value is = absurd (cc)
+  -- ---- types of the part
+  no_struct : (it : TypeInner) → needs_nothing it ≡ true → is_struct it ≡ true → ⊥
+  no_struct (inner.Struct members span) value is = absurd (cc)
   no_struct _ value is = absurd (cc)
 
-  no_member : (it : TypeInner) → is_written_value it ≡ true → (i : ℕ) (a : StructMember) →
+  no_member : (it : TypeInner) → needs_nothing it ≡ true → (i : ℕ) (a : StructMember) →
       slice_get (members_of it) i ≡ Some a → ⊥
-  no_member (inner.Scalar s) value i a at = absurd (cc)
-  no_member (inner.Vector size s) value i a at = absurd (cc)
-  no_member (inner.Matrix columns rows s) value i a at = absurd (cc)
+  no_member (inner.Struct members span) value i a at = absurd (cc)
   no_member _ value i a at = absurd (cc)
 
   -- a module of the part has none of them
@@ -87,9 +83,9 @@ module _ (m : Module) where
     members = λ h t at i j a b x y e. absurd (no_member t.inner (value h t at) i a x);
   }
     where
-      value : (h : ℕ) (t : Type_) → slice_get m.types h ≡ Some t → is_written_value t.inner ≡ true
+      value : (h : ℕ) (t : Type_) → slice_get m.types h ≡ Some t → needs_nothing t.inner ≡ true
       value h t at =
-          list_all_at is_value_type m.types h t (written_so_far_parts m info written).1 at
+          list_all_at type_is_of_part m.types h t (written_so_far_parts m info written).1 at
 
       none : (o : ℕ) → o < length m.overrides → ⊥
       none o lt =

@@ -352,7 +352,7 @@ sampled_rule true D3 true = refl
 sampled_rule true Cube false = refl
 sampled_rule true Cube true = refl
 
-depth_is_plain : (multi : Bool) (dim : ImageDimension) (arrayed : Bool) → stands_in plain_type_words (image_word (codes "texture_depth_") multi dim arrayed) ≡ true
+pub depth_is_plain : (multi : Bool) (dim : ImageDimension) (arrayed : Bool) → stands_in plain_type_words (image_word (codes "texture_depth_") multi dim arrayed) ≡ true
 depth_is_plain false D1 false = refl
 depth_is_plain false D1 true = refl
 depth_is_plain false D2 false = refl

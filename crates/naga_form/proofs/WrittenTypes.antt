@@ -1,255 +1,331 @@
--- The types of a module of the part that is written so far have forms, which are types of the grammar.
-use Rattle.std.proofs.Common.{[], ◌≡◌, ℕ, ◌<◌, Bool, true, false, ◌||◌, List, length, Option, Some}
-use Rattle.std.proofs.Common.{None, refl, sym, ap, subst, ◌∙◌, codes, slice_get, ◌==◌}
-use Rattle.std.specs.Prelude.{IsTrue, unwrap_or, if◌then◌else◌}
-use Rattle.std.specs.List.{list_all}
-use Rattle.std.specs.Option.{option_map, option_map_or}
+-- The types that have a form: their trees, which are types of the grammar and are spelled as no name
+-- is.
+use Rattle.std.proofs.Common.{[], ◌≡◌, ℕ, zero, suc, ◌<◌, Bool, true, false, not, List, ◌∷◌, ◌++◌}
+use Rattle.std.proofs.Common.{Option, Some, None, refl, sym, ap, subst, ◌∙◌, slice_get, arith}
+use Rattle.std.proofs.Common.{codes}
+use Rattle.std.specs.Prelude.{if◌then◌else◌, unwrap_or}
+use Rattle.std.specs.List.{AllByRecursion, list_all}
+use Rattle.std.specs.Option.{is_some, option_map}
+use Rattle.std.proofs.lemmas.Bool.{ltb-true}
 use Rattle.std.proofs.lemmas.Option.{same_Some}
-use Rattle.naga_info.proofs.Options.{then_some}
+use Rattle.naga_info.proofs.Options.{map_some, then_some}
+use Rattle.naga_info.specs.Resolution.{inner_of}
 use Rattle.naga_info.specs.declared.info.ExpressionInfo.{ExpressionInfo}
 use Rattle.naga_info.specs.declared.info.TypeResolution.{TypeResolution}
 use Rattle.naga_info.specs.declared.info.TypeResolution.TheVariants.{Handle, Value}
-use Rattle.naga_ir.specs.declared.types.AddressSpace.TheVariants as space
+use Rattle.naga_ir.specs.declared.image.ImageClass.{ImageClass}
+use Rattle.naga_ir.specs.declared.image.ImageClass.TheVariants as class
+use Rattle.naga_ir.specs.declared.image.ImageDimension.{ImageDimension}
+use Rattle.naga_ir.specs.declared.module.Module.{Module}
+use Rattle.naga_ir.specs.declared.types.ArraySize.{ArraySize}
+use Rattle.naga_ir.specs.declared.types.ArraySize.TheVariants as size
 use Rattle.naga_ir.specs.declared.types.Scalar.{Scalar}
-use Rattle.naga_ir.specs.declared.types.ScalarKind.{ScalarKind}
-use Rattle.naga_ir.specs.declared.types.VectorSize.{VectorSize}
-use Rattle.naga_ir.specs.declared.types.ScalarKind.TheVariants as kind
 use Rattle.naga_ir.specs.declared.types.Type_.{Type_}
 use Rattle.naga_ir.specs.declared.types.TypeInner.{TypeInner}
 use Rattle.naga_ir.specs.declared.types.TypeInner.TheVariants as inner
-use Rattle.naga_names.proofs.Refusal.{element}
+use Rattle.naga_ir.specs.declared.types.VectorSize.{VectorSize}
 use Rattle.naga_names.specs.Keys.{NameMap}
 use Rattle.naga_words.specs.Contexts.{Names, names_of}
-use Rattle.naga_words.specs.Words.{vector_word, matrix_word}
+use Rattle.naga_words.specs.Spelling.{is_struct, length_within}
+use Rattle.naga_words.specs.Words.{image_word, sampler_word}
 use Rattle.module_meaning.proofs.Lists.{list_all_at}
-use Rattle.module_meaning.specs.Part.{is_value_type, is_value_at, is_written_value}
-use Rattle.module_meaning.specs.Part.{resolution_is_written, scalar_is_written, type_is_written}
-use Rattle.module_meaning.specs.Part.{width_is_written}
-use Rattle.wgsl_text.proofs.Building.{scalar_word_is, pointer_to_is}
+use Rattle.module_meaning.specs.AlikeTypes.{has_form, type_form as form_numbers}
+use Rattle.module_meaning.specs.InfoSizes.{resolution_is_fit}
+use Rattle.module_meaning.specs.Part.{needs_nothing, type_is_of_part}
+use Rattle.module_meaning.specs.Types.{type_names}
+use Rattle.wgsl_text.proofs.Building.{in_front}
 use Rattle.wgsl_text.proofs.ValueWords.{value_words}
-use Rattle.wgsl_text.specs.Tables.{scalar_words}
-use Rattle.wgsl_text.specs.Types.{TypeSpecifier, Named, IsType, TakesScalar, of_one, of_two}
+use Rattle.wgsl_text.proofs.Words.{all_words, passes}
+use Rattle.wgsl_text.specs.Reading.{type_layout}
+use Rattle.wgsl_text.specs.Tables.{depth_image_words, ray_words, sampler_words, scalar_words}
+use Rattle.wgsl_text.specs.Types.{IsType, Named, PartsRule, Template, TypeParts, TypeSpecifier, fits}
+use Rattle.wgsl_text.specs.Text.{text}
+use Rattle.wgsl_text.specs.Types.{has_gaps, of_one, parts_pieces, plain_type_words, pointer_tree}
 use Rattle.wgsl_text.specs.Types.{rule_among, type_templates}
 use Rattle.wgsl_text.specs.Words.{stands_in}
-use Rattle.wgsl_words.specs.Words.{scalar_word, scalar_word_of}
-use Rattle.naga_form.proofs.TypeTrees.{matrix_rule, of_scalar_is, vector_rule}
-use Rattle.wgsl_text.specs.Reading.{type_layout}
-use Rattle.wgsl_text.proofs.Words.{passes}
-use Rattle.naga_form.proofs.OperatingWords.{operates_freely, scalars_free, vectors_free}
-use Rattle.naga_form.proofs.OperatingWords.{matrices_free}
-use Rattle.naga_form.specs.TypeTrees.{inner_tree, inner_tree_by, named_tree_by, pointer_tree_in}
-use Rattle.naga_form.specs.TypeTrees.{found_tree_by, scalar_tree}
-use Rattle.naga_form.specs.TypeTrees.{tree_within, type_tree, resolution_tree}
+use Rattle.wgsl_words.specs.Words.{scalar_word, scalar_word_of, space_word, space_access_word}
+use Rattle.naga_form.proofs.AlikeTypes.{form_is_read, form_read}
+use Rattle.naga_form.proofs.OperatingWords.{operates_freely, plain_types_free, templates_free}
+use Rattle.naga_form.proofs.SameValues.{IsFit, TypesAreCounted, tree_is}
+use Rattle.naga_form.proofs.TypeTrees.{depth_is_plain}
+use Rattle.naga_form.specs.TypeTrees.{array_tree, found_tree_by, image_tree, inner_tree_by}
+use Rattle.naga_form.specs.TypeTrees.{inner_tree, pointer_tree_in, ray_tree, resolution_tree}
+use Rattle.naga_form.specs.TypeTrees.{scalar_tree, tree_within, type_tree, value_pointer_tree_in}
+use Rattle.naga_form.specs.TypeTrees.{value_tree, vector_tree}
 use Rattle.naga_form.specs.Types.{told_type, type_form}
 
--- ---- words
--- a pointer to a local of a type
-abbrev pub pointer_to : TypeSpecifier → TypeSpecifier
-pointer_to t = of_two (codes "ptr") (Named (codes "function")) t
+-- ---- trees
+-- a type that has a form has a tree, under any names
+pub tree_there : (n : Names) (r : TypeResolution) → has_form n.types r ≡ true →
+    (t : TypeSpecifier) × (resolution_tree n r ≡ Some t)
+tree_there n r is = by (form_numbers n.types r) is (form_is_read n r)
+  where
+    by : (o : Option (List ℕ)) → is_some o ≡ true →
+        resolution_tree n r ≡ option_map (form_read n) o →
+        (t : TypeSpecifier) × (resolution_tree n r ≡ Some t)
+    by (Some numbers) is read = (form_read n numbers, read)
+    by None is read = absurd cc
 
--- what is chosen is there, where one of two tests passes
-either_some : {X : Type 0} (a b c : Bool) (x y z : X) → (b || c) ≡ true →
-    (w : X) × ((if a then Some x else (if b then Some y else (if c then Some z else None))) ≡ Some w)
-either_some true b c x y z is = (x, refl)
-either_some false true c x y z is = (y, refl)
-either_some false false true x y z is = (z, refl)
-either_some false false false x y z is = absurd (cc)
+-- ---- names that do not matter
+-- an array whose length is told by no override
+array_same : (n k : Names) (word : List ℕ) (l : ArraySize) → length_within 0 (inner.Array 0 l 0) ≡ true →
+    (o p : Option TypeSpecifier) → o ≡ p →
+    option_map (array_tree n word l) o ≡ option_map (array_tree k word l) p
+array_same n k word (size.Constant number) within o p e =
+    ap (option_map (array_tree n word (size.Constant number))) e
+array_same n k word (size.Pending o) within p q e =
+    let lt : o < 0 = ltb-true o 0 within in absurd (omega (arith, lt))
+array_same n k word size.Dynamic within o p e = ap (option_map (array_tree n word size.Dynamic)) e
 
-width_has_word : (k : ScalarKind) (n : ℕ) → width_is_written k n ≡ true →
-    (w : List ℕ) × (scalar_word_of k n ≡ Some w)
-width_has_word kind.Bool n is = (codes "bool", ap (λ b. if b then Some (codes "bool") else None) is)
-width_has_word kind.Sint n is =
-    either_some (n == 2) (n == 4) (n == 8) (codes "i16") (codes "i32") (codes "i64") is
-width_has_word kind.Uint n is =
-    either_some (n == 2) (n == 4) (n == 8) (codes "u16") (codes "u32") (codes "u64") is
-width_has_word kind.Float n is =
-    either_some (n == 2) (n == 4) (n == 8) (codes "f16") (codes "f32") (codes "f64") is
-width_has_word _ n is = absurd (cc)
+inner_same : (n k : Names) (f g : ℕ → Option TypeSpecifier) → ((b : ℕ) → f b ≡ g b) →
+    (it : TypeInner) → length_within 0 it ≡ true → inner_tree_by n f it ≡ inner_tree_by k g it
+inner_same n k f g same (inner.Pointer base space) within =
+    ap (pointer_tree_in (space_word space) (space_access_word space)) (same base)
+inner_same n k f g same (inner.Array base l stride) within =
+    array_same n k _ l within (f base) (g base) (same base)
+inner_same n k f g same (inner.BindingArray base l) within =
+    array_same n k _ l within (f base) (g base) (same base)
+inner_same n k f g same _ within = refl
 
--- a scalar that is written so far has a word, which is a type
-record HasWord (s : Scalar) : Type 0 where
-  pub word : List ℕ
-  pub is : scalar_word s ≡ Some word
-  pub itself : IsType (Named word)
-  pub known : stands_in scalar_words word ≡ true
+-- types that hold no struct and name no override
+pub record AreNameless (types : List Type_) : Type 0 where
+  pub structs : (h : ℕ) (t : Type_) → slice_get types h ≡ Some t → is_struct t.inner ≡ false
+  pub lengths : (h : ℕ) (t : Type_) → slice_get types h ≡ Some t → length_within 0 t.inner ≡ true
 
-has_word : (s : Scalar) → scalar_is_written s ≡ true → HasWord s
-has_word s written =
-    let w = width_has_word s.kind s.width written in
-    let stands : stands_in scalar_words w.0 ≡ true = value_words.scalars.each s w.0 w.1 in
-    record { word = w.0; is = w.1; itself = scalar_word_is w.0 stands; known = stands }
+-- have one tree each, whatever is named how
+module _ (types : List Type_) (are : AreNameless types) (a b : NameMap) where
+  abbrev n : Names
+  n = names_of types a
 
--- ---- types
--- A type has a form, whatever its names are, and that is a type of the grammar.
-pub record HasForm (under : NameMap → Option TypeSpecifier) : Type 0 where
-  pub tree : TypeSpecifier
-  pub is : (names : NameMap) → under names ≡ Some tree
-  pub form : IsType tree
+  abbrev k : Names
+  k = names_of types b
 
--- the tree of a type of values, whatever its names are, and that one points at locals of it
-pub record HasTree (it : TypeInner) : Type 0 where
-  pub tree : TypeSpecifier
-  pub is : (n : Names) (f : ℕ → Option TypeSpecifier) → inner_tree_by n f it ≡ Some tree
-  pub named : (n : Names) (f : ℕ → Option TypeSpecifier) (h : ℕ) → named_tree_by n f h it ≡ Some tree
-  pub itself : IsType tree
-  pub free : operates_freely (type_layout tree) ≡ true
+  if_no : (struct : Bool) → struct ≡ false → (x y : List ℕ) (o p : Option TypeSpecifier) → o ≡ p →
+      (if struct then Some (Named x) else o) ≡ (if struct then Some (Named y) else p)
+  if_no true is x y o p e = absurd cc
+  if_no false is x y o p e = e
 
--- a template over the word of a scalar
-over_scalar : (w : List ℕ) → rule_among type_templates w ≡ TakesScalar → (s : Scalar) →
-    (found : HasWord s) →
-    (option_map (of_one w) (scalar_tree s) ≡ Some (of_one w (Named found.word)))
-    × IsType (of_one w (Named found.word))
-over_scalar w rule s found =
-    let is = ap (λ o. option_map (of_one w) (option_map Named o)) found.is in
-    (is, of_scalar_is w rule s (of_one w (Named found.word)) is)
+  found_same : (f g : ℕ → Option TypeSpecifier) → ((b : ℕ) → f b ≡ g b) → (h : ℕ) →
+      (o : Option Type_) → slice_get types h ≡ o → found_tree_by n f h o ≡ found_tree_by k g h o
+  found_same f g same h None at = refl
+  found_same f g same h (Some t) at =
+      if_no (is_struct t.inner) (are.structs h t at) _ _ _ _
+      (inner_same n k f g same t.inner (are.lengths h t at))
 
-pub has_tree : (it : TypeInner) → is_written_value it ≡ true → HasTree it
-has_tree (inner.Scalar s) written =
-    let w = has_word s written in
-    let is = ap (option_map Named) w.is in
-    record { tree = Named w.word; is = λ n f. is; named = λ n f h. is; itself = w.itself; free = passes (λ v. operates_freely (type_layout (Named v))) scalar_words w.word scalars_free w.known }
-has_tree (inner.Vector size s) written =
-    let w = has_word s written in
-    let over = over_scalar (vector_word size) (vector_rule size) s w in
-    record {
-      tree = of_one (vector_word size) (Named w.word);
-      is = λ n f. over.0;
-      named = λ n f h. over.0;
-      itself = over.1;
-      free = passes (λ v. operates_freely (type_layout (of_one (vector_word size) (Named v)))) scalar_words w.word (vectors_free size) w.known;
-    }
-has_tree (inner.Matrix columns rows s) written =
-    let w = has_word s written in
-    let over = over_scalar (matrix_word columns rows) (matrix_rule columns rows) s w in
-    record {
-      tree = of_one (matrix_word columns rows) (Named w.word);
-      is = λ n f. over.0;
-      named = λ n f h. over.0;
-      itself = over.1;
-      free = passes (λ v. operates_freely (type_layout (of_one (matrix_word columns rows) (Named v)))) scalar_words w.word (matrices_free columns rows) w.known;
-    }
-has_tree _ written = absurd (cc)
+  within_same : (levels h : ℕ) → tree_within levels n h ≡ tree_within levels k h
+  within_same zero h = refl
+  within_same (suc levels) h =
+      found_same (tree_within levels n) (tree_within levels k) (within_same levels) h
+      (slice_get types h) refl
 
--- of types of values, each in range is one
-pub values_at : (types : List Type_) (ty : ℕ) → IsTrue (list_all is_value_type types) →
-    ty < length types → is_value_at types ty ≡ true
-values_at types ty values lt =
-    let t = element types ty lt in
-    ap (λ o. option_map_or is_value_type o false) t.1
-    ∙ list_all_at is_value_type types ty t.0 values t.1
-
-module _ (types : List Type_) where
-  -- the type at such a handle
-  value_there : (ty : ℕ) → is_value_at types ty ≡ true →
-      (t : Type_) × (slice_get types ty ≡ Some t) × HasTree t.inner
-  value_there ty is = by (slice_get types ty) refl is
-    where
-      by : (o : Option Type_) → slice_get types ty ≡ o →
-          option_map_or is_value_type o false ≡ true →
-          (t : Type_) × (slice_get types ty ≡ Some t) × HasTree t.inner
-      by None at is = absurd (cc)
-      by (Some t) at is = (t, at, has_tree t.inner is)
-
-  -- a type of values of the module is written as its tree
-  tree_of_value : (ty : ℕ) (t : Type_) → slice_get types ty ≡ Some t → (has : HasTree t.inner) →
-      (names : NameMap) → type_tree (names_of types names) ty ≡ Some has.tree
+  pub type_same : (h : ℕ) → type_tree n h ≡ type_tree k h
   unfolding type_tree
-  tree_of_value ty t at has names =
-      let n = names_of types names in
-      ap (found_tree_by n (tree_within ty n) ty) at ∙ has.named n (tree_within ty n) ty
+  type_same h = within_same (suc h) h
 
-  -- so it has a form, as have pointers to locals of it
-  pub type_has_form : (ty : ℕ) → is_value_at types ty ≡ true →
-      HasForm (λ names. type_tree (names_of types names) ty)
-  type_has_form ty is =
-      let t = value_there ty is in
-      record {
-        tree = t.2.tree;
-        is = tree_of_value ty t.0 t.1 t.2;
-        form = t.2.itself;
-      }
+  -- a type by itself whose length names no override
+  pub resolution_same : (r : TypeResolution) →
+      ((it : TypeInner) → r ≡ Value it → length_within 0 it ≡ true) →
+      resolution_tree n r ≡ resolution_tree k r
+  resolution_same (Handle h) within = type_same h
+  resolution_same (Value it) within =
+      inner_same n k (type_tree n) (type_tree k) type_same it (within it refl)
 
-  -- and it is spelled as no name is
-  pub free_form : (ty : ℕ) → is_value_at types ty ≡ true → (names : NameMap) →
-      (tree : TypeSpecifier) × (type_tree (names_of types names) ty ≡ Some tree)
-      × (operates_freely (type_layout tree) ≡ true)
-  free_form ty is names =
-      let t = value_there ty is in (t.2.tree, tree_of_value ty t.0 t.1 t.2 names, t.2.free)
+-- ---- trees that are spelled as no name is
+-- a word of the table of types, or a word with parts
+abbrev is_plain : TypeSpecifier → Bool
+is_plain (Named w) = stands_in plain_type_words w
+is_plain (Template w parts) = true
 
-  -- a pointer to a local of a type by itself
-  pointed_form : {it : TypeInner} → (has : HasTree it) →
-      HasForm (λ names. pointer_tree_in (Some (codes "function")) None (inner_tree (names_of types names) it))
-  pointed_form has = record {
-    tree = pointer_to has.tree;
-    is = λ names. ap (pointer_tree_in (Some (codes "function")) None)
-        (has.is (names_of types names) (type_tree (names_of types names)));
-    form = pointer_to_is (codes "function") has.tree refl has.itself;
-  }
+mapped_plain : {X : Type 0} (f : X → TypeSpecifier) → ((x : X) → is_plain (f x) ≡ true) →
+    (o : Option X) (t : TypeSpecifier) → option_map f o ≡ Some t → is_plain t ≡ true
+mapped_plain f all o t e =
+    let x = map_some f o t e in subst (λ t. is_plain t ≡ true) x.2 (all x.0)
 
-  pub pointer_has_form : (ty : ℕ) → is_value_at types ty ≡ true →
-      HasForm (λ names. inner_tree (names_of types names) (inner.Pointer ty space.Function))
-  pointer_has_form ty is =
-      let t = value_there ty is in
-      record {
-        tree = pointer_to t.2.tree;
-        is = λ names. ap (pointer_tree_in (Some (codes "function")) None)
-            (tree_of_value ty t.0 t.1 t.2 names);
-        form = pointer_to_is (codes "function") t.2.tree refl t.2.itself;
-      }
+same_plain : (s t : TypeSpecifier) → is_plain s ≡ true → Some s ≡ Some t → is_plain t ≡ true
+same_plain s t is e = subst (λ t. is_plain t ≡ true) (same_Some s t e) is
 
-  value_pointer_has_form : (size : Option VectorSize) (s : Scalar) → scalar_is_written s ≡ true →
-      HasForm (λ names. inner_tree (names_of types names) (inner.ValuePointer size s space.Function))
-  value_pointer_has_form None s is = pointed_form (has_tree (inner.Scalar s) is)
-  value_pointer_has_form (Some size) s is = pointed_form (has_tree (inner.Vector size s) is)
+scalar_plain : (s : Scalar) (t : TypeSpecifier) → scalar_tree s ≡ Some t → is_plain t ≡ true
+scalar_plain s t e =
+    let w = map_some Named (scalar_word s) t e in
+    subst (λ t. is_plain t ≡ true) w.2
+    (in_front scalar_words (sampler_words ++ (ray_words ++ depth_image_words)) w.0
+    (value_words.scalars.each s w.0 w.1))
 
-  value_has_form : (it : TypeInner) → is_written_value it ≡ true →
-      HasForm (λ names. inner_tree (names_of types names) it)
-  value_has_form it is =
-      let has = has_tree it is in
-      record {
-        tree = has.tree;
-        is = λ names. has.is (names_of types names) (type_tree (names_of types names));
-        form = has.itself;
-      }
+pointer_plain : (space : List ℕ) (access : Option (List ℕ)) (x : TypeSpecifier) →
+    is_plain (pointer_tree space access x) ≡ true
+pointer_plain space None x = refl
+pointer_plain space (Some access) x = refl
 
-  inner_has_form : (it : TypeInner) → type_is_written types it ≡ true →
-      HasForm (λ names. inner_tree (names_of types names) it)
-  inner_has_form (inner.Pointer base space.Function) is = pointer_has_form base is
-  inner_has_form (inner.Pointer base _) is = absurd (cc)
-  inner_has_form (inner.ValuePointer size s space.Function) is = value_pointer_has_form size s is
-  inner_has_form (inner.ValuePointer size s _) is = absurd (cc)
-  inner_has_form (inner.Scalar s) is = value_has_form (inner.Scalar s) is
-  inner_has_form (inner.Vector size s) is = value_has_form (inner.Vector size s) is
-  inner_has_form (inner.Matrix columns rows s) is = value_has_form (inner.Matrix columns rows s) is
-  inner_has_form _ is = absurd (cc)
+value_plain : (v : Option VectorSize) (s : Scalar) (t : TypeSpecifier) →
+    value_tree v s ≡ Some t → is_plain t ≡ true
+value_plain None s t e = scalar_plain s t e
+value_plain (Some v) s t e = mapped_plain (of_one _) (λ x. refl) (scalar_tree s) t e
 
-  module _ (values : IsTrue (list_all is_value_type types)) where
-    pub is_type_at : (names : NameMap) (ty : ℕ) → ty < length types →
-        IsType (type_form (names_of types names) ty)
-    is_type_at names ty lt =
-        let h = type_has_form ty (values_at types ty values lt) in
-        subst (λ o. IsType (unwrap_or o (Named []))) (sym (h.is names)) h.form
+array_plain : (n : Names) (word : List ℕ) (l : ArraySize) (x : TypeSpecifier) →
+    is_plain (array_tree n word l x) ≡ true
+array_plain n word (size.Constant number) x = refl
+array_plain n word (size.Pending o) x = refl
+array_plain n word size.Dynamic x = refl
 
-    -- an expression's type has a form where it is written so far
-    pub resolution_has_form : (r : TypeResolution) → resolution_is_written types r ≡ true →
-        HasForm (λ names. resolution_tree (names_of types names) r)
-    resolution_has_form (Handle h) is = type_has_form h (by (slice_get types h) refl is)
-      where
-        by : (o : Option Type_) → slice_get types h ≡ o →
-            option_map_or (type_is_written types) (option_map (λ t. t.inner) o) false ≡ true →
-            option_map_or is_value_type o false ≡ true
-        by None at is = is
-        by (Some t) at is = list_all_at is_value_type types h t values at
-    resolution_has_form (Value it) is = inner_has_form it is
+image_plain : (dim : ImageDimension) (arrayed : Bool) (c : ImageClass) (t : TypeSpecifier) →
+    image_tree dim arrayed c ≡ Some t → is_plain t ≡ true
+image_plain dim arrayed (class.Sampled kind multi) t e =
+    mapped_plain (of_one _) (λ x. refl) (option_map Named (scalar_word_of kind 4)) t e
+image_plain dim arrayed (class.Depth multi) t e =
+    same_plain _ t (depth_is_plain multi dim arrayed) e
+image_plain dim arrayed class.External t e = same_plain _ t refl e
+image_plain dim arrayed (class.Storage format access) t e = same_plain _ t refl e
 
-    -- what a `let` tells is a type of the grammar
-    pub told_is : (names : NameMap) (explicit : Bool) (es : List ExpressionInfo) →
-        list_all (λ k. resolution_is_written types k.ty) es ≡ true →
-        (h : ℕ) (tree : TypeSpecifier) →
-        told_type explicit (names_of types names) es h ≡ Some tree → IsType tree
-    told_is names true es known h tree is =
-        let k = then_some (λ k. resolution_tree (names_of types names) k.ty) (slice_get es h) tree is in
-        let has =
-        resolution_has_form k.0.ty (list_all_at (λ k. resolution_is_written types k.ty) es h k.0 known k.1) in
-        subst IsType (same_Some has.tree tree (sym (has.is names) ∙ k.2)) has.form
-    told_is names false es known h tree is = absurd (cc)
+sampler_plain : (comparison : Bool) → is_plain (Named (sampler_word comparison)) ≡ true
+sampler_plain true = refl
+sampler_plain false = refl
+
+structure_plain : (b : Bool) → is_plain (ray_tree (codes "acceleration_structure") b) ≡ true
+structure_plain true = refl
+structure_plain false = refl
+
+query_plain : (b : Bool) → is_plain (ray_tree (codes "ray_query") b) ≡ true
+query_plain true = refl
+query_plain false = refl
+
+module _ (n : Names) (none : (h : ℕ) (t : Type_) → slice_get n.types h ≡ Some t → is_struct t.inner ≡ false) where
+  inner_plain : (f : ℕ → Option TypeSpecifier) →
+      ((b : ℕ) (x : TypeSpecifier) → f b ≡ Some x → is_plain x ≡ true) → (it : TypeInner) →
+      (t : TypeSpecifier) → inner_tree_by n f it ≡ Some t → is_plain t ≡ true
+  inner_plain f all (inner.Scalar s) t e = scalar_plain s t e
+  inner_plain f all (inner.Vector v s) t e = mapped_plain (of_one _) (λ x. refl) (scalar_tree s) t e
+  inner_plain f all (inner.Matrix c r s) t e = mapped_plain (of_one _) (λ x. refl) (scalar_tree s) t e
+  inner_plain f all (inner.CooperativeMatrix c r s l) t e =
+      mapped_plain _ (λ x. refl) (scalar_tree s) t e
+  inner_plain f all (inner.Atomic s) t e = mapped_plain (of_one _) (λ x. refl) (scalar_tree s) t e
+  inner_plain f all (inner.Pointer base a) t e = by (space_word a) e
+    where
+      by : (s : Option (List ℕ)) → pointer_tree_in s (space_access_word a) (f base) ≡ Some t →
+          is_plain t ≡ true
+      by None e = all base t e
+      by (Some space) e = mapped_plain _ (pointer_plain space (space_access_word a)) (f base) t e
+  inner_plain f all (inner.ValuePointer v s a) t e = by (space_word a) e
+    where
+      by : (o : Option (List ℕ)) →
+          value_pointer_tree_in o (space_access_word a) (value_tree v s) ≡ Some t →
+          is_plain t ≡ true
+      by None e = absurd cc
+      by (Some space) e =
+          mapped_plain _ (pointer_plain space (space_access_word a)) (value_tree v s) t e
+  inner_plain f all (inner.Array base l stride) t e =
+      mapped_plain _ (array_plain n _ l) (f base) t e
+  inner_plain f all (inner.BindingArray base l) t e = mapped_plain _ (array_plain n _ l) (f base) t e
+  inner_plain f all (inner.Struct members span) t e = absurd cc
+  inner_plain f all (inner.Image dim arrayed c) t e = image_plain dim arrayed c t e
+  inner_plain f all (inner.Sampler comparison) t e = same_plain _ t (sampler_plain comparison) e
+  inner_plain f all (inner.AccelerationStructure b) t e = same_plain _ t (structure_plain b) e
+  inner_plain f all (inner.RayQuery b) t e = same_plain _ t (query_plain b) e
+
+  named_plain : (f : ℕ → Option TypeSpecifier) →
+      ((b : ℕ) (x : TypeSpecifier) → f b ≡ Some x → is_plain x ≡ true) → (h : ℕ) (it : TypeInner) →
+      (struct : Bool) → struct ≡ false → (t : TypeSpecifier) →
+      (if struct then Some (Named (n.struct_name h)) else inner_tree_by n f it) ≡ Some t →
+      is_plain t ≡ true
+  named_plain f all h it true is t e = absurd cc
+  named_plain f all h it false is t e = inner_plain f all it t e
+
+  found_plain : (f : ℕ → Option TypeSpecifier) →
+      ((b : ℕ) (x : TypeSpecifier) → f b ≡ Some x → is_plain x ≡ true) → (h : ℕ) →
+      (o : Option Type_) → slice_get n.types h ≡ o → (t : TypeSpecifier) →
+      found_tree_by n f h o ≡ Some t → is_plain t ≡ true
+  found_plain f all h None at t e = absurd cc
+  found_plain f all h (Some y) at t e =
+      named_plain f all h y.inner (is_struct y.inner) (none h y at) t e
+
+  within_plain : (k h : ℕ) (t : TypeSpecifier) → tree_within k n h ≡ Some t → is_plain t ≡ true
+  within_plain zero h t e = absurd cc
+  within_plain (suc k) h t e =
+      found_plain (tree_within k n) (within_plain k) h (slice_get n.types h) refl t e
+
+  resolution_plain : (r : TypeResolution) (t : TypeSpecifier) → resolution_tree n r ≡ Some t →
+      is_plain t ≡ true
+  unfolding type_tree
+  resolution_plain (Handle h) t e = within_plain (suc h) h t e
+  resolution_plain (Value it) t e =
+      inner_plain (type_tree n) (λ b x is. within_plain (suc b) b x is) it t e
+
+-- a word with the parts that its rule wants
+of_rows_free : (rest : List ℕ) (rows : List (List (List ℕ) × PartsRule)) →
+    AllByRecursion (λ row. all_words (λ v. operates_freely (v ++ 60 ∷ rest)) row.0 ≡ true) rows →
+    (w : List ℕ) (parts : TypeParts) → fits (rule_among rows w) parts ≡ true →
+    operates_freely (w ++ 60 ∷ rest) ≡ true
+of_rows_free rest [] all w parts is = absurd cc
+of_rows_free rest (row ∷ rows) all w parts is =
+    by (stands_in row.0 w) refl is (of_rows_free rest rows all.1 w parts)
+  where
+    by : (b : Bool) → stands_in row.0 w ≡ b →
+        fits (if b then row.1 else rule_among rows w) parts ≡ true →
+        (fits (rule_among rows w) parts ≡ true → operates_freely (w ++ 60 ∷ rest) ≡ true) →
+        operates_freely (w ++ 60 ∷ rest) ≡ true
+    by true at is more = passes (λ v. operates_freely (v ++ 60 ∷ rest)) row.0 w all.0 at
+    by false at is more = more is
+
+template_free : (w : List ℕ) (parts : TypeParts) → fits (rule_among type_templates w) parts ≡ true →
+    operates_freely (type_layout (Template w parts)) ≡ true
+template_free w parts is =
+    let rest = text (parts_pieces parts (has_gaps w)) in
+    of_rows_free rest type_templates (templates_free rest) w parts is
+
+free_tree : (t : TypeSpecifier) → IsType t → is_plain t ≡ true →
+    operates_freely (type_layout t) ≡ true
+free_tree (Named w) is plain =
+    passes (λ v. operates_freely (type_layout (Named v))) plain_type_words w plain_types_free plain
+free_tree (Template w parts) is plain = template_free w parts is.part.0
+
+-- ---- types of a module of the part
+-- no struct is among them
+pub no_struct : (types : List Type_) → list_all type_is_of_part types ≡ true →
+    (h : ℕ) (t : Type_) → slice_get types h ≡ Some t → is_struct t.inner ≡ false
+no_struct types all h t at = by t.inner (list_all_at type_is_of_part types h t all at)
+  where
+    by : (it : TypeInner) → needs_nothing it ≡ true → is_struct it ≡ false
+    by (inner.Struct members span) is = absurd cc
+    by _ is = refl
+
+-- nor is what is known of an expression one
+pub no_struct_known : (m : Module) → list_all type_is_of_part m.types ≡ true → (r : TypeResolution) →
+    IsFit m r → (it : TypeInner) → inner_of r m.types ≡ Some it → is_struct it ≡ false
+no_struct_known m all (Handle h) fit it is = by (slice_get m.types h) refl is
+  where
+    by : (o : Option Type_) → slice_get m.types h ≡ o → option_map (λ t. t.inner) o ≡ Some it →
+        is_struct it ≡ false
+    by (Some t) at is =
+        subst (λ it. is_struct it ≡ false) (same_Some t.inner it is) (no_struct m.types all h t at)
+    by None at is = absurd cc
+no_struct_known m all (Value own) fit it is =
+    subst (λ it. is_struct it ≡ false) (same_Some own it is) (by own fit.0)
+  where
+    by : (it : TypeInner) → resolution_is_fit (Value it) ≡ true → is_struct it ≡ false
+    by (inner.Struct members span) fits = absurd cc
+    by _ fits = refl
+
+module _ (m : Module) (are : TypesAreCounted m) where
+  -- a type of the module that has a form is one of the grammar
+  pub is_type_at : (ty : ℕ) → has_form m.types (Handle ty) ≡ true →
+      IsType (type_form (type_names m) ty)
+  is_type_at ty is =
+      let t = tree_there (type_names m) (Handle ty) is in
+      subst (λ o. IsType (unwrap_or o (Named []))) (sym t.1) (tree_is m are (Handle ty) tt t.0 t.1)
+
+  -- what a `let` tells is a type of the grammar
+  pub told_is : (explicit : Bool) (es : List ExpressionInfo) →
+      ((h : ℕ) (k : ExpressionInfo) → slice_get es h ≡ Some k → IsFit m k.ty) →
+      (h : ℕ) (tree : TypeSpecifier) →
+      told_type explicit (type_names m) es h ≡ Some tree → IsType tree
+  told_is true es fits h tree is =
+      let k = then_some (λ k. resolution_tree (type_names m) k.ty) (slice_get es h) tree is in
+      tree_is m are k.0.ty (fits h k.0 k.1) tree k.2
+  told_is false es fits h tree is = absurd cc
+
+  -- the tree of a type is spelled as no name is, among types without structs
+  pub free_form : list_all type_is_of_part m.types ≡ true → (r : TypeResolution) → IsFit m r →
+      (t : TypeSpecifier) → resolution_tree (type_names m) r ≡ Some t →
+      operates_freely (type_layout t) ≡ true
+  free_form all r fit t is =
+      free_tree t (tree_is m are r fit t is)
+      (resolution_plain (type_names m) (no_struct m.types all) r t is)

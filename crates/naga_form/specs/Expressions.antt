@@ -6,8 +6,8 @@
 -- expression, op an operator, and t are the names that types are spelled with.
 use Rattle.std.specs.Prelude.{ℕ, List, [], ◌∷◌, Option, Bool, true, false, suc, None, Some}
 use Rattle.std.specs.Prelude.{slice_get, zero}
-use Rattle.std.specs.Prelude.{length, map, codes}
-use Rattle.std.specs.Option.{option_map, option_map_or, option_and_then}
+use Rattle.std.specs.Prelude.{length, map, codes, ◌||◌}
+use Rattle.std.specs.Option.{option_map, option_map_or, option_and_then, is_some, option_to_list}
 use Rattle.naga_ir.specs.declared.expression.Expression as ir
 use Rattle.naga_ir.specs.declared.expression.Expression.TheVariants as expression
 use Rattle.naga_ir.specs.declared.types.ScalarKind.{ScalarKind}
@@ -35,6 +35,8 @@ use Rattle.naga_info.specs.declared.info.ModuleInfo.{ModuleInfo}
 use Rattle.naga_ir.specs.Operands.{expression_operands}
 use Rattle.naga_ir.specs.declared.module.Function as ir_function
 use Rattle.naga_ir.specs.declared.module.Module.{Module}
+use Rattle.naga_form.specs.ConstantForms.{written_out}
+use Rattle.naga_form.specs.Images.{sampling_form, zero_is_written}
 use Rattle.naga_form.specs.Operators.{notation, applied_form}
 
 -- a plain form: a value or a reference
@@ -124,6 +126,30 @@ function_source m info f es =
       type_names = type_names m;
     }
 
+-- The operands of a sampling that are written by their handles: all but the offset.
+abbrev pub sampling_operands : ir.Expression → List ℕ
+sampling_operands
+    (expression.ImageSample
+    image sampler gather coordinate array_index offset level depth_ref clamp) =
+    expression_operands
+    (expression.ImageSample
+    image sampler gather coordinate array_index None level depth_ref clamp)
+sampling_operands e = expression_operands e
+
+-- the form of a constant that is written out
+abbrev pub constant_form : Source → ℕ → Expression
+constant_form source h =
+    written_out source.declared.around source.type_names source.expressions h
+
+-- a sampling by an operator, with this offset
+abbrev pub sampled_plain : Source → (ℕ → PlainForm) → (at_zero : Bool) → List ℕ →
+    (offset : Option ℕ) → Option Operator → PlainForm
+sampled_plain source operand at_zero hs offset (Some op) =
+    ValueForm
+    (sampling_form op at_zero (value_forms operand hs)
+    (map (constant_form source) (option_to_list offset)))
+sampled_plain source operand at_zero hs offset None = no_form
+
 -- an expression that isn't named, over its operands' forms
 abbrev pub own_plain : Naming → Source → (ℕ → PlainForm) → ir.Expression → PlainForm
 own_plain n source operand (expression.Literal value) = ValueForm (Constant (literal_form value))
@@ -148,6 +174,14 @@ own_plain n source operand (expression.Swizzle size vector pattern) =
 own_plain n source operand (expression.Load pointer) =
     applied_plain (ValueForm (as_reference (operand pointer))) None operand (pointer ∷ [])
     (load_operator source.declared.around pointer)
+own_plain n source operand
+    (expression.ImageSample
+    image sampler gather coordinate array_index offset level depth_ref clamp) =
+    let e = expression.ImageSample
+    image sampler gather coordinate array_index offset level depth_ref clamp in
+    let unwritten = is_some gather || (is_some depth_ref || clamp) in
+    sampled_plain source operand (zero_is_written level unwritten) (sampling_operands e) offset
+    (applied_operator source.declared.around e)
 own_plain n source operand e =
     let a = source.declared.around in
     applied_plain no_form (operator_type a source.type_names e) operand (expression_operands e)

@@ -40,7 +40,7 @@ use Rattle.module_meaning.specs.Writable.{IsWritable}
 use Rattle.module_meaning.specs.Names.{ItemsAreCounted, ItemsAreTold, NamesAreCounted}
 use Rattle.module_meaning.specs.Names.{TypesAreTold, module_names}
 use Rattle.module_meaning.specs.Ranges.{resolution_fits}
-use Rattle.module_meaning.specs.Part.{function_is_written, is_value_type, is_written_so_far}
+use Rattle.module_meaning.specs.Part.{function_is_written, type_is_of_part, is_written_so_far}
 use Rattle.module_meaning.specs.Premises.{handles_are_counted, scope_holds, ScopesHold}
 use Rattle.module_meaning.specs.Resolution.{ResolvesAs}
 use Rattle.module_meaning.specs.ModuleShapes.{module_shape}
@@ -51,28 +51,27 @@ use Rattle.module_meaning.specs.OperatorTable.{Operator, TypeIsSound, asks, is_t
 use Rattle.module_meaning.specs.OperatorTable.{operand_count, operator_word, run_word}
 use Rattle.naga_form.specs.Readable.{AreAlike, AreNamed, ResolutionIsWithin, handle_names, has_form}
 use Rattle.naga_form.specs.TypeTrees.{inner_tree, resolution_tree, type_tree}
-use Rattle.naga_form.specs.Types.{LocalsHaveForms}
 
 -- of an accepted module of the part that is written so far, in which each written handle has a form,
 -- and of what is written for it with the types of its `let`s told or not
 abbrev pub OfAccepted : (Module → ModuleInfo → Program → Type 0) → Type 0
 OfAccepted Holds =
     (m : Module) (info : ModuleInfo) (explicit : Bool) → IsTrue (is_accepted m info) →
-    IsTrue (is_written_so_far m info) → AllWrittenHaveForms m info →
+    IsTrue (is_written_so_far m info) → AllWrittenHaveForms explicit m info →
     Holds m info (written_program m info explicit)
 
 -- the same where the rules of scope hold, and names are counted
 abbrev pub OfAcceptedInScope : (Module → ModuleInfo → Program → Type 0) → Type 0
 OfAcceptedInScope Holds =
     (m : Module) (info : ModuleInfo) (explicit : Bool) → IsTrue (is_accepted m info) →
-    IsTrue (is_written_so_far m info) → AllWrittenHaveForms m info → ScopesHold m info →
+    IsTrue (is_written_so_far m info) → AllWrittenHaveForms explicit m info → ScopesHold m info →
     NamesAreCounted m → Holds m info (written_program m info explicit)
 
 -- the program is one of the grammar, so that its text has one reading
 abbrev pub IsAProgram : Type 0
 IsAProgram =
     (m : Module) (info : ModuleInfo) (explicit : Bool) → IsTrue (is_accepted m info) →
-    IsTrue (is_written_so_far m info) → AllWrittenHaveForms m info →
+    IsTrue (is_written_so_far m info) → AllWrittenHaveForms explicit m info →
     IsTrue (handles_are_counted m) → IsProgram (written_program m info explicit)
 
 -- it declares what the module declares, where something is known of each function
@@ -91,19 +90,18 @@ ResolvesAsMeant = OfAcceptedInScope ResolvesAs
 abbrev pub BindsAsCounted : Type 0
 BindsAsCounted =
     (m : Module) (info : ModuleInfo) (explicit : Bool) → IsTrue (is_accepted m info) →
-    IsTrue (is_written_so_far m info) → AllWrittenHaveForms m info →
+    IsTrue (is_written_so_far m info) → AllWrittenHaveForms explicit m info →
     BindsAs m info explicit (written_program m info explicit)
 
--- what is written of a function that is written so far, each written handle of which has a form, of a
--- module whose types are written so far, in which the types of the function's locals have forms, is
--- read as its shape is written, whatever type is known of each of its expressions
+-- what is written of a function that is written so far, of which what is written has a form, in a
+-- module of types of the part, is read as its shape is written, whatever type is known of each of
+-- its expressions
 abbrev pub FunctionsAreRead : Type 0
 FunctionsAreRead =
     (explicit : Bool) (m : Module) (info : ModuleInfo) (g : ℕ) (f : Function) →
-    (es : List ExpressionInfo) → IsTrue (list_all is_value_type m.types) →
-    IsTrue (function_is_written f) → WrittenHaveForms m info f es →
+    (es : List ExpressionInfo) → IsTrue (list_all type_is_of_part m.types) →
+    IsTrue (function_is_written f) → WrittenHaveForms explicit m info f es →
     length f.expressions ≡ length es →
-    LocalsHaveForms (type_names m) f.local_variables →
     function_read (function_form explicit (module_names m) m info g f es)
     ≡ form_function (function_naming (module_names m) m info g f es)
 

@@ -1,6 +1,8 @@
+pub mod ConstantForms
 pub mod Declarations
 pub mod Expressions
 pub mod Functions
+pub mod Images
 pub mod Laws
 pub mod Literals
 pub mod Operators

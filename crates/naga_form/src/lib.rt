@@ -35,8 +35,8 @@ pub fn binds_as_counted()
     ensures { BindsAsCounted }
 {}
 
-/// What is written of a function whose literals are all written so far, and the types of whose
-/// locals all have forms, is read as its shape is written, whatever is known of it.
+/// What is written of a function of the part, of which what is written has a form, is read as its
+/// shape is written, whatever is known of it.
 pub fn functions_are_read()
     ensures { FunctionsAreRead }
 {}

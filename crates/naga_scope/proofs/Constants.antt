@@ -98,7 +98,7 @@ module _ (m : Module) (info : ModuleInfo) (f : ir_function.Function) (es : List 
   own h = operands_at f.expressions h
 
   -- whether a handle's tree is constant, up to a bound
-  abbrev constant_to : ℕ → ℕ → Bool
+  abbrev pub constant_to : ℕ → ℕ → Bool
   constant_to n h = is_constant_below shape n h
 
   below : (h : ℕ) → AllBelow h (own h)
@@ -123,12 +123,12 @@ module _ (m : Module) (info : ModuleInfo) (f : ir_function.Function) (es : List 
       by true is = ap (all_constant test) (pure_operands m info f es h is)
       by false is = refl
 
-  one_more : (n h : ℕ) →
+  pub one_more : (n h : ℕ) →
       constant_to (suc n) h ≡ (leaf h || (pure h && all_constant (constant_to n) (own h)))
   one_more n h = test_is (constant_to n) h
 
   -- the bound doesn't matter past the handle
-  any_bound : (n k h : ℕ) → h < n → h < k → constant_to n h ≡ constant_to k h
+  pub any_bound : (n k h : ℕ) → h < n → h < k → constant_to n h ≡ constant_to k h
   any_bound zero k h ln lk = absurd (omega arith)
   any_bound (suc n) zero h ln lk = absurd (omega arith)
   any_bound (suc n) (suc k) h ln lk =
@@ -185,7 +185,7 @@ module _ (m : Module) (info : ModuleInfo) (f : ir_function.Function) (es : List 
             ∙ is ∙ ap first_standing (next_cell table i lt s));
       }
 
-  counted : length shape.expressions ≡ all
+  pub counted : length shape.expressions ≡ all
   counted = shapes_length (declared m info (types_known es)) f.expressions 0 f.expressions
 
   pub start_handles : (table : List Standing) → IsStart m info f es table all →

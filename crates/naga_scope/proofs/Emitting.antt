@@ -31,7 +31,10 @@ use Rattle.naga_scope.specs.declared.points.Standing.{Standing}
 use Rattle.naga_scope.specs.declared.points.Standing.TheVariants.{Absent, Named}
 use Rattle.naga_scope.specs.Standings.{standing_of, handles_of, kind_at, unbound_standing}
 use Rattle.naga_scope.specs.Standings.{emitted_standing, is_emittable_kind, operands_at}
-use Rattle.naga_scope.proofs.Shaped.{emittable_at, operands_are}
+use Rattle.naga_scope.proofs.Offsets.{usable_operands}
+use Rattle.naga_scope.proofs.Shaped.{emittable_at}
+use Rattle.naga_scope.specs.Standings.{KeepsStart}
+use Rattle.module_meaning.specs.Premises.{OperandsStandBefore}
 
 -- ---- a table with another cell
 set_handles : (table : List Standing) (h : ℕ) (cell : Standing) → h < length table → handles_of (slice_set table h cell) ≡ update (handles_of table) h (standing_of (numbered_name h) cell)
@@ -87,9 +90,9 @@ module _ (m : Module) (info : ModuleInfo) (f : ir_function.Function) (es : List 
       ∙ ap (λ m. is_new (s h) && (m && b)) (sym (emittable_at m info f es h ∙ kind))
 
   -- else it is where no name binds it, or its operands are in scope
-  pub allowed_by : (written : IsTrue (function_is_written f)) (h : ℕ) (s : Handles) (b u : Bool) → is_new (s h) ≡ true → is_emittable_kind (kind_at f.expressions h) ≡ true → b ≡ binds of h → u ≡ usable_all of s (operands_at f.expressions h) → (not b || u) ≡ may_emit of h s
-  allowed_by written h s b u new kind bound operands =
-      λ i. sym new i && (sym (emittable_at m info f es h ∙ kind) i && (not (bound i) || (operands ∙ ap (usable_all of s) (sym (operands_are m info f es written h))) i))
+  pub allowed_by : OperandsStandBefore f.expressions → (h : ℕ) (s : Handles) → KeepsStart of s → (b u : Bool) → is_new (s h) ≡ true → is_emittable_kind (kind_at f.expressions h) ≡ true → b ≡ binds of h → u ≡ usable_all of s (operands_at f.expressions h) → (not b || u) ≡ may_emit of h s
+  allowed_by ordered h s held b u new kind bound operands =
+      λ i. sym new i && (sym (emittable_at m info f es h ∙ kind) i && (not (bound i) || (operands ∙ sym (usable_operands m info f es ordered s held h)) i))
 
 module _ (names : NameMap) (m : Module) (info : ModuleInfo) (g : ℕ) (f : ir_function.Function) (es : List ExpressionInfo) (written : IsTrue (function_is_written f)) where
   abbrev own : Naming

@@ -3,6 +3,9 @@ pub mod Constants
 pub mod Emitting
 pub mod Holding
 pub mod Marking
+pub mod Offsets
 pub mod FirstValues
+pub mod Forming
 pub mod Planned
 pub mod Sweeping
+pub mod WrittenConstants

@@ -49,7 +49,15 @@ use Rattle.naga_form.proofs.ModulePlaces.{expression_at, no_expression_at}
 use Rattle.naga_form.proofs.PartFits.{function_parts}
 use Rattle.naga_form.proofs.WellFormed.{applied_any}
 use Rattle.naga_scope.specs.Standings.{kind_at, operands_at, is_pure_kind, is_constant_kind}
-use Rattle.naga_scope.specs.Standings.{is_emittable_kind, usable_by}
+use Rattle.naga_scope.specs.Standings.{is_emittable_kind, is_image_operation, usable_by}
+use Rattle.module_meaning.specs.ExpressionOperators.{is_depth_image, level_of, query_operator}
+use Rattle.module_meaning.specs.ExpressionOperators.{sample_operator}
+use Rattle.naga_ir.specs.Operands.{query_operands}
+use Rattle.naga_ir.specs.declared.expression.ImageQuery.{ImageQuery}
+use Rattle.naga_ir.specs.declared.expression.ImageQuery.TheVariants as query
+use Rattle.naga_ir.specs.declared.expression.SwizzleComponent.{SwizzleComponent}
+use Rattle.shader_runs.specs.Program.{is_asked}
+use Rattle.std.specs.Option.{is_some}
 
 -- ---- the runs' words for shapes are tests of their kind
 pure_shape : (o : Option Expression) → is_pure o ≡ is_pure_kind (shape_kind o)
@@ -237,18 +245,6 @@ module _ (m : Module) (info : ModuleInfo) (f : ir_function.Function) (es : List 
     written_at h e at =
         list_all_at expression_is_of_part f.expressions h e (function_parts f written).expressions at
 
-    -- every expression has its own operands
-    pub operands_are : (h : ℕ) → operands_of (expression_of shape h) ≡ operands_at f.expressions h
-    operands_are h = operands_by h (λ e at. own e (written_at h e at))
-      where
-        own : (e : ir.Expression) → expression_is_of_part e ≡ true →
-            operands_of (Some (shape_of d f.expressions h e)) ≡ expression_operands e
-        own
-            (expression.ImageSample
-            image sampler gather coordinate array_index offset level depth_ref clamp) is =
-            absurd cc
-        own e is = shape_operands d f.expressions h e refl
-
     -- how often a handle is used
     abbrev count : ℕ → ℕ
     count h = get_or (map (λ e. e.ref_count) es) h 0
@@ -269,10 +265,19 @@ module _ (m : Module) (info : ModuleInfo) (f : ir_function.Function) (es : List 
         silent
         ∙ operator_bound shape h op xs
 
-    -- what an Emit may give is bound from its number of uses on
+    -- a question to an image is always bound
+    query_bound : (h : ℕ) (query : ImageQuery) (xs : List ℕ) →
+        binds_as shape h (Some (applied_shape (query_operator query) xs)) ≡ true
+    query_bound h (query.Size level) xs = refl
+    query_bound h query.NumLevels xs = refl
+    query_bound h query.NumLayers xs = refl
+    query_bound h query.NumSamples xs = refl
+
+    -- what an Emit may give is bound from its number of uses on, or always
     pub emitted_binds : IsTrue (types_allow_all m.types f es) → (h : ℕ) (e : ir.Expression) →
         slice_get f.expressions h ≡ Some e →
-        is_emittable_kind (kind_of e) ≡ true → nat_le (count_to_bind e) (count h) ≡ binds shape h
+        is_emittable_kind (kind_of e) ≡ true →
+        (is_image_operation e || nat_le (count_to_bind e) (count h)) ≡ binds shape h
     emitted_binds allowed h e at may =
         sym
         (ap (binds_as shape h) (expression_at m info f es h e at)
@@ -282,7 +287,8 @@ module _ (m : Module) (info : ModuleInfo) (f : ir_function.Function) (es : List 
         own : (e : ir.Expression) → expression_is_of_part e ≡ true →
             types_allow m.types es e ≡ true →
             is_emittable_kind (kind_of e) ≡ true →
-            binds_as shape h (Some (shape_of d f.expressions h e)) ≡ nat_le (count_to_bind e) (count h)
+            binds_as shape h (Some (shape_of d f.expressions h e)) ≡
+            (is_image_operation e || nat_le (count_to_bind e) (count h))
         own (expression.Load pointer) is types may = by (points_to_atomic d.around pointer)
           where
             by : (atomic : Bool) →
@@ -316,6 +322,24 @@ module _ (m : Module) (info : ModuleInfo) (f : ir_function.Function) (es : List 
             ∙ counted_from 2 h
         own (expression.Math fun arg arg1 arg2 arg3) is types may = counted_from 2 h
         own (expression.Relational fun argument) is types may = counted_from 2 h
+        own
+            (expression.ImageSample
+            image sampler gather coordinate array_index offset level depth_ref clamp) is types may =
+            by gather
+          where
+            by : (g : Option SwizzleComponent) →
+                is_asked shape h
+                (asking
+                (sample_operator
+                (option_map_or is_depth_image (type_known d.around image) false)
+                g (level_of level) (is_some depth_ref) clamp
+                (is_some array_index) (is_some offset))) ≡ true
+            by None = refl
+            by (Some c) = refl
+        own (expression.ImageLoad image coordinate array_index sample level) is types may = refl
+        own (expression.ImageQuery image query) is types may = query_bound h query (image ∷ query_operands query)
+        own (expression.ArrayLength array) is types may = counted_from 2 h
+        own (expression.CooperativeMultiplyAdd x y z) is types may = counted_from 2 h
         own (expression.Literal value) is types may = absurd cc
         own (expression.FunctionArgument number) is types may = absurd cc
         own (expression.LocalVariable handle) is types may = absurd cc

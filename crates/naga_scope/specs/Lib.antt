@@ -1,3 +1,4 @@
 pub mod Standings
+pub mod Forms
 pub mod Marks
 pub mod Plans

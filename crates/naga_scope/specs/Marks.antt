@@ -2,7 +2,7 @@
 use Rattle.std.specs.Prelude.{◌≡◌, ℕ, Bool, false, List, ◌&&◌, ◌||◌, get_or, length, nat_eq, nat_lt}
 use Rattle.std.specs.Prelude.{IsFalse, IsSomeAnd, IsTrue, None, Option, Some, slice_get}
 use Rattle.std.specs.List.{list_any}
-use Rattle.module_meaning.specs.Part.{expression_is_written}
+use Rattle.module_meaning.specs.Writable.{is_written_out}
 use Rattle.module_meaning.specs.Written.{IsWritten}
 use Rattle.naga_ir.specs.declared.expression.Expression.{Expression}
 
@@ -24,10 +24,15 @@ abbrev pub MarksJust : (handles : List ℕ) → List Bool → Type 0
 MarksJust handles marks =
     (h : ℕ) → is_marked marks h ≡ (is_one_of handles h && nat_lt h (length marks))
 
--- each written handle has a form, or this one, which is written, has none
-abbrev pub Sweeps : List Expression → (roots : List ℕ) → Option ℕ → Type 0
-Sweeps es roots None =
-    (h : ℕ) (e : Expression) → slice_get es h ≡ Some e → IsWritten es roots h →
-    IsTrue (expression_is_written e)
-Sweeps es roots (Some h) =
-    IsWritten es roots h × IsSomeAnd (slice_get es h) (λ e. IsFalse (expression_is_written e))
+-- just what may be written out as a constant has a mark
+abbrev pub MarksConstants : List Expression → List Bool → Type 0
+MarksConstants es marks = (h : ℕ) → is_marked marks h ≡ is_written_out es h
+
+-- Each written handle has a form, as formed says of its expression, or this one, which is written,
+-- has none.
+abbrev pub Sweeps : (formed : Expression → Bool) → List Expression → (roots : List ℕ) → Option ℕ →
+    Type 0
+Sweeps formed es roots None =
+    (h : ℕ) (e : Expression) → slice_get es h ≡ Some e → IsWritten es roots h → IsTrue (formed e)
+Sweeps formed es roots (Some h) =
+    IsWritten es roots h × IsSomeAnd (slice_get es h) (λ e. IsFalse (formed e))

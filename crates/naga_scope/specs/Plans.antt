@@ -6,8 +6,8 @@ use Rattle.std.specs.Prelude.{◌≡◌, ◌^◌, ℕ, List, Option, Some, IfSom
 use Rattle.std.specs.Prelude.{length, nat_le, slice_get}
 use Rattle.naga_ir.specs.declared.module.Function as ir
 use Rattle.naga_info.specs.declared.info.ExpressionInfo.{ExpressionInfo}
-use Rattle.module_meaning.specs.Part.{expression_is_written}
-use Rattle.module_meaning.specs.Written.{IsWrittenIn, WrittenHaveForms}
+use Rattle.module_meaning.specs.Part.{expression_has_form}
+use Rattle.module_meaning.specs.Written.{ExpressionsHaveForms, IsWrittenIn}
 use Rattle.naga_ir.specs.declared.module.Module.{Module}
 use Rattle.naga_info.specs.declared.info.ModuleInfo.{ModuleInfo}
 use Rattle.shader_runs.specs.Program.{Function}
@@ -37,7 +37,7 @@ pub record IsPlan (m : Module) (info : ModuleInfo) (f : ir.Function) (es : List 
   pub starts : handles_of table ≡ at_start (function_shape m info f es)
   pub size : length table ≡ length f.expressions
   pub counted : IsTrue (nat_le (length f.expressions) (2 ^ 64))
-  pub formed : WrittenHaveForms m info f es
+  pub formed : ExpressionsHaveForms m info f es
 
 -- why there is no plan of it: the rules of scope don't hold in it, a written handle has no form, or
 -- memory ran out
@@ -46,7 +46,7 @@ abbrev pub IsRefusalToPlan : Module → ModuleInfo → ir.Function → List Expr
 IsRefusalToPlan m info f es OutOfScope = ScopeHolds (function_shape m info f es) → ⊥
 IsRefusalToPlan m info f es (WithoutForm h) =
     IsWrittenIn m info f es h
-    × IsSomeAnd (slice_get f.expressions h) (λ e. IsFalse (expression_is_written e))
+    × IsSomeAnd (slice_get f.expressions h) (λ e. IsFalse (expression_has_form m.types es f.expressions e))
 IsRefusalToPlan m info f es (Memory e) = Unit {0}
 
 -- what holds of the function with this handle and of what is known of its expressions, if there is one

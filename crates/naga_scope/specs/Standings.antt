@@ -3,7 +3,7 @@
 -- Throughout, h is a handle, f a function, es are its expressions, o tells whether one is an
 -- operator, and u whether its operands are usable.
 use Rattle.std.specs.Prelude.{ℕ, Bool, true, false, List, [], Option, Some, None, nat_lt, length}
-use Rattle.std.specs.Prelude.{slice_get, get_or, ◌||◌}
+use Rattle.std.specs.Prelude.{slice_get, get_or, ◌||◌, IsTrue}
 use Rattle.std.specs.Option.{option_map_or}
 use Rattle.naga_ir.specs.Kinds.{kind_of}
 use Rattle.naga_ir.specs.Operands.{expression_operands}
@@ -12,6 +12,7 @@ use Rattle.naga_ir.specs.declared.expression.Expression.TheVariants as expressio
 use Rattle.naga_ir.specs.declared.kind.ExpressionKind.{ExpressionKind}
 use Rattle.naga_ir.specs.declared.kind.ExpressionKind.TheVariants as kind
 use Rattle.naga_ir.specs.declared.module.Function.{Function}
+use Rattle.shader_runs.specs.Program.{Function as Shape}
 use Rattle.shader_runs.specs.Scope as runs
 use Rattle.module_meaning.specs.Names.{numbered_name}
 use Rattle.naga_scope.specs.declared.points.Standing.{Standing}
@@ -55,6 +56,21 @@ is_emittable_kind kind.Pure = true
 is_emittable_kind kind.Load = true
 is_emittable_kind kind.Request = true
 is_emittable_kind _ = false
+
+-- an operation on an image
+abbrev pub is_image_operation : ir.Expression → Bool
+is_image_operation
+    (expression.ImageSample
+    image sampler gather coordinate array_index offset level depth_ref clamp) =
+    true
+is_image_operation (expression.ImageLoad image coordinate array_index sample level) = true
+is_image_operation (expression.ImageQuery image query) = true
+is_image_operation e = false
+
+-- what is in scope at the start of a function is so by these standings too
+abbrev pub KeepsStart : Shape → runs.Handles → Type 0
+KeepsStart f s =
+    (h : ℕ) → IsTrue (runs.is_present (runs.at_start f h)) → IsTrue (runs.is_present (s h))
 
 -- Constants and variables of the module are in scope everywhere, arguments and locals where there
 -- are such, and other expressions by their standing.

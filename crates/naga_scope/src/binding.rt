@@ -9,7 +9,7 @@ ghost use Rattle.naga_info.specs.declared.info.ModuleInfo.{ModuleInfo};
 ghost use Rattle.naga_ir.specs.declared.module.Module.{Module};
 ghost use Rattle.shader_runs.specs.Program.{binds};
 ghost use Rattle.naga_scope.specs.Standings.{is_constant_kind, is_emittable_kind, is_pure_kind};
-ghost use Rattle.naga_scope.specs.Standings.{kind_at};
+ghost use Rattle.naga_scope.specs.Standings.{is_image_operation, kind_at};
 
 use naga_back::BakeRefCount;
 use naga_info::FunctionInfo;
@@ -77,9 +77,21 @@ pub(crate) fn is_constant_leaf(kind: ExpressionKind) -> bool
     }
 }
 
-/// Whether a `let` binds the expression with this handle where it is emitted: a `Load` or a
-/// derivative with a use, or another operator, but no part at an index, with two. It is for
-/// functions that are written so far, in which no front end named an expression.
+/// Whether an expression is an operation on an image, which a `let` binds however often it is used.
+fn asks_an_image(expression: &Expression) -> bool
+    ensures { result ≡ is_image_operation expression.now }
+{
+    match expression {
+        Expression::ImageSample { .. }
+        | Expression::ImageLoad { .. }
+        | Expression::ImageQuery { .. } => true,
+        _ => false,
+    }
+}
+
+/// Whether a `let` binds the expression with this handle where it is emitted: an operation on an
+/// image, a `Load` or a derivative with a use, or another operator, but no part at an index, with two.
+/// It is for functions that are written so far, in which no front end named an expression.
 pub fn binds(function: &Function, info: &FunctionInfo, handle: Handle<Expression>) -> bool
     requires written { IsTrue (function_is_written function.now) }
     ensures { (m : Module) (known : ModuleInfo) →
@@ -88,7 +100,9 @@ pub fn binds(function: &Function, info: &FunctionInfo, handle: Handle<Expression
 {
     match expression_at(function, handle) {
         Some(expression) => {
-            is_emittable(expression.kind()) && count_of(info, handle) >= expression.bake_ref_count()
+            is_emittable(expression.kind())
+                && (asks_an_image(expression)
+                    || count_of(info, handle) >= expression.bake_ref_count())
         }
         None => false,
     }

@@ -5,6 +5,7 @@ ghost use Rattle.module_meaning.specs.FunctionShapes.{function_shape, statement_
 ghost use Rattle.module_meaning.specs.Namings.{function_naming};
 ghost use Rattle.module_meaning.specs.Part.{function_is_written, statement_is_written};
 ghost use Rattle.module_meaning.specs.Part.{types_allow_all};
+ghost use Rattle.module_meaning.specs.Premises.{OperandsStandBefore};
 ghost use Rattle.module_meaning.specs.Surroundings.{declared, types_known};
 ghost use Rattle.naga_info.specs.declared.info.ExpressionInfo.{ExpressionInfo};
 ghost use Rattle.naga_ir.specs.StatementViews.{tree_of};
@@ -15,7 +16,7 @@ ghost use Rattle.shader_runs.specs.Program.{from};
 ghost use Rattle.shader_runs.specs.Scope.{after, after_emit, at_start, before_local};
 ghost use Rattle.shader_runs.specs.Scope.{first_values_fit, fits, fits_function, may_emit_all};
 ghost use Rattle.shader_runs.specs.Scope.{usable_if};
-ghost use Rattle.naga_scope.specs.Standings.{handles_of, is_earlier};
+ghost use Rattle.naga_scope.specs.Standings.{KeepsStart, handles_of, is_earlier};
 
 use crate::binding::expression_at;
 use crate::points::Scope;
@@ -82,6 +83,10 @@ fn first_values_hold(scope: &Scope, function: &Function) -> bool
 /// scope is that of some point inside.
 fn emit_holds(scope: &mut Scope, function: &Function, info: &FunctionInfo, range: Range) -> bool
     requires written { IsTrue (function_is_written function.now) }
+    requires ordered { OperandsStandBefore function.now.expressions }
+    requires held { (m : Module) (known : ModuleInfo) →
+        IsTrue (types_allow_all m.types function.now info.now) →
+        KeepsStart (function_shape m known function.now info.now) (handles_of scope.old) }
     requires size { length scope.old ≡ length function.now.expressions }
     ensures fits { (names : NameMap) (m : Module) (known : ModuleInfo) (g k : ℕ) →
         IsTrue (types_allow_all m.types function.now info.now) →
@@ -115,6 +120,10 @@ fn statement_holds(
 ) -> bool
     requires line { IsTrue (statement_is_written (tree_of statement.now)) }
     requires written { IsTrue (function_is_written function.now) }
+    requires ordered { OperandsStandBefore function.now.expressions }
+    requires held { (m : Module) (known : ModuleInfo) →
+        IsTrue (types_allow_all m.types function.now info.now) →
+        KeepsStart (function_shape m known function.now info.now) (handles_of scope.old) }
     requires size { length scope.old ≡ length function.now.expressions }
     ensures fits { (names : NameMap) (m : Module) (known : ModuleInfo) (g k : ℕ) →
         IsTrue (types_allow_all m.types function.now info.now) →
@@ -143,6 +152,7 @@ fn statement_holds(
 /// allowed. The scope is that of the function's start, and then that of some point inside.
 pub(crate) fn function_holds(scope: &mut Scope, function: &Function, info: &FunctionInfo) -> bool
     requires written { IsTrue (function_is_written function.now) }
+    requires ordered { OperandsStandBefore function.now.expressions }
     requires start { (m : Module) (known : ModuleInfo) →
         handles_of scope.old ≡ at_start (function_shape m known function.now info.now) }
     requires size { length scope.old ≡ length function.now.expressions }

@@ -4,10 +4,12 @@
 
 pub mod binding;
 pub mod check;
+mod forms;
 pub mod plan;
 pub mod points;
 mod written;
 
 pub use binding::binds;
+pub use forms::{converted_scalar, sampling_has_form};
 pub use plan::{Plan, PlanError};
 pub use points::{Scope, Standing};

@@ -3,10 +3,11 @@
 ghost use Rattle.std.specs.Prelude.{◌≡◌, ◌<◌, List, IfErr, IfOk, IsTrue, length};
 ghost use Rattle.module_meaning.specs.Accepted.{is_accepted};
 ghost use Rattle.module_meaning.specs.Part.{function_is_written, is_written_so_far};
-ghost use Rattle.module_meaning.specs.Part.{types_allow_all};
+ghost use Rattle.module_meaning.specs.Part.{types_allow_all, types_have_forms};
 ghost use Rattle.module_meaning.specs.Premises.{OperandsStandBefore};
 ghost use Rattle.naga_info.specs.declared.info.ModuleInfo.{ModuleInfo};
 ghost use Rattle.naga_ir.specs.declared.module.Module.{Module};
+ghost use Rattle.naga_scope.specs.Forms.{AreKnownIn};
 ghost use Rattle.naga_scope.specs.Plans.{IsPlan, IsPlanOf, IsRefusalToPlan, IsRefusalToPlanOf};
 ghost use Rattle.naga_scope.specs.declared.plan.PlanError.TheVariants.{Memory};
 
@@ -14,7 +15,7 @@ use crate::check::function_holds;
 use crate::points::Scope;
 use crate::written::written_without_form;
 use naga_info::{FunctionInfo, ModuleInfo};
-use naga_ir::{Expression, Function, Handle, Module};
+use naga_ir::{Expression, Function, Handle, Module, Type_, UniqueArena};
 use std::alloc::{AllocError, Global};
 use std::marker::Model;
 
@@ -64,8 +65,9 @@ impl Plan {
     /// of it, and is of the part that is written so far. Where the rules of scope don't hold in the
     /// function, a written expression has no form, or there is no memory, there is no plan.
     ///
-    /// It takes memory twice: one table serves the check, is then set back to the function's start,
-    /// and serves the text; another one has the marks of what is written, and is given back.
+    /// It takes memory three times: one table serves the check, is then set back to the function's
+    /// start, and serves the text; two others have the marks of what may be written out as a constant
+    /// and of what is written, and are given back.
     pub fn of(
         alloc: Global,
         module: &Module,
@@ -78,20 +80,28 @@ impl Plan {
         ensures ok { IfOk result (IsPlanOf «module».now info.now handle) }
         ensures err { IfErr result (IsRefusalToPlanOf «module».now info.now handle) }
     {
-        Plan::of_function(alloc, &module.functions[handle], &info[handle])
+        Plan::of_function(
+            alloc,
+            &module.types,
+            &module.functions[handle],
+            &info[handle],
+        )
     }
 
     fn of_function(
         alloc: Global,
+        types: &UniqueArena<Type_>,
         function: &Function,
         info: &FunctionInfo,
     ) -> Result<Plan, PlanError>
         requires ordered { OperandsStandBefore function.now.expressions }
         requires written { IsTrue (function_is_written function.now) }
-        ensures ok { (m : Module) (known : ModuleInfo) →
+        requires formed { IsTrue (types_have_forms types.now) }
+        requires known { AreKnownIn types.now info.now }
+        ensures ok { (m : Module) (known : ModuleInfo) → m.types ≡ types.now →
             IsTrue (types_allow_all m.types function.now info.now) →
             IfOk result (IsPlan m known function.now info.now) }
-        ensures err { (m : Module) (known : ModuleInfo) →
+        ensures err { (m : Module) (known : ModuleInfo) → m.types ≡ types.now →
             IsTrue (types_allow_all m.types function.now info.now) →
             IfErr result (IsRefusalToPlan m known function.now info.now) }
     {
@@ -99,7 +109,7 @@ impl Plan {
         if !function_holds(&mut scope, function, info) {
             return Err(PlanError::OutOfScope);
         }
-        if let Some(handle) = written_without_form(alloc, function, info)? {
+        if let Some(handle) = written_without_form(alloc, types, function, info)? {
             return Err(PlanError::WithoutForm(handle));
         }
         scope.restart(function);

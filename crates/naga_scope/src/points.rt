@@ -1,6 +1,6 @@
 //! Where the expressions of a function stand at a point of its text.
 
-ghost use Rattle.std.specs.Prelude.{◌≡◌, ◌&&◌, ◌^◌, ℕ, List, length, nat_le, get_or};
+ghost use Rattle.std.specs.Prelude.{◌≡◌, ◌&&◌, ◌^◌, ℕ, List, [], length, nat_le, get_or};
 ghost use Rattle.std.specs.Prelude.{IsTrue, IfOk, Some};
 ghost use Rattle.std.specs.Option.{option_map};
 ghost use Rattle.module_meaning.specs.FunctionShapes.{function_shape};
@@ -17,7 +17,8 @@ ghost use Rattle.shader_runs.specs.Scope.{all_constant, at_start, after_one};
 ghost use Rattle.shader_runs.specs.Scope.{is_new, is_present, is_pure, may_emit};
 ghost use Rattle.shader_runs.specs.Scope.{usable, usable_all};
 ghost use Rattle.naga_ir.specs.Kinds.{kind_of};
-ghost use Rattle.naga_scope.specs.Standings.{emitted_standing, first_standing, handles_of};
+ghost use Rattle.naga_scope.specs.Standings.{KeepsStart, emitted_standing, first_standing};
+ghost use Rattle.naga_scope.specs.Standings.{handles_of};
 ghost use Rattle.naga_scope.specs.Standings.{is_constant_by, is_pure_kind, operands_at};
 ghost use Rattle.naga_scope.specs.Standings.{standing_of, unbound_standing, usable_by};
 
@@ -180,6 +181,15 @@ impl Scope {
         Ok(scope)
     }
 
+    /// Where every expression is absent, so that none is written as its name. It takes no memory.
+    pub fn without_names(alloc: Global) -> Scope
+        ensures { result ≡ [] }
+    {
+        Scope {
+            standings: Vec::new(alloc),
+        }
+    }
+
     /// Goes to the start of the function, from wherever it is, in the memory that it has.
     pub fn restart(&mut self, function: &Function)
         requires ordered { OperandsStandBefore function.now.expressions }
@@ -242,14 +252,19 @@ impl Scope {
     }
 
     /// Whether an `Emit` may give the expression with this handle here: none gave it before, it is
-    /// one that is emitted, and where a `let` binds it, its operands are in scope.
-    pub fn may_emit(
+    /// one that is emitted, and where a `let` binds it, its operands are in scope. An offset that is
+    /// written out as a constant is so from the start.
+    pub(crate) fn may_emit(
         &self,
         function: &Function,
         info: &FunctionInfo,
         handle: Handle<Expression>,
     ) -> bool
         requires written { IsTrue (function_is_written function.now) }
+        requires ordered { OperandsStandBefore function.now.expressions }
+        requires held { (m : Module) (known : ModuleInfo) →
+            IsTrue (types_allow_all m.types function.now info.now) →
+            KeepsStart (function_shape m known function.now info.now) (handles_of self.now) }
         ensures { (m : Module) (known : ModuleInfo) →
             IsTrue (types_allow_all m.types function.now info.now) →
             result ≡ may_emit (function_shape m known function.now info.now) handle

@@ -2,26 +2,31 @@
 
 ghost use Rattle.std.specs.Prelude.{IfOk, false, replicate};
 ghost use Rattle.std.specs.Prelude.{[], ◌∷◌, ◌≡◌, ◌-◌, ℕ, List, IsTrue, if◌then◌else◌, length};
-ghost use Rattle.std.specs.List.{filter, flat_map};
+ghost use Rattle.std.specs.List.{filter, flat_map, list_all};
 ghost use Rattle.std.specs.Option.{option_to_list};
 ghost use Rattle.naga_ir.specs.Operands.{expression_operands};
 ghost use Rattle.module_meaning.specs.FunctionShapes.{function_shape};
-ghost use Rattle.module_meaning.specs.Part.{expression_is_written, function_is_written};
-ghost use Rattle.module_meaning.specs.Part.{is_written_literal, statement_is_written};
-ghost use Rattle.module_meaning.specs.Part.{types_allow_all};
+ghost use Rattle.module_meaning.specs.Part.{expression_has_form, function_is_written};
+ghost use Rattle.module_meaning.specs.Part.{statement_is_written, types_allow_all};
+ghost use Rattle.module_meaning.specs.Part.{types_have_forms};
+ghost use Rattle.module_meaning.specs.Sampling.{own_offset_is_written};
+ghost use Rattle.module_meaning.specs.Writable.{written_out_over};
 ghost use Rattle.module_meaning.specs.Written.{block_roots, function_roots, statement_roots};
 ghost use Rattle.naga_info.specs.declared.info.ModuleInfo.{ModuleInfo};
 ghost use Rattle.naga_ir.specs.StatementViews.{tree_of};
 ghost use Rattle.naga_ir.specs.declared.module.Module.{Module};
 ghost use Rattle.module_meaning.specs.Premises.{OperandsStandBefore};
-ghost use Rattle.naga_scope.specs.Marks.{MarksJust, Sweeps, is_marked, marked_with};
+ghost use Rattle.naga_ir.specs.declared.expression.Expression.{Expression};
+ghost use Rattle.naga_scope.specs.Forms.{AreKnownIn};
+ghost use Rattle.naga_scope.specs.Marks.{MarksConstants, MarksJust, Sweeps, is_marked};
+ghost use Rattle.naga_scope.specs.Marks.{marked_with};
 ghost use Rattle.shader_runs.specs.Program.{binds, from};
 
 use crate::binding::binds;
+use crate::forms::is_written;
 use naga_info::FunctionInfo;
-use naga_ir::{Expression, Function, Handle, Literal, Place, Range, RelationalFunction, Statement};
+use naga_ir::{Expression, Function, Handle, Place, Range, Statement, Type_, UniqueArena};
 use std::alloc::{AllocError, Global};
-use wgsl_words::TryToWgsl;
 
 /// Notes that the expression with this handle is written, if there is one.
 fn mark(marks: &mut [bool], handle: Handle<Expression>)
@@ -43,43 +48,84 @@ fn mark_if(marks: &mut [bool], handle: Handle<Expression>, is_written: bool)
     }
 }
 
-/// Whether an expression has a form.
-fn has_form(expression: &Expression) -> bool
-    ensures { result ≡ expression_is_written expression.now }
+/// Whether the expression with this handle has a mark.
+fn is_marked(marks: &[bool], handle: Handle<Expression>) -> bool
+    ensures { result ≡ is_marked marks.now handle }
+{
+    match marks.get(handle.index()) {
+        Some(is_marked) => *is_marked,
+        None => false,
+    }
+}
+
+/// Whether all of these have marks.
+fn are_marked(marks: &[bool], handles: &[Handle<Expression>]) -> bool
+    ensures { result ≡ list_all (is_marked marks.now) handles.now }
+{
+    for handle in handles {
+        if !is_marked(marks, *handle) {
+            return false;
+        }
+    }
+    true
+}
+
+/// Whether an expression may be written out as a constant, by marks of its operands that may.
+fn is_constant(marks: &[bool], expression: &Expression) -> bool
+    ensures { result ≡ written_out_over (is_marked marks.now) expression.now }
 {
     match expression {
-        Expression::ZeroValue(_)
-        | Expression::Compose { .. }
-        | Expression::Access { .. }
-        | Expression::AccessIndex { .. }
-        | Expression::FunctionArgument(_)
-        | Expression::LocalVariable(_)
-        | Expression::Load { .. }
-        | Expression::Unary { .. }
-        | Expression::Binary { .. }
-        | Expression::Select { .. }
-        | Expression::Splat { .. }
-        | Expression::Swizzle { .. }
-        | Expression::As { .. }
-        | Expression::Derivative { .. } => true,
-        Expression::Math { fun, .. } => fun.try_to_wgsl().is_some(),
-        Expression::Relational { fun, .. } => match fun {
-            RelationalFunction::All | RelationalFunction::Any => true,
-            RelationalFunction::IsNan | RelationalFunction::IsInf => false,
-        },
-        Expression::Literal(literal) => literal_has_form(*literal),
+        Expression::Literal(_)
+        | Expression::Constant(_)
+        | Expression::Override(_)
+        | Expression::ZeroValue(_) => true,
+        Expression::Compose { components, .. } => are_marked(marks, components.as_slice()),
+        Expression::Splat { value, .. } => is_marked(marks, *value),
         _ => false,
     }
 }
 
-fn literal_has_form(literal: Literal) -> bool
-    ensures { result ≡ is_written_literal literal }
+/// Marks the expressions that may be written out as constants, from the first to the last.
+fn mark_constants(marks: &mut [bool], function: &Function)
+    requires size { length marks.old ≡ length function.now.expressions }
+    requires ordered { OperandsStandBefore function.now.expressions }
+    ensures { MarksConstants function.now.expressions marks.new }
 {
-    match literal {
-        Literal::Bool(_) | Literal::I32(_) | Literal::U32(_) | Literal::I64(_) | Literal::U64(_) =>
-            true,
-        _ => false,
+    for index in 0..function.expressions.len() {
+        let is_constant = is_constant(marks, &function.expressions[Place::from_index(index)]);
+        marks[index] = is_constant;
     }
+}
+
+/// Whether the offset of an expression, if it has one, may be written out as a constant, by marks of
+/// those that may.
+fn offset_has_form(constants: &[bool], expression: &Expression) -> bool
+    ensures { (es : List Expression) → MarksConstants es constants.now →
+        result ≡ own_offset_is_written es expression.now }
+{
+    match expression {
+        Expression::ImageSample { offset, .. } => match offset {
+            Some(offset) => is_marked(constants, *offset),
+            None => true,
+        },
+        _ => true,
+    }
+}
+
+/// Whether an expression has a form, by marks of those that may be written out as constants, in a
+/// module whose types all have one.
+fn has_form(
+    constants: &[bool],
+    types: &UniqueArena<Type_>,
+    info: &FunctionInfo,
+    expression: &Expression,
+) -> bool
+    requires formed { IsTrue (types_have_forms types.now) }
+    requires known { AreKnownIn types.now info.now }
+    ensures { (es : List Expression) → MarksConstants es constants.now →
+        result ≡ expression_has_form types.now info.now es expression.now }
+{
+    is_written(types, info, expression) && offset_has_form(constants, expression)
 }
 
 /// Marks what these handles of an `Emit` write: those that a `let` binds.
@@ -177,11 +223,21 @@ fn no_marks(alloc: Global, function: &Function) -> Result<Vec<bool>, AllocError>
 
 /// Goes from the last expression to the first and marks the operands of what is marked, up to one
 /// that has no form, which it gives.
-fn sweep(marks: &mut [bool], function: &Function) -> Option<Handle<Expression>>
+fn sweep(
+    marks: &mut [bool],
+    constants: &[bool],
+    types: &UniqueArena<Type_>,
+    function: &Function,
+    info: &FunctionInfo,
+) -> Option<Handle<Expression>>
     requires size { length marks.old ≡ length function.now.expressions }
+    requires constants { MarksConstants function.now.expressions constants.now }
     requires ordered { OperandsStandBefore function.now.expressions }
+    requires formed { IsTrue (types_have_forms types.now) }
+    requires known { AreKnownIn types.now info.now }
     ensures { (roots : List ℕ) → MarksJust roots marks.old →
-        Sweeps function.now.expressions roots result }
+        Sweeps (expression_has_form types.now info.now function.now.expressions)
+        function.now.expressions roots result }
 {
     let mut end = function.expressions.len();
     while end > 0 {
@@ -189,7 +245,7 @@ fn sweep(marks: &mut [bool], function: &Function) -> Option<Handle<Expression>>
         if marks[end] {
             let handle = Place::from_index(end);
             let expression = &function.expressions[handle];
-            if !has_form(expression) {
+            if !has_form(constants, types, info, expression) {
                 return Some(handle);
             }
             mark_operands(marks, expression);
@@ -199,38 +255,50 @@ fn sweep(marks: &mut [bool], function: &Function) -> Option<Handle<Expression>>
 }
 
 /// The last written expression of the function that has no form, if there is one, by a table without
-/// marks.
+/// marks and one of those that may be written out as constants.
 fn without_form(
     marks: &mut [bool],
+    constants: &[bool],
+    types: &UniqueArena<Type_>,
     function: &Function,
     info: &FunctionInfo,
 ) -> Option<Handle<Expression>>
     requires ordered { OperandsStandBefore function.now.expressions }
     requires written { IsTrue (function_is_written function.now) }
     requires marks { marks.old ≡ replicate (length function.now.expressions) false }
+    requires constants { MarksConstants function.now.expressions constants.now }
+    requires formed { IsTrue (types_have_forms types.now) }
+    requires known { AreKnownIn types.now info.now }
     ensures { (m : Module) (known : ModuleInfo) →
         IsTrue (types_allow_all m.types function.now info.now) →
         let shape = function_shape m known function.now info.now in
-        Sweeps function.now.expressions (function_roots (binds shape) function.now) result }
+        Sweeps (expression_has_form types.now info.now function.now.expressions)
+        function.now.expressions (function_roots (binds shape) function.now) result }
 {
     mark_first_values(marks, function);
     mark_body(marks, function, info);
-    sweep(marks, function)
+    sweep(marks, constants, types, function, info)
 }
 
 /// The last written expression of the function that has no form, if there is one.
 pub(crate) fn written_without_form(
     alloc: Global,
+    types: &UniqueArena<Type_>,
     function: &Function,
     info: &FunctionInfo,
 ) -> Result<Option<Handle<Expression>>, AllocError>
     requires ordered { OperandsStandBefore function.now.expressions }
     requires written { IsTrue (function_is_written function.now) }
+    requires formed { IsTrue (types_have_forms types.now) }
+    requires known { AreKnownIn types.now info.now }
     ensures { (m : Module) (known : ModuleInfo) →
         IsTrue (types_allow_all m.types function.now info.now) →
         let shape = function_shape m known function.now info.now in
-        IfOk result (Sweeps function.now.expressions (function_roots (binds shape) function.now)) }
+        IfOk result (Sweeps (expression_has_form types.now info.now function.now.expressions)
+        function.now.expressions (function_roots (binds shape) function.now)) }
 {
+    let mut constants = no_marks(alloc, function)?;
+    mark_constants(&mut constants, function);
     let mut marks = no_marks(alloc, function)?;
-    Ok(without_form(&mut marks, function, info))
+    Ok(without_form(&mut marks, &constants, types, function, info))
 }

@@ -1,21 +1,22 @@
 -- The text of a conversion, from what is written of it in turn.
 use Rattle.std.proofs.Common.{◌≡◌, ℕ, Bool, true, false, List, [], ◌++◌, Option, Some}
-use Rattle.std.proofs.Common.{codes, refl, sym, ap, ◌∙◌}
+use Rattle.std.proofs.Common.{codes, refl, sym, ap, subst, ◌∙◌}
+use Rattle.std.proofs.lemmas.Option.{same_Some}
 use Rattle.std.specs.Prelude.{slice_get, unwrap_or, if◌then◌else◌}
 use Rattle.module_meaning.specs.Conversions.{conversion_target, keeps_bits}
 use Rattle.module_meaning.specs.ExpressionOperators.{type_known}
-use Rattle.module_meaning.specs.Part.{is_written_value, type_is_written, types_allow}
+use Rattle.module_meaning.specs.AlikeTypes.{has_form}
+use Rattle.module_meaning.specs.Part.{expression_is_written}
+use Rattle.module_meaning.specs.Ranges.{resolution_fits}
 use Rattle.naga_form.proofs.AllowedParts.{conversion}
 use Rattle.naga_form.proofs.Operators.{bits_text, cast_called, conversion_is, typed_notation}
-use Rattle.naga_form.proofs.WrittenTypes.{has_tree}
+use Rattle.naga_form.proofs.WrittenTypes.{tree_there}
 use Rattle.naga_form.specs.Expressions.{cast_tree}
-use Rattle.naga_form.specs.TypeTrees.{type_tree}
 use Rattle.naga_info.specs.declared.info.TypeResolution.{TypeResolution}
 use Rattle.naga_info.specs.declared.info.TypeResolution.TheVariants.{Value}
 use Rattle.naga_ir.specs.declared.expression.Expression as ir
 use Rattle.naga_ir.specs.declared.expression.Expression.TheVariants.{As}
 use Rattle.naga_ir.specs.declared.types.ScalarKind.{ScalarKind}
-use Rattle.naga_ir.specs.declared.types.Type_.{Type_}
 use Rattle.naga_ir.specs.declared.types.TypeInner.{TypeInner}
 use Rattle.naga_ir.specs.declared.types.TypeInner.TheVariants as inner
 use Rattle.naga_scope.specs.declared.points.Standing.{Standing}
@@ -31,7 +32,7 @@ use Rattle.naga_form.specs.Expressions.{value_forms}
 use Rattle.wgsl_text.proofs.Expressions.{call_text as call_row_text}
 use Rattle.wgsl_text.specs.Expressions.{operands as arguments_of}
 use Rattle.wgsl_text.specs.Reading.{type_layout}
-use Rattle.wgsl_text.specs.Types.{Named as NamedType}
+use Rattle.wgsl_text.specs.Types.{TypeSpecifier, Named as NamedType}
 
 pub conversion_row : (f : FunctionText) (table : List Standing) (operand : ℕ) (kind : ScalarKind)
     (convert : Option ℕ) (handle : ℕ) →
@@ -44,51 +45,58 @@ conversion_row f table operand kind convert handle =
     (arguments_of (value_forms (form_at f table) (operands_at f handle)))
 
 -- ---- types
--- a type of values that is written is one of the types that are written
-pub value_is_type : (types : List Type_) (it : TypeInner) → is_written_value it ≡ true →
-    type_is_written types it ≡ true
-value_is_type types (inner.Scalar s) is = is
-value_is_type types (inner.Vector size s) is = is
-value_is_type types (inner.Matrix columns rows s) is = is
-value_is_type types _ is = absurd cc
-
 pub bitcast_row : (f : FunctionText) (ty : TypeResolution) →
     bitcast_text f ty ≡
     joined_texts (codes "bitcast<") (joined_texts (resolution_text f ty) (codes ">"))
 unfolding bitcast_text joined_texts
 bitcast_row f ty = refl
 
+-- what is converted to is fit wherever it stands
+pub target_fits : (overrides types : ℕ) (from to : TypeInner) (kind : ScalarKind)
+    (convert : Option ℕ) → conversion_target from kind convert ≡ Some to →
+    resolution_fits overrides types (Value to) ≡ true
+target_fits overrides types (inner.Scalar s) to kind convert is =
+    subst (λ it. resolution_fits overrides types (Value it) ≡ true) (same_Some _ to is) refl
+target_fits overrides types (inner.Vector size s) to kind convert is =
+    subst (λ it. resolution_fits overrides types (Value it) ≡ true) (same_Some _ to is) refl
+target_fits overrides types (inner.Matrix columns rows s) to kind convert is =
+    subst (λ it. resolution_fits overrides types (Value it) ≡ true) (same_Some _ to is) refl
+target_fits overrides types _ to kind convert is = absurd cc
+
 module _ (f : FunctionText) (operand : ℕ) (kind : ScalarKind) (convert : Option ℕ)
     (from to : TypeInner) (known : type_known (around f) operand ≡ Some from)
-    (target : conversion_target from kind convert ≡ Some to) (written : is_written_value to ≡ true) where
+    (target : conversion_target from kind convert ≡ Some to)
+    (formed : has_form f.shader.now.types (Value to) ≡ true) where
+  abbrev tree : TypeSpecifier
+  tree = (tree_there (type_names_of f) (Value to) formed).0
+
   -- what is called, by the tree of the type
-  callee_is : conversion_callee f operand kind convert ≡
-      cast_tree (keeps_bits from convert) (has_tree to written).tree
+  callee_is : conversion_callee f operand kind convert ≡ cast_tree (keeps_bits from convert) tree
   callee_is =
       ap (λ o. unwrap_or o (NamedType []))
       (conversion_is (around f) (type_names_of f) operand kind convert from to _ known target
-      ((has_tree to written).is (type_names_of f) (type_tree (type_names_of f))))
+      (tree_there (type_names_of f) (Value to) formed).1)
 
-  resolution_is : resolution_text f (Value to) ≡ type_layout (has_tree to written).tree
+  resolution_is : resolution_text f (Value to) ≡ type_layout tree
   unfolding resolution_text
   resolution_is =
       ap (λ o. type_layout (unwrap_or o (NamedType [])))
-      ((has_tree to written).is (type_names_of f) (type_tree (type_names_of f)))
+      (tree_there (type_names_of f) (Value to) formed).1
 
   pub callee_row : (bits : Bool) → bits ≡ keeps_bits from convert →
       cast_text f bits (Value to) ≡ callee_text f operand kind convert
   unfolding callee_text cast_text bitcast_text
   callee_row bits is =
       by bits
-      ∙ ap type_layout (ap (λ b. cast_tree b (has_tree to written).tree) is ∙ sym callee_is)
+      ∙ ap type_layout (ap (λ b. cast_tree b tree) is ∙ sym callee_is)
     where
       by : (b : Bool) →
           (if b then codes "bitcast<" ++ (resolution_text f (Value to) ++ codes ">")
           else resolution_text f (Value to)) ≡
-          type_layout (cast_tree b (has_tree to written).tree)
+          type_layout (cast_tree b tree)
       by true =
           ap (λ w. codes "bitcast<" ++ (w ++ codes ">")) resolution_is
-          ∙ sym (bits_text (has_tree to written).tree)
+          ∙ sym (bits_text tree)
       by false = resolution_is
 
 pub cast_then : (f : FunctionText) (bits : Bool) (ty : TypeResolution) → bits ≡ true →
@@ -104,17 +112,16 @@ cast_else f bits ty is = sym (ap (λ b. if b then bitcast_text f ty else resolut
 -- ---- what an expression is made of that is a conversion
 pub own_conversion : (f : FunctionText) (table : List Standing) (handle : ℕ) (e : ir.Expression)
     (operand : ℕ) (kind : ScalarKind) (convert : Option ℕ) → CanWrite f →
-    types_allow f.shader.now.types f.info.now (As operand kind convert) ≡ true →
+    expression_is_written f.shader.now.types f.info.now (As operand kind convert) ≡ true →
     slice_get (expressions f) handle ≡ Some e → e ≡ As operand kind convert →
     made_text f table (conversion_callee f operand kind convert) handle ≡ own_text f table handle
 own_conversion f table handle e operand kind convert can may here is =
     let c = conversion f.shader.now f.module_info.now f.info.now operand kind convert may in
-    let tree = c.has.is (type_names_of f) (type_tree (type_names_of f)) in
     let called =
-    conversion_is (around f) (type_names_of f) operand kind convert c.from c.to c.has.tree c.known
-    c.target tree in
+    conversion_is (around f) (type_names_of f) operand kind convert c.from c.to c.tree c.known
+    c.target c.is in
     let op = cast_called (around f) kind convert (type_known (around f) operand) in
     ap (λ o. made_text f table (unwrap_or o (NamedType [])) handle) called
     ∙ own_typed f table handle e (As operand kind convert)
-    (cast_tree (keeps_bits c.from convert) c.has.tree) _ can (typed_notation _ op _ _ called)
+    (cast_tree (keeps_bits c.from convert) c.tree) _ can (typed_notation _ op _ _ called)
     here is refl

@@ -4,7 +4,16 @@ use Rattle.std.proofs.Common.{ap₂}
 use Rattle.std.proofs.Common.{◌≡◌, ℕ, zero, suc, ◌<◌, Bool, true, false, List, [], ◌∷◌, length, Option, Some}
 use Rattle.std.proofs.Common.{None, codes, refl, sym, ap, ◌∙◌, arith, get_or}
 use Rattle.std.specs.Prelude.{IsTrue, slice_get, if◌then◌else◌, unwrap_or}
-use Rattle.std.specs.Option.{option_map_or}
+use Rattle.std.specs.Option.{is_some, option_map_or, option_to_list}
+use Rattle.std.specs.List.{AllByRecursion}
+use Rattle.std.specs.Prelude.{◌||◌}
+use Rattle.std.proofs.Common.{map}
+use Rattle.module_meaning.specs.ExpressionOperators.{is_depth_image, level_of, sample_operator}
+use Rattle.module_meaning.specs.ExpressionOperators.{type_known}
+use Rattle.naga_form.proofs.Images.{without_offset}
+use Rattle.naga_form.specs.Expressions.{constant_form, sampling_operands}
+use Rattle.naga_form.specs.Images.{sampling_form, zero_is_written}
+use Rattle.naga_ir.specs.Operands.{level_operands}
 use Rattle.naga_ir.specs.Operands.{expression_operands}
 use Rattle.naga_ir.specs.declared.expression.Expression as ir
 use Rattle.naga_ir.specs.declared.expression.Expression.TheVariants as expression
@@ -18,10 +27,10 @@ use Rattle.naga_form.proofs.Operators.{unary_row}
 use Rattle.module_meaning.specs.Names.{numbered_name}
 use Rattle.module_meaning.specs.ExpressionOperators.{applied_operator, constructor}
 use Rattle.module_meaning.specs.ExpressionOperators.{load_operator}
-use Rattle.module_meaning.specs.Part.{is_value_at}
+use Rattle.module_meaning.specs.AlikeTypes.{has_form}
 use Rattle.naga_info.specs.declared.info.TypeResolution.TheVariants.{Handle}
 use Rattle.module_meaning.specs.Names.{module_names}
-use Rattle.naga_form.proofs.WrittenTypes.{type_has_form}
+use Rattle.naga_form.proofs.WrittenTypes.{tree_there}
 use Rattle.naga_form.specs.Expressions.{operator_type}
 use Rattle.naga_form.specs.TypeTrees.{type_tree}
 use Rattle.wgsl_text.specs.Types.{TypeSpecifier}
@@ -76,6 +85,15 @@ use Rattle.module_meaning.specs.OperatorTable.{PartAt}
 use Rattle.wgsl_text.specs.Expressions.{Index}
 use Rattle.wgsl_text.proofs.Types.{named_text}
 
+-- ---- handles below another
+each_below : (h : ℕ) (xs : List ℕ) → AllBelow h xs → AllByRecursion (λ x. x < h) xs
+each_below h [] below = tt
+each_below h (x ∷ xs) below = (below.0, each_below h xs below.1)
+
+all_below : (h : ℕ) (xs : List ℕ) → AllByRecursion (λ x. x < h) xs → AllBelow h xs
+all_below h [] below = tt
+all_below h (x ∷ xs) below = (below.0, all_below h xs below.1)
+
 -- ---- a handle's form by its operands' forms, where operands stand before it
 module _ (n : Naming) (code : Source) (before : OperandsStandBefore code.expressions) (s : Handles) where
   operands_same : (a b : ℕ → PlainForm) (h : ℕ) (hs : List ℕ) → AllBelow h hs →
@@ -111,6 +129,26 @@ module _ (n : Naming) (code : Source) (before : OperandsStandBefore code.express
       (Some (WithoutForm (PartAt index))) i)
   own_same a b h (expression.Swizzle size v pattern) below same =
       ap (λ q. ValueForm (Member (as_value q) (swizzle_letters size pattern))) (same v below.0)
+  own_same a b h
+      (expression.ImageSample
+      image sampler gather coordinate array_index offset level depth_ref clamp) below same =
+      let e = expression.ImageSample
+      image sampler gather coordinate array_index offset level depth_ref clamp in
+      let of_depths = option_map_or is_depth_image (type_known code.declared.around image) false in
+      let op =
+      sample_operator of_depths gather (level_of level) (is_some depth_ref) clamp
+      (is_some array_index) (is_some offset) in
+      let unwritten = is_some gather || (is_some depth_ref || clamp) in
+      ap
+      (λ es. ValueForm
+      (sampling_form op (zero_is_written level unwritten) es
+      (map (constant_form code) (option_to_list offset))))
+      (operands_same a b h (sampling_operands e)
+      (all_below h (sampling_operands e)
+      (without_offset (λ x. x < h) image sampler coordinate (option_to_list array_index)
+      (option_to_list depth_ref) (level_operands level) (option_to_list offset)
+      (each_below h (expression_operands e) below)))
+      same)
   own_same a b h (expression.Literal value) below same = refl
   own_same a b h (expression.FunctionArgument number) below same = refl
   own_same a b h (expression.LocalVariable handle) below same = refl
@@ -195,6 +233,11 @@ own_at f table handle (Some (expression.LocalVariable local)) = address_text f l
 own_at f table handle (Some (expression.Swizzle size vector pattern)) =
     member_text f table vector (swizzle_letters size pattern)
 own_at f table handle (Some (expression.Load pointer)) = reference_text f table pointer
+own_at f table handle
+    (Some
+    (expression.ImageSample
+    image sampler gather coordinate array_index offset level depth_ref clamp)) =
+    own_text f table handle
 own_at f table handle (Some e) =
     application_at f table (operator_type (around f) (type_names_of f) e) (expression_operands e)
     (applied_operator (around f) e)
@@ -246,6 +289,11 @@ own_row f table handle can = by (slice_get (expressions f) handle) refl
     by (Some (expression.LocalVariable local)) at = refl
     by (Some (expression.Load pointer)) at =
         loaded pointer (points_to_atomic (around f) pointer) (points_to_none f can pointer)
+    by
+        (Some
+        (expression.ImageSample
+        image sampler gather coordinate array_index offset level depth_ref clamp)) at =
+        ap (λ o. expression_layout (as_value (own_if (naming f) (source f) operand o))) (sym at)
     by (Some (expression.ZeroValue ty)) at = refl
     by (Some (expression.Swizzle size vector pattern)) at = refl
     by (Some e) at =
@@ -339,6 +387,14 @@ reference_row f table handle can lt =
         pointed_by mine (Some (expression.Load pointer)) at
         (valued (as_reference (operand pointer)) None (pointer ∷ [])
         (load_operator (around f) pointer))
+    kind mine
+        (Some
+        (expression.ImageSample
+        image sampler gather coordinate array_index offset level depth_ref clamp)) at =
+        pointed_by mine
+        (Some
+        (expression.ImageSample
+        image sampler gather coordinate array_index offset level depth_ref clamp)) at refl
     kind mine (Some x) at =
         pointed_by mine (Some x) at
         (valued (Constant (Truth false)) (operator_type (around f) (type_names_of f) x)
@@ -414,7 +470,7 @@ own_typed f table handle e own t n can called here is made =
 
 -- or makes a value of a type of the module
 pub own_made : (f : FunctionText) (table : List Standing) (handle ty components : ℕ)
-    (e own : ir.Expression) → CanWrite f → IsTrue (is_value_at f.shader.now.types ty) →
+    (e own : ir.Expression) → CanWrite f → IsTrue (has_form f.shader.now.types (Handle ty)) →
     slice_get (expressions f) handle ≡ Some e → e ≡ own →
     own_at f table handle (Some own) ≡
     applied_text f table
@@ -422,12 +478,11 @@ pub own_made : (f : FunctionText) (table : List Standing) (handle ty components 
     (expression_operands own) →
     made_text f table (made_type f ty) handle ≡ own_text f table handle
 own_made f table handle ty components e own can value here is made =
-    let form = type_has_form f.shader.now.types ty value in
-    let tree = form.is (module_names f.shader.now) in
-    ap (λ o. made_text f table (unwrap_or o (NamedType [])) handle) tree
-    ∙ own_typed f table handle e own form.tree _ can
+    let tree = tree_there (type_names_of f) (Handle ty) value in
+    ap (λ o. made_text f table (unwrap_or o (NamedType [])) handle) tree.1
+    ∙ own_typed f table handle e own tree.0 _ can
     (typed_notation _ (constructor_called (around f) (Handle ty) components)
-    (type_tree (type_names_of f) ty) form.tree tree)
+    (type_tree (type_names_of f) ty) tree.0 tree.1)
     here is made
 
 pub next_operand_row : (f : FunctionText) (table : List Standing) (first : Bool) (operand : ℕ)

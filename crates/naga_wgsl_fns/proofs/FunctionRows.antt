@@ -20,7 +20,6 @@ use Rattle.naga_info.specs.declared.info.ModuleInfo.{ModuleInfo}
 use Rattle.module_meaning.specs.Accepted.{is_accepted}
 use Rattle.module_meaning.specs.InfoSizes.{sizes_fit, type_is_fit}
 use Rattle.module_meaning.specs.Part.{function_is_written, is_written_so_far}
-use Rattle.module_meaning.specs.Part.{resolution_is_written}
 use Rattle.module_meaning.specs.Ranges.{all_placed, declarations_in_range, function_in_range}
 use Rattle.module_meaning.specs.Ranges.{module_in_range, module_ranges_fit}
 use Rattle.naga_form.specs.Expressions.{value_form}
@@ -41,7 +40,7 @@ use Rattle.wgsl_text.proofs.Functions.{function_text as function_row_text}
 use Rattle.naga_names.specs.Keys.{names_in}
 use Rattle.shader_runs.specs.Scope.{Handles}
 use Rattle.module_meaning.specs.Names.{HasNamesOf, module_names}
-use Rattle.module_meaning.specs.Written.{WrittenHaveForms}
+use Rattle.module_meaning.specs.Written.{ExpressionsHaveForms}
 use Rattle.module_meaning.proofs.Part.{functions_allow, written_so_far_parts}
 use Rattle.naga_scope.specs.declared.points.Standing.{Standing}
 use Rattle.naga_words.specs.declared.error.TypeTextError.{TypeTextError}
@@ -96,18 +95,21 @@ one_is_known m info accepted g f es here known =
     let both = zip_at m.functions info.functions.items g f es here known in
     (accepted_at m info accepted g f es (in_left (zip m.functions info.functions.items) (entry_points_known m info) g (f, es) both)).size
 
-pub can_write : (t : FunctionText) (info : ModuleInfo) → IsTrue (is_accepted t.shader.now info) → IsTrue (is_written_so_far t.shader.now info) → HasNamesOf t.shader.now (names_in t.names.now) → slice_get t.shader.now.functions t.handle ≡ Some t.function.now → slice_get info.functions.items t.handle ≡ Some t.info.now → WrittenHaveForms t.shader.now t.module_info.now t.function.now t.info.now → CanWrite t
-can_write t info accepted written named here known formed =
+pub can_write : (t : FunctionText) → IsTrue (is_accepted t.shader.now t.module_info.now) → IsTrue (is_written_so_far t.shader.now t.module_info.now) → HasNamesOf t.shader.now (names_in t.names.now) → slice_get t.shader.now.functions t.handle ≡ Some t.function.now → slice_get t.module_info.now.functions.items t.handle ≡ Some t.info.now → ExpressionsHaveForms t.shader.now t.module_info.now t.function.now t.info.now → CanWrite t
+can_write t accepted written named here known formed =
     let m = t.shader.now in
+    let info = t.module_info.now in
     let f = t.function.now in
     let part = written_so_far_parts m info written in
     record {
       named = named;
+      accepted = accepted;
+      of_part = written;
       function = here;
+      infos = known;
       values = part.1;
       ranges = function_names_there m info (names_are_there m info accepted) t.handle f here;
       size = one_is_known m info accepted t.handle f t.info.now here known;
-      known = list_all_at (list_all (λ k. resolution_is_written m.types k.ty)) info.functions.items t.handle t.info.now part.3 known;
       written = list_all_at function_is_written m.functions t.handle f part.2 here;
       allowed = functions_allow m info written t.handle f t.info.now here known;
       formed = formed;

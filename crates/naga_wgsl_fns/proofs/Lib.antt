@@ -2,6 +2,7 @@ pub mod Appending
 pub mod ConversionRows
 pub mod ExpressionRows
 pub mod FunctionRows
+pub mod ImageRows
 pub mod Literals
 pub mod NameRows
 pub mod PartForms

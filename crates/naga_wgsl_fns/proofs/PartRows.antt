@@ -23,6 +23,9 @@ use Rattle.std.proofs.lemmas.Option.{same_Some}
 use Rattle.naga_wgsl_fns.specs.Expressions.{part_base_text, part_end_text, part_reference_text}
 use Rattle.naga_wgsl_fns.specs.Expressions.{part_value_text, plain_address_text, plain_text}
 use Rattle.naga_wgsl_fns.specs.Expressions.{plain_tree, pointed_text, reference_text, word_text}
+use Rattle.naga_wgsl_fns.proofs.ImageRows.{query_is_called}
+use Rattle.module_meaning.specs.ExpressionOperators.{query_operator}
+use Rattle.naga_ir.specs.Operands.{query_operands}
 use Rattle.naga_wgsl_fns.proofs.PartForms.{part_form, part_unsigned, selected_unsigned}
 use Rattle.naga_wgsl_fns.proofs.PartForms.{tree_of_part}
 use Rattle.naga_form.specs.Expressions.{no_form, part_plain, points, selected_part}
@@ -267,6 +270,11 @@ module _ (n : Naming) (code : Source) (s : Handles) where
   own_unsigned operand (Some (expression.Load pointer)) =
       applied_unsigned (as_reference (operand pointer)) None operand (pointer ∷ [])
       (load_operator code.declared.around pointer)
+  own_unsigned operand
+      (Some
+      (expression.ImageSample
+      image sampler gather coordinate array_index offset level depth_ref clamp)) =
+      refl
   own_unsigned operand (Some e) =
       applied_unsigned (tree.Constant (Truth false))
       (operator_type code.declared.around code.type_names e) operand (expression_operands e)
@@ -386,6 +394,16 @@ signed_row f table handle can lt =
         of_written (expression.Derivative axis how x) at is = refl
         of_written (expression.Math fun x y z w) at is = refl
         of_written (expression.Relational fun x) at is = refl
+        of_written
+            (expression.ImageSample
+            image sampler gather coordinate array_index offset level depth_ref clamp) at is =
+            refl
+        of_written (expression.ImageLoad image coordinate array_index sample level) at is = refl
+        of_written (expression.ImageQuery image query) at is =
+            called_unsigned (query_operator query) (query_is_called query) None
+            (value_forms operand (image ∷ query_operands query))
+        of_written (expression.ArrayLength array) at is = refl
+        of_written (expression.CooperativeMultiplyAdd x y z) at is = refl
         of_written _ at is = absurd cc
 
     whole : is_signed (as_value (own_form f table handle)) ≡ is_prefix (slice_get (expressions f) handle)

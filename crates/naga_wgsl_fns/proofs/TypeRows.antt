@@ -2,19 +2,14 @@
 use Rattle.std.proofs.Common.{◌≡◌, ℕ, ◌<◌, true, false, codes, List, [], ◌∷◌, ◌++◌, Option, Some, None}
 use Rattle.std.proofs.Common.{refl, sym, ap, subst, ◌∙◌, ◌≤◌, arith, slice_get, length}
 use Rattle.std.specs.Prelude.{Bool, IsTrue, unwrap_or}
-use Rattle.std.specs.Option.{option_map, option_map_or}
-use Rattle.std.specs.List.{list_all}
+use Rattle.std.specs.Option.{is_some, option_map}
 use Rattle.std.proofs.lemmas.Option.{slice_get_within}
-use Rattle.naga_ir.specs.declared.types.AddressSpace.TheVariants as space
 use Rattle.naga_ir.specs.declared.types.Type_.{Type_}
 use Rattle.naga_ir.specs.declared.types.TypeInner.{TypeInner}
 use Rattle.naga_ir.specs.declared.types.TypeInner.TheVariants as inner
-use Rattle.module_meaning.specs.Part.{is_value_at, is_value_type, is_written_value}
-use Rattle.module_meaning.specs.Part.{resolution_is_written, type_is_written}
 use Rattle.wgsl_text.specs.Types.{TypeSpecifier, Named}
 use Rattle.wgsl_text.proofs.Text.{text-append}
 use Rattle.naga_form.proofs.TypeTrees.{only_text, lacks_unknown, type_row, inner_tree_row}
-use Rattle.module_meaning.proofs.Lists.{list_all_at}
 use Rattle.naga_names.specs.Keys.{NameMap, names_in}
 use Rattle.naga_info.specs.declared.info.TypeResolution.{TypeResolution}
 use Rattle.naga_info.specs.declared.info.TypeResolution.TheVariants as resolution
@@ -22,17 +17,28 @@ use Rattle.naga_words.specs.Parts.{Part, Word, Shown, Missing}
 use Rattle.naga_words.specs.Parts.{IsText, before_missing, known_text, lacks}
 use Rattle.naga_words.proofs.PartWriting.{reason_as}
 use Rattle.naga_words.specs.Contexts.{names_of, names_context}
-use Rattle.naga_words.specs.Spelling.{Context, Fits, FitsResolution, IsInOrder, end_of_base}
+use Rattle.naga_words.specs.Spelling.{FitsResolution, IsInOrder}
 use Rattle.naga_words.specs.Spelling.{knows_override, type_parts, resolution_parts}
 use Rattle.naga_words.specs.Sink.{IsBehind}
 use Rattle.naga_form.specs.TypeTrees.{type_tree, resolution_tree}
 use Rattle.naga_words.specs.declared.error.TypeTextError.{TypeTextError}
 use Rattle.wgsl_text.specs.Reading.{type_layout}
 use Rattle.module_meaning.specs.Names.{module_names}
-use Rattle.naga_form.proofs.WrittenTypes.{HasForm, resolution_has_form, type_has_form}
 use Rattle.naga_words.specs.Output.{Follows, Goes, Lies, PartsFollow, PartsGo, PartsLie, OutputView}
 use Rattle.naga_words.specs.Output.{SpelledParts, Wrote, joined_texts}
 use Rattle.naga_wgsl_fns.specs.declared.functions.FunctionText.{FunctionText}
+use Rattle.naga_wgsl_fns.specs.FunctionText.{CanWrite}
+use Rattle.module_meaning.specs.AlikeTypes.{form_within, found_form_by, handle_form, has_form}
+use Rattle.module_meaning.specs.Ranges.{resolution_fits}
+use Rattle.module_meaning.specs.Types.{type_names}
+use Rattle.naga_form.proofs.PartTypes.{known_before, known_within, nameless, no_overrides}
+use Rattle.naga_form.proofs.PartTypes.{type_before}
+use Rattle.naga_form.proofs.WrittenTypes.{resolution_same, tree_there}
+use Rattle.naga_ir.specs.declared.module.Module.{Module}
+use Rattle.naga_ir.specs.declared.types.ArraySize.{ArraySize}
+use Rattle.naga_ir.specs.declared.types.ArraySize.TheVariants as size
+use Rattle.naga_words.specs.Spelling.{knows_size, length_within}
+use Rattle.std.proofs.lemmas.Bool.{ltb-true}
 use Rattle.naga_wgsl_fns.specs.Types.{annotation_text, resolution_text, type_text}
 
 -- where each part is known, none is refused
@@ -80,72 +86,67 @@ pub annotation_row : (f : FunctionText) (ty : TypeResolution) → annotation_tex
 unfolding annotation_text joined_texts
 annotation_row f ty = refl
 
-module _ (types : List Type_) where
-  -- what is known of the spelling of a type that has a form, whatever its names are
-  known_of_tree : (names others : NameMap) (ps : List Part) (under : NameMap → Option TypeSpecifier) → known_text ps ≡ option_map type_layout (under names) → HasForm under → known_text ps ≡ Some (type_layout (unwrap_or (under others) (Named [])))
-  known_of_tree names others ps under row has = row ∙ ap (option_map type_layout) (has.is names) ∙ ap (λ x. Some (type_layout (unwrap_or x (Named [])))) (sym (has.is others))
+row_of : (types : List Type_) (names : NameMap) (r : TypeResolution) → known_text (resolution_parts (names_context types names) r) ≡ option_map type_layout (resolution_tree (names_of types names) r)
+row_of types names (resolution.Handle h) = type_row text-append (names_of types names) (λ handle. true) h
+row_of types names (resolution.Value i) = inner_tree_row text-append (names_of types names) (λ handle. true) i
 
-  row_of : (names : NameMap) (r : TypeResolution) → known_text (resolution_parts (names_context types names) r) ≡ option_map type_layout (resolution_tree (names_of types names) r)
-  row_of names (resolution.Handle h) = type_row text-append (names_of types names) (λ handle. true) h
-  row_of names (resolution.Value i) = inner_tree_row text-append (names_of types names) (λ handle. true) i
+-- a type of the module that has a form is there
+pub formed_within : (types : List Type_) (ty : ℕ) → IsTrue (has_form types (resolution.Handle ty)) → ty < length types
+unfolding handle_form
+formed_within types ty is = by (slice_get types ty) refl is
+  where
+    by : (o : Option Type_) → slice_get types ty ≡ o → is_some (found_form_by (form_within ty types) ty o) ≡ true → ty < length types
+    by None at is = absurd (cc)
+    by (Some t) at is = slice_get_within types ty t at
 
-  -- ---- what a context asks for
-  value_before : (i : TypeInner) (h : ℕ) → IsTrue (is_written_value i) → end_of_base i ≤ h
-  value_before (inner.Scalar s) h is = omega arith
-  value_before (inner.Vector size s) h is = omega arith
-  value_before (inner.Matrix columns rows s) h is = omega arith
-  value_before _ h is = absurd (cc)
+-- the writer's context knows all overrides
+all_sizes : (types : List Type_) (names : NameMap) (l : ArraySize) → IsTrue (knows_size (names_context types names) l)
+all_sizes types names (size.Constant number) = refl
+all_sizes types names (size.Pending o) = refl
+all_sizes types names size.Dynamic = refl
 
-  value_knows : (c : Context) (i : TypeInner) → IsTrue (is_written_value i) → IsTrue (knows_override c i)
-  value_knows c (inner.Scalar s) is = refl
-  value_knows c (inner.Vector size s) is = refl
-  value_knows c (inner.Matrix columns rows s) is = refl
-  value_knows c _ is = absurd (cc)
-
-  pub in_order : (names : NameMap) → list_all is_value_type types ≡ true → IsInOrder (names_context types names)
-  in_order names values = record {
-    before = λ h t at. value_before t.inner h (list_all_at is_value_type types h t values at);
-    known = λ h t at. value_knows (names_context types names) t.inner (list_all_at is_value_type types h t values at);
-  }
-
-  pub value_within : (ty : ℕ) → IsTrue (is_value_at types ty) → ty < length types
-  value_within ty is = by (slice_get types ty) refl is
-    where
-      by : (o : Option Type_) → slice_get types ty ≡ o → option_map_or is_value_type o false ≡ true → ty < length types
-      by None at is = absurd (cc)
-      by (Some t) at is = slice_get_within types ty t at
-
-  inner_fits : (names : NameMap) (i : TypeInner) → IsTrue (type_is_written types i) → Fits (names_context types names) i
-  inner_fits names (inner.Scalar s) is = record { in_range = omega arith; knows = refl }
-  inner_fits names (inner.Vector size s) is = record { in_range = omega arith; knows = refl }
-  inner_fits names (inner.Matrix columns rows s) is =
-      record { in_range = omega arith; knows = refl }
-  inner_fits names (inner.Pointer base space.Function) is = let lt = value_within base is in record { in_range = omega (arith, lt); knows = refl }
-  inner_fits names (inner.Pointer base _) is = absurd (cc)
-  inner_fits names (inner.ValuePointer size s space.Function) is =
-      record { in_range = omega arith; knows = refl }
-  inner_fits names (inner.ValuePointer size s _) is = absurd (cc)
-  inner_fits names _ is = absurd (cc)
-
-  pub resolution_fits : (names : NameMap) (r : TypeResolution) → IsTrue (resolution_is_written types r) → FitsResolution (names_context types names) r
-  resolution_fits names (resolution.Handle h) is = by (slice_get types h) refl is
-    where
-      by : (o : Option Type_) → slice_get types h ≡ o → option_map_or (type_is_written types) (option_map (λ t. t.inner) o) false ≡ true → h < length types
-      by None at is = absurd (cc)
-      by (Some t) at is = slice_get_within types h t at
-  resolution_fits names (resolution.Value i) is = inner_fits names i is
+all_known : (types : List Type_) (names : NameMap) (it : TypeInner) → IsTrue (knows_override (names_context types names) it)
+all_known types names (inner.Array base l stride) = all_sizes types names l
+all_known types names (inner.BindingArray base l) = all_sizes types names l
+all_known types names _ = refl
 
 -- ---- under the names of a function's module
-pub type_known : (f : FunctionText) (ty : ℕ) → IsTrue (is_value_at f.shader.now.types ty) → known_text (type_parts (names_context f.shader.now.types (names_in f.names.now)) ty) ≡ Some (type_text f ty)
-unfolding type_text
-type_known f ty scalar =
-    let types = f.shader.now.types in
-    let names = names_in f.names.now in
-    known_of_tree types names (module_names f.shader.now) (type_parts (names_context types names) ty) (λ n. type_tree (names_of types n) ty) (type_row text-append (names_of types names) (λ handle. true) ty) (type_has_form types ty scalar)
+module _ (f : FunctionText) (can : CanWrite f) where
+  abbrev m : Module
+  m = f.shader.now
 
-pub resolution_known : (f : FunctionText) → list_all is_value_type f.shader.now.types ≡ true → (r : TypeResolution) → IsTrue (resolution_is_written f.shader.now.types r) → known_text (resolution_parts (names_context f.shader.now.types (names_in f.names.now)) r) ≡ Some (resolution_text f r)
-unfolding resolution_text
-resolution_known f values r written =
-    let types = f.shader.now.types in
-    let names = names_in f.names.now in
-    known_of_tree types names (module_names f.shader.now) (resolution_parts (names_context types names) r) (λ n. resolution_tree (names_of types n) r) (row_of types names r) (resolution_has_form types values r written)
+  abbrev names : NameMap
+  names = names_in f.names.now
+
+  -- what a context asks for
+  pub in_order : IsInOrder (names_context m.types names)
+  in_order = record {
+    before = λ h t at. type_before m f.module_info.now can.accepted h t at;
+    known = λ h t at. all_known m.types names t.inner;
+  }
+
+  pub resolution_within : (r : TypeResolution) → IsTrue (resolution_fits (length m.overrides) (length m.types) r) → FitsResolution (names_context m.types names) r
+  resolution_within (resolution.Handle h) fits = ltb-true h (length m.types) fits
+  resolution_within (resolution.Value it) fits = record {
+    in_range = known_before m f.module_info.now can.accepted (resolution.Value it) fits it refl;
+    knows = all_known m.types names it;
+  }
+
+  -- the spelling of a type that has a form, which is the same under all names
+  formed_known : (r : TypeResolution) → IsTrue (has_form m.types r) → ((it : TypeInner) → r ≡ resolution.Value it → length_within 0 it ≡ true) → known_text (resolution_parts (names_context m.types names) r) ≡ Some (type_layout (unwrap_or (resolution_tree (type_names m) r) (Named [])))
+  formed_known r formed within =
+      let t = tree_there (type_names m) r formed in
+      let same = resolution_same m.types (nameless m f.module_info.now can.accepted can.of_part) names (module_names m) r within in
+      row_of m.types names r ∙ ap (option_map type_layout) (same ∙ t.1)
+      ∙ ap (λ o. Some (type_layout (unwrap_or o (Named [])))) (sym t.1)
+
+  pub type_known : (ty : ℕ) → IsTrue (has_form m.types (resolution.Handle ty)) → known_text (type_parts (names_context m.types names) ty) ≡ Some (type_text f ty)
+  unfolding type_text
+  type_known ty formed = formed_known (resolution.Handle ty) formed (λ it is. absurd (cc))
+
+  pub resolution_known : (r : TypeResolution) → IsTrue (has_form m.types r) → IsTrue (resolution_fits (length m.overrides) (length m.types) r) → known_text (resolution_parts (names_context m.types names) r) ≡ Some (resolution_text f r)
+  unfolding resolution_text
+  resolution_known r formed fits =
+      formed_known r formed
+      (λ it is. subst (λ n. length_within n it ≡ true) (no_overrides m f.module_info.now can.accepted can.of_part)
+      (known_within m f.module_info.now can.accepted r fits it is))

@@ -27,14 +27,24 @@ use Rattle.naga_ir.specs.declared.operators.UnaryOperator.{UnaryOperator}
 use Rattle.naga_ir.specs.declared.types.VectorSize.{VectorSize}
 use Rattle.naga_info.specs.declared.info.ExpressionInfo.{ExpressionInfo}
 use Rattle.module_meaning.proofs.Lists.{list_all_at}
+use Rattle.module_meaning.proofs.Part.{has_form_parts}
+use Rattle.module_meaning.specs.Sampling.{own_offset_is_written}
+use Rattle.naga_ir.specs.declared.expression.ImageQuery.{ImageQuery}
+use Rattle.naga_ir.specs.declared.expression.SampleLevel.{SampleLevel}
+use Rattle.std.proofs.Common.{Bool, max}
+use Rattle.naga_wgsl_fns.specs.FunctionText.{AreInText}
 use Rattle.module_meaning.proofs.ModuleShapes.{points_plainly}
 use Rattle.module_meaning.specs.ExpressionOperators.{points_to_atomic}
 use Rattle.module_meaning.specs.FunctionShapes.{statement_shape}
 use Rattle.module_meaning.specs.Names.{module_names, numbered_name}
-use Rattle.module_meaning.specs.Numbers.{signature_fits_32_bits}
 use Rattle.module_meaning.specs.OperatorTable.{relational_word}
-use Rattle.module_meaning.specs.Part.{expression_is_written, is_value_at, is_written_literal}
-use Rattle.module_meaning.specs.Part.{is_value_type, is_written_value, type_is_written, types_allow}
+use Rattle.module_meaning.specs.AlikeTypes.{has_form}
+use Rattle.module_meaning.specs.Part.{expression_is_written, is_written_literal, types_allow}
+use Rattle.naga_form.proofs.AcceptedGroups.{fits_in_range, known_fits, known_is_fit}
+use Rattle.naga_form.proofs.PartTypes.{argument_formed, known_before, known_formed, local_formed}
+use Rattle.naga_form.proofs.PartTypes.{result_formed}
+use Rattle.naga_info.specs.declared.info.ModuleInfo.{ModuleInfo}
+use Rattle.naga_words.specs.Spelling.{is_struct}
 use Rattle.module_meaning.specs.ExpressionOperators.{has_parts, is_composite, type_known}
 use Rattle.module_meaning.specs.ExpressionShapes.{Declared, component_letters, own_selector}
 use Rattle.module_meaning.specs.ExpressionShapes.{part_selector, selector}
@@ -46,20 +56,17 @@ use Rattle.naga_info.specs.Resolution.{InRange, handle_of, inner_of}
 use Rattle.naga_info.specs.declared.info.TypeResolution.{TypeResolution}
 use Rattle.naga_info.specs.declared.info.TypeResolution.TheVariants as resolution
 use Rattle.naga_ir.specs.declared.types.AddressSpace.{AddressSpace}
-use Rattle.naga_ir.specs.declared.types.AddressSpace.TheVariants as space
 use Rattle.naga_ir.specs.declared.types.Type_.{Type_}
 use Rattle.naga_ir.specs.declared.types.TypeInner.{TypeInner}
 use Rattle.naga_ir.specs.declared.types.TypeInner.TheVariants as inner
 use Rattle.naga_names.proofs.Refusal.{element}
-use Rattle.naga_wgsl_fns.proofs.TypeRows.{value_within}
 use Rattle.naga_wgsl_fns.specs.Expressions.{base_of}
 use Rattle.naga_wgsl_fns.specs.Expressions.{has_components, is_of_components, is_vector, selector_of}
 use Rattle.naga_wgsl_fns.specs.FunctionText.{source}
 use Rattle.std.proofs.lemmas.Option.{slice_get_within}
 use Rattle.std.specs.Prelude.{if◌then◌else◌}
-use Rattle.module_meaning.specs.Part.{names_nothing, resolution_is_written}
-use Rattle.module_meaning.specs.Ranges.{is_below, local_in_range, names_in_range, signature_fits}
-use Rattle.module_meaning.specs.Ranges.{signature_types_fit}
+use Rattle.module_meaning.specs.Part.{names_nothing}
+use Rattle.module_meaning.specs.Ranges.{is_below, local_in_range, names_in_range, resolution_fits}
 use Rattle.module_meaning.specs.Premises.{OperandsStandBefore}
 use Rattle.module_meaning.specs.Types.{type_names}
 use Rattle.shader_runs.specs.Premises.{AllBelow}
@@ -68,7 +75,7 @@ use Rattle.naga_form.proofs.AcceptedFunctions.{locals_are_in_range, names_are_in
 use Rattle.naga_form.proofs.Fits.{none_is_given, none_given_by as nothing_given_by}
 use Rattle.naga_form.proofs.Ordered.{operands_stand_before}
 use Rattle.naga_form.proofs.PartFits.{function_parts}
-use Rattle.naga_form.proofs.WrittenTypes.{resolution_has_form, values_at}
+use Rattle.naga_form.proofs.WrittenTypes.{no_struct, no_struct_known, tree_there}
 use Rattle.naga_form.specs.TypeTrees.{resolution_tree}
 use Rattle.naga_form.specs.Types.{told_type}
 use Rattle.wgsl_text.specs.Reading.{type_layout}
@@ -78,44 +85,102 @@ use Rattle.naga_wgsl_fns.specs.declared.functions.FunctionText.{FunctionText}
 use Rattle.naga_wgsl_fns.specs.FunctionText.{CanWrite, IsInText, around, naming, tells_types}
 use Rattle.module_meaning.specs.Part.{expression_is_of_part}
 use Rattle.module_meaning.specs.Written.{IsWrittenIn}
-use Rattle.naga_form.proofs.WrittenHandles.{written_are_closed}
+use Rattle.naga_form.proofs.WrittenHandles.{all_front, all_rest, written_are_closed}
 use Rattle.std.specs.List.{AllByRecursion}
 use Rattle.std.proofs.Common.{◌∷◌}
 use Rattle.naga_wgsl_fns.specs.Types.{annotation_text, resolution_text, told_text}
 use Rattle.naga_wgsl_fns.specs.Types.{told_type_text}
 
--- an expression is of none of the kinds that are written so far only where there is none
-abbrev pub IsNoOther : Expression → Type 0
-IsNoOther e =
-    ((value : ir_literal.Literal) → e ≡ expression.Literal value → ⊥) →
-    ((ty : ℕ) → e ≡ expression.ZeroValue ty → ⊥) →
-    ((ty : ℕ) (components : Vec ℕ Global) → e ≡ expression.Compose ty components → ⊥) →
-    ((b i : ℕ) → e ≡ expression.Access b i → ⊥) →
-    ((b i : ℕ) → e ≡ expression.AccessIndex b i → ⊥) →
-    ((n : ℕ) → e ≡ expression.FunctionArgument n → ⊥) →
-    ((v : ℕ) → e ≡ expression.LocalVariable v → ⊥) →
-    ((p : ℕ) → e ≡ expression.Load p → ⊥) →
-    ((op : UnaryOperator) (x : ℕ) → e ≡ expression.Unary op x → ⊥) →
-    ((op : BinaryOperator) (l r : ℕ) → e ≡ expression.Binary op l r → ⊥) →
-    ((c a r : ℕ) → e ≡ expression.Select c a r → ⊥) →
-    ((size : VectorSize) (x : ℕ) → e ≡ expression.Splat size x → ⊥) →
-    ((size : VectorSize) (x : ℕ) (pattern : List SwizzleComponent) →
-    e ≡ expression.Swizzle size x pattern → ⊥) →
-    ((x : ℕ) (kind : ScalarKind) (convert : Option ℕ) → e ≡ expression.As x kind convert → ⊥) →
-    ((axis : DerivativeAxis) (how : DerivativeControl) (x : ℕ) →
-    e ≡ expression.Derivative axis how x → ⊥) →
-    ((fun : MathFunction) (x : ℕ) (y z w : Option ℕ) → e ≡ expression.Math fun x y z w → ⊥) →
-    ((fun : RelationalFunction) (x : ℕ) → e ≡ expression.Relational fun x → ⊥) →
-    ⊥
+-- an expression is of none of these kinds, which are those that are written so far
+pub record IsNoOther (e : Expression) : Type 0 where
+  pub literal : (value : ir_literal.Literal) → e ≡ expression.Literal value → ⊥
+  pub zero_value : (ty : ℕ) → e ≡ expression.ZeroValue ty → ⊥
+  pub composed : (ty : ℕ) (parts : Vec ℕ Global) → e ≡ expression.Compose ty parts → ⊥
+  pub element : (b i : ℕ) → e ≡ expression.Access b i → ⊥
+  pub part : (b i : ℕ) → e ≡ expression.AccessIndex b i → ⊥
+  pub argument : (n : ℕ) → e ≡ expression.FunctionArgument n → ⊥
+  pub local_ : (v : ℕ) → e ≡ expression.LocalVariable v → ⊥
+  pub load : (p : ℕ) → e ≡ expression.Load p → ⊥
+  pub unary : (op : UnaryOperator) (x : ℕ) → e ≡ expression.Unary op x → ⊥
+  pub binary : (op : BinaryOperator) (l r : ℕ) → e ≡ expression.Binary op l r → ⊥
+  pub choice : (c a r : ℕ) → e ≡ expression.Select c a r → ⊥
+  pub splat : (size : VectorSize) (x : ℕ) → e ≡ expression.Splat size x → ⊥
+  pub swizzle : (size : VectorSize) (x : ℕ) (pattern : List SwizzleComponent) →
+      e ≡ expression.Swizzle size x pattern → ⊥
+  pub converted : (x : ℕ) (kind : ScalarKind) (convert : Option ℕ) →
+      e ≡ expression.As x kind convert → ⊥
+  pub derivative : (axis : DerivativeAxis) (how : DerivativeControl) (x : ℕ) →
+      e ≡ expression.Derivative axis how x → ⊥
+  pub mathematical : (fun : MathFunction) (x : ℕ) (y z w : Option ℕ) →
+      e ≡ expression.Math fun x y z w → ⊥
+  pub relational : (fun : RelationalFunction) (x : ℕ) → e ≡ expression.Relational fun x → ⊥
+  pub sampled : (image sampler : ℕ) (gather : Option SwizzleComponent) (coordinate : ℕ)
+      (array_index offset : Option ℕ) (level : SampleLevel) (depth_ref : Option ℕ) (clamp : Bool) →
+      e ≡
+      expression.ImageSample image sampler gather coordinate array_index offset level depth_ref clamp →
+      ⊥
+  pub loaded : (image coordinate : ℕ) (array_index sample level : Option ℕ) →
+      e ≡ expression.ImageLoad image coordinate array_index sample level → ⊥
+  pub asked : (image : ℕ) (query : ImageQuery) → e ≡ expression.ImageQuery image query → ⊥
+  pub counted : (array : ℕ) → e ≡ expression.ArrayLength array → ⊥
+  pub product : (x y z : ℕ) → e ≡ expression.CooperativeMultiplyAdd x y z → ⊥
 
 -- a handle stands before this one, and is written
 abbrev pub IsOperand : FunctionText → (handle x : ℕ) → Type 0
 IsOperand t h x = (x < h) × IsInText t x
 
+-- the highest of some handles
+abbrev pub highest : List ℕ → ℕ
+highest [] = 0
+highest (x ∷ xs) = max x (highest xs)
+
+pub highest_below : (t : FunctionText) (h : ℕ) (xs : List ℕ) → 0 < h →
+    AllByRecursion (IsOperand t h) xs → highest xs < h
+highest_below t h [] some all = some
+highest_below t h (x ∷ xs) some all =
+    let one = all.0.0 in let more = highest_below t h xs some all.1 in omega (arith, one, more)
+
+-- the operands of a sampling
+pub record AreSampled (t : FunctionText) (h i s p : ℕ) (a d l o : List ℕ) : Type 0 where
+  pub image : IsOperand t h i
+  pub sampler : IsOperand t h s
+  pub coordinate : IsOperand t h p
+  pub array : AllByRecursion (IsOperand t h) a
+  pub depth : AllByRecursion (IsOperand t h) d
+  pub level : AllByRecursion (IsOperand t h) l
+  pub offset : AllByRecursion (IsOperand t h) o
+
+pub are_sampled : (t : FunctionText) (h image sampler coordinate : ℕ)
+    (array depth level offset : List ℕ) →
+    AllByRecursion (IsOperand t h)
+    (image ∷ sampler ∷ coordinate ∷ array ++ depth ++ level ++ offset) →
+    AreSampled t h image sampler coordinate array depth level offset
+are_sampled t h image sampler coordinate array depth level offset all =
+    let P = IsOperand t h in
+    let front = all_front P (array ++ depth ++ level) offset all.1.1.1 in
+    let first = all_front P (array ++ depth) level front in
+    record {
+      image = all.0;
+      sampler = all.1.0;
+      coordinate = all.1.1.0;
+      array = all_front P array depth first;
+      depth = all_rest P array depth first;
+      level = all_rest P (array ++ depth) level front;
+      offset = all_rest P (array ++ depth ++ level) offset all.1.1.1;
+    }
+
+pub all_in_text : (t : FunctionText) (h : ℕ) (xs : List ℕ) → AllByRecursion (IsOperand t h) xs →
+    AreInText t xs
+all_in_text t h [] all = tt
+all_in_text t h (x ∷ xs) all = (all.0.1, all_in_text t h xs all.1)
+
 module _ (t : FunctionText) (can : CanWrite t) where
   -- its module, its handle, the function, and what is known of its expressions
   abbrev m : Module
   m = t.shader.now
+
+  abbrev info : ModuleInfo
+  info = t.module_info.now
 
   abbrev g : ℕ
   g = t.handle
@@ -127,49 +192,33 @@ module _ (t : FunctionText) (can : CanWrite t) where
   es = t.info.now
 
   -- ---- types
-  -- the types of arguments and of the result are the module's
-  signature : IsTrue (list_all (λ a. nat_lt a.ty (length m.types)) f.arguments.items) × IsTrue (is_below (length m.types) (option_map (λ r. r.ty) f.result))
-  signature =
-      let fits = and_parts (signature_fits (length m.types) f) _ can.ranges in
-      let types = and_parts (signature_types_fit (length m.types) f) (signature_fits_32_bits f) fits.0 in
-      and_parts (list_all (λ a. nat_lt a.ty (length m.types)) f.arguments.items) (is_below (length m.types) (option_map (λ r. r.ty) f.result)) types.0
+  -- the types of arguments, of the result and of locals have forms
+  pub argument_is_formed : (n : ℕ) (a : argument.FunctionArgument) → slice_get f.arguments.items n ≡ Some a → IsTrue (has_form m.types (resolution.Handle a.ty))
+  argument_is_formed n a here = argument_formed m info can.accepted can.of_part g f can.function es can.infos true g can.ranges n a here
 
-  is_scalar : (ty : ℕ) → IsTrue (nat_lt ty (length m.types)) → IsTrue (is_value_at m.types ty)
-  is_scalar ty below = values_at m.types ty can.values (ltb-true ty (length m.types) below)
+  pub answer_is_formed : (r : FunctionResult) → f.result ≡ Some r → IsTrue (has_form m.types (resolution.Handle r.ty))
+  answer_is_formed r is = result_formed m info can.accepted can.of_part g f can.function es can.infos true g can.ranges r is
 
-  pub argument_is_value : (n : ℕ) (a : argument.FunctionArgument) → slice_get f.arguments.items n ≡ Some a → IsTrue (is_value_at m.types a.ty)
-  argument_is_value n a here = is_scalar a.ty (list_all_at (λ a. nat_lt a.ty (length m.types)) f.arguments.items n a signature.0 here)
+  pub local_is_formed : (l : ℕ) (v : LocalVariable) → slice_get f.local_variables l ≡ Some v → IsTrue (has_form m.types (resolution.Handle v.ty))
+  local_is_formed l v here = local_formed m info can.accepted can.of_part g f can.function es can.infos true g can.ranges l v here
 
-  pub answer_is_value : (r : FunctionResult) → f.result ≡ Some r → IsTrue (is_value_at m.types r.ty)
-  answer_is_value r is = is_scalar r.ty (ap (λ o. is_below (length m.types) (option_map (λ r. r.ty) o)) (sym is) ∙ signature.1)
-
-  -- so is a local's, and its first value is one of the function's expressions
+  -- a local's first value is one of the function's expressions
   local_is_in_range : (l : ℕ) (v : LocalVariable) → slice_get f.local_variables l ≡ Some v → IsTrue (nat_lt v.ty (length m.types)) × IsTrue (is_below (length f.expressions) v.init)
   local_is_in_range l v here =
       and_parts (nat_lt v.ty (length m.types)) (is_below (length f.expressions) v.init) (list_all_at (local_in_range (length m.types) (length f.expressions)) f.local_variables l v (locals_are_in_range m g f can.ranges) here)
-
-  pub local_is_value : (l : ℕ) (v : LocalVariable) → slice_get f.local_variables l ≡ Some v → IsTrue (is_value_at m.types v.ty)
-  local_is_value l v here = is_scalar v.ty (local_is_in_range l v here).0
 
   pub first_within : (l : ℕ) (v : LocalVariable) → slice_get f.local_variables l ≡ Some v → IsTrue (is_below (length f.expressions) v.init)
   first_within l v here = (local_is_in_range l v here).1
 
   -- ---- what is known of an expression
-  pub known_is_written : (h : ℕ) (k : ExpressionInfo) → slice_get es h ≡ Some k → IsTrue (resolution_is_written m.types k.ty)
-  known_is_written h k at = list_all_at (λ k. resolution_is_written m.types k.ty) es h k can.known at
+  pub known_is_formed : (h : ℕ) (k : ExpressionInfo) → slice_get es h ≡ Some k → IsTrue (has_form m.types k.ty)
+  known_is_formed h k at = known_formed m info can.accepted can.of_part g es can.infos h k at
+
+  pub known_resolution_fits : (h : ℕ) (k : ExpressionInfo) → slice_get es h ≡ Some k → IsTrue (resolution_fits (length m.overrides) (length m.types) k.ty)
+  known_resolution_fits h k at = known_is_fit m info can.accepted g es can.infos h k at
 
   pub known_in_range : (h : ℕ) (k : ExpressionInfo) → slice_get es h ≡ Some k → InRange k.ty m.types
-  known_in_range h k at = by k.ty (known_is_written h k at)
-    where
-      found : (ty : ℕ) (o : Option Type_) → slice_get m.types ty ≡ o →
-          option_map_or (type_is_written m.types) (option_map (λ t. t.inner) o) false ≡ true →
-          ty < length m.types
-      found ty (Some t) at is = slice_get_within m.types ty t at
-      found ty None at is = absurd cc
-
-      by : (r : TypeResolution) → IsTrue (resolution_is_written m.types r) → InRange r m.types
-      by (resolution.Handle ty) is = found ty (slice_get m.types ty) refl is
-      by (resolution.Value it) is = tt
+  known_in_range h k at = fits_in_range (length m.overrides) m.types k.ty (known_resolution_fits h k at)
 
   pub type_known_is : (h : ℕ) (k : ExpressionInfo) → slice_get es h ≡ Some k →
       type_known (around t) h ≡ inner_of k.ty m.types
@@ -181,23 +230,20 @@ module _ (t : FunctionText) (can : CanWrite t) where
   pointee_within h it base at lt known is =
       let k = element es h lt in
       let inside = sym (type_known_is h k.0 k.1) ∙ (known ∙ ap Some is) in
-      by at
-      (ap (λ o. option_map_or (type_is_written m.types) o false) (sym inside)
-      ∙ known_is_written h k.0 k.1)
-    where
-      by : (s : AddressSpace) → type_is_written m.types (inner.Pointer base s) ≡ true →
-          base < length m.types
-      by space.Function is = value_within m.types base is
-      by _ is = absurd cc
+      let ends = known_before m info can.accepted k.0.ty (known_resolution_fits h k.0 k.1) (inner.Pointer base at) inside in
+      omega (arith, ends)
 
   -- the letter of a component, where a vector has it or one that is pointed at
   letter_of : (d : Declared) (whole : Option ℕ) (it : TypeInner) (index : ℕ) →
-      is_written_value it ≡ true → is_composite it ≡ true →
+      is_struct it ≡ false → is_composite it ≡ true →
       own_selector d whole it index ≡
       Some (selector_of (if is_vector it then slice_get component_letters index else None) index)
-  letter_of d whole (inner.Vector size s) index written parts = refl
-  letter_of d whole (inner.Matrix columns rows s) index written parts = refl
-  letter_of d whole _ index written parts = absurd cc
+  letter_of d whole (inner.Vector size s) index none parts = refl
+  letter_of d whole (inner.Matrix columns rows s) index none parts = refl
+  letter_of d whole (inner.Array base size stride) index none parts = refl
+  letter_of d whole (inner.BindingArray base size) index none parts = refl
+  letter_of d whole (inner.Struct members span) index none parts = absurd cc
+  letter_of d whole _ index none parts = absurd cc
 
   pub component_is : (base index : ℕ) →
       types_allow m.types es (expression.AccessIndex base index) ≡ true →
@@ -206,12 +252,12 @@ module _ (t : FunctionText) (can : CanWrite t) where
       part_selector (source t).declared base index ≡ Some (selector_of letter index)
   component_is base index may letter is =
       let b = known_base m es base index may in
-      let written =
-      ap (λ o. option_map_or (type_is_written m.types) o false) (sym b.is)
-      ∙ known_is_written base b.known b.there in
+      let none =
+      no_struct_known m can.values b.known.ty
+      (known_fits m info can.accepted g es can.infos base b.known b.there) b.type b.is in
       let known = type_known_is base b.known b.there ∙ b.is in
-      selector_is m t.module_info.now es base index b
-      ∙ (by b.type (handle_of b.known.ty) written b.passes
+      selector_is m info es base index b
+      ∙ (by b.type (handle_of b.known.ty) none b.passes
       ∙ ap (λ l. Some (selector_of l index))
       (sym
       (is
@@ -220,7 +266,6 @@ module _ (t : FunctionText) (can : CanWrite t) where
       slice_get component_letters index else None) known)))
     where
       pointed : (whole : Option ℕ) (b : ℕ) (o : Option Type_) → slice_get m.types b ≡ o →
-          option_map_or is_value_type o false ≡ true →
           option_map_or is_composite (option_map (λ t. t.inner) o) false ≡ true →
           option_and_then (λ it. own_selector (source t).declared (Some b) it index)
           (option_map (λ t. t.inner) o) ≡
@@ -228,25 +273,25 @@ module _ (t : FunctionText) (can : CanWrite t) where
           (selector_of
           (if option_map_or is_vector (option_map (λ t. t.inner) o) false then
           slice_get component_letters index else None) index)
-      pointed whole b (Some ty) at written parts =
-          letter_of (source t).declared (Some b) ty.inner index written parts
-      pointed whole b None at written parts = absurd cc
+      pointed whole b (Some ty) at parts =
+          letter_of (source t).declared (Some b) ty.inner index (no_struct m.types can.values b ty at) parts
+      pointed whole b None at parts = absurd cc
 
-      by : (it : TypeInner) (whole : Option ℕ) → type_is_written m.types it ≡ true →
+      by : (it : TypeInner) (whole : Option ℕ) → is_struct it ≡ false →
           has_parts m.types it ≡ true →
           selector (source t).declared whole it index ≡
           Some
           (selector_of
           (if is_of_components m.types it then slice_get component_letters index else None) index)
-      by (inner.Pointer b space.Function) whole written parts =
-          pointed whole b (slice_get m.types b) refl written parts
-      by (inner.Pointer b _) whole written parts = absurd cc
-      by (inner.ValuePointer (Some size) s at) whole written parts = refl
-      by (inner.ValuePointer None s at) whole written parts = absurd cc
-      by (inner.Vector size s) whole written parts = refl
-      by (inner.Matrix columns rows s) whole written parts = refl
-      by (inner.Scalar s) whole written parts = absurd cc
-      by _ whole written parts = absurd cc
+      by (inner.Pointer b at) whole none parts = pointed whole b (slice_get m.types b) refl parts
+      by (inner.ValuePointer (Some size) s at) whole none parts = refl
+      by (inner.ValuePointer None s at) whole none parts = absurd cc
+      by (inner.Vector size s) whole none parts = refl
+      by (inner.Matrix columns rows s) whole none parts = refl
+      by (inner.Array base size stride) whole none parts = refl
+      by (inner.BindingArray base size) whole none parts = refl
+      by (inner.Struct members span) whole none parts = absurd cc
+      by _ whole none parts = absurd cc
 
   -- what a part is taken of is known
   pub base_known : (base index : ℕ) →
@@ -261,9 +306,9 @@ module _ (t : FunctionText) (can : CanWrite t) where
   pub told_row : (h : ℕ) (k : ExpressionInfo) → slice_get es h ≡ Some k → tells_types t.flags ≡ true → annotation_text t k.ty ≡ told_text t h
   unfolding annotation_text resolution_text told_text
   told_row h k at is =
-      let has = resolution_has_form m.types can.values k.ty (known_is_written h k at) in
-      ap (λ o. codes ": " ++ type_layout (unwrap_or o (Named []))) (has.is (module_names m))
-      ∙ ap told_type_text (sym (ap (λ b. told_type b (type_names m) es h) is ∙ ap (option_and_then (λ e. resolution_tree (type_names m) e.ty)) at ∙ has.is (module_names m)))
+      let has = tree_there (type_names m) k.ty (known_is_formed h k at) in
+      ap (λ o. codes ": " ++ type_layout (unwrap_or o (Named []))) has.1
+      ∙ ap told_type_text (sym (ap (λ b. told_type b (type_names m) es h) is ∙ ap (option_and_then (λ e. resolution_tree (type_names m) e.ty)) at ∙ has.1))
 
   pub untold_row : (h : ℕ) → tells_types t.flags ≡ false → told_text t h ≡ []
   unfolding told_text
@@ -274,11 +319,16 @@ module _ (t : FunctionText) (can : CanWrite t) where
   is_of_part h e here = list_all_at expression_is_of_part f.expressions h e (function_parts f can.written).expressions here
 
   -- one that is written has a form
-  pub has_form : (h : ℕ) (e : Expression) → slice_get f.expressions h ≡ Some e → IsInText t h → IsTrue (expression_is_written e)
-  has_form h e here is = can.formed h e here is.written
+  pub expression_formed : (h : ℕ) (e : Expression) → slice_get f.expressions h ≡ Some e → IsInText t h → IsTrue (expression_is_written m.types es e)
+  expression_formed h e here is = (has_form_parts m.types es f.expressions e (can.formed h e here is.written)).0
+
+  -- and so has its offset
+  pub offset_has_form : (h : ℕ) (e : Expression) → slice_get f.expressions h ≡ Some e → IsInText t h →
+      IsTrue (own_offset_is_written f.expressions e)
+  offset_has_form h e here is = (has_form_parts m.types es f.expressions e (can.formed h e here is.written)).1
 
   pub literal_is_written : (h : ℕ) (e : Expression) (value : ir_literal.Literal) → slice_get f.expressions h ≡ Some e → IsInText t h → e ≡ expression.Literal value → IsTrue (is_written_literal value)
-  literal_is_written h e value here within is = ap expression_is_written (sym is) ∙ has_form h e here within
+  literal_is_written h e value here within is = ap (expression_is_written m.types es) (sym is) ∙ expression_formed h e here within
 
   -- what an expression names is there
   names_there : (h : ℕ) (e own : Expression) → slice_get f.expressions h ≡ Some e → e ≡ own → IsTrue (names_in_range m g (length f.arguments.items) (length f.local_variables) own)
@@ -342,21 +392,21 @@ module _ (t : FunctionText) (can : CanWrite t) where
       (list_all_at (types_allow m.types es) f.expressions h (expression.AccessIndex b i) can.allowed
       there)
 
-  -- and a conversion
-  pub conversion_allowed : (h : ℕ) (e : Expression) (x : ℕ) (kind : ScalarKind)
-      (convert : Option ℕ) → slice_get f.expressions h ≡ Some e →
+  -- a conversion that is written has a form
+  pub conversion_formed : (h : ℕ) (e : Expression) (x : ℕ) (kind : ScalarKind)
+      (convert : Option ℕ) → slice_get f.expressions h ≡ Some e → IsInText t h →
       e ≡ expression.As x kind convert →
-      types_allow m.types es (expression.As x kind convert) ≡ true
-  conversion_allowed h e x kind convert here is =
-      list_all_at (types_allow m.types es) f.expressions h (expression.As x kind convert) can.allowed
-      (here ∙ ap Some is)
+      expression_is_written m.types es (expression.As x kind convert) ≡ true
+  conversion_formed h e x kind convert here within is =
+      ap (expression_is_written m.types es) (sym is) ∙ expression_formed h e here within
 
   -- what the operand of a conversion is converted to
   pub converted_is : (x : ℕ) (kind : ScalarKind) (convert : Option ℕ) →
-      types_allow m.types es (expression.As x kind convert) ≡ true → (from : TypeInner) →
-      type_known (around t) x ≡ Some from → (to : TypeInner) × ((conversion_target from kind convert ≡ Some to) × (is_written_value to ≡ true))
+      expression_is_written m.types es (expression.As x kind convert) ≡ true → (from : TypeInner) →
+      type_known (around t) x ≡ Some from →
+      (to : TypeInner) × ((conversion_target from kind convert ≡ Some to) × (has_form m.types (resolution.Value to) ≡ true))
   converted_is x kind convert may from known =
-      let c = conversion m t.module_info.now es x kind convert may in
+      let c = conversion m info es x kind convert may in
       let same = same_Some c.from from (sym c.known ∙ known) in
       (c.to, (ap (λ it. conversion_target it kind convert) (sym same) ∙ c.target, c.written))
 
@@ -379,49 +429,58 @@ module _ (t : FunctionText) (can : CanWrite t) where
       slice_get f.expressions h ≡ Some e → IsInText t h → e ≡ expression.Math fun x y z w →
       IsTrue (is_some (math_word fun))
   math_is_written h e fun x y z w here within is =
-      ap expression_is_written (sym is) ∙ has_form h e here within
+      ap (expression_is_written m.types es) (sym is) ∙ expression_formed h e here within
 
   pub relation_is_written : (h : ℕ) (e : Expression) (fun : RelationalFunction) (x : ℕ) →
       slice_get f.expressions h ≡ Some e → IsInText t h → e ≡ expression.Relational fun x →
       IsTrue (is_some (relational_word fun))
   relation_is_written h e fun x here within is =
-      ap expression_is_written (sym is) ∙ has_form h e here within
+      ap (expression_is_written m.types es) (sym is) ∙ expression_formed h e here within
 
   -- it loads and stores no atomic
   pub points_to_none : (h : ℕ) → points_to_atomic (around t) h ≡ false
   points_to_none h = points_plainly (around t) can.values h
 
-  -- the type of which an expression makes a value is one of values
+  -- the type of which an expression that is written makes a value has a form
   pub made_value : (h : ℕ) (e own : Expression) (ty : ℕ) → slice_get f.expressions h ≡ Some e →
-      e ≡ own →
-      names_in_range m g (length f.arguments.items) (length f.local_variables) own ≡
-      nat_lt ty (length m.types) →
-      IsTrue (is_value_at m.types ty)
-  made_value h e own ty here is names = is_scalar ty (sym names ∙ names_there h e own here is)
+      IsInText t h → e ≡ own →
+      expression_is_written m.types es own ≡ has_form m.types (resolution.Handle ty) →
+      IsTrue (has_form m.types (resolution.Handle ty))
+  made_value h e own ty here within is names =
+      sym names ∙ (ap (expression_is_written m.types es) (sym is) ∙ expression_formed h e here within)
 
   -- no other expression is written
-  pub no_other_expression : (h : ℕ) (e : Expression) → slice_get f.expressions h ≡ Some e → IsNoOther e
-  no_other_expression h e here = by e (is_of_part h e here)
+  pub no_other_expression : (h : ℕ) (e : Expression) → slice_get f.expressions h ≡ Some e → IsNoOther e → ⊥
+  no_other_expression h e here none = by e (is_of_part h e here) none
     where
-      by : (e : Expression) → IsTrue (expression_is_of_part e) → IsNoOther e
-      by (expression.Literal v) is literal zero made element part argument local load unary binary select splat swizzle converted derivative mathematical relational = literal v refl
-      by (expression.ZeroValue t) is literal zero made element part argument local load unary binary select splat swizzle converted derivative mathematical relational = zero t refl
-      by (expression.Compose t xs) is literal zero made element part argument local load unary binary select splat swizzle converted derivative mathematical relational = made t xs refl
-      by (expression.Access b i) is literal zero made element part argument local load unary binary select splat swizzle converted derivative mathematical relational = element b i refl
-      by (expression.AccessIndex b i) is literal zero made element part argument local load unary binary select splat swizzle converted derivative mathematical relational = part b i refl
-      by (expression.FunctionArgument n) is literal zero made element part argument local load unary binary select splat swizzle converted derivative mathematical relational = argument n refl
-      by (expression.LocalVariable v) is literal zero made element part argument local load unary binary select splat swizzle converted derivative mathematical relational = local v refl
-      by (expression.Load p) is literal zero made element part argument local load unary binary select splat swizzle converted derivative mathematical relational = load p refl
-      by (expression.Unary op x) is literal zero made element part argument local load unary binary select splat swizzle converted derivative mathematical relational = unary op x refl
-      by (expression.Binary op l r) is literal zero made element part argument local load unary binary select splat swizzle converted derivative mathematical relational = binary op l r refl
-      by (expression.Select c a r) is literal zero made element part argument local load unary binary select splat swizzle converted derivative mathematical relational = select c a r refl
-      by (expression.As x kind convert) is literal zero made element part argument local load unary binary select splat swizzle converted derivative mathematical relational = converted x kind convert refl
-      by (expression.Derivative axis how x) is literal zero made element part argument local load unary binary select splat swizzle converted derivative mathematical relational = derivative axis how x refl
-      by (expression.Splat size x) is literal zero made element part argument local load unary binary select splat swizzle converted derivative mathematical relational = splat size x refl
-      by (expression.Swizzle size x letters) is literal zero made element part argument local load unary binary select splat swizzle converted derivative mathematical relational = swizzle size x letters refl
-      by (expression.Math fun x y z w) is literal zero made element part argument local load unary binary select splat swizzle converted derivative mathematical relational = mathematical fun x y z w refl
-      by (expression.Relational fun x) is literal zero made element part argument local load unary binary select splat swizzle converted derivative mathematical relational = relational fun x refl
-      by _ is literal zero made element part argument local load unary binary select splat swizzle converted derivative mathematical relational = absurd cc
+      by : (e : Expression) → IsTrue (expression_is_of_part e) → IsNoOther e → ⊥
+      by (expression.Literal v) is none = none.literal v refl
+      by (expression.ZeroValue t) is none = none.zero_value t refl
+      by (expression.Compose t xs) is none = none.composed t xs refl
+      by (expression.Access b i) is none = none.element b i refl
+      by (expression.AccessIndex b i) is none = none.part b i refl
+      by (expression.FunctionArgument n) is none = none.argument n refl
+      by (expression.LocalVariable v) is none = none.local_ v refl
+      by (expression.Load p) is none = none.load p refl
+      by (expression.Unary op x) is none = none.unary op x refl
+      by (expression.Binary op l r) is none = none.binary op l r refl
+      by (expression.Select c a r) is none = none.choice c a r refl
+      by (expression.Splat size x) is none = none.splat size x refl
+      by (expression.Swizzle size x pattern) is none = none.swizzle size x pattern refl
+      by (expression.As x kind convert) is none = none.converted x kind convert refl
+      by (expression.Derivative axis how x) is none = none.derivative axis how x refl
+      by (expression.Math fun x y z w) is none = none.mathematical fun x y z w refl
+      by (expression.Relational fun x) is none = none.relational fun x refl
+      by
+          (expression.ImageSample
+          image sampler gather coordinate array_index offset level depth_ref clamp) is none =
+          none.sampled image sampler gather coordinate array_index offset level depth_ref clamp refl
+      by (expression.ImageLoad image coordinate array_index sample level) is none =
+          none.loaded image coordinate array_index sample level refl
+      by (expression.ImageQuery image query) is none = none.asked image query refl
+      by (expression.ArrayLength array) is none = none.counted array refl
+      by (expression.CooperativeMultiplyAdd x y z) is none = none.product x y z refl
+      by _ is none = absurd cc
 
   -- ---- names of handles
   unnamed : IsTrue (names_nothing f)

@@ -1,13 +1,14 @@
 -- What the text of a function is made from, as the laws see it, and what it wants of its module.
 use Rattle.module_meaning.specs.FunctionShapes.{function_shape}
-use Rattle.module_meaning.specs.Written.{IsWrittenIn, WrittenHaveForms}
+use Rattle.module_meaning.specs.Written.{ExpressionsHaveForms, IsWrittenIn}
 use Rattle.shader_runs.specs.Program.{binds}
 use Rattle.std.specs.List.{AllByRecursion}
 use Rattle.std.specs.Prelude.{◌≡◌, ℕ, ◌<◌, Bool, List, Option, Some, IsTrue, slice_get, bit_and, ◌==◌}
 use Rattle.std.specs.Prelude.{length}
 use Rattle.std.specs.List.{list_all}
 use Rattle.naga_ir.specs.declared.expression.Expression.{Expression}
-use Rattle.module_meaning.specs.Part.{function_is_written, is_value_type, resolution_is_written}
+use Rattle.module_meaning.specs.Accepted.{is_accepted}
+use Rattle.module_meaning.specs.Part.{function_is_written, is_written_so_far, type_is_of_part}
 use Rattle.module_meaning.specs.Part.{types_allow_all}
 use Rattle.module_meaning.specs.Ranges.{function_in_range}
 use Rattle.naga_names.specs.Keys.{names_in}
@@ -67,16 +68,18 @@ bound f handle =
 abbrev pub AreInText : FunctionText → (handles : List ℕ) → Type 0
 AreInText f handles = AllByRecursion (IsInText f) handles
 
--- It is a function of its module, one of those that are written so far, and has its names. All that
--- it names is there, if it may call the functions before it, and of each of its expressions one
--- type is known, which is written so far and lets it be written. Each that is written has a form.
+-- It is a function of its module, which is accepted and of the part that is written so far, and has
+-- its names. All that it names is there, if it may call the functions before it, and of each of its
+-- expressions one type is known. Each expression that is written has a form.
 pub record CanWrite (f : FunctionText) : Type 0 where
   pub named : HasNamesOf f.shader.now (names_in f.names.now)
+  pub accepted : IsTrue (is_accepted f.shader.now f.module_info.now)
+  pub of_part : IsTrue (is_written_so_far f.shader.now f.module_info.now)
   pub function : slice_get f.shader.now.functions f.handle ≡ Some f.function.now
-  pub values : IsTrue (list_all is_value_type f.shader.now.types)
+  pub infos : slice_get f.module_info.now.functions.items f.handle ≡ Some f.info.now
+  pub values : IsTrue (list_all type_is_of_part f.shader.now.types)
   pub ranges : IsTrue (function_in_range f.shader.now f.handle f.function.now)
   pub size : length f.function.now.expressions ≡ length f.info.now
-  pub known : IsTrue (list_all (λ k. resolution_is_written f.shader.now.types k.ty) f.info.now)
   pub written : IsTrue (function_is_written f.function.now)
-  pub formed : WrittenHaveForms f.shader.now f.module_info.now f.function.now f.info.now
+  pub formed : ExpressionsHaveForms f.shader.now f.module_info.now f.function.now f.info.now
   pub allowed : IsTrue (types_allow_all f.shader.now.types f.function.now f.info.now)

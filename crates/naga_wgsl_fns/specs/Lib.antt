@@ -3,6 +3,7 @@ pub mod Errors
 pub mod Expressions
 pub mod FunctionText
 pub mod Functions
+pub mod Images
 pub mod Literals
 pub mod Names
 pub mod Statements

@@ -2,8 +2,10 @@
 
 ghost use Rattle.std.specs.Prelude.{◌≡◌, ◌<◌, IsTrue, Some, length, slice_get};
 ghost use Rattle.std.specs.Option.{is_some};
-ghost use Rattle.module_meaning.specs.Conversions.{conversion_target, converted_scalar, keeps_bits};
-ghost use Rattle.module_meaning.specs.Part.{resolution_is_written, types_allow};
+ghost use Rattle.module_meaning.specs.Conversions.{conversion_target, keeps_bits};
+ghost use Rattle.module_meaning.specs.AlikeTypes.{has_form};
+ghost use Rattle.module_meaning.specs.Part.{expression_is_written};
+ghost use Rattle.module_meaning.specs.Ranges.{resolution_fits};
 ghost use Rattle.naga_ir.specs.declared.expression.Expression.TheVariants.{As};
 ghost use Rattle.naga_wgsl_fns.specs.Expressions.{bitcast_text, callee_text, cast_text};
 ghost use Rattle.naga_wgsl_fns.specs.Expressions.{conversion_callee, made_text};
@@ -12,8 +14,8 @@ ghost use Rattle.naga_words.specs.Output.{Writes};
 
 use crate::functions::FunctionText;
 use naga_info::TypeResolution;
-use naga_ir::{Expression, Handle, Scalar, ScalarKind, TypeInner};
-use naga_scope::Scope;
+use naga_ir::{Expression, Handle, ScalarKind, TypeInner};
+use naga_scope::{Scope, converted_scalar};
 use naga_words::{Output, TextSink};
 use std::alloc::Global;
 
@@ -32,7 +34,7 @@ impl FunctionText<'_> {
     )
         requires can { CanWrite self.now }
         requires handle { IsInText self.now handle }
-        requires allowed { IsTrue (types_allow self.now.shader.now.types self.now.info.now
+        requires formed { IsTrue (expression_is_written self.now.shader.now.types self.now.info.now
             (As operand kind convert)) }
         ensures { Writes W.text W.failures out.old out.new
             (made_text self.now scope.now (conversion_callee self.now operand kind convert)
@@ -54,7 +56,7 @@ impl FunctionText<'_> {
         out: &mut Output<'_, W>,
     )
         requires can { CanWrite self.now }
-        requires allowed { IsTrue (types_allow self.now.shader.now.types self.now.info.now
+        requires formed { IsTrue (expression_is_written self.now.shader.now.types self.now.info.now
             (As operand kind convert)) }
         ensures { Writes W.text W.failures out.old out.new
             (callee_text self.now operand kind convert) }
@@ -74,7 +76,9 @@ impl FunctionText<'_> {
         out: &mut Output<'_, W>,
     )
         requires can { CanWrite self.now }
-        requires written { IsTrue (resolution_is_written self.now.shader.now.types target.now) }
+        requires formed { IsTrue (has_form self.now.shader.now.types target.now) }
+        requires fits { IsTrue (resolution_fits (length self.now.shader.now.overrides)
+            (length self.now.shader.now.types) target.now) }
         ensures { Writes W.text W.failures out.old out.new
             (cast_text self.now keeps_bits target.now) }
     {
@@ -93,22 +97,14 @@ impl FunctionText<'_> {
         out: &mut Output<'_, W>,
     )
         requires can { CanWrite self.now }
-        requires written { IsTrue (resolution_is_written self.now.shader.now.types target.now) }
+        requires formed { IsTrue (has_form self.now.shader.now.types target.now) }
+        requires fits { IsTrue (resolution_fits (length self.now.shader.now.overrides)
+            (length self.now.shader.now.types) target.now) }
         ensures { Writes W.text W.failures out.old out.new (bitcast_text self.now target.now) }
     {
         out.put("bitcast<");
         self.write_type_of(alloc, target, out);
         out.put(">");
-    }
-}
-
-/// The scalar that one is converted to: of this kind, and of the width that is told or its own.
-fn converted_scalar(scalar: Scalar, kind: ScalarKind, convert: Option<u8>) -> Scalar
-    ensures { result ≡ converted_scalar scalar kind convert }
-{
-    Scalar {
-        kind,
-        width: convert.unwrap_or(scalar.width),
     }
 }
 

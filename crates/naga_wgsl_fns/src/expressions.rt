@@ -5,7 +5,8 @@ ghost use Rattle.std.specs.Option.{is_some};
 ghost use Rattle.module_meaning.specs.OperatorTable.{Mathematical, Relation, relational_word};
 ghost use Rattle.module_meaning.specs.OperatorTable.{Derivative, run_word};
 ghost use Rattle.module_meaning.specs.ExpressionShapes.{letter, swizzle_letters};
-ghost use Rattle.module_meaning.specs.Part.{is_value_at};
+ghost use Rattle.module_meaning.specs.AlikeTypes.{has_form};
+ghost use Rattle.naga_info.specs.declared.info.TypeResolution.TheVariants as resolution;
 ghost use Rattle.naga_form.specs.Expressions.{as_value};
 ghost use Rattle.naga_form.specs.Operators.{Infix, Prefix, operator_form, unary_form};
 ghost use Rattle.naga_words.specs.Output.{Writes};
@@ -20,6 +21,7 @@ ghost use Rattle.naga_wgsl_fns.specs.Expressions.{pointed_text, reference_text, 
 ghost use Rattle.wgsl_words.specs.Words.{math_word, unary_text};
 
 use crate::functions::FunctionText;
+use crate::images::image_query_str;
 use crate::literal::write_literal;
 use crate::names::write_bound_name;
 use naga_back::binary_operation_str;
@@ -108,6 +110,19 @@ impl FunctionText<'_> {
             }
             Expression::Derivative { axis, ctrl, .. } => {
                 self.write_called(alloc, scope, handle, derivative_str(*axis, *ctrl), out)
+            }
+            Expression::ImageSample { .. } => self.write_sampling(alloc, scope, handle, out),
+            Expression::ImageLoad { .. } => {
+                self.write_called(alloc, scope, handle, "textureLoad", out)
+            }
+            Expression::ImageQuery { query, .. } => {
+                self.write_called(alloc, scope, handle, image_query_str(*query), out)
+            }
+            Expression::ArrayLength(_) => {
+                self.write_called(alloc, scope, handle, "arrayLength", out)
+            }
+            Expression::CooperativeMultiplyAdd { .. } => {
+                self.write_called(alloc, scope, handle, "coopMultiplyAdd", out)
             }
             _ => unreachable!(),
         }
@@ -247,7 +262,7 @@ impl FunctionText<'_> {
     )
         requires can { CanWrite self.now }
         requires handle { IsInText self.now handle }
-        requires value { IsTrue (is_value_at self.now.shader.now.types ty) }
+        requires formed { IsTrue (has_form self.now.shader.now.types (resolution.Handle ty)) }
         ensures { Writes W.text W.failures out.old out.new
             (made_text self.now scope.now (made_type self.now ty) handle) }
     {
@@ -281,7 +296,7 @@ impl FunctionText<'_> {
     /// An operand, and what stands between it and the one before.
     #[cycle(expression)]
     #[tactic(auto, using(naga_words::proofs::Writing::writes_then, crate::proofs::ExpressionRows::next_operand_row))]
-    fn write_next_operand<W: TextSink>(
+    pub(crate) fn write_next_operand<W: TextSink>(
         &self,
         alloc: Global,
         scope: &Scope,

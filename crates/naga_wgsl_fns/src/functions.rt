@@ -4,7 +4,9 @@ ghost use Rattle.std.specs.Prelude.{◌≡◌, ◌<◌, ◌++◌, IfErr, IsTrue,
 ghost use Rattle.std.specs.Prelude.{slice_get};
 ghost use Rattle.module_meaning.specs.Accepted.{is_accepted};
 ghost use Rattle.module_meaning.specs.Ranges.{is_below};
-ghost use Rattle.module_meaning.specs.Part.{is_value_at, is_written_so_far};
+ghost use Rattle.module_meaning.specs.AlikeTypes.{has_form};
+ghost use Rattle.module_meaning.specs.Part.{is_written_so_far};
+ghost use Rattle.naga_info.specs.declared.info.TypeResolution.TheVariants as resolution;
 ghost use Rattle.module_meaning.specs.Names.{HasNamesOf};
 ghost use Rattle.naga_names.specs.Keys.{names_in};
 ghost use Rattle.naga_scope.specs.Plans.{IsPlanOf};
@@ -188,7 +190,7 @@ impl FunctionText<'_> {
     #[tactic(auto, using(naga_words::proofs::Writing::writes_then, crate::proofs::FunctionRows::answer_row))]
     fn write_answer<W: TextSink>(&self, alloc: Global, ty: Handle<Type_>, out: &mut Output<'_, W>)
         requires can { CanWrite self.now }
-        requires value { IsTrue (is_value_at self.now.shader.now.types ty) }
+        requires formed { IsTrue (has_form self.now.shader.now.types (resolution.Handle ty)) }
         ensures { Writes W.text W.failures out.old out.new (answer_text self.now ty) }
     {
         out.put(" -> ");

@@ -8,6 +8,7 @@ mod conversions;
 pub mod error;
 mod expressions;
 pub mod functions;
+mod images;
 pub mod implemented;
 pub mod literal;
 mod names;

@@ -1,7 +1,9 @@
 //! Types, spelled under the names of the module's items.
 
 ghost use Rattle.std.specs.Prelude.{◌≡◌, ◌<◌, IsTrue, length};
-ghost use Rattle.module_meaning.specs.Part.{is_value_at, resolution_is_written};
+ghost use Rattle.module_meaning.specs.AlikeTypes.{has_form};
+ghost use Rattle.module_meaning.specs.Ranges.{resolution_fits};
+ghost use Rattle.naga_info.specs.declared.info.TypeResolution.TheVariants as resolution;
 ghost use Rattle.naga_words.specs.Output.{Writes};
 ghost use Rattle.naga_wgsl_fns.specs.FunctionText.{CanWrite, tells_types};
 ghost use Rattle.naga_wgsl_fns.specs.Types.{annotation_text, resolution_text, told_text, type_text};
@@ -24,7 +26,7 @@ impl FunctionText<'_> {
         out: &mut Output<'_, W>,
     )
         requires can { CanWrite self.now }
-        requires value { IsTrue (is_value_at self.now.shader.now.types ty) }
+        requires formed { IsTrue (has_form self.now.shader.now.types (resolution.Handle ty)) }
         ensures { Writes W.text W.failures out.old out.new (type_text self.now ty) }
     {
         let context = WriterTypeContext {
@@ -43,7 +45,9 @@ impl FunctionText<'_> {
         out: &mut Output<'_, W>,
     )
         requires can { CanWrite self.now }
-        requires written { IsTrue (resolution_is_written self.now.shader.now.types ty.now) }
+        requires formed { IsTrue (has_form self.now.shader.now.types ty.now) }
+        requires fits { IsTrue (resolution_fits (length self.now.shader.now.overrides)
+            (length self.now.shader.now.types) ty.now) }
         ensures { Writes W.text W.failures out.old out.new (annotation_text self.now ty.now) }
     {
         out.put(": ");
@@ -58,7 +62,9 @@ impl FunctionText<'_> {
         out: &mut Output<'_, W>,
     )
         requires can { CanWrite self.now }
-        requires written { IsTrue (resolution_is_written self.now.shader.now.types ty.now) }
+        requires formed { IsTrue (has_form self.now.shader.now.types ty.now) }
+        requires fits { IsTrue (resolution_fits (length self.now.shader.now.overrides)
+            (length self.now.shader.now.types) ty.now) }
         ensures { Writes W.text W.failures out.old out.new (resolution_text self.now ty.now) }
     {
         let context = WriterTypeContext {

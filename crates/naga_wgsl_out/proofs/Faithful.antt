@@ -9,6 +9,7 @@ use Rattle.wgsl_text.specs.Declarations.{Program}
 use Rattle.naga_form.specs.Declarations.{written_program}
 use Rattle.naga_form.proofs.Resolution.{resolves}
 use Rattle.naga_form.proofs.Interface.{has_interface}
+use Rattle.naga_form.proofs.PartTypes.{all_have_forms}
 use Rattle.naga_form.proofs.Programs.{is_program}
 use Rattle.naga_form.proofs.AcceptedFunctions.{functions_counted}
 use Rattle.naga_info.specs.declared.info.ModuleInfo.{ModuleInfo}
@@ -96,7 +97,7 @@ module _ (m : Module) (info : ModuleInfo) (flags : WriterFlags)
   one : AllPlanned → HasOneReading Reads (written_text m info flags) program
   one planned =
       program_has_one_reading program (is_program m info explicit accepted
-      written (all_planned_formed m info planned) (all_planned_counted m info accepted planned))
+      written (all_have_forms m info accepted written explicit (all_planned_formed m info planned)) (all_planned_counted m info accepted planned))
 
   each : AllPlanned → (held now : List ℕ) → now ≡ held ++ written_text m info flags →
       (Q : Program → Type 0) → Q program → EachReading held now Q
@@ -127,6 +128,7 @@ module _ (m : Module) (info : ModuleInfo) (flags : WriterFlags)
         let appended = w.wrote.appended ∙ ap (λ t. held ++ t) same_text in
         let rules = all_planned_hold m info written w.planned in
         let formed = all_planned_formed m info w.planned in
+        let have = all_have_forms m info accepted written explicit formed in
         let reading = each w.planned held now appended in
         record {
           is_faithful = record {
@@ -145,11 +147,11 @@ module _ (m : Module) (info : ModuleInfo) (flags : WriterFlags)
             };
             interface = reading (HasInterfaceOf m) (has_interface m info explicit (functions_counted m info accepted));
             runs = reading (RunsAs m info)
-                (runs_as m info explicit accepted written formed rules has.counted);
+                (runs_as m info explicit accepted written have rules has.counted);
           };
           resolved = reading (ResolvesAs m info)
-              (resolves m info explicit accepted written formed rules has.counted);
-          binds = reading (BindsAs m info explicit) (binds_as m info explicit accepted written formed);
+              (resolves m info explicit accepted written have rules has.counted);
+          binds = reading (BindsAs m info explicit) (binds_as m info explicit accepted written have);
           text_ok = appended;
           text_err = tt;
           untouched = tt;

@@ -8,7 +8,9 @@ use Rattle.std.proofs.lemmas.Bool.{and_from}
 use Rattle.std.proofs.lemmas.Option.{slice_get_within}
 use mathlib.Core.List.{reverse_aux}
 use Rattle.naga_ir.specs.declared.expression.Expression.{Expression}
-use Rattle.naga_ir.specs.declared.expression.Expression.TheVariants.{Literal, Math, Relational}
+use Rattle.naga_ir.specs.declared.expression.Expression.TheVariants.{As, Compose, Literal, Math}
+use Rattle.naga_ir.specs.declared.expression.Expression.TheVariants.{ImageSample, ImageLoad}
+use Rattle.naga_ir.specs.declared.expression.Expression.TheVariants.{Relational, ZeroValue}
 use Rattle.naga_ir.specs.declared.expression.Literal.{Literal as LiteralValue}
 use Rattle.naga_ir.specs.declared.expression.Literal.TheVariants as literal
 use Rattle.naga_ir.specs.declared.module.Function as ir_function
@@ -19,15 +21,24 @@ use Rattle.shader_runs.specs.Program as shapes
 use Rattle.shader_runs.specs.Program.{Function}
 use Rattle.shader_runs.specs.ScopeRules.{ScopeHolds}
 use Rattle.module_meaning.specs.Accepted.{is_accepted}
-use Rattle.module_meaning.specs.Part.{expression_is_written, function_is_written}
+use Rattle.module_meaning.specs.Part.{expression_has_form, function_is_written}
 use Rattle.module_meaning.specs.Part.{is_written_so_far}
 use Rattle.module_meaning.proofs.Lists.{list_all_at}
 use Rattle.module_meaning.proofs.Part.{functions_are_written}
-use Rattle.module_meaning.specs.Written.{AllWrittenHaveForms}
+use Rattle.module_meaning.specs.Written.{ExpressionsHaveForms, OfEachFunction}
 use Rattle.module_meaning.specs.Premises.{EachScopeHolds, ScopesHold, handles_are_counted}
 use Rattle.module_meaning.specs.FunctionShapes.{function_shape, function_shapes}
 use Rattle.module_meaning.proofs.ModuleShapes.{declares_functions_alone}
-use Rattle.naga_form.proofs.AcceptedFunctions.{functions_counted}
+use Rattle.module_meaning.specs.AlikeTypes.{has_form}
+use Rattle.module_meaning.specs.Ranges.{names_in_range}
+use Rattle.naga_form.proofs.AcceptedFunctions.{IsAccepted, accepted_at, function_there}
+use Rattle.naga_form.proofs.AcceptedFunctions.{functions_counted, names_are_in_range}
+use Rattle.naga_form.proofs.PartTypes.{type_formed}
+use Rattle.naga_info.specs.declared.info.TypeResolution.TheVariants.{Handle}
+use Rattle.naga_ir.specs.declared.types.Type_.{Type_}
+use Rattle.naga_ir.specs.declared.types.TypeInner.{TypeInner}
+use Rattle.std.proofs.lemmas.Bool.{ltb-true}
+use Rattle.std.specs.Prelude.{nat_lt}
 use Rattle.naga_names.proofs.Refusal.{element}
 use Rattle.naga_scope.specs.Plans.{IsRefusalToPlanOf, ScopeHoldsIn}
 use Rattle.naga_scope.specs.declared.plan.PlanError.{PlanError}
@@ -40,7 +51,8 @@ use Rattle.naga_wgsl_fns.specs.declared.error.Error.TheVariants.{Unimplemented}
 use Rattle.naga_words.specs.declared.sink.SinkError.{SinkError}
 use Rattle.naga_wgsl_fns.specs.Errors.{IsCustom}
 use Rattle.naga_wgsl_out.specs.Refusals.{IsFault, IsOfPlan, IsPlanRefusal, IsRefusal}
-use Rattle.naga_wgsl_out.specs.Refusals.{NamesExpression, NamesFormless, NamesLiteral}
+use Rattle.naga_wgsl_out.specs.Refusals.{MakesFormed, NamesConversion, NamesExpression}
+use Rattle.naga_wgsl_out.specs.Refusals.{NamesFormless, NamesLiteral, converted}
 use Rattle.naga_wgsl_out.specs.Refusals.{TellsOfFunction, TellsOfModule, TellsPlanError}
 use Rattle.naga_wgsl_out.specs.Writing.{HasPlan, IsWritableAt}
 
@@ -142,7 +154,8 @@ all_planned_counted m info accepted planned =
 
 -- and each written handle has a form
 pub all_planned_formed : (m : Module) (info : ModuleInfo) →
-    ((i : ℕ) → i < length m.functions → HasPlan m info i) → AllWrittenHaveForms m info
+    ((i : ℕ) → i < length m.functions → HasPlan m info i) →
+    OfEachFunction m info (ExpressionsHaveForms m info)
 all_planned_formed m info planned g f known at is =
     ((planned g (slice_get_within m.functions g f at)).plan f known at is).formed
 
@@ -151,13 +164,17 @@ all_planned_formed m info planned g f known at is =
 module _ (m : Module) (info : ModuleInfo) (i : ℕ) (error : Error)
     (n : NamesFormless m info i error) where
   named : (x : Expression) × (slice_get n.function.expressions n.expression ≡ Some x)
-      × IsFalse (expression_is_written x) × NamesExpression x error
+      × IsFalse (expression_has_form m.types n.known n.function.expressions x)
+      × NamesExpression m.types n.known n.function.expressions x error
   named = by (slice_get n.function.expressions n.expression) refl n.named
     where
       by : (o : Option Expression) → slice_get n.function.expressions n.expression ≡ o →
-          IsSomeAnd o (λ e. IsFalse (expression_is_written e) × NamesExpression e error) →
+          IsSomeAnd o
+          (λ e. IsFalse (expression_has_form m.types n.known n.function.expressions e)
+          × NamesExpression m.types n.known n.function.expressions e error) →
           (x : Expression) × (slice_get n.function.expressions n.expression ≡ Some x)
-          × IsFalse (expression_is_written x) × NamesExpression x error
+          × IsFalse (expression_has_form m.types n.known n.function.expressions x)
+          × NamesExpression m.types n.known n.function.expressions x error
       by None at is = absurd is
       by (Some x) at is = (x, at, is.0, is.1)
 
@@ -168,7 +185,8 @@ module _ (m : Module) (info : ModuleInfo) (i : ℕ) (error : Error)
       absurd cc
 
   pub formless_told : TellsOfModule error → TellsOfFunction error
-  formless_told tells = inr (tells, (named.0, named.3))
+  formless_told tells =
+      inr (tells, (m.types, n.known, n.function.expressions, named.0, named.3))
 
 -- what a fault is
 module _ (m : Module) (info : ModuleInfo) (i : ℕ) where
@@ -196,8 +214,9 @@ module _ (m : Module) (info : ModuleInfo) (i : ℕ) where
 
 -- ---- what is told of a plan's error
 -- no refusal that names an expression is the sink's
-names_no_sink : (e : Expression) (reason : SinkError) → NamesExpression e (FmtError reason) → ⊥
-names_no_sink (Literal value) reason named = by value named
+names_no_sink : (types : List Type_) (known : List ExpressionInfo) (es : List Expression)
+    (e : Expression) (reason : SinkError) → NamesExpression types known es e (FmtError reason) → ⊥
+names_no_sink types known es (Literal value) reason named = by value named
   where
     by : (value : LiteralValue) → NamesLiteral value (FmtError reason) → ⊥
     by (literal.F64 bits) named = named
@@ -206,9 +225,25 @@ names_no_sink (Literal value) reason named = by value named
     by (literal.AbstractInt value) named = named
     by (literal.AbstractFloat bits) named = named
     by _ named = named
-names_no_sink (Math fun arg arg1 arg2 arg3) reason named = named
-names_no_sink (Relational fun argument) reason named = absurd cc
-names_no_sink _ reason named = named
+names_no_sink types known es (Math fun arg arg1 arg2 arg3) reason named = named
+names_no_sink types known es (Relational fun argument) reason named = absurd cc
+names_no_sink types known es (As operand kind convert) reason named =
+    by (converted types known operand kind convert) named
+  where
+    by : (o : Option TypeInner) → NamesConversion o (FmtError reason) → ⊥
+    by None named = named
+    by (Some new) named = named
+names_no_sink types known es
+    (ImageSample image sampler gather coordinate array_index offset level depth_ref clamp) reason
+    (inl named) =
+    named.1
+names_no_sink types known es
+    (ImageSample image sampler gather coordinate array_index offset level depth_ref clamp) reason
+    (inr named) =
+    named.1
+names_no_sink types known es (ImageLoad image coordinate array_index sample level) reason named =
+    named
+names_no_sink types known es _ reason named = named
 
 module _ (m : Module) (info : ModuleInfo) (accepted : IsTrue (is_accepted m info))
     (written : IsTrue (is_written_so_far m info)) (i : ℕ) (f : ir_function.Function)
@@ -232,10 +267,41 @@ module _ (m : Module) (info : ModuleInfo) (accepted : IsTrue (is_accepted m info
       refusal f known.0 stands known.1 (subst (λ o. IfSome o ScopeHolds)
       (shape_found m info m.functions info.functions.items i f known.0 stands known.1) holds)
 
-  pub is_of_plan : (error : PlanError) → IsRefusalToPlanOf m info i error → IsOfPlan f error
-  is_of_plan OutOfScope refusal = tt
-  is_of_plan (WithoutForm h) refusal = (refusal f known.0 stands known.1).1
-  is_of_plan (plan_error.Memory e) refusal = tt
+  -- what an expression of it makes a value of has a form
+  makes_formed : (h : ℕ) (e : Expression) → slice_get f.expressions h ≡ Some e → MakesFormed m.types e
+  makes_formed h e at = by e (names_are_in_range m is.callees f is.ranges h e at)
+    where
+      here : slice_get info.functions.items i ≡ Some known.0
+      here = known.1
+
+      is : IsAccepted m i f (function_there m info accepted i f stands).0
+      is =
+          let there = function_there m info accepted i f stands in
+          accepted_at m info accepted i f there.0 there.1
+
+      formed : (ty : ℕ) → nat_lt ty (length m.types) ≡ true → IsTrue (has_form m.types (Handle ty))
+      formed ty lt = type_formed m info accepted written ty (ltb-true ty (length m.types) lt)
+
+      by : (e : Expression) →
+          names_in_range m is.callees (length f.arguments.items) (length f.local_variables) e ≡ true →
+          MakesFormed m.types e
+      by (ZeroValue ty) range = formed ty range
+      by (Compose ty components) range = formed ty range
+      by _ range = tt
+
+  pub is_of_plan : (es : List ExpressionInfo) → slice_get info.functions.items i ≡ Some es →
+      (error : PlanError) → IsRefusalToPlanOf m info i error → IsOfPlan m.types f es error
+  is_of_plan es here OutOfScope refusal = tt
+  is_of_plan es here (WithoutForm h) refusal =
+      both (slice_get f.expressions h) refl (refusal f es stands here).1
+    where
+      both : (o : Option Expression) → slice_get f.expressions h ≡ o →
+          IsSomeAnd o (λ e. IsFalse (expression_has_form m.types es f.expressions e)) →
+          IsSomeAnd o (λ e.
+          IsFalse (expression_has_form m.types es f.expressions e) × MakesFormed m.types e)
+      both None at is = is
+      both (Some e) at is = (is, makes_formed h e at)
+  is_of_plan es here (plan_error.Memory e) refusal = tt
 
   for_scope : (told : Error) → IsCustom (codes "operand out of scope") told →
       (ScopeHoldsIn m info i → ⊥) → IsPlanRefusal m info i told
@@ -246,20 +312,21 @@ module _ (m : Module) (info : ModuleInfo) (accepted : IsTrue (is_accepted m info
   for_form : (told : Error) → NamesFormless m info i told → IsPlanRefusal m info i told
   for_form (FmtError reason) n =
       let at = named m info i (FmtError reason) n in
-      absurd (names_no_sink at.0 reason at.3)
+      absurd (names_no_sink m.types n.known n.function.expressions at.0 reason at.3)
   for_form (Memory e) n = tt
   for_form _ n = (tt, inr n)
 
-  pub plan_refusal : (error : PlanError) (told : Error) → IsRefusalToPlanOf m info i error →
-      TellsPlanError f error told → IsPlanRefusal m info i told
-  plan_refusal OutOfScope told refusal is = for_scope told is (out_of_scope refusal)
-  plan_refusal (WithoutForm h) told refusal is =
-      let here = refusal f known.0 stands known.1 in
+  pub plan_refusal : (es : List ExpressionInfo) → slice_get info.functions.items i ≡ Some es →
+      (error : PlanError) (told : Error) → IsRefusalToPlanOf m info i error →
+      TellsPlanError m.types f es error told → IsPlanRefusal m info i told
+  plan_refusal es at OutOfScope told refusal is = for_scope told is (out_of_scope refusal)
+  plan_refusal es at (WithoutForm h) told refusal is =
+      let here = refusal f es stands at in
       for_form told (record {
         function = f;
-        known = known.0;
+        known = es;
         stands = stands;
-        is_known = known.1;
+        is_known = at;
         expression = h;
         written = here.0;
         named = both _ _ (slice_get f.expressions h) here.1 is;
@@ -269,4 +336,4 @@ module _ (m : Module) (info : ModuleInfo) (accepted : IsTrue (is_accepted m info
           IsSomeAnd o Q → IsSomeAnd o (λ e. P e × Q e)
       both P Q None p q = absurd p
       both P Q (Some e) p q = (p, q)
-  plan_refusal (plan_error.Memory e) told refusal is = subst (IsPlanRefusal m info i) (sym is) tt
+  plan_refusal es at (plan_error.Memory e) told refusal is = subst (IsPlanRefusal m info i) (sym is) tt

@@ -2,15 +2,26 @@
 --
 -- Throughout, m is the module, and e an error of memory.
 use Rattle.std.specs.Prelude.{◌≡◌, ⊤, ℕ, List, ◌⊎◌, codes, string_bytes, IsTrue, IsFalse, Result}
-use Rattle.std.specs.Prelude.{Ok, Err, IsSomeAnd, Some, slice_get}
+use Rattle.std.specs.Prelude.{Ok, Err, IsSomeAnd, Option, Some, None, slice_get, Bool}
+use Rattle.std.specs.Option.{is_some, option_and_then}
 use Rattle.naga_ir.specs.declared.expression.Expression.{Expression}
-use Rattle.naga_ir.specs.declared.expression.Expression.TheVariants.{Literal, Math, Relational}
+use Rattle.naga_ir.specs.declared.expression.Expression.TheVariants.{As, Compose, Literal, Math}
+use Rattle.naga_ir.specs.declared.expression.Expression.TheVariants.{ImageSample, ImageLoad}
+use Rattle.naga_ir.specs.declared.expression.Expression.TheVariants.{Relational, ZeroValue}
+use Rattle.naga_ir.specs.declared.types.ScalarKind.{ScalarKind}
+use Rattle.naga_ir.specs.declared.types.Type_.{Type_}
+use Rattle.naga_ir.specs.declared.types.TypeInner.{TypeInner}
+use Rattle.naga_info.specs.Resolution.{inner_of}
+use Rattle.naga_info.specs.declared.info.TypeResolution.TheVariants.{Handle}
 use Rattle.naga_ir.specs.declared.expression.Literal.{Literal as LiteralValue}
 use Rattle.naga_ir.specs.declared.expression.Literal.TheVariants as literal
 use Rattle.naga_ir.specs.declared.module.Function.{Function}
 use Rattle.naga_ir.specs.declared.module.Module.{Module}
-use Rattle.module_meaning.specs.Part.{expression_is_written, is_written_so_far}
-use Rattle.module_meaning.specs.Written.{AllWrittenHaveForms, IsWrittenIn}
+use Rattle.module_meaning.specs.Part.{expression_has_form, is_written_so_far}
+use Rattle.module_meaning.specs.Sampling.{offset_is_written, sampling_is_written}
+use Rattle.module_meaning.specs.Written.{ExpressionsHaveForms, IsWrittenIn, OfEachFunction}
+use Rattle.module_meaning.specs.AlikeTypes.{has_form}
+use Rattle.module_meaning.specs.Conversions.{conversion_target}
 use Rattle.naga_info.specs.declared.info.ExpressionInfo.{ExpressionInfo}
 use Rattle.naga_info.specs.declared.info.ModuleInfo.{ModuleInfo}
 use Rattle.naga_names.specs.Refusal.{SomeNameIsFull, SomeKeyIsFull}
@@ -58,7 +69,8 @@ IsErrorOfNames (namer_error.Memory e) error = error ≡ Memory e
 
 -- ---- expressions without a form
 -- The refusals that name them, or want of memory for their text. A literal is a float or an abstract
--- one; a function of mathematics or a relation has no word.
+-- one; a function of mathematics or a relation has no word; a conversion has nothing that it could
+-- give.
 abbrev pub FloatLiteral : Error → Type 0
 FloatLiteral error = IsUnimplemented (codes "float literal") error
 
@@ -79,11 +91,47 @@ NamesFunction (Unsupported kind value) = kind.now ≡ codes "math function"
 NamesFunction (Memory e) = ⊤
 NamesFunction _ = ⊥
 
-abbrev pub NamesExpression : Expression → Error → Type 0
-NamesExpression (Literal value) error = NamesLiteral value error
-NamesExpression (Math fun arg arg1 arg2 arg3) error = NamesFunction error
-NamesExpression (Relational fun argument) error = error ≡ UnsupportedRelationalFunction fun
-NamesExpression _ error = ⊥
+-- a scalar that WGSL has no word for
+abbrev pub NamesScalar : Error → Type 0
+NamesScalar (Unsupported kind value) = kind.now ≡ codes "scalar type"
+NamesScalar (Memory e) = ⊤
+NamesScalar _ = ⊥
+
+-- what is converted is no scalar, vector or matrix, or has other scalars then that have no word
+abbrev pub NamesConversion : (new : Option TypeInner) → Error → Type 0
+NamesConversion None error = IsUnimplemented (codes "conversion of this type") error
+NamesConversion (Some new) error = NamesScalar error
+
+-- what the operand of a conversion is converted to, by the types that are known
+abbrev pub converted : List Type_ → List ExpressionInfo → (operand : ℕ) → ScalarKind →
+    (convert : Option ℕ) → Option TypeInner
+converted types es operand kind convert =
+    option_and_then (λ k. option_and_then (λ it. conversion_target it kind convert) (inner_of k.ty types))
+    (slice_get es operand)
+
+-- An image is sampled in a way that has no form, or with an offset that applies an operator; where both
+-- stand, either may be told.
+abbrev pub NamesSampling : (sampling_is_written offset_is_written : Bool) → Error → Type 0
+NamesSampling sampling offset error =
+    (IsFalse sampling × IsUnimplemented (codes "sampling form") error)
+    ⊎ (IsFalse offset × IsCustom (codes "operator in a constant") error)
+
+-- an expression among others, with these types and what is known of theirs
+abbrev pub NamesExpression : List Type_ → List ExpressionInfo → List Expression → Expression → Error →
+    Type 0
+NamesExpression types known es (Literal value) error = NamesLiteral value error
+NamesExpression types known es (Math fun arg arg1 arg2 arg3) error = NamesFunction error
+NamesExpression types known es (Relational fun argument) error =
+    error ≡ UnsupportedRelationalFunction fun
+NamesExpression types known es (As operand kind convert) error =
+    NamesConversion (converted types known operand kind convert) error
+NamesExpression types known es
+    (ImageSample image sampler gather coordinate array_index offset level depth_ref clamp) error =
+    NamesSampling (sampling_is_written gather level (is_some depth_ref) clamp)
+    (offset_is_written es offset) error
+NamesExpression types known es (ImageLoad image coordinate array_index sample level) error =
+    IsCustom (codes "image load with sample and level") error
+NamesExpression types known es _ error = ⊥
 
 -- an expression is written in the function with this handle that has no form, and is named
 pub record NamesFormless (m : Module) (info : ModuleInfo) (handle : ℕ) (error : Error) : Type 0 where
@@ -94,7 +142,8 @@ pub record NamesFormless (m : Module) (info : ModuleInfo) (handle : ℕ) (error 
   pub expression : ℕ
   pub written : IsWrittenIn m info function known expression
   pub named : IsSomeAnd (slice_get function.expressions expression) (λ e.
-      IsFalse (expression_is_written e) × NamesExpression e error)
+      IsFalse (expression_has_form m.types known function.expressions e)
+      × NamesExpression m.types known function.expressions e error)
 
 -- so it is in some function
 abbrev pub HasFormless : Module → ModuleInfo → Error → Type 0
@@ -134,7 +183,9 @@ TellsOfScope _ = ⊥
 
 -- the error names some expression without a form, and is not want of memory
 abbrev pub TellsOfForm : Error → Type 0
-TellsOfForm error = TellsOfModule error × ((e : Expression) × NamesExpression e error)
+TellsOfForm error =
+    TellsOfModule error × ((types : List Type_) × (known : List ExpressionInfo)
+    × (es : List Expression) × (e : Expression) × NamesExpression types known es e error)
 
 -- the error tells of one of the functions, of which each is looked at before its text
 abbrev pub TellsOfFunction : Error → Type 0
@@ -154,24 +205,32 @@ abbrev pub IsPlanRefusal : Module → ModuleInfo → (handle : ℕ) → Error �
 IsPlanRefusal m info handle (Memory e) = ⊤
 IsPlanRefusal m info handle error = TellsOfModule error × IsFault m info handle error
 
+-- a type that the expression makes a value of has a form
+abbrev pub MakesFormed : List Type_ → Expression → Type 0
+MakesFormed types (ZeroValue ty) = IsTrue (has_form types (Handle ty))
+MakesFormed types (Compose ty components) = IsTrue (has_form types (Handle ty))
+MakesFormed types _ = ⊤
+
 -- the handle that an error of a plan tells of has an expression without a form, and what is told is
 -- the name of that, or what else the error says
-abbrev pub IsOfPlan : Function → PlanError → Type 0
-IsOfPlan f (WithoutForm handle) =
-    IsSomeAnd (slice_get f.expressions handle) (λ e. IsFalse (expression_is_written e))
-IsOfPlan f error = ⊤
+abbrev pub IsOfPlan : List Type_ → Function → List ExpressionInfo → PlanError → Type 0
+IsOfPlan types f known (WithoutForm handle) =
+    IsSomeAnd (slice_get f.expressions handle) (λ e.
+    IsFalse (expression_has_form types known f.expressions e) × MakesFormed types e)
+IsOfPlan types f known error = ⊤
 
-abbrev pub TellsPlanError : Function → PlanError → Error → Type 0
-TellsPlanError f OutOfScope told = IsCustom (codes "operand out of scope") told
-TellsPlanError f (WithoutForm handle) told =
-    IsSomeAnd (slice_get f.expressions handle) (λ e. NamesExpression e told)
-TellsPlanError f (plan_error.Memory e) told = told ≡ Memory e
+abbrev pub TellsPlanError : List Type_ → Function → List ExpressionInfo → PlanError → Error → Type 0
+TellsPlanError types f known OutOfScope told = IsCustom (codes "operand out of scope") told
+TellsPlanError types f known (WithoutForm handle) told =
+    IsSomeAnd (slice_get f.expressions handle) (λ e.
+    NamesExpression types known f.expressions e told)
+TellsPlanError types f known (plan_error.Memory e) told = told ≡ Memory e
 
 -- no reason stands in the module
 pub record IsWritable (m : Module) (info : ModuleInfo) : Type 0 where
   pub written : IsTrue (is_written_so_far m info)
   pub in_scope : ScopesHold m info
-  pub formed : AllWrittenHaveForms m info
+  pub formed : OfEachFunction m info (ExpressionsHaveForms m info)
   pub told : NamerIsFull m → ⊥
   pub keys : KeyIsOutOfRange m → ⊥
 

@@ -6,7 +6,7 @@ use Rattle.std.specs.List.{enumerate_from, flat_map}
 use Rattle.naga_ir.specs.declared.module.Function.{Function}
 use Rattle.naga_ir.specs.declared.module.Module.{Module}
 use Rattle.naga_info.specs.declared.info.ModuleInfo.{ModuleInfo}
-use Rattle.module_meaning.specs.Written.{WrittenHaveForms}
+use Rattle.module_meaning.specs.Written.{ExpressionsHaveForms}
 use Rattle.naga_scope.specs.Plans.{IsPlanOf, OfFunctionAt, ScopeHoldsIn}
 use Rattle.naga_scope.specs.declared.points.Standing.{Standing}
 use Rattle.wgsl_text.specs.Functions.{function_pieces}
@@ -51,7 +51,7 @@ lines_before m info flags handle =
 -- the rules of scope hold in the function with this handle, and each written handle of it has a form
 pub record IsWritableAt (m : Module) (info : ModuleInfo) (handle : ℕ) : Type 0 where
   pub in_scope : ScopeHoldsIn m info handle
-  pub formed : OfFunctionAt m info handle (WrittenHaveForms m info)
+  pub formed : OfFunctionAt m info handle (ExpressionsHaveForms m info)
 
 -- Behind what the sink held stand the functions in front of the first one for which that does not
 -- hold, an empty line behind each, and nothing else.

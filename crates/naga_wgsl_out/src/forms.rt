@@ -1,28 +1,130 @@
 //! The refusals of expressions without a form, by name.
 
-ghost use Rattle.std.specs.Prelude.{IsFalse, IsTrue};
-ghost use Rattle.module_meaning.specs.Part.{expression_is_of_part, expression_is_written};
+ghost use Rattle.std.specs.Prelude.{Bool, IsFalse, IsTrue, List, ◌&&◌};
+ghost use Rattle.module_meaning.specs.Part.{expression_has_form, expression_is_of_part};
 ghost use Rattle.module_meaning.specs.Part.{is_written_literal, literal_is_of_part};
-ghost use Rattle.naga_wgsl_out.specs.Refusals.{NamesExpression, NamesFunction, NamesLiteral};
+ghost use Rattle.module_meaning.specs.Conversions.{conversion_target};
+ghost use Rattle.module_meaning.specs.Sampling.{sampling_is_written};
+ghost use Rattle.naga_ir.specs.declared.expression.Expression.{Expression};
+ghost use Rattle.naga_scope.specs.Forms.{AreKnownIn};
+ghost use Rattle.naga_wgsl_out.specs.Refusals.{MakesFormed, NamesConversion, NamesExpression};
+ghost use Rattle.naga_wgsl_out.specs.Refusals.{NamesFunction, NamesLiteral, NamesSampling};
+ghost use Rattle.naga_wgsl_out.specs.Refusals.{NamesScalar, converted};
 
-use naga_ir::{Expression, Literal, MathFunction};
+use naga_info::FunctionInfo;
+use naga_ir::{
+    Expression, Handle, Literal, MathFunction, SampleLevel, Scalar, ScalarKind, SwizzleComponent,
+    Type_, TypeInner, UniqueArena,
+};
+use naga_scope::{converted_scalar, sampling_has_form};
 use naga_wgsl_fns::Error;
 use naga_wgsl_fns::error::{custom, unimplemented};
 use std::alloc::Global;
 use wgsl_words::TryToWgsl;
 
-/// The refusal that names an expression without a form; want of memory where there is none for its
-/// text.
-pub(crate) fn without_form(alloc: Global, expression: &Expression) -> Error
+/// The refusal that names an expression that has no form among the others of its function; want of
+/// memory where there is none for its text.
+pub(crate) fn without_form(
+    alloc: Global,
+    types: &UniqueArena<Type_>,
+    info: &FunctionInfo,
+    expression: &Expression,
+) -> Error
     requires part { IsTrue (expression_is_of_part expression.now) }
-    requires formless { IsFalse (expression_is_written expression.now) }
-    ensures { NamesExpression expression.now result }
+    requires known { AreKnownIn types.now info.now }
+    requires makes { MakesFormed types.now expression.now }
+    requires formless { (es : List Expression) ×
+        IsFalse (expression_has_form types.now info.now es expression.now) }
+    ensures { (es : List Expression) →
+        IsFalse (expression_has_form types.now info.now es expression.now) →
+        NamesExpression types.now info.now es expression.now result }
 {
     match expression {
         Expression::Literal(literal) => literal_without_form(alloc, literal),
         Expression::Math { fun, .. } => function_without_word(alloc, *fun),
         Expression::Relational { fun, .. } => Error::UnsupportedRelationalFunction(*fun),
+        Expression::As {
+            expr,
+            kind,
+            convert,
+        } => conversion_without_form(alloc, types, info, *expr, *kind, *convert),
+        Expression::ImageSample {
+            gather,
+            level,
+            depth_ref,
+            clamp_to_edge,
+            ..
+        } => sampling_without_form(alloc, *gather, *level, depth_ref.is_some(), *clamp_to_edge),
+        Expression::ImageLoad { .. } => custom(alloc, "image load with sample and level"),
         _ => unreachable!(),
+    }
+}
+
+/// What is told of a conversion: a scalar has no word, or nothing is converted so.
+fn conversion_without_form(
+    alloc: Global,
+    types: &UniqueArena<Type_>,
+    info: &FunctionInfo,
+    operand: Handle<Expression>,
+    kind: ScalarKind,
+    convert: Option<u8>,
+) -> Error
+    requires known { AreKnownIn types.now info.now }
+    ensures { NamesConversion (converted types.now info.now operand kind convert) result }
+{
+    match info.expressions.get(operand.index()) {
+        Some(known) => type_without_conversion(alloc, known.ty.inner_with(types), kind, convert),
+        None => unimplemented(alloc, "conversion of this type"),
+    }
+}
+
+fn type_without_conversion(
+    alloc: Global,
+    inner: &TypeInner,
+    kind: ScalarKind,
+    convert: Option<u8>,
+) -> Error
+    ensures { NamesConversion (conversion_target inner.now kind convert) result }
+{
+    match inner {
+        TypeInner::Scalar(scalar)
+        | TypeInner::Vector { scalar, .. }
+        | TypeInner::Matrix { scalar, .. } => {
+            scalar_without_word(alloc, converted_scalar(*scalar, kind, convert))
+        }
+        _ => unimplemented(alloc, "conversion of this type"),
+    }
+}
+
+/// The scalar is told by its debug text.
+fn scalar_without_word(alloc: Global, scalar: Scalar) -> Error
+    ensures { NamesScalar result }
+{
+    match format!(in alloc; "{scalar:?}") {
+        Ok(value) => Error::Unsupported {
+            kind: Scalar::DESCRIPTION,
+            value,
+        },
+        Err(error) => Error::Memory(error),
+    }
+}
+
+/// An image is sampled in a way that has no form, or else its offset has none.
+fn sampling_without_form(
+    alloc: Global,
+    gather: Option<SwizzleComponent>,
+    level: SampleLevel,
+    compares: bool,
+    clamped: bool,
+) -> Error
+    ensures { (offset : Bool) →
+        IsFalse (sampling_is_written gather level compares clamped && offset) →
+        NamesSampling (sampling_is_written gather level compares clamped) offset result }
+{
+    if sampling_has_form(gather, level, compares, clamped) {
+        custom(alloc, "operator in a constant")
+    } else {
+        unimplemented(alloc, "sampling form")
     }
 }
 

@@ -11,6 +11,7 @@ ghost use Rattle.naga_names.specs.Refusal.{IsResetRefusal};
 ghost use Rattle.module_meaning.specs.Names.{HasNamesOf, wgsl_names};
 ghost use Rattle.module_meaning.specs.Resolution.{ResolvesAs};
 ghost use Rattle.module_meaning.specs.Bindings.{BindsAs};
+ghost use Rattle.naga_scope.specs.Forms.{AreKnownIn};
 ghost use Rattle.naga_scope.specs.Plans.{IsPlanOf};
 ghost use Rattle.naga_wgsl_fns.specs.Appends.{Appends};
 ghost use Rattle.naga_wgsl_fns.specs.FunctionText.{tells_types};
@@ -26,8 +27,8 @@ ghost use Rattle.naga_wgsl_out.specs.Writing.{written_text};
 use crate::forms::without_form;
 use naga_acceptance::is_written_so_far;
 use naga_back::WriterFlags;
-use naga_info::ModuleInfo;
-use naga_ir::{Expression, Function, Handle, Module, Place};
+use naga_info::{FunctionInfo, ModuleInfo};
+use naga_ir::{Expression, Function, Handle, Module, Place, Type_, UniqueArena};
 use naga_names::by_bytes::{builtin_words, reserved_words};
 use naga_names::keyword_set::CaseInsensitiveKeywordSet;
 use naga_names::namer::{NameKey, Namer, NamerError};
@@ -87,24 +88,29 @@ impl<W: TextSink> Writer<W> {
     /// it stands, are refused as `Custom`, `operand out of scope`. An expression without a form is
     /// refused where it is written, and let be where it is not: a float literal as `Unimplemented`,
     /// `float literal`; a function of mathematics without a word as `Unsupported`, of the kind `math
-    /// function`, with its debug text; a relation without one as `UnsupportedRelationalFunction`.
+    /// function`, with its debug text; a relation without one as `UnsupportedRelationalFunction`; a
+    /// conversion of what is no scalar, vector or matrix as `Unimplemented`, `conversion of this
+    /// type`, and one to scalars without a word as `Unsupported`, of the kind `scalar type`;
+    /// a sampling without a form as `Unimplemented`, `sampling form`, and one with an offset that
+    /// applies an operator as `Custom`, `operator in a constant`; a load of a texel of both a sample
+    /// and a level as `Custom`, `image load with sample and level`.
     /// Where several such stand in a module, one is told. Each function is looked at before its
     /// text, so the functions in front of the first that has one then stand behind what the sink
     /// held, whole, an empty line behind each. Any other refusal leaves the sink's text as it was.
     /// None of them is a failure of the sink.
     ///
     /// So far a module is refused as `Unimplemented`, `not yet written`, unless it declares nothing
-    /// but types and functions: the types `bool`, `i32`, `u32`, `f32`, `i64`, `u64` and `f64`, and
-    /// vectors and matrices of these; functions whose locals have a literal as first value or none,
-    /// whose expressions are arguments, locals, literals, zero values, values of a type composed of
-    /// others, loads, choices, operators with a sign, vectors of one value, swizzles, parts at an
-    /// index of vectors, of matrices and of what is pointed at, conversions to such types,
-    /// derivatives, functions of mathematics, and relations, without names of their own, and whose
-    /// statements are `Emit`s, `Store`s and `Return`s.
+    /// but types and functions: types with a form that enable no extension, but structs and atomics;
+    /// functions whose locals have a literal as first value or none, whose expressions are
+    /// arguments, locals, literals, zero values, values of a type composed of others, loads,
+    /// choices, operators with a sign, vectors of one value, swizzles, parts at an index of what has
+    /// parts, conversions, derivatives, operations on images, lengths of arrays, products of
+    /// cooperative matrices, functions of mathematics, and relations, without names of their own, and
+    /// whose statements are `Emit`s, `Store`s and `Return`s.
     ///
-    /// An emitted expression is bound by a `let` where it is a `Load` or a derivative that is used
-    /// at all, or another operator, but no part at an index, that is used at least twice;
-    /// `EXPLICIT_TYPES` has each `let` tell its type.
+    /// An emitted expression is bound by a `let` where it is an operation on an image, a `Load` or a
+    /// derivative that is used at all, or another operator, but no part at an index, that is used at
+    /// least twice; `EXPLICIT_TYPES` has each `let` tell its type.
     pub fn write(&mut self, module: &Module, info: &ModuleInfo) -> Result<(), Error>
         requires accepted { IsTrue (is_accepted «module».now info.now) }
         ensures faithful { FaithfulWriting «module».now info.now result
@@ -179,19 +185,34 @@ fn plan_of(
 {
     match Plan::of(alloc, module, info, handle) {
         Ok(plan) => Ok(plan),
-        Err(error) => Err(error_of_plan(alloc, &module.functions[handle], error)),
+        Err(error) => Err(error_of_plan(
+            alloc,
+            &module.types,
+            &module.functions[handle],
+            &info[handle],
+            error,
+        )),
     }
 }
 
 /// What is told of this function where there is no plan of it.
-fn error_of_plan(alloc: Global, function: &Function, error: PlanError) -> Error
+fn error_of_plan(
+    alloc: Global,
+    types: &UniqueArena<Type_>,
+    function: &Function,
+    info: &FunctionInfo,
+    error: PlanError,
+) -> Error
     requires written { IsTrue (function_is_written function.now) }
-    requires formless { IsOfPlan function.now error }
-    ensures { TellsPlanError function.now error result }
+    requires known { AreKnownIn types.now info.now }
+    requires formless { IsOfPlan types.now function.now info.now error }
+    ensures { TellsPlanError types.now function.now info.now error result }
 {
     match error {
         PlanError::OutOfScope => custom(alloc, "operand out of scope"),
-        PlanError::WithoutForm(handle) => without_form(alloc, &function.expressions[handle]),
+        PlanError::WithoutForm(handle) => {
+            without_form(alloc, types, info, &function.expressions[handle])
+        }
         PlanError::Memory(error) => Error::Memory(error),
     }
 }

@@ -33,7 +33,7 @@ plain_free : all_words is_free plain_type_words ≡ true
 unfolding is_reserved
 plain_free = refl
 
-in_front : (ws vs : List (List ℕ)) (w : List ℕ) → stands_in ws w ≡ true → stands_in (ws ++ vs) w ≡ true
+pub in_front : (ws vs : List (List ℕ)) (w : List ℕ) → stands_in ws w ≡ true → stands_in (ws ++ vs) w ≡ true
 in_front [] vs w e = absurd (cc)
 in_front (v ∷ ws) vs w e = by (bytes_eq v w) refl (in_front ws vs w)
   where

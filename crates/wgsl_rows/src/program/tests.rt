@@ -13,11 +13,14 @@ use std::test::Fail;
 mod converted;
 mod derived;
 mod formless;
+mod images;
 mod indexed;
 mod made;
 mod mathematics;
 mod operators;
 mod parts;
+mod samplings;
+mod types;
 mod values;
 
 /// The program's status on these words.

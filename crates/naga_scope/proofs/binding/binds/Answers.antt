@@ -1,4 +1,5 @@
-use Rattle.std.proofs.Common.{nat_le, ap, ap₂, sym, ◌∙◌}
+use Rattle.std.proofs.Common.{nat_le, ap, ap₂, get_or, map, sym, ◌∙◌, ◌||◌}
+use Rattle.naga_back.specs.Baking.{count_to_bind}
 use Rattle.std.specs.Option.{option_map, option_map_or}
 use Rattle.naga_ir.specs.Kinds.{kind_of}
 use Rattle.naga_ir.specs.declared.kind.ExpressionKind.TheVariants.{Result}
@@ -6,13 +7,25 @@ use Rattle.naga_scope.specs.Standings.{is_emittable_kind}
 use Rattle.naga_scope.proofs.Shaped.{emitted_binds, others_bind}
 use Rattle.naga_scope.proofs.binding.binds.Goals as goal
 
-pub returns-then-is_emittable : goal.returns-then-is_emittable
-returns-then-is_emittable c m known allowed =
+pub returns-then-asks_an_image : goal.returns-then-asks_an_image
+returns-then-asks_an_image c m known allowed =
     let at = sym c.expression_at.ensures ∙ ap (option_map (λ e. e.now)) c.in-Some.is in
-    ap₂ nat_le c.bake_ref_count.ensures c.count_of.ensures
+    let e = c.in-Some.expression.now in
+    c.if-asks_an_image.true
+    ∙ ap (λ b. b || nat_le (count_to_bind e) (get_or (map (λ k. k.ref_count) c.args.info.now) c.args.handle 0))
+    (sym (sym c.asks_an_image.ensures ∙ c.if-asks_an_image.true))
     ∙ emitted_binds m known c.args.function.now c.args.info.now c.requires.written allowed c.args.handle
-    c.in-Some.expression.now at
-    (sym (c.is_emittable.ensures ∙ ap is_emittable_kind c.kind.ensures) ∙ c.if-is_emittable.true)
+    e at (sym (c.is_emittable.ensures ∙ ap is_emittable_kind c.kind.ensures) ∙ c.if-is_emittable.true)
+
+pub returns-else-asks_an_image : goal.returns-else-asks_an_image
+returns-else-asks_an_image c m known allowed =
+    let at = sym c.expression_at.ensures ∙ ap (option_map (λ e. e.now)) c.in-Some.is in
+    let e = c.in-Some.expression.now in
+    ap₂ nat_le c.bake_ref_count.ensures c.count_of.ensures
+    ∙ ap (λ b. b || nat_le (count_to_bind e) (get_or (map (λ k. k.ref_count) c.args.info.now) c.args.handle 0))
+    (sym (sym c.asks_an_image.ensures ∙ c.if-asks_an_image.false))
+    ∙ emitted_binds m known c.args.function.now c.args.info.now c.requires.written allowed c.args.handle
+    e at (sym (c.is_emittable.ensures ∙ ap is_emittable_kind c.kind.ensures) ∙ c.if-is_emittable.true)
 
 pub returns-else-is_emittable : goal.returns-else-is_emittable
 returns-else-is_emittable c m known allowed =

@@ -1,8 +1,10 @@
-use Rattle.std.proofs.Common.{ap, sym, ◌∙◌}
+use Rattle.std.proofs.Common.{ap, sym, subst, ◌∙◌}
+use Rattle.module_meaning.specs.Names.{module_names}
+use Rattle.naga_scope.proofs.Offsets.{one_keeps}
 use Rattle.shader_runs.specs.Scope.{may_emit, may_emit_all, after_one, after_emit}
 use Rattle.module_meaning.specs.FunctionShapes.{function_shape}
 use Rattle.module_meaning.specs.Namings.{function_naming}
-use Rattle.naga_scope.specs.Standings.{handles_of}
+use Rattle.naga_scope.specs.Standings.{KeepsStart, handles_of}
 use Rattle.naga_scope.proofs.Emitting.{range_none, range_holds, range_behind, range_refused}
 use Rattle.naga_scope.proofs.check.emit_holds.Goals as goal
 
@@ -29,6 +31,11 @@ loop-index-preserved c =
           let next = c.emit.ensures.handles names m known g k allowed ∙ ap (λ h. after_one (function_naming names m known g f es) k h s) c.from_index-handle.ensures in
           range_behind names m known g f es c.requires.written k c.loop-index.index c.args.range.end s (handles_of c.emit.new.self) c.loop-index-test.true next
           ∙ c.loop-index.invariant.behind names m known g k allowed;
+      held = λ m known allowed.
+          let shape = function_shape m known f es in
+          let own = function_naming (module_names m) m known 0 f es in
+          subst (KeepsStart shape) (sym (c.emit.ensures.handles (module_names m) m known 0 0 allowed))
+          (one_keeps own shape 0 c.from_index-handle.result s (c.loop-index.invariant.held m known allowed));
     }
 
 pub returns-clause-fits : goal.returns-clause-fits

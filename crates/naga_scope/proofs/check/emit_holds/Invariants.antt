@@ -7,7 +7,8 @@ use Rattle.shader_runs.specs.Scope.{may_emit_all, after_emit}
 use Rattle.module_meaning.specs.Namings.{function_naming}
 use Rattle.module_meaning.specs.Part.{types_allow_all}
 use Rattle.std.specs.Prelude.{IsTrue}
-use Rattle.naga_scope.specs.Standings.{handles_of}
+use Rattle.module_meaning.specs.FunctionShapes.{function_shape}
+use Rattle.naga_scope.specs.Standings.{KeepsStart, handles_of}
 use Rattle.naga_scope.proofs.check.emit_holds.Given as goal
 
 abbrev pub invariant-loop-index : goal.invariant-loop-index
@@ -21,4 +22,6 @@ invariant-loop-index l = record {
       IsTrue (types_allow_all m.types l.function l.info) →
       after_emit (function_naming names m known g l.function l.info) k (from l.index (l.fn.range.end - l.index)) (handles_of l.scope)
       ≡ after_emit (function_naming names m known g l.function l.info) k (from l.fn.range.first (l.fn.range.end - l.fn.range.first)) (handles_of l.initial.scope);
+  held : (m : Module) (known : ModuleInfo) → IsTrue (types_allow_all m.types l.function l.info) →
+      KeepsStart (function_shape m known l.function l.info) (handles_of l.scope);
 }

@@ -1,11 +1,14 @@
-use Rattle.std.proofs.Common.{◌&&◌, ap, sym, ◌∙◌}
+use Rattle.std.proofs.Common.{◌&&◌, ap, sym, subst, ◌∙◌}
+use Rattle.module_meaning.specs.Names.{module_names}
+use Rattle.naga_ir.specs.StatementViews.{tree_of}
+use Rattle.naga_scope.proofs.Offsets.{line_keeps}
 use Rattle.shader_runs.specs.Scope.{at_start, fits_all}
 use Rattle.module_meaning.specs.FunctionShapes.{function_shape, statements_shape}
 use Rattle.module_meaning.specs.Namings.{function_naming}
 use Rattle.module_meaning.specs.Surroundings.{declared, types_known}
 use Rattle.module_meaning.specs.Part.{block_is_written}
 use Rattle.naga_form.proofs.PartFits.{function_parts}
-use Rattle.naga_scope.specs.Standings.{handles_of}
+use Rattle.naga_scope.specs.Standings.{KeepsStart, handles_of}
 use Rattle.naga_scope.proofs.Holding.{written_at, lines_hold, lines_refused, lines_end}
 use Rattle.naga_scope.proofs.check.function_holds.Goals as goal
 
@@ -25,6 +28,9 @@ pub loop-statement-init : goal.loop-statement-init
 loop-statement-init c = record {
   size = c.requires.size;
   holds = λ names m known g allowed. λ i. fits_all (function_naming names m known g c.args.function.now c.args.info.now) 0 (statements_shape (declared m known (types_known c.args.info.now)).around (c.as_slice-statement-items.ensures i)) (c.requires.start m known i);
+  held = λ m known allowed.
+      let shape = function_shape m known c.args.function.now c.args.info.now in
+      subst (KeepsStart shape) (sym (c.requires.start m known)) (λ h first. first);
 }
 
 pub returns-then-not-statement_holds-clause-scope : goal.returns-then-not-statement_holds-clause-scope
@@ -45,6 +51,20 @@ loop-statement-preserved c = record {
       (sym (c.statement_holds.ensures.fits names m known g 0 allowed) ∙ c.if-not-statement_holds.false)
       (c.statement_holds.ensures.after names m known g 0 allowed c.if-not-statement_holds.false)
       ∙ c.loop-statement.invariant.holds names m known g allowed;
+  held = λ m known allowed.
+      let f = c.args.function.now in
+      let es = c.args.info.now in
+      let shape = function_shape m known f es in
+      let own = function_naming (module_names m) m known 0 f es in
+      let line =
+      written_at c.as_slice-statement-items.result.now c.loop-statement.statement-index c.statement-item.result c.loop-statement-test.true c.statement-item.is
+      (ap block_is_written c.as_slice-statement-items.ensures ∙ (function_parts f c.requires.written).body) in
+      subst (KeepsStart shape)
+      (sym
+      (c.statement_holds.ensures.after (module_names m) m known 0 0 allowed
+      c.if-not-statement_holds.false))
+      (line_keeps own shape (declared m known (types_known es)).around 0 (tree_of c.statement-item.result) line
+      (handles_of c.loop-statement.scope) (c.loop-statement.invariant.held m known allowed));
 }
 
 pub returns-clause-scope : goal.returns-clause-scope

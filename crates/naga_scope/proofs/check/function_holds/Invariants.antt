@@ -9,7 +9,7 @@ use Rattle.module_meaning.specs.Namings.{function_naming}
 use Rattle.module_meaning.specs.Part.{types_allow_all}
 use Rattle.std.specs.Prelude.{IsTrue}
 use Rattle.module_meaning.specs.Surroundings.{declared, types_known}
-use Rattle.naga_scope.specs.Standings.{handles_of}
+use Rattle.naga_scope.specs.Standings.{KeepsStart, handles_of}
 use Rattle.naga_scope.proofs.check.function_holds.Given as goal
 
 abbrev pub invariant-loop-statement : goal.invariant-loop-statement
@@ -19,4 +19,6 @@ invariant-loop-statement l = record {
       IsTrue (types_allow_all m.types l.function l.info) →
       fits_all (function_naming names m known g l.function l.info) 0 (statements_shape (declared m known (types_known l.info)).around (block_of (drop l.statement-index l.statement-items))) (handles_of l.scope)
       ≡ fits_all (function_naming names m known g l.function l.info) 0 (statements_shape (declared m known (types_known l.info)).around l.function.body) (at_start (function_shape m known l.function l.info));
+  held : (m : Module) (known : ModuleInfo) → IsTrue (types_allow_all m.types l.function l.info) →
+      KeepsStart (function_shape m known l.function l.info) (handles_of l.scope);
 }

@@ -1,7 +1,7 @@
 use Rattle.std.proofs.Common.{◌≡◌, ◌<◌, ◌≤◌, ◌-◌, ℕ, suc, arith, ap, sym, subst, ◌∙◌, length, false, true, get_or}
 use Rattle.std.proofs.Common.{Some, slice_get}
 use Rattle.std.specs.Prelude.{IsFalse, IsSomeAnd}
-use Rattle.module_meaning.specs.Part.{expression_is_written}
+use Rattle.module_meaning.specs.Part.{expression_has_form}
 use Rattle.naga_scope.proofs.Sweeping.{Swept, begun, ended, next, passed}
 use Rattle.naga_scope.specs.Marks.{is_marked, marked_with}
 use Rattle.naga_scope.proofs.written.sweep.Goals as goal
@@ -12,7 +12,7 @@ loop-end-init c =
     record {
       size = c.requires.size;
       bound = omega (arith, len);
-      swept = λ roots just. begun _ roots _ just c.requires.size c.len-end.result (omega (arith, len));
+      swept = λ roots just. begun (expression_has_form c.args.types.now c.args.info.now c.args.function.now.expressions) _ roots _ just c.requires.size c.len-end.result (omega (arith, len));
     }
 
 pub bounds-marks-end : goal.bounds-marks-end
@@ -27,8 +27,8 @@ returns-then-not-has_form c roots just =
     let swept = c.loop-end.invariant.swept roots just in
     let here = c.from_index-handle.ensures in (
       swept.sound c.from_index-handle.result (ap (is_marked c.loop-end.marks) here ∙ c.if-marks-end.true),
-      subst (λ o. IsSomeAnd o (λ e. IsFalse (expression_is_written e))) (sym c.index-expression.ensures)
-          (sym c.if-not-has_form.ensures),
+      subst (λ o. IsSomeAnd o (λ e. IsFalse (expression_has_form c.args.types.now c.args.info.now c.args.function.now.expressions e))) (sym c.index-expression.ensures)
+          (sym (c.if-not-has_form.ensures c.args.function.now.expressions c.requires.constants)),
     )
 
 pub loop-end-preserved-then-marks-end : goal.loop-end-preserved-then-marks-end
@@ -41,11 +41,11 @@ loop-end-preserved-then-marks-end c =
       size = c.mark_operands.ensures.size ∙ c.loop-end.invariant.size;
       bound = omega (arith, bound);
       swept = λ roots just.
-          next _ roots _ c.loop-end.marks c.mark_operands.new.marks (c.loop-end.end - 1) _
+          next (expression_has_form c.args.types.now c.args.info.now c.args.function.now.expressions) _ roots _ c.loop-end.marks c.mark_operands.new.marks (c.loop-end.end - 1) _
           c.loop-end.invariant.size at
           (c.requires.ordered (c.loop-end.end - 1) c.index-expression.result.now at)
-          c.if-marks-end.true (sym c.if-not-has_form.ensures) c.mark_operands.ensures.marks
-          (subst (λ k. Swept c.args.function.now.expressions roots c.args.marks.now c.loop-end.marks k) (sym last)
+          c.if-marks-end.true (sym (c.if-not-has_form.ensures c.args.function.now.expressions c.requires.constants)) c.mark_operands.ensures.marks
+          (subst (λ k. Swept (expression_has_form c.args.types.now c.args.info.now c.args.function.now.expressions) c.args.function.now.expressions roots c.args.marks.now c.loop-end.marks k) (sym last)
           (c.loop-end.invariant.swept roots just));
     }
 
@@ -58,14 +58,14 @@ loop-end-preserved c =
       size = c.loop-end.invariant.size;
       bound = omega (arith, bound);
       swept = λ roots just.
-          passed _ roots _ c.loop-end.marks (c.loop-end.end - 1) c.if-marks-end.false
-          (subst (λ k. Swept c.args.function.now.expressions roots c.args.marks.now c.loop-end.marks k) (sym last)
+          passed (expression_has_form c.args.types.now c.args.info.now c.args.function.now.expressions) _ roots _ c.loop-end.marks (c.loop-end.end - 1) c.if-marks-end.false
+          (subst (λ k. Swept (expression_has_form c.args.types.now c.args.info.now c.args.function.now.expressions) c.args.function.now.expressions roots c.args.marks.now c.loop-end.marks k) (sym last)
           (c.loop-end.invariant.swept roots just));
     }
 
 pub returns : goal.returns
 returns c roots just h e at is =
     let none : c.loop-end.end ≡ 0 = omega (arith, c.loop-end-test.false) in
-    ended _ roots _ just c.requires.size c.loop-end.marks
-    (subst (λ k. Swept c.args.function.now.expressions roots c.args.marks.now c.loop-end.marks k) none
+    ended (expression_has_form c.args.types.now c.args.info.now c.args.function.now.expressions) _ roots _ just c.requires.size c.loop-end.marks
+    (subst (λ k. Swept (expression_has_form c.args.types.now c.args.info.now c.args.function.now.expressions) c.args.function.now.expressions roots c.args.marks.now c.loop-end.marks k) none
     (c.loop-end.invariant.swept roots just)) h e at is

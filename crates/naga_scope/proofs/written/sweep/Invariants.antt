@@ -1,4 +1,5 @@
 use Rattle.std.proofs.Common.{◌≡◌, ◌≤◌, ℕ, List, length}
+use Rattle.module_meaning.specs.Part.{expression_has_form}
 use Rattle.naga_scope.proofs.Sweeping.{Swept}
 use Rattle.naga_scope.specs.Marks.{MarksJust}
 use Rattle.naga_scope.proofs.written.sweep.Given as goal
@@ -8,7 +9,7 @@ invariant-loop-end l = record {
   size : length l.marks ≡ length l.function.expressions;
   bound : l.end ≤ length l.function.expressions;
   swept : (roots : List ℕ) → MarksJust roots l.initial.marks →
-      Swept l.function.expressions roots l.initial.marks l.marks l.end;
+      Swept (expression_has_form l.types l.info l.function.expressions) l.function.expressions roots l.initial.marks l.marks l.end;
 }
 
 abbrev pub decreases-loop-end : goal.decreases-loop-end

@@ -9,7 +9,7 @@ use Rattle.naga_wgsl_fns.proofs.functions.write_function.Goals as goal
 
 pub write_declaration-requires-clause-can : goal.write_declaration-requires-clause-can
 write_declaration-requires-clause-can g c =
-    can_write _ c.args.info.now c.requires.accepted c.requires.written c.requires.names c.index.ensures
+    can_write _ c.requires.accepted c.requires.written c.requires.names c.index.ensures
     c.index-2.ensures
     (plan_found c.args.module.now c.args.info.now c.args.handle c.index.result.now
     c.index-2.result.now c.args.plan c.index.ensures c.index-2.ensures c.requires.planned).formed

@@ -1,18 +1,37 @@
+use Rattle.std.proofs.Common.{◌≡◌, ◌<◌, ◌∙◌, length, subst, sym}
+use Rattle.naga_form.proofs.AcceptedFunctions.{functions_counted}
+use Rattle.naga_form.proofs.AcceptedGroups.{fits_in_range, known_is_fit}
 use Rattle.naga_wgsl_out.proofs.Scopes.{function_written, is_of_plan, plan_refusal}
 use Rattle.naga_wgsl_out.proofs.writer.plan_of.Goals as goal
+
+pub index-requires-in-Err : goal.index-requires-in-Err
+index-requires-in-Err c =
+    let info = c.args.info.now in
+    let same = functions_counted c.args.«module».now info c.requires.accepted in
+    let counted : length info.functions.items ≡ info.functions.len = sym info.functions.ok.0 in
+    subst (λ n. c.args.handle < n) (same ∙ counted) c.requires.handle
 
 pub error_of_plan-requires-clause-written : goal.error_of_plan-requires-clause-written
 error_of_plan-requires-clause-written c =
     function_written c.args.«module».now c.args.info.now c.requires.accepted c.requires.written
     c.args.handle c.index.result.now c.index.ensures
 
+pub error_of_plan-requires-clause-known : goal.error_of_plan-requires-clause-known
+error_of_plan-requires-clause-known c =
+    let m = c.args.«module».now in
+    λ h k at. fits_in_range (length m.overrides) m.types k.ty
+    (known_is_fit m c.args.info.now c.requires.accepted c.args.handle c.index-in-Err.result.now
+    c.index-in-Err.ensures h k at)
+
 pub error_of_plan-requires-clause-formless : goal.error_of_plan-requires-clause-formless
 error_of_plan-requires-clause-formless c =
     is_of_plan c.args.«module».now c.args.info.now c.requires.accepted c.requires.written
-    c.args.handle c.index.result.now c.index.ensures c.in-Err.error c.in-Err.ensures.err
+    c.args.handle c.index.result.now c.index.ensures c.index-in-Err.result.now c.index-in-Err.ensures
+    c.in-Err.error c.in-Err.ensures.err
 
 pub returns-in-Err-clause-err : goal.returns-in-Err-clause-err
 returns-in-Err-clause-err c =
     plan_refusal c.args.«module».now c.args.info.now c.requires.accepted c.requires.written
-    c.args.handle c.index.result.now c.index.ensures c.in-Err.error c.error_of_plan.result
+    c.args.handle c.index.result.now c.index.ensures c.index-in-Err.result.now c.index-in-Err.ensures
+    c.in-Err.error c.error_of_plan.result
     c.in-Err.ensures.err c.error_of_plan.ensures

@@ -1,6 +1,6 @@
 //! Conversions to other scalars, and bits that are kept.
 
-use crate::program::tests::operators::{is_not_yet_written, is_text, is_written};
+use crate::program::tests::operators::{is_text, is_written};
 use crate::program::tests::values::{
     MAT3X2_F32, VEC2_F32, VEC2_I32, VEC3_F32, Value, add_type, build_argument,
 };
@@ -184,15 +184,11 @@ fn conversions_are_bound(rt: HostRuntime) -> Result<(), Fail> {
     Ok(())
 }
 
-/// A conversion to a scalar that is not written so far is refused, whatever type is known of it.
+/// A conversion to a scalar that has a word is written, whatever type is known of it.
 #[test]
-fn halves_are_refused(rt: HostRuntime) -> Result<(), Fail> {
-    let case = (F32, ScalarKind::Float, Some(2), F32, "");
-    let mut sample = Sample::new(rt.alloc());
-    let built = build_conversion(&mut sample, &case, 1);
-    let refused = is_not_yet_written(rt.alloc(), &sample);
-    drop(sample);
-    built?;
-    assert!(rt; refused, "f16");
+fn halves_are_written(rt: HostRuntime) -> Result<(), Fail> {
+    let want = "fn f(x: f32) -> f32 {\n    return f16(x);\n}\n\n";
+    let case = (F32, ScalarKind::Float, Some(2), F32, want);
+    assert!(rt; conversion_gives(rt.alloc(), &case)?, "f16");
     Ok(())
 }

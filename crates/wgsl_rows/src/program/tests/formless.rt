@@ -2,11 +2,13 @@
 //! not.
 
 use crate::program::tests::operators::is_written;
+use crate::program::tests::types::add_inner;
 use crate::program::tests::values::{MAT2X2_F32, Value, add_type, build_argument, build_return};
 use bitflags::Flags;
 use naga_wgsl_out::info::accepts;
 use naga_wgsl_out::ir::{
-    Expression, Handle, Literal, MathFunction, RelationalFunction, Scalar, Type_,
+    Expression, Handle, Literal, MathFunction, RelationalFunction, Scalar, ScalarKind, Type_,
+    TypeInner,
 };
 use naga_wgsl_out::wgsl::{Error, WriterFlags, write_string};
 use sample_modules::Sample;
@@ -241,6 +243,116 @@ fn relations_without_words_are_refused_where_they_are_written(rt: HostRuntime) -
     for fun in RELATIONS {
         assert!(rt; relation_is_refused(rt.alloc(), fun)?, "{fun:?}");
         assert!(rt; unused_relation_is_let_be(rt.alloc(), fun)?, "{fun:?}");
+    }
+    Ok(())
+}
+
+/// What a number or a sampler is converted to.
+#[derive(Clone, Copy, Debug)]
+enum Conversion {
+    /// Numbers that have no word.
+    Number(ScalarKind, u8),
+    Sampler,
+}
+
+/// Conversions, with what is told of the scalars that have no word.
+const CONVERSIONS: [(Conversion, &str); 3] = [
+    (
+        Conversion::Number(ScalarKind::Float, 3),
+        "Scalar { kind: Float, width: 3 }",
+    ),
+    (
+        Conversion::Number(ScalarKind::AbstractInt, 8),
+        "Scalar { kind: AbstractInt, width: 8 }",
+    ),
+    (Conversion::Sampler, ""),
+];
+
+fn names_conversion(refusal: &Option<Error>, case: (Conversion, &str)) -> bool {
+    match (refusal, case.0) {
+        (Some(Error::Unsupported { kind, value }), Conversion::Number(_, _)) => {
+            *kind == "scalar type" && value.as_str() == case.1
+        }
+        (Some(Error::Unimplemented(told)), Conversion::Sampler) => {
+            told.as_str() == "conversion of this type"
+        }
+        _ => false,
+    }
+}
+
+/// A function's argument that is converted, with its type.
+fn build_converted(
+    sample: &mut Sample,
+    case: Conversion,
+) -> Result<(Expression, Handle<Type_>, Handle<Expression>), AllocError> {
+    sample.label("f")?;
+    let (ty, kind, width) = match case {
+        Conversion::Number(kind, width) => (sample.scalar(Scalar::F32)?, kind, width),
+        Conversion::Sampler => {
+            let ty = add_inner(sample, TypeInner::Sampler { comparison: false })?;
+            (ty, ScalarKind::Sint, 4)
+        }
+    };
+    let expr = build_argument(sample, "x", 0, ty)?;
+    let convert = Some(width);
+    Ok((
+        Expression::As {
+            expr,
+            kind,
+            convert,
+        },
+        ty,
+        expr,
+    ))
+}
+
+/// A function that returns its argument converted.
+fn build_conversion(sample: &mut Sample, case: Conversion) -> Result<(), AllocError> {
+    let (conversion, _, _) = build_converted(sample, case)?;
+    build_return(sample, conversion, Value::Scalar(Scalar::I32))
+}
+
+/// A function that emits that, and returns its argument.
+fn build_unused_conversion(sample: &mut Sample, case: Conversion) -> Result<(), AllocError> {
+    let (conversion, ty, argument) = build_converted(sample, case)?;
+    sample.returns(ty);
+    let other = sample.scalar(Scalar::I32)?;
+    end_without(sample, conversion, other, argument)
+}
+
+fn conversion_is_refused(alloc: Global, case: (Conversion, &str)) -> Result<bool, AllocError> {
+    let mut sample = Sample::new(alloc);
+    let built = build_conversion(&mut sample, case.0);
+    let refused = names_conversion(&refusal_of(alloc, &sample), case);
+    drop(sample);
+    built?;
+    Ok(refused)
+}
+
+fn unused_conversion_is_let_be(alloc: Global, case: Conversion) -> Result<bool, AllocError> {
+    let mut sample = Sample::new(alloc);
+    let built = build_unused_conversion(&mut sample, case);
+    let want = match case {
+        Conversion::Number(_, _) => "fn f(x: f32) -> f32 {\n    return x;\n}\n\n",
+        Conversion::Sampler => "fn f(x: sampler) -> sampler {\n    return x;\n}\n\n",
+    };
+    let given = is_written(alloc, &sample, want);
+    drop(sample);
+    built?;
+    Ok(given)
+}
+
+#[test]
+fn conversions_without_a_form_are_refused_where_they_are_written(
+    rt: HostRuntime,
+) -> Result<(), Fail> {
+    for case in CONVERSIONS {
+        assert!(rt; conversion_is_refused(rt.alloc(), case)?, "{:?}", case.0);
+        assert!(rt;
+            unused_conversion_is_let_be(rt.alloc(), case.0)?,
+            "{:?}",
+            case.0
+        );
     }
     Ok(())
 }

@@ -1,7 +1,9 @@
-use Rattle.std.proofs.Common.{◌≡◌, ◌<◌, ◌∙◌, length, subst, sym}
+use Rattle.std.proofs.Common.{◌≡◌, ◌<◌, ◌∙◌, length, refl, subst, sym}
 use Rattle.module_meaning.specs.Part.{function_is_written}
 use Rattle.module_meaning.proofs.Lists.{list_all_at}
 use Rattle.module_meaning.proofs.Part.{functions_allow, functions_are_written}
+use Rattle.module_meaning.proofs.Part.{written_so_far_parts}
+use Rattle.naga_form.proofs.AcceptedGroups.{fits_in_range, known_is_fit}
 use Rattle.naga_form.proofs.AcceptedFunctions.{accepted_at, function_there, functions_counted}
 use Rattle.naga_form.proofs.Ordered.{operands_stand_before}
 use Rattle.naga_scope.specs.Plans.{IsPlan, IsRefusalToPlan}
@@ -27,6 +29,9 @@ of_function-requires c =
       ordered = operands_stand_before m is.callees f is.ranges;
       written = list_all_at function_is_written m.functions g f
           (functions_are_written m info c.requires.written) c.index.ensures;
+      formed = (written_so_far_parts m info c.requires.written).4;
+      known = λ h k at. fits_in_range (length m.overrides) m.types k.ty
+          (known_is_fit m info c.requires.accepted g c.index-2.result.now c.index-2.ensures h k at);
     }
 
 pub returns : goal.returns
@@ -39,7 +44,7 @@ returns c =
     let allowed = functions_allow m info c.requires.written g f es c.index.ensures c.index-2.ensures in
     record {
       ok = of_the_ok (IsPlan m info) m info g f es c.index.ensures c.index-2.ensures
-          c.of_function.result (c.of_function.ensures.ok m info allowed);
+          c.of_function.result (c.of_function.ensures.ok m info refl allowed);
       err = of_the_err (IsRefusalToPlan m info) m info g f es c.index.ensures c.index-2.ensures
-          c.of_function.result (c.of_function.ensures.err m info allowed);
+          c.of_function.result (c.of_function.ensures.err m info refl allowed);
     }

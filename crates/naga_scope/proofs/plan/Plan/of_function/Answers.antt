@@ -1,5 +1,6 @@
-use Rattle.std.proofs.Common.{◌∙◌, None, subst, sym, true≢false}
+use Rattle.std.proofs.Common.{◌∙◌, None, Some, subst, sym, true≢false}
 use Rattle.module_meaning.specs.FunctionShapes.{function_shape}
+use Rattle.module_meaning.specs.Part.{expression_has_form}
 use Rattle.module_meaning.specs.Written.{function_roots}
 use Rattle.naga_scope.specs.Marks.{Sweeps}
 use Rattle.shader_runs.specs.Program.{binds}
@@ -10,7 +11,7 @@ pub function_holds-requires-clause-start : goal.function_holds-requires-clause-s
 function_holds-requires-clause-start c m known = c.in_ok-scope.ensures.start m known c.args.info.now
 
 pub returns-then-not-function_holds-clause-err : goal.returns-then-not-function_holds-clause-err
-returns-then-not-function_holds-clause-err c m known allowed rules =
+returns-then-not-function_holds-clause-err c m known same allowed rules =
     let f = c.args.function.now in
     let es = c.args.info.now in
     let holds = (check_is_the_rules m known f es c.requires.ordered).1 rules in
@@ -19,7 +20,7 @@ returns-then-not-function_holds-clause-err c m known allowed rules =
     true≢false (sym holds ∙ fails)
 
 pub returns-clause-ok : goal.returns-clause-ok
-returns-clause-ok c m known allowed =
+returns-clause-ok c m known same allowed =
     let f = c.args.function.now in
     let es = c.args.info.now in
     let holds = sym (c.function_holds.ensures.scope (λ key. None) m known 0 allowed)
@@ -31,12 +32,16 @@ returns-clause-ok c m known allowed =
       size = c.restart.ensures.size
           ∙ (c.function_holds.ensures.size ∙ c.in_ok-scope.ensures.size);
       counted = c.in_ok-scope.ensures.counted;
-      formed = subst (Sweeps f.expressions roots) c.in_default.is
-          (c.in_ok-handle.ensures m known allowed);
+      formed = subst (λ types. Sweeps (expression_has_form types es f.expressions) f.expressions roots None) (sym same)
+          (subst (Sweeps (expression_has_form c.args.types.now es f.expressions) f.expressions roots) c.in_default.is
+          (c.in_ok-handle.ensures m known allowed));
     }
 
 pub returns-in-Some-clause-err : goal.returns-in-Some-clause-err
-returns-in-Some-clause-err c m known allowed =
+returns-in-Some-clause-err c m known same allowed =
     let f = c.args.function.now in
-    let roots = function_roots (binds (function_shape m known f c.args.info.now)) f in
-    subst (Sweeps f.expressions roots) c.in-Some.is (c.in_ok-handle.ensures m known allowed)
+    let es = c.args.info.now in
+    let roots = function_roots (binds (function_shape m known f es)) f in
+    subst (λ types. Sweeps (expression_has_form types es f.expressions) f.expressions roots (Some c.in-Some.handle)) (sym same)
+    (subst (Sweeps (expression_has_form c.args.types.now es f.expressions) f.expressions roots) c.in-Some.is
+    (c.in_ok-handle.ensures m known allowed))

@@ -19,7 +19,7 @@ returns-then-not-binds c m known allowed =
       | then-is_new w ↦
           let new = sym (c.is_new.ensures (numbered_name h) ∙ ap (λ t. is_new (standing_of (numbered_name h) t)) c.standing.ensures) ∙ w.if-is_new.true in
           let kind = sym (w.is_emittable.ensures ∙ ap is_emittable_kind w.kind_at.ensures) ∙ (sym w.value-is ∙ c.if-is_emittable.true) in
-          same ∙ allowed_by m known c.args.function.now c.args.info.now c.requires.written h s c.binds.result u new kind (c.binds.ensures m known allowed) refl
+          same ∙ allowed_by m known c.args.function.now c.args.info.now c.requires.ordered h s (c.requires.held m known allowed) c.binds.result u new kind (c.binds.ensures m known allowed) refl
       | else-is_new w ↦ absurd (true≢false (sym c.if-is_emittable.true ∙ (w.value-is ∙ w.if-is_new.false)))
     ]
 
@@ -34,7 +34,7 @@ returns-else-not-binds c m known allowed =
       | then-is_new w ↦
           let new = sym (c.is_new.ensures (numbered_name h) ∙ ap (λ t. is_new (standing_of (numbered_name h) t)) c.standing.ensures) ∙ w.if-is_new.true in
           let kind = sym (w.is_emittable.ensures ∙ ap is_emittable_kind w.kind_at.ensures) ∙ (sym w.value-is ∙ c.if-is_emittable.true) in
-          same ∙ allowed_by m known c.args.function.now c.args.info.now c.requires.written h s c.binds.result u new kind (c.binds.ensures m known allowed) (c.has_operands.ensures m known c.args.info.now)
+          same ∙ allowed_by m known c.args.function.now c.args.info.now c.requires.ordered h s (c.requires.held m known allowed) c.binds.result u new kind (c.binds.ensures m known allowed) (c.has_operands.ensures m known c.args.info.now)
       | else-is_new w ↦ absurd (true≢false (sym c.if-is_emittable.true ∙ (w.value-is ∙ w.if-is_new.false)))
     ]
 

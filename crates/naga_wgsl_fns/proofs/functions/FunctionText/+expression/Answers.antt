@@ -1,9 +1,23 @@
-use Rattle.std.proofs.Common.{[], ap, arith, ◌∙◌, refl, subst, sym, true}
-use Rattle.std.specs.Option.{option_map_or}
+use Rattle.std.proofs.Common.{[], false, ap, arith, ◌∙◌, refl, subst, sym, true}
+use Rattle.std.specs.Option.{is_some, option_map_or}
+use Rattle.std.proofs.Common.{Some}
 use Rattle.naga_ir.specs.Operands.{expression_operands}
 use Rattle.std.specs.List.{AllByRecursion}
 use Rattle.naga_words.proofs.Writing.{leaves_as, leaves_last, leaves_more, leaves_start}
-use Rattle.naga_words.proofs.Writing.{writes_as, writes_then}
+use Rattle.naga_words.proofs.Writing.{writes_as, writes_nothing, writes_then}
+use Rattle.naga_words.specs.Output.{joined_texts}
+use Rattle.module_meaning.specs.Part.{expression_is_written}
+use Rattle.module_meaning.specs.Sampling.{offset_is_written, own_offset_is_written}
+use Rattle.module_meaning.specs.Sampling.{sampling_is_written}
+use Rattle.naga_ir.specs.Operands.{level_operands}
+use Rattle.naga_wgsl_fns.proofs.ImageRows.{furthers_none, furthers_one, furthers_two, no_offset}
+use Rattle.naga_wgsl_fns.proofs.ImageRows.{offset_row, sampling_whole}
+use Rattle.naga_wgsl_fns.proofs.Wanted.{all_in_text, are_sampled, expression_formed, highest_below}
+use Rattle.naga_wgsl_fns.proofs.Wanted.{offset_has_form}
+use Rattle.naga_wgsl_fns.specs.Expressions.{next_operand_text}
+use Rattle.naga_wgsl_fns.specs.FunctionText.{AreInText, expressions}
+use Rattle.naga_wgsl_fns.specs.Images.{furthers_text, level_text, offset_text}
+use Rattle.std.specs.Option.{option_to_list}
 use Rattle.naga_wgsl_fns.proofs.PartRows.{base_pointed, base_signed, base_unpointed, base_unsigned}
 use Rattle.naga_wgsl_fns.proofs.PartRows.{element_end, plain_row, reference_pointed}
 use Rattle.naga_wgsl_fns.proofs.PartRows.{reference_unpointed, selected_end, value_pointed}
@@ -13,7 +27,8 @@ use Rattle.naga_wgsl_fns.specs.Expressions.{operands_left, operands_text}
 use Rattle.naga_wgsl_fns.proofs.ExpressionRows.{operands_more, operands_none, operands_start}
 use Rattle.naga_wgsl_fns.proofs.ExpressionRows.{own_called, own_made}
 use Rattle.naga_wgsl_fns.proofs.ConversionRows.{conversion_row, own_conversion}
-use Rattle.naga_wgsl_fns.proofs.Wanted.{conversion_allowed}
+use Rattle.naga_wgsl_fns.proofs.Wanted.{conversion_formed}
+use Rattle.naga_wgsl_fns.proofs.ImageRows.{query_called, texel_word}
 use Rattle.naga_wgsl_fns.proofs.Wanted.{IsOperand, argument_within, literal_is_written, local_within}
 use Rattle.naga_wgsl_fns.proofs.Wanted.{made_value, math_is_written, no_other_expression, operands_in}
 use Rattle.naga_wgsl_fns.proofs.Wanted.{relation_is_written}
@@ -68,7 +83,31 @@ write_own-write_infix-requires g t c κs within =
 
 pub write_own-unreachable-requires : goal.write_own-unreachable-requires
 write_own-unreachable-requires g t c =
-    no_other_expression c.args.self.now c.requires.can c.args.handle c.index.result.now c.index.ensures c.in_default.not-Literal c.in_default.not-ZeroValue c.in_default.not-Compose c.in_default.not-Access c.in_default.not-AccessIndex c.in_default.not-FunctionArgument c.in_default.not-LocalVariable c.in_default.not-Load c.in_default.not-Unary c.in_default.not-Binary c.in_default.not-Select c.in_default.not-Splat c.in_default.not-Swizzle c.in_default.not-As c.in_default.not-Derivative c.in_default.not-Math c.in_default.not-Relational
+    no_other_expression c.args.self.now c.requires.can c.args.handle c.index.result.now c.index.ensures
+    (record {
+      literal = c.in_default.not-Literal;
+      zero_value = c.in_default.not-ZeroValue;
+      composed = c.in_default.not-Compose;
+      element = c.in_default.not-Access;
+      part = c.in_default.not-AccessIndex;
+      argument = c.in_default.not-FunctionArgument;
+      local_ = c.in_default.not-LocalVariable;
+      load = c.in_default.not-Load;
+      unary = c.in_default.not-Unary;
+      binary = c.in_default.not-Binary;
+      choice = c.in_default.not-Select;
+      splat = c.in_default.not-Splat;
+      swizzle = c.in_default.not-Swizzle;
+      converted = c.in_default.not-As;
+      derivative = c.in_default.not-Derivative;
+      mathematical = c.in_default.not-Math;
+      relational = c.in_default.not-Relational;
+      sampled = c.in_default.not-ImageSample;
+      loaded = c.in_default.not-ImageLoad;
+      asked = c.in_default.not-ImageQuery;
+      counted = c.in_default.not-ArrayLength;
+      product = c.in_default.not-CooperativeMultiplyAdd;
+    })
 
 pub write_reference-write_local_name-requires-clause-local : goal.write_reference-write_local_name-requires-clause-local
 write_reference-write_local_name-requires-clause-local g t c =
@@ -78,21 +117,21 @@ pub write_own-write_made-requires : goal.write_own-write_made-requires
 write_own-write_made-requires g t c κs within =
     let value =
     made_value c.args.self.now c.requires.can c.args.handle c.index.result.now _ _ c.index.ensures
-    c.in-ZeroValue.is refl in
+    c.requires.handle c.in-ZeroValue.is refl in
     (omega (arith, c.decreases), (within, (c.requires.can, (c.requires.handle, value))))
 
 pub write_own-write_made-requires-in-Compose : goal.write_own-write_made-requires-in-Compose
 write_own-write_made-requires-in-Compose g t c κs within =
     let value =
     made_value c.args.self.now c.requires.can c.args.handle c.index.result.now _ _ c.index.ensures
-    c.in-Compose.is refl in
+    c.requires.handle c.in-Compose.is refl in
     (omega (arith, c.decreases), (within, (c.requires.can, (c.requires.handle, value))))
 
 pub write_own-returns-in-ZeroValue : goal.write_own-returns-in-ZeroValue
 write_own-returns-in-ZeroValue g t c =
     let value =
     made_value c.args.self.now c.requires.can c.args.handle c.index.result.now _ _ c.index.ensures
-    c.in-ZeroValue.is refl in
+    c.requires.handle c.in-ZeroValue.is refl in
     writes_as
     (own_made c.args.self.now c.args.scope.now c.args.handle _ _ c.index.result.now _
     c.requires.can value c.index.ensures c.in-ZeroValue.is refl)
@@ -102,7 +141,7 @@ pub write_own-returns-in-Compose : goal.write_own-returns-in-Compose
 write_own-returns-in-Compose g t c =
     let value =
     made_value c.args.self.now c.requires.can c.args.handle c.index.result.now _ _ c.index.ensures
-    c.in-Compose.is refl in
+    c.requires.handle c.in-Compose.is refl in
     writes_as
     (own_made c.args.self.now c.args.scope.now c.args.handle _ _ c.index.result.now _
     c.requires.can value c.index.ensures c.in-Compose.is refl)
@@ -318,8 +357,8 @@ write_part_end-unreachable-requires g t c =
 pub write_own-write_conversion-requires : goal.write_own-write_conversion-requires
 write_own-write_conversion-requires g t c κs within =
     let allowed =
-    conversion_allowed c.args.self.now c.requires.can c.args.handle c.index.result.now _ _ _
-    c.index.ensures c.in-As.is in
+    conversion_formed c.args.self.now c.requires.can c.args.handle c.index.result.now _ _ _
+    c.index.ensures c.requires.handle c.in-As.is in
     (omega (arith, c.decreases), (within, (c.requires.can, (c.requires.handle, allowed))))
 
 pub write_conversion-returns : goal.write_conversion-returns
@@ -333,9 +372,235 @@ write_conversion-returns g t c =
 pub write_own-returns-in-As : goal.write_own-returns-in-As
 write_own-returns-in-As g t c =
     let allowed =
-    conversion_allowed c.args.self.now c.requires.can c.args.handle c.index.result.now _ _ _
-    c.index.ensures c.in-As.is in
+    conversion_formed c.args.self.now c.requires.can c.args.handle c.index.result.now _ _ _
+    c.index.ensures c.requires.handle c.in-As.is in
     writes_as
     (own_conversion c.args.self.now c.args.scope.now c.args.handle c.index.result.now _ _ _
     c.requires.can allowed c.index.ensures c.in-As.is)
     c.write_conversion.ensures
+
+pub write_own-returns-in-ImageLoad : goal.write_own-returns-in-ImageLoad
+write_own-returns-in-ImageLoad g t c =
+    writes_as
+    (own_called c.args.self.now c.args.scope.now c.args.handle c.index.result.now _ _ _
+    c.requires.can c.index.ensures c.in-ImageLoad.is
+    (texel_word c.args.self.now c.requires.can c.args.handle c.index.result.now _ _ _ _ _
+    c.index.ensures c.requires.handle c.in-ImageLoad.is)
+    refl)
+    c.write_called-in-ImageLoad.ensures
+
+pub write_own-returns-in-ImageQuery : goal.write_own-returns-in-ImageQuery
+write_own-returns-in-ImageQuery g t c =
+    writes_as
+    (own_called c.args.self.now c.args.scope.now c.args.handle c.index.result.now _ _ _
+    c.requires.can c.index.ensures c.in-ImageQuery.is c.image_query_str.ensures
+    (query_called c.args.self.now c.args.scope.now _ _))
+    c.write_called-in-ImageQuery.ensures
+
+pub write_own-returns-in-ArrayLength : goal.write_own-returns-in-ArrayLength
+write_own-returns-in-ArrayLength g t c =
+    writes_as
+    (own_called c.args.self.now c.args.scope.now c.args.handle c.index.result.now _ _ _
+    c.requires.can c.index.ensures c.in-ArrayLength.is refl refl)
+    c.write_called-in-ArrayLength.ensures
+
+pub write_own-returns-in-CooperativeMultiplyAdd : goal.write_own-returns-in-CooperativeMultiplyAdd
+write_own-returns-in-CooperativeMultiplyAdd g t c =
+    writes_as
+    (own_called c.args.self.now c.args.scope.now c.args.handle c.index.result.now _ _ _
+    c.requires.can c.index.ensures c.in-CooperativeMultiplyAdd.is refl refl)
+    c.write_called-in-CooperativeMultiplyAdd.ensures
+
+pub write_further-returns-in-Some : goal.write_further-returns-in-Some
+write_further-returns-in-Some g t c =
+    let self = c.args.self.now in
+    let scope = c.args.scope.now in
+    writes_as
+    (furthers_one self scope c.in-Some.operand
+    ∙ ap (λ o. furthers_text self scope (option_to_list o)) (sym c.in-Some.is))
+    c.write_next_operand.ensures
+
+pub write_further-returns-in_default : goal.write_further-returns-in_default
+write_further-returns-in_default g t c =
+    let self = c.args.self.now in
+    let scope = c.args.scope.now in
+    writes_as
+    (furthers_none self scope
+    ∙ ap (λ o. furthers_text self scope (option_to_list o)) (sym c.in_default.is))
+    (writes_nothing _)
+
+pub write_level-returns-in-Auto : goal.write_level-returns-in-Auto
+write_level-returns-in-Auto g t c =
+    let self = c.args.self.now in
+    let scope = c.args.scope.now in
+    writes_as
+    (furthers_none self scope
+    ∙ ap (λ l. furthers_text self scope (level_operands l)) (sym c.in-Auto.is))
+    (writes_nothing _)
+
+pub write_level-returns-in-Zero : goal.write_level-returns-in-Zero
+write_level-returns-in-Zero g t c =
+    let self = c.args.self.now in
+    let scope = c.args.scope.now in
+    writes_as
+    (furthers_none self scope
+    ∙ ap (λ l. furthers_text self scope (level_operands l)) (sym c.in-Zero.is))
+    (writes_nothing _)
+
+pub write_level-returns-in-Exact : goal.write_level-returns-in-Exact
+write_level-returns-in-Exact g t c =
+    let self = c.args.self.now in
+    let scope = c.args.scope.now in
+    writes_as
+    (furthers_one self scope c.in-Exact.level
+    ∙ ap (λ l. furthers_text self scope (level_operands l)) (sym c.in-Exact.is))
+    c.write_next_operand.ensures
+
+pub write_level-returns-in-Bias : goal.write_level-returns-in-Bias
+write_level-returns-in-Bias g t c =
+    let self = c.args.self.now in
+    let scope = c.args.scope.now in
+    writes_as
+    (furthers_one self scope c.in-Bias.bias
+    ∙ ap (λ l. furthers_text self scope (level_operands l)) (sym c.in-Bias.is))
+    c.write_next_operand-in-Bias.ensures
+
+pub write_level-returns-in-Gradient : goal.write_level-returns-in-Gradient
+write_level-returns-in-Gradient g t c =
+    let self = c.args.self.now in
+    let scope = c.args.scope.now in
+    writes_as
+    (furthers_two self scope c.in-Gradient.x c.in-Gradient.y
+    ∙ ap (λ l. furthers_text self scope (level_operands l)) (sym c.in-Gradient.is))
+    (writes_then c.write_next_operand-in-Gradient.ensures
+    c.write_next_operand-in-Gradient-2.ensures)
+
+pub write_offset-returns-in-Some : goal.write_offset-returns-in-Some
+write_offset-returns-in-Some g t c =
+    let self = c.args.self.now in
+    let h = c.in-Some.offset in
+    let text = subst (λ o. AreInText self (option_to_list o)) c.in-Some.is c.requires.offset in
+    let is = ap (offset_is_written (expressions self)) (sym c.in-Some.is) ∙ c.requires.constant in
+    writes_as
+    (ap (λ table. next_operand_text self table false h) c.without_names.ensures
+    ∙ (offset_row self c.requires.can h text.0.there is
+    ∙ ap (offset_text self) (sym c.in-Some.is)))
+    c.write_next_operand-in-Some.ensures
+
+pub write_offset-returns-in_default : goal.write_offset-returns-in_default
+write_offset-returns-in_default g t c =
+    let self = c.args.self.now in
+    writes_as (no_offset self ∙ ap (offset_text self) (sym c.in_default.is)) (writes_nothing _)
+
+pub write_sampling-write_sampling_head-requires-clause-image : goal.write_sampling-write_sampling_head-requires-clause-image
+write_sampling-write_sampling_head-requires-clause-image g t c =
+    (operands_in c.args.self.now c.requires.can c.args.handle c.index.result.now _
+    c.index.ensures c.in-ImageSample.is c.requires.handle).0.1
+
+pub write_sampling-write_sampling_head-requires-clause-written : goal.write_sampling-write_sampling_head-requires-clause-written
+write_sampling-write_sampling_head-requires-clause-written g t c =
+    let s = c.in-ImageSample in
+    ap (λ b. sampling_is_written s.gather s.level b s.clamp_to_edge) c.is_some-compares.ensures
+    ∙ (ap (expression_is_written c.args.self.now.shader.now.types c.args.self.now.info.now) (sym s.is)
+    ∙ expression_formed c.args.self.now c.requires.can c.args.handle c.index.result.now c.index.ensures
+    c.requires.handle)
+
+pub write_sampling-write_value-requires : goal.write_sampling-write_value-requires
+write_sampling-write_value-requires g t c κs within =
+    let all =
+    operands_in c.args.self.now c.requires.can c.args.handle c.index.result.now _
+    c.index.ensures c.in-ImageSample.is c.requires.handle in
+    let before = all.0.0 in
+    (omega (arith, before, c.decreases), (within, (c.requires.can, all.0.1)))
+
+pub write_sampling-write_next_operand-requires : goal.write_sampling-write_next_operand-requires
+write_sampling-write_next_operand-requires g t c κs within =
+    let all =
+    operands_in c.args.self.now c.requires.can c.args.handle c.index.result.now _
+    c.index.ensures c.in-ImageSample.is c.requires.handle in
+    let before = all.1.0.0 in
+    (omega (arith, before, c.decreases), (within, (c.requires.can, all.1.0.1)))
+
+pub write_sampling-write_next_operand-requires-in-ImageSample : goal.write_sampling-write_next_operand-requires-in-ImageSample
+write_sampling-write_next_operand-requires-in-ImageSample g t c κs within =
+    let all =
+    operands_in c.args.self.now c.requires.can c.args.handle c.index.result.now _
+    c.index.ensures c.in-ImageSample.is c.requires.handle in
+    let before = all.1.1.0.0 in
+    (omega (arith, before, c.decreases), (within, (c.requires.can, all.1.1.0.1)))
+
+pub write_sampling-write_further-requires : goal.write_sampling-write_further-requires
+write_sampling-write_further-requires g t c κs within =
+    let self = c.args.self.now in
+    let h = c.args.handle in
+    let e = c.in-ImageSample in
+    let s = are_sampled self h e.image e.sampler e.coordinate (option_to_list e.array_index)
+    (option_to_list e.depth_ref) (level_operands e.level) (option_to_list e.offset)
+    (operands_in self c.requires.can h c.index.result.now _ c.index.ensures c.in-ImageSample.is
+    c.requires.handle) in
+    let image = s.image.0 in
+    let before = highest_below self h (option_to_list e.array_index) (omega (arith, image)) s.array in
+    (omega (arith, before, c.decreases), (within, (c.requires.can, all_in_text self h (option_to_list e.array_index) s.array)))
+
+pub write_sampling-write_further-requires-in-ImageSample : goal.write_sampling-write_further-requires-in-ImageSample
+write_sampling-write_further-requires-in-ImageSample g t c κs within =
+    let self = c.args.self.now in
+    let h = c.args.handle in
+    let e = c.in-ImageSample in
+    let s = are_sampled self h e.image e.sampler e.coordinate (option_to_list e.array_index)
+    (option_to_list e.depth_ref) (level_operands e.level) (option_to_list e.offset)
+    (operands_in self c.requires.can h c.index.result.now _ c.index.ensures c.in-ImageSample.is
+    c.requires.handle) in
+    let image = s.image.0 in
+    let before = highest_below self h (option_to_list e.depth_ref) (omega (arith, image)) s.depth in
+    (omega (arith, before, c.decreases), (within, (c.requires.can, all_in_text self h (option_to_list e.depth_ref) s.depth)))
+
+pub write_sampling-write_level-requires : goal.write_sampling-write_level-requires
+write_sampling-write_level-requires g t c κs within =
+    let self = c.args.self.now in
+    let h = c.args.handle in
+    let e = c.in-ImageSample in
+    let s = are_sampled self h e.image e.sampler e.coordinate (option_to_list e.array_index)
+    (option_to_list e.depth_ref) (level_operands e.level) (option_to_list e.offset)
+    (operands_in self c.requires.can h c.index.result.now _ c.index.ensures c.in-ImageSample.is
+    c.requires.handle) in
+    let image = s.image.0 in
+    let before = highest_below self h (level_operands e.level) (omega (arith, image)) s.level in
+    (omega (arith, before, c.decreases), (within, (c.requires.can, all_in_text self h (level_operands e.level) s.level)))
+
+pub write_sampling-write_offset-requires : goal.write_sampling-write_offset-requires
+write_sampling-write_offset-requires g t c κs within =
+    let self = c.args.self.now in
+    let h = c.args.handle in
+    let e = c.in-ImageSample in
+    let s = are_sampled self h e.image e.sampler e.coordinate (option_to_list e.array_index)
+    (option_to_list e.depth_ref) (level_operands e.level) (option_to_list e.offset)
+    (operands_in self c.requires.can h c.index.result.now _ c.index.ensures c.in-ImageSample.is
+    c.requires.handle) in
+    let image = s.image.0 in
+    let before = highest_below self h (option_to_list e.offset) (omega (arith, image)) s.offset in
+    let constant =
+    ap (own_offset_is_written (expressions self)) (sym c.in-ImageSample.is)
+    ∙ offset_has_form self c.requires.can h c.index.result.now c.index.ensures c.requires.handle in (
+      omega (arith, before, c.decreases),
+      (within, (c.requires.can, (all_in_text self h (option_to_list e.offset) s.offset, constant))),
+    )
+
+pub write_sampling-returns : goal.write_sampling-returns
+write_sampling-returns g t c =
+    let s = c.in-ImageSample in
+    writes_as
+    (sampling_whole c.args.self.now c.args.scope.now c.args.handle s.image s.sampler s.gather
+    s.coordinate s.array_index s.offset s.level s.depth_ref s.clamp_to_edge
+    (c.index.ensures ∙ ap Some s.is) c.is_some-compares.result c.is_some-compares.ensures
+    c.level_str.result.now
+    (c.level_str.ensures ∙ ap (level_text s.level) c.is_level_told-is_told.ensures))
+    (writes_then c.write_sampling_head.ensures
+    (writes_then c.write_value.ensures
+    (writes_then c.write_next_operand.ensures
+    (writes_then c.write_next_operand-in-ImageSample.ensures
+    (writes_then c.write_further.ensures
+    (writes_then c.write_further-in-ImageSample.ensures
+    (writes_then c.write_level.ensures
+    (writes_then c.put.ensures
+    (writes_then c.write_offset.ensures c.put-in-ImageSample.ensures)))))))))

@@ -2,6 +2,9 @@ use Rattle.std.proofs.Common.{◌+◌, ◌*◌, ℕ, Bool, List, max}
 use Rattle.naga_words.specs.Output.{OutputView, output_view}
 use Rattle.naga_words.proofs.Writing.{Leaves}
 use Rattle.std.specs.List.{AllByRecursion}
+use Rattle.std.specs.Option.{option_to_list}
+use Rattle.naga_wgsl_fns.proofs.Wanted.{highest}
+use Rattle.naga_ir.specs.Operands.{level_operands}
 use Rattle.naga_wgsl_fns.proofs.Wanted.{IsOperand}
 use Rattle.naga_scope.specs.declared.points.Standing.{Standing}
 use Rattle.naga_wgsl_fns.specs.Expressions.{operands_left, operands_text}
@@ -72,6 +75,18 @@ decreases-write_prefix g l = 16 * l.operand + 6
 
 abbrev pub decreases-write_next_operand : goal.decreases-write_next_operand
 decreases-write_next_operand g l = 16 * l.operand + 6
+
+abbrev pub decreases-write_sampling : goal.decreases-write_sampling
+decreases-write_sampling g l = 16 * l.handle + 3
+
+abbrev pub decreases-write_further : goal.decreases-write_further
+decreases-write_further g l = 16 * highest (option_to_list l.operand) + 7
+
+abbrev pub decreases-write_level : goal.decreases-write_level
+decreases-write_level g l = 16 * highest (level_operands l.level) + 7
+
+abbrev pub decreases-write_offset : goal.decreases-write_offset
+decreases-write_offset g l = 16 * highest (option_to_list l.offset) + 7
 
 -- what is left to be written of the operands, which stand before the expression and are written
 pub record OperandsLeft (start now : OutputView) (f : FunctionText) (table : List Standing)

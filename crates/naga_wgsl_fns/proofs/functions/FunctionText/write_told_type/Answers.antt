@@ -1,13 +1,17 @@
 use Rattle.std.proofs.Common.{sym, ◌∙◌}
 use Rattle.naga_words.proofs.Writing.{writes_as, writes_nothing}
-use Rattle.naga_wgsl_fns.proofs.Wanted.{known_within_infos, known_is_written, told_row, untold_row}
+use Rattle.naga_wgsl_fns.proofs.Wanted.{known_is_formed, known_resolution_fits, known_within_infos}
+use Rattle.naga_wgsl_fns.proofs.Wanted.{told_row, untold_row}
 use Rattle.naga_wgsl_fns.proofs.functions.FunctionText.write_told_type.Goals as goal
 
 pub index-requires : goal.index-requires
 index-requires g c = known_within_infos c.args.self.now c.requires.can c.args.handle c.requires.handle
 
-pub write_annotation-requires-clause-written : goal.write_annotation-requires-clause-written
-write_annotation-requires-clause-written g c = known_is_written c.args.self.now c.requires.can c.args.handle c.index.result.now c.index.ensures
+pub write_annotation-requires-clause-formed : goal.write_annotation-requires-clause-formed
+write_annotation-requires-clause-formed g c = known_is_formed c.args.self.now c.requires.can c.args.handle c.index.result.now c.index.ensures
+
+pub write_annotation-requires-clause-fits : goal.write_annotation-requires-clause-fits
+write_annotation-requires-clause-fits g c = known_resolution_fits c.args.self.now c.requires.can c.args.handle c.index.result.now c.index.ensures
 
 pub returns-then-tells_types : goal.returns-then-tells_types
 returns-then-tells_types g c =

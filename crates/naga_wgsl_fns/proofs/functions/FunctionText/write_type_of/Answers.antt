@@ -2,23 +2,21 @@ use Rattle.naga_names.specs.Keys.{names_in}
 use Rattle.naga_words.specs.Contexts.{names_context}
 use Rattle.naga_words.specs.Spelling.{resolution_parts}
 use Rattle.naga_wgsl_fns.specs.Types.{resolution_text}
-use Rattle.naga_wgsl_fns.proofs.TypeRows.{in_order, known_wrote, resolution_fits, resolution_known}
+use Rattle.naga_wgsl_fns.proofs.TypeRows.{in_order, known_wrote, resolution_known}
+use Rattle.naga_wgsl_fns.proofs.TypeRows.{resolution_within}
 use Rattle.naga_wgsl_fns.proofs.functions.FunctionText.write_type_of.Goals as goal
 
 pub write_resolution_in-requires-clause-order : goal.write_resolution_in-requires-clause-order
-write_resolution_in-requires-clause-order g c =
-    let self = c.args.self.now in
-    in_order self.shader.now.types (names_in self.names.now) c.requires.can.values
+write_resolution_in-requires-clause-order g c = in_order c.args.self.now c.requires.can
 
 pub write_resolution_in-requires-clause-fits : goal.write_resolution_in-requires-clause-fits
 write_resolution_in-requires-clause-fits g c =
-    let self = c.args.self.now in
-    resolution_fits self.shader.now.types (names_in self.names.now) c.args.ty.now c.requires.written
+    resolution_within c.args.self.now c.requires.can c.args.ty.now c.requires.fits
 
 pub returns : goal.returns
 returns g c =
     let self = c.args.self.now in
     let context = names_context self.shader.now.types (names_in self.names.now) in
     known_wrote (resolution_parts context c.args.ty.now) (resolution_text self c.args.ty.now)
-    (resolution_known self c.requires.can.values c.args.ty.now c.requires.written)
+    (resolution_known self c.requires.can c.args.ty.now c.requires.formed c.requires.fits)
     c.write_resolution_in.ensures

@@ -1,0 +1,180 @@
+-- The types of an accepted module of the part: they have forms, their parts stand before them, and they
+-- name no struct and no override.
+use Rattle.std.proofs.Common.{◌≡◌, ℕ, zero, suc, ◌<◌, ◌≤◌, ◌+◌, Bool, true, List, length, Option}
+use Rattle.std.proofs.Common.{Some, None, refl, sym, ap, subst, ◌∙◌, slice_get, arith}
+use Rattle.std.specs.Prelude.{IsTrue, nat_lt, ◌==◌}
+use Rattle.std.specs.List.{list_all}
+use Rattle.std.specs.Option.{option_map}
+use Rattle.std.proofs.lemmas.Bool.{and_parts, eqb-true, ltb-true}
+use Rattle.std.proofs.lemmas.Option.{same_Some}
+use Rattle.naga_info.specs.Resolution.{inner_of}
+use Rattle.naga_info.specs.declared.info.ExpressionInfo.{ExpressionInfo}
+use Rattle.naga_info.specs.declared.info.ModuleInfo.{ModuleInfo}
+use Rattle.naga_info.specs.declared.info.TypeResolution.{TypeResolution}
+use Rattle.naga_info.specs.declared.info.TypeResolution.TheVariants.{Handle, Value}
+use Rattle.naga_ir.specs.declared.module.Function.{Function}
+use Rattle.naga_ir.specs.declared.module.FunctionArgument.{FunctionArgument}
+use Rattle.naga_ir.specs.declared.module.FunctionResult.{FunctionResult}
+use Rattle.naga_ir.specs.declared.module.LocalVariable.{LocalVariable}
+use Rattle.naga_ir.specs.declared.module.Module.{Module}
+use Rattle.naga_ir.specs.declared.types.Type_.{Type_}
+use Rattle.naga_ir.specs.declared.types.TypeInner.{TypeInner}
+use Rattle.naga_ir.specs.declared.types.TypeInner.TheVariants as inner
+use Rattle.naga_names.proofs.Refusal.{element}
+use Rattle.naga_words.specs.Spelling.{end_of_base, length_within}
+use Rattle.module_meaning.proofs.Lists.{list_all_at, placed_at}
+use Rattle.module_meaning.proofs.Part.{written_so_far_parts}
+use Rattle.module_meaning.specs.Accepted.{is_accepted}
+use Rattle.module_meaning.specs.AlikeTypes.{has_form}
+use Rattle.module_meaning.specs.InfoSizes.{resolution_is_fit}
+use Rattle.module_meaning.specs.Part.{is_written_so_far}
+use Rattle.module_meaning.specs.Numbers.{signature_fits_32_bits}
+use Rattle.module_meaning.specs.Ranges.{function_in_range, is_below, local_in_range, parts_before}
+use Rattle.module_meaning.specs.Ranges.{numbers_in_range, parts_stand_before, resolution_fits}
+use Rattle.module_meaning.specs.Ranges.{signature_fits, signature_types_fit}
+use Rattle.module_meaning.specs.Written.{AllWrittenHaveForms, ExpressionsHaveForms, IsSpelledIn}
+use Rattle.module_meaning.specs.Written.{OfArgument, OfEachFunction, OfLet, OfLocal, OfResult}
+use Rattle.naga_form.proofs.AcceptedFunctions.{accepted_at, function_there, locals_are_in_range}
+use Rattle.naga_form.proofs.AcceptedGroups.{known_is_fit, types_are_counted, types_range}
+use Rattle.naga_form.proofs.SameValues.{TypesAreCounted}
+use Rattle.naga_form.proofs.ToldItems.{written_are_told}
+use Rattle.naga_form.proofs.WrittenTypes.{AreNameless, no_struct}
+
+-- what stands before a type has handles below it
+pub ends_before : (types : ℕ) (it : TypeInner) → parts_before types it ≡ true → end_of_base it ≤ types
+ends_before types (inner.Pointer base space) is =
+    let lt = ltb-true base types is in omega (arith, lt)
+ends_before types (inner.Array base size stride) is =
+    let lt = ltb-true base types is in omega (arith, lt)
+ends_before types (inner.BindingArray base size) is =
+    let lt = ltb-true base types is in omega (arith, lt)
+ends_before types _ is = omega arith
+
+module _ (m : Module) (info : ModuleInfo) (accepted : IsTrue (is_accepted m info)) where
+  -- the parts of a type stand before it
+  pub type_before : (h : ℕ) (t : Type_) → slice_get m.types h ≡ Some t → end_of_base t.inner ≤ h
+  type_before h t at =
+      let here : 0 + h ≡ h = omega arith in
+      ends_before h t.inner
+      (sym (ap (λ n. parts_before n t.inner) here) ∙ placed_at (λ here (t : Type_). parts_before here t.inner) 0 m.types h t
+      (and_parts (parts_stand_before m.types) _ (types_range m info accepted)).0 at)
+
+  -- so do those of a type that is known
+  pub known_before : (r : TypeResolution) →
+      resolution_fits (length m.overrides) (length m.types) r ≡ true → (it : TypeInner) →
+      inner_of r m.types ≡ Some it → end_of_base it ≤ length m.types
+  known_before (Handle h) fits it is = by (slice_get m.types h) refl is
+    where
+      by : (o : Option Type_) → slice_get m.types h ≡ o → option_map (λ t. t.inner) o ≡ Some it →
+          end_of_base it ≤ length m.types
+      by None at is = absurd cc
+      by (Some t) at is =
+          let lt = ltb-true h (length m.types) fits in
+          let before = type_before h t at in
+          subst (λ it. end_of_base it ≤ length m.types) (same_Some t.inner it is)
+          (omega (arith, lt, before))
+  known_before (Value own) fits it is =
+      let one = and_parts (resolution_is_fit (Value own)) _ fits in
+      let two = and_parts (parts_before (length m.types) own) _ one.1 in
+      subst (λ it. end_of_base it ≤ length m.types) (same_Some own it is)
+      (ends_before (length m.types) own two.0)
+
+  -- a type by itself names an override that there is
+  pub known_within : (r : TypeResolution) →
+      resolution_fits (length m.overrides) (length m.types) r ≡ true → (it : TypeInner) →
+      r ≡ Value it → length_within (length m.overrides) it ≡ true
+  known_within r fits it is = by it (sym (ap (resolution_fits (length m.overrides) (length m.types)) is) ∙ fits)
+    where
+      by : (it : TypeInner) →
+          resolution_fits (length m.overrides) (length m.types) (Value it) ≡ true →
+          length_within (length m.overrides) it ≡ true
+      by it fits =
+          let one = and_parts (resolution_is_fit (Value it)) _ fits in
+          let two = and_parts (parts_before (length m.types) it) (numbers_in_range (length m.overrides) it) one.1 in
+          (and_parts (length_within (length m.overrides) it) _ two.1).0
+
+  module _ (of_part : IsTrue (is_written_so_far m info)) where
+    pub part_types : TypesAreCounted m
+    part_types = types_are_counted m info accepted (written_are_told m info of_part).types
+
+    pub no_overrides : length m.overrides ≡ 0
+    no_overrides =
+        let one = and_parts (length m.constants == 0) _ (written_so_far_parts m info of_part).0 in
+        let two = and_parts (length m.overrides == 0) _ one.1 in
+        eqb-true (length m.overrides) 0 two.0
+
+    pub nameless : AreNameless m.types
+    nameless = record {
+      structs = no_struct m.types (written_so_far_parts m info of_part).1;
+      lengths = λ h t at. subst (λ n. length_within n t.inner ≡ true) no_overrides (part_types.within h t at);
+    }
+
+    -- each type has a form
+    pub type_formed : (ty : ℕ) → ty < length m.types → has_form m.types (Handle ty) ≡ true
+    type_formed ty lt =
+        let t = element m.types ty lt in
+        let here : 0 + ty ≡ ty = omega arith in
+        sym (ap (λ n. has_form m.types (Handle n)) here)
+        ∙ placed_at (λ h (t : Type_). has_form m.types (Handle h)) 0 m.types ty t.0
+        (written_so_far_parts m info of_part).4 t.1
+
+    -- and each that is known of an expression
+    pub known_formed : (g : ℕ) (es : List ExpressionInfo) → slice_get info.functions.items g ≡ Some es →
+        (h : ℕ) (k : ExpressionInfo) → slice_get es h ≡ Some k → has_form m.types k.ty ≡ true
+    known_formed g es here h k at =
+        list_all_at (λ k. has_form m.types k.ty) es h k
+        (list_all_at (list_all (λ k. has_form m.types k.ty)) info.functions.items g es
+        (written_so_far_parts m info of_part).5 here)
+        at
+
+    -- so has each type that a function's text spells
+    module _ (g : ℕ) (f : Function) (found : slice_get m.functions g ≡ Some f) (es : List ExpressionInfo)
+        (here : slice_get info.functions.items g ≡ Some es) (explicit : Bool) (callees : ℕ)
+        (ranges : function_in_range m callees f ≡ true) where
+      signature : (list_all (λ a. nat_lt a.ty (length m.types)) f.arguments.items ≡ true)
+          × (is_below (length m.types) (option_map (λ r. r.ty) f.result) ≡ true)
+      signature =
+          let fits = and_parts (signature_fits (length m.types) f) _ ranges in
+          let types = and_parts (signature_types_fit (length m.types) f) (signature_fits_32_bits f) fits.0 in
+          and_parts (list_all (λ a. nat_lt a.ty (length m.types)) f.arguments.items)
+          (is_below (length m.types) (option_map (λ r. r.ty) f.result)) types.0
+
+      pub argument_formed : (n : ℕ) (a : FunctionArgument) → slice_get f.arguments.items n ≡ Some a →
+          has_form m.types (Handle a.ty) ≡ true
+      argument_formed n a at =
+          type_formed a.ty
+          (ltb-true a.ty (length m.types)
+          (list_all_at (λ a. nat_lt a.ty (length m.types)) f.arguments.items n a signature.0 at))
+
+      pub result_formed : (r : FunctionResult) → f.result ≡ Some r →
+          has_form m.types (Handle r.ty) ≡ true
+      result_formed r is =
+          type_formed r.ty
+          (ltb-true r.ty (length m.types)
+          (ap (λ o. is_below (length m.types) (option_map (λ r. r.ty) o)) (sym is) ∙ signature.1))
+
+      pub local_formed : (l : ℕ) (v : LocalVariable) → slice_get f.local_variables l ≡ Some v →
+          has_form m.types (Handle v.ty) ≡ true
+      local_formed l v at =
+          type_formed v.ty
+          (ltb-true v.ty (length m.types)
+          (and_parts (nat_lt v.ty (length m.types)) (is_below (length f.expressions) v.init)
+          (list_all_at (local_in_range (length m.types) (length f.expressions)) f.local_variables l v
+          (locals_are_in_range m callees f ranges) at)).0)
+
+      spelled : (r : TypeResolution) → IsSpelledIn explicit m info f es r → has_form m.types r ≡ true
+      spelled _ (OfArgument n a at) = argument_formed n a at
+      spelled _ (OfResult r is) = result_formed r is
+      spelled _ (OfLocal l v at) = local_formed l v at
+      spelled _ (OfLet h k tells among bound at) = known_formed g es here h k at
+
+    -- where each written expression has a form, so has all that is written
+    pub all_have_forms : (explicit : Bool) → OfEachFunction m info (ExpressionsHaveForms m info) →
+        AllWrittenHaveForms explicit m info
+    all_have_forms explicit have g f es found here =
+        let known = function_there m info accepted g f found in
+        let is = accepted_at m info accepted g f known.0 known.1 in
+        record {
+          expressions = have g f es found here;
+          types = spelled g f found es here explicit is.callees is.ranges;
+        }

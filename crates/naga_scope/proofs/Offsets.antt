@@ -1,0 +1,247 @@
+-- An offset that is written out as a constant is in scope from the start of a function to its end, so
+-- that it is no matter whether it is taken for an operand.
+use Rattle.std.proofs.Common.{◌≡◌, ℕ, zero, suc, ◌<◌, ◌&&◌, ◌||◌, Bool, true, false, List, [], ◌∷◌}
+use Rattle.std.proofs.Common.{◌++◌, length, nat_eq, Option, Some, None, refl, sym, ap, ap₂, ◌∙◌}
+use Rattle.std.proofs.Common.{arith, subst, eqb-true, slice_get}
+use Rattle.std.specs.Prelude.{IsTrue, cond}
+use Rattle.std.specs.Option.{is_some, option_and_then, option_map, option_map_or, option_to_list}
+use Rattle.std.proofs.lemmas.Option.{slice_get_within}
+use Rattle.module_meaning.proofs.ExpressionShapes.{shape_operands}
+use Rattle.module_meaning.specs.ExpressionOperators.{constructor}
+use Rattle.module_meaning.specs.ExpressionShapes.{Declared, built, constant_tree, offset_left}
+use Rattle.module_meaning.specs.ExpressionShapes.{shape_of, tree_over, tree_then, tree_within, trees_of}
+use Rattle.module_meaning.specs.FunctionShapes.{function_shape}
+use Rattle.module_meaning.specs.Namings.{function_naming}
+use Rattle.module_meaning.specs.OperatorTable.{Operator, Splat}
+use Rattle.module_meaning.specs.Premises.{OperandsStandBefore}
+use Rattle.module_meaning.specs.Surroundings.{declared, types_known}
+use Rattle.naga_form.proofs.ModulePlaces.{expression_at, no_expression_at}
+use Rattle.naga_info.specs.declared.info.ExpressionInfo.{ExpressionInfo}
+use Rattle.naga_info.specs.declared.info.ModuleInfo.{ModuleInfo}
+use Rattle.naga_info.specs.declared.info.TypeResolution.TheVariants.{Handle}
+use Rattle.naga_ir.specs.Operands.{expression_operands, level_operands}
+use Rattle.naga_ir.specs.declared.expression.Expression as ir
+use Rattle.naga_ir.specs.declared.expression.Expression.TheVariants as expression
+use Rattle.naga_ir.specs.declared.module.Function as ir_function
+use Rattle.naga_ir.specs.declared.module.Module.{Module}
+use Rattle.naga_names.specs.Keys.{NameMap}
+use Rattle.module_meaning.specs.FunctionShapes.{statement_shape}
+use Rattle.module_meaning.specs.Part.{statement_is_written}
+use Rattle.module_meaning.specs.StatementShapes.{store_shape}
+use Rattle.module_meaning.specs.ExpressionOperators.{Surroundings, points_to_atomic}
+use Rattle.naga_ir.specs.StatementTree.{StatementTree, emit, return, simple, store}
+use Rattle.naga_ir.specs.Kinds.{kind_of}
+use Rattle.naga_ir.specs.declared.kind.ExpressionKind.TheVariants as kind
+use Rattle.naga_scope.proofs.Constants.{any_bound, constant_to, counted, one_more}
+use Rattle.naga_scope.proofs.Shaped.{pure_at, usable_is}
+use Rattle.naga_scope.specs.Standings.{KeepsStart, is_constant_kind, is_pure_kind, operands_at}
+use Rattle.naga_scope.specs.Standings.{usable_by}
+use Rattle.std.proofs.Common.{◌-◌}
+use Rattle.shader_runs.specs.Program.{ConstantTree, Function, binds, expression_of, from, operands_of}
+use Rattle.shader_runs.specs.Scope.{Absent, Barred, Everywhere, Handles, Inline, Named, Naming}
+use Rattle.shader_runs.specs.Scope.{Standing, after_emit, after_one, all_constant, at_start}
+use Rattle.shader_runs.specs.Scope.{after, bound_name, given_after, is_present, is_pure}
+use Rattle.shader_runs.specs.Scope.{start_standing}
+use Rattle.shader_runs.specs.Scope.{standing_without_name, usable, usable_all, with_emitted_handle}
+use Rattle.shader_runs.specs.World.{update}
+
+-- ---- behind an Emit
+without_name_present : (u : Bool) (a : Standing) → is_present a ≡ true →
+    is_present (standing_without_name u a) ≡ true
+without_name_present true a is = refl
+without_name_present false Absent is = absurd cc
+without_name_present false Barred is = absurd cc
+without_name_present false Everywhere is = refl
+without_name_present false Inline is = refl
+without_name_present false (Named x) is = refl
+
+updated_present : (s : Handles) (h j : ℕ) (a : Standing) →
+    (is_present (s h) ≡ true → is_present a ≡ true) → is_present (s j) ≡ true →
+    is_present (update s h a j) ≡ true
+updated_present s h j a keeps is = by (nat_eq j h) refl
+  where
+    by : (b : Bool) → nat_eq j h ≡ b → is_present (cond b a (s j)) ≡ true
+    by true same = keeps (ap (λ k. is_present (s k)) (sym (eqb-true j h same)) ∙ is)
+    by false other = is
+
+emitted_present : (b o u : Bool) (x : List ℕ) (s : Handles) (h j : ℕ) → is_present (s j) ≡ true →
+    is_present (with_emitted_handle b o u x s h j) ≡ true
+emitted_present true o u x s h j is = updated_present s h j (Named x) (λ was. refl) is
+emitted_present false true u x s h j is =
+    updated_present s h j (standing_without_name u (s h)) (without_name_present u (s h)) is
+emitted_present false false u x s h j is = is
+
+module _ (own : Naming) (f : Function) where
+  -- what is in scope stays so behind an Emit of a handle, and of several
+  pub one_keeps : (k h : ℕ) (s : Handles) → KeepsStart f s → KeepsStart f (after_one own k h s)
+  one_keeps k h s held j first = emitted_present _ _ _ _ s h j (held j first)
+
+  pub emit_keeps : (k : ℕ) (hs : List ℕ) (s : Handles) → KeepsStart f s →
+      KeepsStart f (after_emit own k hs s)
+  emit_keeps k [] s held = held
+  emit_keeps k (h ∷ hs) s held =
+      emit_keeps (given_after own.function h k) hs (after_one own k h s) (one_keeps k h s held)
+
+  -- and behind a statement that is written so far
+  pub line_keeps : (a : Surroundings) (k : ℕ) (st : StatementTree) → statement_is_written st ≡ true →
+      (s : Handles) → KeepsStart f s → KeepsStart f (after own k (statement_shape a st) s)
+  line_keeps a k (simple (emit first end)) is s held = emit_keeps k (from first (end - first)) s held
+  line_keeps a k (simple (store pointer value)) is s held = by (points_to_atomic a pointer)
+    where
+      by : (b : Bool) → KeepsStart f (after own k (store_shape b pointer value) s)
+      by true = held
+      by false = held
+  line_keeps a k (simple (return value)) is s held = held
+  line_keeps a k _ is s held = absurd cc
+
+-- ---- a function of a module
+module _ (m : Module) (info : ModuleInfo) (f : ir_function.Function) (es : List ExpressionInfo)
+    (ordered : OperandsStandBefore f.expressions) where
+  abbrev shape : Function
+  shape = function_shape m info f es
+
+  abbrev d : Declared
+  d = declared m info (types_known es)
+
+  -- the tree of a handle, where there is one, is a constant at the start
+  abbrev IsConstantIf : (levels x : ℕ) → Option ConstantTree → Type 0
+  IsConstantIf levels x o = is_some o ≡ true → constant_to m info f es ordered levels x ≡ true
+
+  composed : (h : ℕ) (op : Operator) (cs : Option (List ConstantTree)) →
+      is_some (option_and_then (built d h op) cs) ≡ true → is_some cs ≡ true
+  composed h op (Some cs) is = refl
+  composed h op None is = absurd cc
+
+  splat : (h : ℕ) (op : Operator) (c : Option ConstantTree) →
+      is_some (option_and_then (λ c. built d h op (c ∷ [])) c) ≡ true → is_some c ≡ true
+  splat h op (Some c) is = refl
+  splat h op None is = absurd cc
+
+  both_there : (c : Option ConstantTree) (cs : Option (List ConstantTree)) →
+      is_some (tree_then c cs) ≡ true → (is_some c ≡ true) × (is_some cs ≡ true)
+  both_there (Some c) (Some cs) is = (refl, refl)
+  both_there (Some c) None is = absurd cc
+  both_there None cs is = absurd cc
+
+  all_there : (tree_of : ℕ → Option ConstantTree) (levels : ℕ) →
+      ((x : ℕ) → IsConstantIf levels x (tree_of x)) → (xs : List ℕ) →
+      is_some (trees_of tree_of xs) ≡ true →
+      all_constant (constant_to m info f es ordered levels) xs ≡ true
+  all_there tree_of levels each [] is = refl
+  all_there tree_of levels each (x ∷ xs) is =
+      let parts = both_there (tree_of x) (trees_of tree_of xs) is in
+      ap₂ (λ a b. a && b) (each x parts.0) (all_there tree_of levels each xs parts.1)
+
+  constant_at_start : (levels x : ℕ) →
+      IsConstantIf levels x (tree_within levels d f.expressions x)
+  constant_at_start zero x is = absurd cc
+  constant_at_start (suc levels) x is =
+      one_more m info f es ordered levels x
+      ∙ by (slice_get f.expressions x) is (constant_at_start levels)
+    where
+      tree_of : ℕ → Option ConstantTree
+      tree_of = tree_within levels d f.expressions
+
+      by : (o : Option ir.Expression) →
+          is_some (option_and_then (tree_over d tree_of x) o) ≡ true →
+          ((y : ℕ) → IsConstantIf levels y (tree_of y)) →
+          (is_constant_kind (option_map_or kind_of o kind.Result)
+          || (is_pure_kind (option_map_or kind_of o kind.Result)
+          && all_constant (constant_to m info f es ordered levels)
+          (option_map_or expression_operands o []))) ≡
+          true
+      by (Some (expression.Literal value)) is each = refl
+      by (Some (expression.Constant handle)) is each = refl
+      by (Some (expression.Override handle)) is each = refl
+      by (Some (expression.ZeroValue ty)) is each = refl
+      by (Some (expression.Compose ty components)) is each =
+          all_there tree_of levels each components.items
+          (composed x (constructor d.around (Handle ty) (length components.items))
+          (trees_of tree_of components.items) is)
+      by (Some (expression.Splat size value)) is each =
+          ap (λ b. b && true) (each value (splat x (Splat size) (tree_of value) is))
+      by (Some _) is each = absurd cc
+      by None is each = absurd cc
+
+  -- so is it in scope wherever that is kept which is in scope at the start
+  out_usable : (s : Handles) → KeepsStart shape s → (x : ℕ) (c : ConstantTree) →
+      constant_tree d f.expressions x ≡ Some c → usable shape s x ≡ true
+  out_usable s held x c at =
+      usable_is m info f es s x ∙ by (slice_get f.expressions x) refl (ap is_some at)
+    where
+      present : (e : ir.Expression) → slice_get f.expressions x ≡ Some e →
+          is_pure_kind (kind_of e) ≡ true → is_present (s x) ≡ true
+      present e here pure =
+          let lt = slice_get_within f.expressions x e here in
+          let within = subst (λ n. x < n) (sym (counted m info f es ordered)) lt in
+          let whole = constant_at_start (suc x) x (ap is_some at) in
+          let one : x < suc x = omega arith in
+          held x
+          (ap₂ (λ p b. is_present (start_standing (p && b)))
+          (pure_at m info f es x
+          ∙ (ap (λ o. is_pure_kind (option_map_or kind_of o kind.Result)) here ∙ pure))
+          (any_bound m info f es ordered (length shape.expressions) (suc x) x within one ∙ whole))
+
+      by : (o : Option ir.Expression) → slice_get f.expressions x ≡ o →
+          is_some (option_and_then (tree_over d (tree_within x d f.expressions) x) o) ≡ true →
+          usable_by f o (s x) ≡ true
+      by (Some (expression.Literal value)) here is = refl
+      by (Some (expression.Constant handle)) here is = refl
+      by (Some (expression.Override handle)) here is = refl
+      by (Some (expression.ZeroValue ty)) here is = refl
+      by (Some (expression.Compose ty components)) here is =
+          present (expression.Compose ty components) here refl
+      by (Some (expression.Splat size value)) here is =
+          present (expression.Splat size value) here refl
+      by (Some _) here is = absurd cc
+      by None here is = absurd cc
+
+  same_behind : (s : Handles) (xs ys zs : List ℕ) → usable_all shape s ys ≡ usable_all shape s zs →
+      usable_all shape s (xs ++ ys) ≡ usable_all shape s (xs ++ zs)
+  same_behind s [] ys zs same = same
+  same_behind s (x ∷ xs) ys zs same =
+      ap (λ b. usable shape s x && b) (same_behind s xs ys zs same)
+
+  -- the operands of what an expression evaluates are in scope where its own are
+  pub usable_operands : (s : Handles) → KeepsStart shape s → (h : ℕ) →
+      usable_all shape s (operands_of (expression_of shape h)) ≡
+      usable_all shape s (operands_at f.expressions h)
+  usable_operands s held h = by (slice_get f.expressions h) refl
+    where
+      own : (e : ir.Expression) →
+          usable_all shape s (operands_of (Some (shape_of d f.expressions h e))) ≡
+          usable_all shape s (expression_operands e)
+      own
+          (expression.ImageSample
+          image sampler gather coordinate array_index None level depth_ref clamp) =
+          refl
+      own
+          (expression.ImageSample
+          image sampler gather coordinate array_index (Some x) level depth_ref clamp) =
+          left (constant_tree d f.expressions x) refl
+        where
+          left : (o : Option ConstantTree) → constant_tree d f.expressions x ≡ o →
+              usable_all shape s
+              (image ∷ sampler ∷ coordinate ∷ option_to_list array_index ++
+              option_to_list depth_ref ++ level_operands level ++
+              option_to_list (offset_left o (Some x))) ≡
+              usable_all shape s
+              (image ∷ sampler ∷ coordinate ∷ option_to_list array_index ++
+              option_to_list depth_ref ++ level_operands level ++ x ∷ [])
+          left None at = refl
+          left (Some c) at =
+              same_behind s
+              (image ∷ sampler ∷ coordinate ∷ option_to_list array_index ++
+              option_to_list depth_ref ++ level_operands level)
+              [] (x ∷ []) (ap (λ b. b && true) (sym (out_usable s held x c at)))
+      own e = ap (usable_all shape s) (shape_operands d f.expressions h e refl)
+
+      by : (o : Option ir.Expression) → slice_get f.expressions h ≡ o →
+          usable_all shape s (operands_of (expression_of shape h)) ≡
+          usable_all shape s (operands_at f.expressions h)
+      by None at =
+          ap (λ e. usable_all shape s (operands_of e)) (no_expression_at m info f es h at)
+          ∙ sym (ap (λ o. usable_all shape s (option_map_or expression_operands o [])) at)
+      by (Some e) at =
+          ap (λ e. usable_all shape s (operands_of e)) (expression_at m info f es h e at)
+          ∙ (own e ∙ sym (ap (λ o. usable_all shape s (option_map_or expression_operands o [])) at))

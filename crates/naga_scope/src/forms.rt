@@ -1,0 +1,157 @@
+//! Which expressions have a form.
+
+ghost use Rattle.std.specs.Prelude.{◌≡◌, List, IsTrue};
+ghost use Rattle.std.specs.Option.{is_some};
+ghost use Rattle.module_meaning.specs.AlikeTypes.{has_form};
+ghost use Rattle.module_meaning.specs.Conversions.{converted_scalar};
+ghost use Rattle.module_meaning.specs.Part.{converts, expression_is_written, is_written_literal};
+ghost use Rattle.module_meaning.specs.Part.{known_passes, types_have_forms};
+ghost use Rattle.module_meaning.specs.Sampling.{sampling_is_written};
+ghost use Rattle.naga_info.specs.declared.info.TypeResolution.TheVariants.{Handle as OfHandle};
+ghost use Rattle.naga_ir.specs.declared.types.Type_.{Type_};
+ghost use Rattle.naga_scope.specs.Forms.{AreKnownIn};
+ghost use Rattle.wgsl_words.specs.Words.{scalar_word};
+
+use naga_info::FunctionInfo;
+use naga_ir::{
+    Expression, Handle, Literal, RelationalFunction, SampleLevel, Scalar, ScalarKind,
+    SwizzleComponent, Type_, TypeInner, UniqueArena,
+};
+use wgsl_words::TryToWgsl;
+
+/// Whether an expression is one that is written, where its offset, if it has one, is written out, in a
+/// module whose types all have forms.
+pub(crate) fn is_written(
+    types: &UniqueArena<Type_>,
+    info: &FunctionInfo,
+    expression: &Expression,
+) -> bool
+    requires formed { IsTrue (types_have_forms types.now) }
+    requires known { AreKnownIn types.now info.now }
+    ensures { result ≡ expression_is_written types.now info.now expression.now }
+{
+    match expression {
+        Expression::Access { .. }
+        | Expression::AccessIndex { .. }
+        | Expression::FunctionArgument(_)
+        | Expression::LocalVariable(_)
+        | Expression::Load { .. }
+        | Expression::Unary { .. }
+        | Expression::Binary { .. }
+        | Expression::Select { .. }
+        | Expression::Splat { .. }
+        | Expression::Swizzle { .. }
+        | Expression::Derivative { .. }
+        | Expression::ImageQuery { .. }
+        | Expression::ArrayLength(_)
+        | Expression::CooperativeMultiplyAdd { .. } => true,
+        Expression::ImageSample {
+            gather,
+            level,
+            depth_ref,
+            clamp_to_edge,
+            ..
+        } => sampling_has_form(*gather, *level, depth_ref.is_some(), *clamp_to_edge),
+        Expression::ImageLoad { sample, level, .. } => sample.is_none() || level.is_none(),
+        Expression::ZeroValue(ty) => type_has_form(types, *ty),
+        Expression::Compose { ty, .. } => type_has_form(types, *ty),
+        Expression::As {
+            expr,
+            kind,
+            convert,
+        } => is_converted(types, info, *expr, *kind, *convert),
+        Expression::Math { fun, .. } => fun.try_to_wgsl().is_some(),
+        Expression::Relational { fun, .. } => match fun {
+            RelationalFunction::All | RelationalFunction::Any => true,
+            RelationalFunction::IsNan | RelationalFunction::IsInf => false,
+        },
+        Expression::Literal(literal) => literal_has_form(*literal),
+        _ => false,
+    }
+}
+
+/// Whether a sampling has a form. A gather is at level zero, told or not, and is not clamped. What is
+/// clamped is at level zero, and compares nothing.
+pub fn sampling_has_form(
+    gather: Option<SwizzleComponent>,
+    level: SampleLevel,
+    compares: bool,
+    clamped: bool,
+) -> bool
+    ensures { result ≡ sampling_is_written gather level compares clamped }
+{
+    match gather {
+        Some(_) => match level {
+            SampleLevel::Auto | SampleLevel::Zero => !clamped,
+            _ => false,
+        },
+        None => match level {
+            SampleLevel::Zero => !clamped || !compares,
+            _ => !clamped,
+        },
+    }
+}
+
+/// Whether there is a type with this handle, where each type has a form.
+fn type_has_form(types: &UniqueArena<Type_>, ty: Handle<Type_>) -> bool
+    requires formed { IsTrue (types_have_forms types.now) }
+    ensures { result ≡ has_form types.now (OfHandle ty) }
+{
+    ty.index() < types.len()
+}
+
+fn literal_has_form(literal: Literal) -> bool
+    ensures { result ≡ is_written_literal literal }
+{
+    match literal {
+        Literal::Bool(_) | Literal::I32(_) | Literal::U32(_) | Literal::I64(_) | Literal::U64(_) =>
+            true,
+        _ => false,
+    }
+}
+
+/// Whether the operand of a conversion is converted to what has a form.
+fn is_converted(
+    types: &UniqueArena<Type_>,
+    info: &FunctionInfo,
+    operand: Handle<Expression>,
+    kind: ScalarKind,
+    convert: Option<u8>,
+) -> bool
+    requires known { AreKnownIn types.now info.now }
+    ensures { result ≡ known_passes types.now info.now (converts types.now kind convert) operand }
+{
+    match info.expressions.get(operand.index()) {
+        Some(known) => converts(known.ty.inner_with(types), kind, convert),
+        None => false,
+    }
+}
+
+/// Whether a value of this type is converted to one of a type that has a form.
+fn converts(inner: &TypeInner, kind: ScalarKind, convert: Option<u8>) -> bool
+    ensures { (types : List Type_) → result ≡ converts types kind convert inner.now }
+{
+    match inner {
+        TypeInner::Scalar(scalar)
+        | TypeInner::Vector { scalar, .. }
+        | TypeInner::Matrix { scalar, .. } => has_word(converted_scalar(*scalar, kind, convert)),
+        _ => false,
+    }
+}
+
+/// Whether WGSL has a word for the scalar.
+fn has_word(scalar: Scalar) -> bool
+    ensures { result ≡ is_some (scalar_word scalar) }
+{
+    scalar.try_to_wgsl().is_some()
+}
+
+/// The scalar that one is converted to: of this kind, and of the width that is told or its own.
+pub fn converted_scalar(scalar: Scalar, kind: ScalarKind, convert: Option<u8>) -> Scalar
+    ensures { result ≡ converted_scalar scalar kind convert }
+{
+    Scalar {
+        kind,
+        width: convert.unwrap_or(scalar.width),
+    }
+}

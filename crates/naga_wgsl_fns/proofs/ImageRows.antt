@@ -1,0 +1,382 @@
+-- The texts of operations on images, from what is written of them in turn.
+use Rattle.std.proofs.Common.{◌≡◌, ℕ, zero, suc, ◌<◌, Bool, true, false, List, [], ◌∷◌, ◌++◌, codes}
+use Rattle.std.proofs.Common.{Option, Some, None, refl, sym, ap, ap₂, ◌∙◌, arith, length, map}
+use Rattle.std.proofs.Common.{append_assoc, decimal, IsTrue}
+use Rattle.std.specs.Prelude.{slice_get, ◌||◌, if◌then◌else◌}
+use Rattle.std.specs.List.{list_all}
+use Rattle.std.specs.Option.{is_none, is_some, option_map_or, option_to_list}
+use Rattle.std.proofs.lemmas.Bool.{and_parts}
+use Rattle.std.proofs.lemmas.List.{append-nil}
+use Rattle.module_meaning.specs.ExpressionOperators.{is_depth_image, level_of, query_operator}
+use Rattle.module_meaning.specs.ExpressionOperators.{sample_operator, texel_of, type_known}
+use Rattle.module_meaning.specs.OperatorTable.{Sample, Splat, Texel, if_word, run_word}
+use Rattle.module_meaning.specs.Sampling.{sampling_is_written}
+use Rattle.module_meaning.specs.Writable.{is_written_out, written_out_over, written_out_within}
+use Rattle.naga_form.proofs.Operators.{IsCalled}
+use Rattle.naga_form.specs.ConstantForms.{constant_form_over, constant_form_within, no_constant_form}
+use Rattle.naga_form.specs.ConstantForms.{built_form}
+use Rattle.naga_form.specs.Expressions.{PlainForm, as_value, constant_form, own_if, own_plain}
+use Rattle.naga_form.specs.Expressions.{plain_form, sampling_operands, value_forms}
+use Rattle.naga_form.specs.Images.{component_number, component_then, gathered_component}
+use Rattle.naga_form.specs.Images.{operands_then, sampling_form, sampling_word, zero_is_written}
+use Rattle.naga_form.specs.Images.{zero_then}
+use Rattle.naga_form.specs.Operators.{applied_form, notation, Called}
+use Rattle.naga_ir.specs.Operands.{expression_operands, level_operands, query_operands}
+use Rattle.naga_ir.specs.declared.expression.Expression as ir
+use Rattle.naga_ir.specs.declared.expression.Expression.TheVariants as expression
+use Rattle.naga_ir.specs.declared.expression.ImageQuery.{ImageQuery}
+use Rattle.naga_ir.specs.declared.expression.ImageQuery.TheVariants as query
+use Rattle.naga_ir.specs.declared.expression.SampleLevel.{SampleLevel}
+use Rattle.naga_ir.specs.declared.expression.SampleLevel.TheVariants as level
+use Rattle.naga_ir.specs.declared.expression.SwizzleComponent.{SwizzleComponent}
+use Rattle.naga_ir.specs.declared.expression.SwizzleComponent.TheVariants as component
+use Rattle.std.specs.Fmt.{digits}
+use Rattle.naga_scope.specs.Standings.{handles_of}
+use Rattle.naga_scope.specs.declared.points.Standing.{Standing}
+use Rattle.naga_words.specs.Output.{joined_texts}
+use Rattle.naga_wgsl_fns.proofs.ExpressionRows.{application_at, cell_form}
+use Rattle.naga_wgsl_fns.proofs.Wanted.{all_before, expression_formed, offset_has_form}
+use Rattle.naga_wgsl_fns.specs.Expressions.{applied_text, form_at, next_operand_text, own_form}
+use Rattle.naga_wgsl_fns.specs.Expressions.{own_text, value_text}
+use Rattle.naga_wgsl_fns.specs.FunctionText.{CanWrite, IsInText, around, expressions, naming, source}
+use Rattle.naga_wgsl_fns.specs.FunctionText.{type_names_of}
+use Rattle.naga_wgsl_fns.specs.Images.{component_text, depths_at, furthers_text, head_text}
+use Rattle.naga_wgsl_fns.specs.Images.{level_text, offset_text}
+use Rattle.naga_wgsl_fns.specs.declared.functions.FunctionText.{FunctionText}
+use Rattle.shader_runs.specs.Premises.{AllBelow}
+use Rattle.wgsl_text.proofs.Expressions.{argument_text, call_text, next_argument_text}
+use Rattle.wgsl_text.proofs.Text.{plain_text}
+use Rattle.wgsl_text.proofs.Types.{named_text}
+use Rattle.wgsl_text.specs.Expressions.{Argument, Arguments, Call, Expression, NoArguments}
+use Rattle.wgsl_text.specs.Expressions.{NumberArgument, arguments_pieces, more_arguments_pieces}
+use Rattle.wgsl_text.specs.Expressions.{operands as arguments_of}
+use Rattle.wgsl_text.specs.Reading.{expression_layout, type_layout}
+use Rattle.wgsl_text.specs.Text.{text}
+use Rattle.wgsl_text.specs.Types.{Named}
+
+-- ---- words
+pub texel_row : (arrayed : Bool) (sample level : Option ℕ) → (is_none sample || is_none level) ≡ true →
+    codes "textureLoad" ≡ run_word (Texel arrayed (texel_of (is_some sample) (is_some level)))
+texel_row arrayed None None is = refl
+texel_row arrayed None (Some l) is = refl
+texel_row arrayed (Some s) None is = refl
+texel_row arrayed (Some s) (Some l) is = absurd cc
+
+pub texel_word : (f : FunctionText) → CanWrite f → (h : ℕ) (e : ir.Expression)
+    (image coordinate : ℕ) (array_index sample level : Option ℕ) →
+    slice_get (expressions f) h ≡ Some e → IsInText f h →
+    e ≡ expression.ImageLoad image coordinate array_index sample level →
+    codes "textureLoad" ≡
+    run_word (Texel (is_some array_index) (texel_of (is_some sample) (is_some level)))
+texel_word f can h e image coordinate array_index sample level here within is =
+    texel_row (is_some array_index) sample level
+    (expression_formed f can h (expression.ImageLoad image coordinate array_index sample level)
+    (here ∙ ap Some is) within)
+
+pub query_is_called : (q : ImageQuery) → IsCalled (query_operator q)
+query_is_called (query.Size level) type = refl
+query_is_called query.NumLevels type = refl
+query_is_called query.NumLayers type = refl
+query_is_called query.NumSamples type = refl
+
+pub query_called : (f : FunctionText) (table : List Standing) (image : ℕ) (q : ImageQuery) →
+    application_at f table None (image ∷ query_operands q) (Some (query_operator q)) ≡
+    applied_text f table (Called (Named (run_word (query_operator q)))) (image ∷ query_operands q)
+query_called f table image q =
+    ap (λ n. applied_text f table n (image ∷ query_operands q)) (query_is_called q None)
+
+-- ---- constants that are written out
+-- Where nothing has a name, what may be written out has the form of a constant.
+module _ (f : FunctionText) (can : CanWrite f) where
+  parts_same : (part : ℕ → Expression) (may : ℕ → Bool) (h : ℕ) →
+      ((x : ℕ) → x < h → may x ≡ true → as_value (form_at f [] x) ≡ part x) → (xs : List ℕ) →
+      AllBelow h xs → list_all may xs ≡ true → value_forms (form_at f []) xs ≡ map part xs
+  parts_same part may h same [] below is = refl
+  parts_same part may h same (x ∷ xs) below is =
+      let both = and_parts (may x) (list_all may xs) is in
+      ap₂ (λ e es. e ∷ es) (same x below.0 both.0) (parts_same part may h same xs below.1 both.1)
+
+  over_same : (part : ℕ → Expression) (may : ℕ → Bool) (h : ℕ) →
+      ((x : ℕ) → x < h → may x ≡ true → as_value (form_at f [] x) ≡ part x) →
+      (e : ir.Expression) → AllBelow h (expression_operands e) → written_out_over may e ≡ true →
+      as_value (own_plain (naming f) (source f) (form_at f []) e) ≡
+      constant_form_over (around f) (type_names_of f) part e
+  over_same part may h same (expression.Literal value) below is = refl
+  over_same part may h same (expression.ZeroValue ty) below is = refl
+  over_same part may h same (expression.Compose ty components) below is =
+      ap (built_form (around f) (type_names_of f) ty (length components.items))
+      (parts_same part may h same components.items below is)
+  over_same part may h same (expression.Splat size value) below is =
+      ap (λ e. applied_form (notation None (Splat size)) (e ∷ [])) (same value below.0 is)
+  over_same part may h same (expression.Constant handle) below is = refl
+  over_same part may h same (expression.Override handle) below is = refl
+  over_same part may h same _ below is = absurd cc
+
+  pub constant_same : (levels h : ℕ) → h < length (expressions f) →
+      written_out_within levels (expressions f) h ≡ true →
+      as_value (form_at f [] h) ≡
+      constant_form_within levels (around f) (type_names_of f) (expressions f) h
+  constant_same zero h lt is = absurd cc
+  constant_same (suc levels) h lt is =
+      ap as_value (cell_form f [] h can lt)
+      ∙ by (slice_get (expressions f) h) refl is (constant_same levels)
+    where
+      by : (o : Option ir.Expression) → slice_get (expressions f) h ≡ o →
+          option_map_or (written_out_over (written_out_within levels (expressions f))) o false ≡ true →
+          ((x : ℕ) → x < length (expressions f) →
+          written_out_within levels (expressions f) x ≡ true →
+          as_value (form_at f [] x) ≡
+          constant_form_within levels (around f) (type_names_of f) (expressions f) x) →
+          as_value (own_if (naming f) (source f) (form_at f []) o) ≡
+          option_map_or
+          (constant_form_over (around f) (type_names_of f)
+          (constant_form_within levels (around f) (type_names_of f) (expressions f))) o
+          no_constant_form
+      by None at is each = absurd cc
+      by (Some e) at is each =
+          over_same (constant_form_within levels (around f) (type_names_of f) (expressions f))
+          (written_out_within levels (expressions f)) h
+          (λ x below is. each x (omega (arith, below, lt)) is) e
+          (all_before f can h e at) is
+
+-- an offset is written as an operand where nothing has a name
+pub offset_row : (f : FunctionText) → CanWrite f → (h : ℕ) → h < length (expressions f) →
+    is_written_out (expressions f) h ≡ true →
+    next_operand_text f [] false h ≡ offset_text f (Some h)
+unfolding next_operand_text value_text offset_text
+offset_row f can h lt is =
+    ap (λ e. codes ", " ++ expression_layout e) (constant_same f can (suc h) h lt is)
+
+pub no_offset : (f : FunctionText) → [] ≡ offset_text f None
+unfolding offset_text
+no_offset f = refl
+
+-- ---- arguments
+-- an operand behind others, and several
+next_then : (f : FunctionText) (table : List Standing) (h : ℕ) (hs : List ℕ) (args : Arguments) →
+    text (more_arguments_pieces (operands_then (value_forms (form_at f table) (h ∷ hs)) args)) ≡
+    joined_texts (next_operand_text f table false h)
+    (text (more_arguments_pieces (operands_then (value_forms (form_at f table) hs) args)))
+unfolding next_operand_text value_text joined_texts
+next_then f table h hs args =
+    next_argument_text (as_value (form_at f table h))
+    (operands_then (value_forms (form_at f table) hs) args)
+
+furthers_then : (f : FunctionText) (table : List Standing) (hs ks : List ℕ) (args : Arguments) →
+    text (more_arguments_pieces (operands_then (value_forms (form_at f table) (hs ++ ks)) args)) ≡
+    joined_texts (furthers_text f table hs)
+    (text (more_arguments_pieces (operands_then (value_forms (form_at f table) ks) args)))
+unfolding furthers_text joined_texts
+furthers_then f table [] ks args = refl
+furthers_then f table (h ∷ hs) ks args =
+    next_then f table h (hs ++ ks) args
+    ∙ (ap (λ w. next_operand_text f table false h ++ w) (furthers_then f table hs ks args)
+    ∙ sym
+    (append_assoc (next_operand_text f table false h) (furthers_text f table hs)
+    (text (more_arguments_pieces (operands_then (value_forms (form_at f table) ks) args)))))
+
+level_then : (l : SampleLevel) (is_told : Bool) (args : Arguments) →
+    text (more_arguments_pieces (zero_then (zero_is_written l is_told) args)) ≡
+    joined_texts (level_text l is_told) (text (more_arguments_pieces args))
+unfolding joined_texts
+level_then l is_told args = by (zero_is_written l is_told)
+  where
+    by : (b : Bool) →
+        text (more_arguments_pieces (zero_then b args)) ≡
+        (if b then codes ", 0.0" else []) ++ text (more_arguments_pieces args)
+    by true = refl
+    by false = refl
+
+offset_then : (f : FunctionText) (offset : Option ℕ) →
+    text
+    (more_arguments_pieces
+    (arguments_of (map (constant_form (source f)) (option_to_list offset)))) ≡
+    joined_texts (offset_text f offset) (codes ")")
+unfolding offset_text joined_texts
+offset_then f None = refl
+offset_then f (Some h) = next_argument_text (constant_form (source f) h) NoArguments
+
+-- what is written of operands behind others
+pub furthers_none : (f : FunctionText) (table : List Standing) → [] ≡ furthers_text f table []
+unfolding furthers_text
+furthers_none f table = refl
+
+pub furthers_one : (f : FunctionText) (table : List Standing) (h : ℕ) →
+    next_operand_text f table false h ≡ furthers_text f table (h ∷ [])
+unfolding furthers_text
+furthers_one f table h = sym (append-nil (next_operand_text f table false h))
+
+pub furthers_two : (f : FunctionText) (table : List Standing) (x y : ℕ) →
+    joined_texts (next_operand_text f table false x) (next_operand_text f table false y) ≡
+    furthers_text f table (x ∷ y ∷ [])
+unfolding furthers_text joined_texts
+furthers_two f table x y =
+    ap (λ w. next_operand_text f table false x ++ w)
+    (sym (append-nil (next_operand_text f table false y)))
+
+-- the word, and in front of the first operand the component of a gather
+abbrev number_text : Option ℕ → List ℕ
+number_text None = []
+number_text (Some n) = decimal n ++ codes ", "
+
+number_row : (c : SwizzleComponent) →
+    decimal (component_number c) ++ codes ", " ≡ component_text false (Some c)
+unfolding digits
+number_row component.X = refl
+number_row component.Y = refl
+number_row component.Z = refl
+number_row component.W = refl
+
+module _ (e : Expression) (args : Arguments) where
+  abbrev first : List ℕ
+  first = expression_layout e ++ text (more_arguments_pieces args)
+
+  called_then : (w : List ℕ) (number : Option ℕ) →
+      expression_layout (Call (Named w) (component_then number (Argument e args))) ≡
+      (w ++ (codes "(" ++ number_text number)) ++ first
+  called_then w None =
+      call_text (Named w) (Argument e args)
+      ∙ (ap₂ (λ w v. w ++ (codes "(" ++ v)) (named_text w) (argument_text e args)
+      ∙ sym (append_assoc w (codes "(") first))
+  called_then w (Some n) =
+      call_text (Named w) (NumberArgument n (Argument e args))
+      ∙ (ap₂ (λ w v. w ++ (codes "(" ++ v)) (named_text w)
+      (plain_text n (more_arguments_pieces (Argument e args))
+      ∙ (ap (λ v. decimal n ++ v) (next_argument_text e args)
+      ∙ sym (append_assoc (decimal n) (codes ", ") first)))
+      ∙ sym (append_assoc w (codes "(" ++ (decimal n ++ codes ", ")) first))
+
+  head_of : (of_depths : Bool) (gather : Option SwizzleComponent) (l : SampleLevel)
+      (compares clamped arrayed with_offset : Bool) →
+      let op =
+      sample_operator of_depths gather (level_of l) compares clamped arrayed with_offset in
+      expression_layout
+      (Call (Named (sampling_word op)) (component_then (gathered_component op) (Argument e args))) ≡
+      (sampling_word (sample_operator of_depths gather (level_of l) compares clamped false false)
+      ++ (codes "(" ++ component_text of_depths gather))
+      ++ first
+  head_of true None l compares clamped arrayed with_offset =
+      called_then (run_word (Sample (level_of l) compares clamped false false)) None
+  head_of false None l compares clamped arrayed with_offset =
+      called_then (run_word (Sample (level_of l) compares clamped false false)) None
+  head_of true (Some c) l compares clamped arrayed with_offset =
+      called_then (codes "textureGather" ++ if_word compares (codes "Compare")) None
+  head_of false (Some c) l compares clamped arrayed with_offset =
+      called_then (codes "textureGather" ++ if_word compares (codes "Compare"))
+      (Some (component_number c))
+      ∙ ap
+      (λ v. ((codes "textureGather" ++ if_word compares (codes "Compare")) ++ (codes "(" ++ v)) ++ first)
+      (number_row c)
+
+head_then : (f : FunctionText) (image : ℕ) (gather : Option SwizzleComponent) (l : SampleLevel)
+    (compares clamped arrayed with_offset : Bool) (e : Expression) (args : Arguments) →
+    let op =
+    sample_operator (depths_at f image) gather (level_of l) compares clamped arrayed with_offset in
+    expression_layout
+    (Call (Named (sampling_word op)) (component_then (gathered_component op) (Argument e args))) ≡
+    joined_texts (head_text f image gather l compares clamped)
+    (joined_texts (expression_layout e) (text (more_arguments_pieces args)))
+unfolding head_text joined_texts
+head_then f image gather l compares clamped arrayed with_offset e args =
+    head_of e args (depths_at f image) gather l compares clamped arrayed with_offset
+
+pub head_row : (f : FunctionText) (image : ℕ) (gather : Option SwizzleComponent) (l : SampleLevel)
+    (compares clamped : Bool) →
+    head_text f image gather l compares clamped ≡
+    joined_texts
+    (sampling_word (sample_operator (depths_at f image) gather (level_of l) compares clamped false false))
+    (joined_texts (codes "(") (component_text (depths_at f image) gather))
+unfolding head_text joined_texts
+head_row f image gather l compares clamped = refl
+
+-- ---- samplings
+pub sampling_row : (f : FunctionText) (table : List Standing) (handle : ℕ) (image sampler : ℕ)
+    (gather : Option SwizzleComponent) (coordinate : ℕ) (array_index offset : Option ℕ)
+    (l : SampleLevel) (depth_ref : Option ℕ) (clamp : Bool) →
+    slice_get (expressions f) handle ≡
+    Some
+    (expression.ImageSample image sampler gather coordinate array_index offset l depth_ref clamp) →
+    own_text f table handle ≡
+    joined_texts (head_text f image gather l (is_some depth_ref) clamp)
+    (joined_texts (value_text f table image)
+    (joined_texts (next_operand_text f table false sampler)
+    (joined_texts (next_operand_text f table false coordinate)
+    (joined_texts (furthers_text f table (option_to_list array_index))
+    (joined_texts (furthers_text f table (option_to_list depth_ref))
+    (joined_texts (furthers_text f table (level_operands l))
+    (joined_texts (level_text l (is_some gather || (is_some depth_ref || clamp)))
+    (joined_texts (offset_text f offset) (codes ")")))))))))
+unfolding own_text value_text
+sampling_row f table handle image sampler gather coordinate array_index offset l depth_ref clamp at =
+    let form = form_at f table in
+    let a = option_to_list array_index in
+    let d = option_to_list depth_ref in
+    let told = is_some gather || (is_some depth_ref || clamp) in
+    let offsets = arguments_of (map (constant_form (source f)) (option_to_list offset)) in
+    let last = zero_then (zero_is_written l told) offsets in
+    let behind = a ++ (d ++ (level_operands l ++ [])) in
+    let word = is_some depth_ref in
+    let op =
+    sample_operator (depths_at f image) gather (level_of l) word clamp (is_some array_index)
+    (is_some offset) in
+    ap (λ o. expression_layout (as_value (own_if (naming f) (source f) form o))) at
+    ∙ (ap
+    (λ hs. expression_layout
+    (sampling_form op (zero_is_written l told)
+    (value_forms form (image ∷ sampler ∷ coordinate ∷ hs))
+    (map (constant_form (source f)) (option_to_list offset))))
+    (append_assoc (a ++ d) (level_operands l) [] ∙ append_assoc a d (level_operands l ++ []))
+    ∙ (head_then f image gather l word clamp (is_some array_index) (is_some offset)
+    (as_value (form image))
+    (operands_then (value_forms form (sampler ∷ coordinate ∷ behind)) last)
+    ∙ ap
+    (λ w. joined_texts (head_text f image gather l (is_some depth_ref) clamp)
+    (joined_texts (expression_layout (as_value (form image))) w))
+    (next_then f table sampler (coordinate ∷ behind) last
+    ∙ ap (joined_texts (next_operand_text f table false sampler))
+    (next_then f table coordinate behind last
+    ∙ ap (joined_texts (next_operand_text f table false coordinate))
+    (furthers_then f table a (d ++ (level_operands l ++ [])) last
+    ∙ ap (joined_texts (furthers_text f table a))
+    (furthers_then f table d (level_operands l ++ []) last
+    ∙ ap (joined_texts (furthers_text f table d))
+    (furthers_then f table (level_operands l) [] last
+    ∙ ap (joined_texts (furthers_text f table (level_operands l)))
+    (level_then l told offsets
+    ∙ ap (joined_texts (level_text l told)) (offset_then f offset)))))))))
+
+-- the same from what is written, where whether something is compared, and the text of the level, are
+-- said in another way
+pub sampling_whole : (f : FunctionText) (table : List Standing) (handle : ℕ) (image sampler : ℕ)
+    (gather : Option SwizzleComponent) (coordinate : ℕ) (array_index offset : Option ℕ)
+    (l : SampleLevel) (depth_ref : Option ℕ) (clamp : Bool) →
+    slice_get (expressions f) handle ≡
+    Some
+    (expression.ImageSample image sampler gather coordinate array_index offset l depth_ref clamp) →
+    (compares : Bool) → compares ≡ is_some depth_ref → (w : List ℕ) →
+    w ≡ level_text l (is_some gather || (compares || clamp)) →
+    joined_texts (head_text f image gather l compares clamp)
+    (joined_texts (value_text f table image)
+    (joined_texts (next_operand_text f table false sampler)
+    (joined_texts (next_operand_text f table false coordinate)
+    (joined_texts (furthers_text f table (option_to_list array_index))
+    (joined_texts (furthers_text f table (option_to_list depth_ref))
+    (joined_texts (furthers_text f table (level_operands l))
+    (joined_texts w (joined_texts (offset_text f offset) (codes ")"))))))))) ≡
+    own_text f table handle
+sampling_whole f table handle image sampler gather coordinate array_index offset l depth_ref clamp at
+    compares is w level_is =
+    ap₂
+    (λ b w.
+    joined_texts (head_text f image gather l b clamp)
+    (joined_texts (value_text f table image)
+    (joined_texts (next_operand_text f table false sampler)
+    (joined_texts (next_operand_text f table false coordinate)
+    (joined_texts (furthers_text f table (option_to_list array_index))
+    (joined_texts (furthers_text f table (option_to_list depth_ref))
+    (joined_texts (furthers_text f table (level_operands l))
+    (joined_texts w (joined_texts (offset_text f offset) (codes ")"))))))))))
+    is (level_is ∙ ap (λ b. level_text l (is_some gather || (b || clamp))) is)
+    ∙ sym
+    (sampling_row f table handle image sampler gather coordinate array_index offset l depth_ref clamp
+    at)

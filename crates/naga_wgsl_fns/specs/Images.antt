@@ -1,0 +1,61 @@
+-- The texts of samplings of images.
+use Rattle.std.specs.Prelude.{ℕ, Bool, true, false, List, [], ◌∷◌, ◌++◌, codes}
+use Rattle.std.specs.Prelude.{if◌then◌else◌, Option, Some, None}
+use Rattle.std.specs.Option.{option_map_or}
+use Rattle.module_meaning.specs.ExpressionOperators.{is_depth_image, level_of, sample_operator}
+use Rattle.module_meaning.specs.ExpressionOperators.{type_known}
+use Rattle.naga_form.specs.Expressions.{constant_form}
+use Rattle.naga_form.specs.Images.{sampling_word, zero_is_written}
+use Rattle.naga_ir.specs.declared.expression.Expression as ir
+use Rattle.naga_ir.specs.declared.expression.Expression.TheVariants as expression
+use Rattle.naga_ir.specs.declared.expression.SampleLevel.{SampleLevel}
+use Rattle.naga_ir.specs.declared.expression.SwizzleComponent.{SwizzleComponent}
+use Rattle.naga_ir.specs.declared.expression.SwizzleComponent.TheVariants as component
+use Rattle.naga_scope.specs.declared.points.Standing.{Standing}
+use Rattle.naga_wgsl_fns.specs.Expressions.{next_operand_text}
+use Rattle.naga_wgsl_fns.specs.FunctionText.{around, source}
+use Rattle.naga_wgsl_fns.specs.declared.functions.FunctionText.{FunctionText}
+use Rattle.wgsl_text.specs.Reading.{expression_layout}
+
+-- the expression is a sampling
+abbrev pub is_sampled : Option ir.Expression → Bool
+is_sampled
+    (Some
+    (expression.ImageSample
+    image sampler gather coordinate array_index offset level depth_ref clamp)) =
+    true
+is_sampled _ = false
+
+-- the expression with this handle is an image of depths
+abbrev pub depths_at : FunctionText → (image : ℕ) → Bool
+depths_at f image = option_map_or is_depth_image (type_known (around f) image) false
+
+-- the component of a gather, in front of its operands
+abbrev pub component_text : (of_depths : Bool) → Option SwizzleComponent → List ℕ
+component_text false (Some component.X) = codes "0, "
+component_text false (Some component.Y) = codes "1, "
+component_text false (Some component.Z) = codes "2, "
+component_text false (Some component.W) = codes "3, "
+component_text _ _ = []
+
+-- what stands in front of the operands
+unfoldable pub head_text : FunctionText → (image : ℕ) → (gather : Option SwizzleComponent) →
+    SampleLevel → (compares clamped : Bool) → List ℕ
+head_text f image gather level compares clamped =
+    let of_depths = depths_at f image in
+    sampling_word (sample_operator of_depths gather (level_of level) compares clamped false false)
+    ++ (codes "(" ++ component_text of_depths gather)
+
+-- operands behind others
+unfoldable pub furthers_text : FunctionText → (table : List Standing) → List ℕ → List ℕ
+furthers_text f table [] = []
+furthers_text f table (h ∷ hs) = next_operand_text f table false h ++ furthers_text f table hs
+
+-- the level `0.0`, where it is written
+abbrev pub level_text : SampleLevel → (is_told : Bool) → List ℕ
+level_text level is_told = if zero_is_written level is_told then codes ", 0.0" else []
+
+-- an offset, as a constant
+unfoldable pub offset_text : FunctionText → (offset : Option ℕ) → List ℕ
+offset_text f None = []
+offset_text f (Some h) = codes ", " ++ expression_layout (constant_form (source f) h)
