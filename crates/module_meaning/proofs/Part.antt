@@ -1,8 +1,8 @@
 -- What is known of a module that is of the part written so far.
-use Rattle.std.proofs.Common.{[], List, ◌∷◌, ◌&&◌, ℕ, ◌≡◌, Some, slice_get, true}
+use Rattle.std.proofs.Common.{List, ◌&&◌, ℕ, ◌≡◌, Some, slice_get, true}
 use Rattle.std.specs.Prelude.{IsTrue}
 use Rattle.std.specs.List.{list_all}
-use Rattle.std.proofs.lemmas.Bool.{and_parts, and_from}
+use Rattle.std.proofs.lemmas.Bool.{and_parts}
 use Rattle.naga_ir.specs.declared.module.Function.{Function}
 use Rattle.naga_ir.specs.declared.module.Module.{Module}
 use Rattle.naga_info.specs.declared.info.ExpressionInfo.{ExpressionInfo}
@@ -10,9 +10,8 @@ use Rattle.naga_info.specs.declared.info.ModuleInfo.{ModuleInfo}
 use Rattle.module_meaning.proofs.SideBySide.{paired_at}
 use Rattle.module_meaning.specs.InfoSizes.{all_paired}
 use Rattle.module_meaning.specs.Part.{type_is_of_part, declares_functions, types_allow_all}
-use Rattle.module_meaning.specs.Part.{is_written_so_far, function_is_written, local_is_written}
-use Rattle.module_meaning.specs.Part.{names_nothing, is_unbound, expression_is_of_part}
-use Rattle.module_meaning.specs.Part.{block_is_written, known_types_have_forms, types_have_forms}
+use Rattle.module_meaning.specs.Part.{is_written_so_far, function_is_written}
+use Rattle.module_meaning.specs.Part.{known_types_have_forms, types_have_forms}
 use Rattle.module_meaning.specs.Part.{expression_has_form, expression_is_written}
 use Rattle.module_meaning.specs.Sampling.{own_offset_is_written}
 use Rattle.naga_ir.specs.declared.expression.Expression.{Expression}
@@ -24,18 +23,6 @@ pub has_form_parts : (types : List Type_) (known : List ExpressionInfo) (es : Li
     (expression_is_written types known e ≡ true) × (own_offset_is_written es e ≡ true)
 has_form_parts types known es e has =
     and_parts (expression_is_written types known e) (own_offset_is_written es e) has
-
--- front ends name nothing in a function that is written, and the first values of its locals are
--- written
-pub written_parts : (f : Function) → IsTrue (function_is_written f) → IsTrue (names_nothing f) × IsTrue (list_all (local_is_written f.expressions) f.local_variables)
-written_parts f written =
-    let expressions = list_all expression_is_of_part f.expressions in
-    let locals = list_all (local_is_written f.expressions) f.local_variables in
-    let body = block_is_written f.body in
-    let named = and_parts (names_nothing f) (is_unbound f && (expressions && (locals && body))) written in
-    let bound = and_parts (is_unbound f) (expressions && (locals && body)) named.1 in
-    let behind = and_parts expressions (locals && body) bound.1 in
-    (named.0, (and_parts locals body behind.1).0)
 
 -- all that a module's being written so far says
 pub written_so_far_parts : (m : Module) (info : ModuleInfo) → IsTrue (is_written_so_far m info)
@@ -64,13 +51,3 @@ functions_are_written m info written = (written_so_far_parts m info written).2
 pub functions_allow : (m : Module) (info : ModuleInfo) → IsTrue (is_written_so_far m info) → (g : ℕ) (f : Function) (es : List ExpressionInfo) → slice_get m.functions g ≡ Some f → slice_get info.functions.items g ≡ Some es → IsTrue (types_allow_all m.types f es)
 functions_allow m info written =
     paired_at (types_allow_all m.types) m.functions info.functions.items (written_so_far_parts m info written).3
-
--- front ends name nothing in a module that is written so far
-pub functions_name_nothing : (m : Module) (info : ModuleInfo) → IsTrue (is_written_so_far m info) → IsTrue (list_all names_nothing m.functions)
-functions_name_nothing m info written = by m.functions (functions_are_written m info written)
-  where
-    by : (fs : List Function) → IsTrue (list_all function_is_written fs) → IsTrue (list_all names_nothing fs)
-    by [] all = all
-    by (f ∷ fs) all =
-        let parts = and_parts (function_is_written f) (list_all function_is_written fs) all in
-        and_from (names_nothing f) (list_all names_nothing fs) (written_parts f parts.0).0 (by fs parts.1)

@@ -27,7 +27,7 @@ module_annotations explicit t _ _ = []
 -- the module's functions with their names, in their order
 abbrev pub functions_named : Module → ModuleInfo → List Naming
 functions_named m info =
-    namings_from (module_names m) 0 (function_shapes m info m.functions info.functions.items)
+    namings_from (module_names m) m 0 (function_shapes m info m.functions info.functions.items)
 
 -- the `let`s of a program: the names of those of each function, the last one first, and the types
 -- that those of each function tell, in the functions' order

@@ -8,6 +8,7 @@ pub mod ExpressionShapes
 pub mod ExpressionTypes
 pub mod Faithful
 pub mod FunctionShapes
+pub mod GivenLabels
 pub mod InfoSizes
 pub mod Initialisers
 pub mod Interface

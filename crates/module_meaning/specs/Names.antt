@@ -1,9 +1,10 @@
--- The names that a module's items have in its WGSL text.
+-- The names that a module's items and expressions have in its WGSL text.
 use Rattle.std.specs.Prelude.{◌≡◌, ℕ, Bool, true, false, ◌<◌, ◌≤◌, ◌^◌, List, [], ◌∷◌, ◌++◌, length}
 use Rattle.std.specs.Prelude.{replicate, slice_get, nat_lt, None, Some, codes, decimal, unwrap_or}
-use Rattle.std.specs.Prelude.{IsTrue}
+use Rattle.std.specs.Prelude.{IsTrue, take}
 use Rattle.std.specs.FinSet as set
 use Rattle.std.specs.Map.{update_all}
+use Rattle.std.specs.Option.{option_map_or}
 use Rattle.naga_ir.specs.declared.module.Function as ir_function
 use Rattle.naga_ir.specs.declared.module.Module.{Module}
 use Rattle.naga_ir.specs.declared.types.StructMember.{StructMember}
@@ -14,6 +15,7 @@ use Rattle.naga_names.specs.Reset.{keys_fit, labelled_items, labels_of, members_
 use Rattle.naga_names.specs.declared.key.NameKey.{NameKey}
 use Rattle.naga_names.specs.declared.key.NameKey.TheVariants as key
 use Rattle.naga_words.specs.Spelling.{is_struct}
+use Rattle.module_meaning.specs.GivenLabels.{all_given_labels, given_labels, name_of_label}
 use Rattle.wgsl_text.specs.Keywords.{reserved_words, builtin_words}
 
 -- what no name begins with
@@ -56,15 +58,40 @@ numbered_text false h = replicate h 32
 unfoldable pub numbered_name : ℕ → List ℕ
 numbered_name h = numbered_text (nat_lt h (2 ^ 64)) h
 
--- no label's base is used more often than a counter of its uses can tell
-abbrev pub NamesAreCounted : Module → Type 0
-NamesAreCounted m =
-    (base : List ℕ) →
-    labels_with_base wgsl_names (labels_of (labelled_items wgsl_names m)) base ≤ 2 ^ 32
+-- ---- the labels of a module, and the names that front ends gave
+-- those of its items, in the order in which they are named
+abbrev pub item_labels : Module → List (List ℕ)
+item_labels m = labels_of (labelled_items wgsl_names m)
 
--- names are counted, and the key of each item, down to a struct's member, can tell its number
+-- Behind them come those that front ends gave to expressions, function by function. These stand in
+-- front of the ones given in this function.
+abbrev pub labels_before : Module → (function : ℕ) → List (List ℕ)
+labels_before m g = item_labels m ++ all_given_labels (take g m.functions)
+
+-- these are given in this function, if there is such a one
+abbrev pub labels_given : Module → (function : ℕ) → List (List ℕ)
+labels_given m g = option_map_or given_labels (slice_get m.functions g) []
+
+-- and these are all labels of the module
+abbrev pub module_labels : Module → List (List ℕ)
+module_labels m = item_labels m ++ all_given_labels m.functions
+
+-- The names that front ends gave in a function, in the order of its text: each the name of its
+-- label behind all labels in front of it.
+unfoldable pub given_name : Module → (function : ℕ) → (number : ℕ) → List ℕ
+given_name m g = name_of_label wgsl_names (labels_before m g) (labels_given m g)
+
+-- no label's base is used more often than a counter of its uses can tell
+abbrev pub AreCounted : (labels : List (List ℕ)) → Type 0
+AreCounted labels = (base : List ℕ) → labels_with_base wgsl_names labels base ≤ 2 ^ 32
+
+abbrev pub NamesAreCounted : Module → Type 0
+NamesAreCounted m = AreCounted (module_labels m)
+
+-- the items' labels are counted, and the key of each item, down to a struct's member, can tell its
+-- number
 pub record ItemsAreCounted (m : Module) : Type 0 where
-  pub names : NamesAreCounted m
+  pub names : AreCounted (item_labels m)
   pub keys : keys_fit (labelled_items wgsl_names m) ≡ true
 
 -- ---- names that tell what they name

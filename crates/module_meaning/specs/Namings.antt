@@ -9,7 +9,8 @@ use Rattle.naga_info.specs.declared.info.ExpressionInfo.{ExpressionInfo}
 use Rattle.naga_info.specs.declared.info.ModuleInfo.{ModuleInfo}
 use Rattle.naga_names.specs.Keys.{NameMap}
 use Rattle.module_meaning.specs.FunctionShapes.{function_shape, function_shapes}
-use Rattle.module_meaning.specs.Names.{function_name, argument_name, local_name, numbered_name}
+use Rattle.module_meaning.specs.Names.{function_name, argument_name, given_name, local_name}
+use Rattle.module_meaning.specs.Names.{numbered_name}
 use Rattle.shader_runs.specs.Program.{Function}
 use Rattle.shader_runs.specs.Scope.{ModuleNames, Names, Naming}
 use Rattle.wgsl_text.specs.Requests.{is_request}
@@ -24,15 +25,14 @@ outer_names names =
       is_request = is_request;
     }
 
--- the names that the text of the function with this handle uses. Front ends name nothing in it so
--- far
-abbrev pub inner_names : NameMap → ℕ → Names
-inner_names names g =
+-- the names that the text of the function with this handle uses
+abbrev pub inner_names : NameMap → ir_module.Module → ℕ → Names
+inner_names names m g =
     record {
       outer = outer_names names;
       argument = argument_name names g;
       local_ = local_name names g;
-      given = λ k. [];
+      given = given_name m g;
       numbered = numbered_name;
       earlier = g;
     }
@@ -42,15 +42,15 @@ abbrev pub function_naming :
     NameMap → ir_module.Module → ModuleInfo → ℕ → ir_function.Function → List ExpressionInfo →
     Naming
 function_naming names m info g f es =
-    record { function = function_shape m info f es; names = inner_names names g }
+    record { function = function_shape m info f es; names = inner_names names m g }
 
 -- the functions with their names, from this handle on
-abbrev pub namings_from : NameMap → ℕ → List Function → List Naming
-namings_from names g [] = []
-namings_from names g (f ∷ fs) =
-    record { function = f; names = inner_names names g } ∷ namings_from names (g + 1) fs
+abbrev pub namings_from : NameMap → ir_module.Module → ℕ → List Function → List Naming
+namings_from names m g [] = []
+namings_from names m g (f ∷ fs) =
+    record { function = f; names = inner_names names m g } ∷ namings_from names m (g + 1) fs
 
 -- the functions with their names, the last one first; so far a module has no entry points
 abbrev pub namings : NameMap → ir_module.Module → ModuleInfo → List Naming
 namings names m info =
-    reverse (namings_from names 0 (function_shapes m info m.functions info.functions.items))
+    reverse (namings_from names m 0 (function_shapes m info m.functions info.functions.items))

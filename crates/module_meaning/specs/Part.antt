@@ -7,7 +7,6 @@ use Rattle.std.specs.Prelude.{ℕ, Bool, true, false, ◌&&◌, ◌||◌, not, L
 use Rattle.std.specs.Prelude.{slice_get}
 use Rattle.std.specs.List.{list_all}
 use Rattle.std.specs.Option.{option_map_or, is_none, is_some}
-use Rattle.indexmap.specs.IndexMap.{keys}
 use Rattle.naga_ir.specs.StatementTree.{emit, store, return, StatementTree, simple, BlockTree}
 use Rattle.naga_ir.specs.StatementTree.{no_statements, statement}
 use Rattle.naga_ir.specs.declared.expression.Expression.{Expression}
@@ -211,15 +210,11 @@ is_unbound f =
     list_all (λ a. is_none a.binding) f.arguments.items &&
     option_map_or (λ r. is_none r.binding) f.result true
 
--- front ends named none of the function's expressions
-abbrev pub names_nothing : Function → Bool
-names_nothing f = length (keys f.named_expressions) == 0
-
--- a function without named expressions, of such locals, expressions and statements
+-- a function of such locals, expressions and statements
 abbrev pub function_is_written : Function → Bool
 function_is_written f =
-    names_nothing f && (is_unbound f && (list_all expression_is_of_part f.expressions &&
-    (list_all (local_is_written f.expressions) f.local_variables && block_is_written f.body)))
+    is_unbound f && (list_all expression_is_of_part f.expressions &&
+    (list_all (local_is_written f.expressions) f.local_variables && block_is_written f.body))
 
 -- ---- modules
 -- each type that is known of an expression of a function has a form, so far

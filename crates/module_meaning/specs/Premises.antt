@@ -1,7 +1,6 @@
 -- What the laws ask of a module beside its acceptance.
 use Rattle.std.specs.Prelude.{◌≡◌, ℕ, Bool, List, [], ◌∷◌, length, nat_le, ◌^◌, slice_get, Some}
 use Rattle.std.specs.List.{list_all}
-use Rattle.module_meaning.specs.Part.{names_nothing}
 use Rattle.naga_ir.specs.Operands.{expression_operands}
 use Rattle.naga_ir.specs.declared.expression.Expression.{Expression}
 use Rattle.naga_ir.specs.declared.module.Module.{Module}
@@ -13,10 +12,6 @@ use Rattle.shader_runs.specs.ScopeRules.{ScopeHolds}
 use Rattle.module_meaning.specs.Names.{module_names}
 use Rattle.module_meaning.specs.ModuleShapes.{module_shape}
 use Rattle.module_meaning.specs.Namings.{namings}
-
--- no function has expressions that a front end named
-abbrev pub nothing_named : Module → Bool
-nothing_named m = list_all names_nothing m.functions
 
 -- the operands of each expression stand before it
 abbrev pub OperandsStandBefore : List Expression → Type 0

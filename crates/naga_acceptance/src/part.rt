@@ -12,7 +12,7 @@ ghost use Rattle.module_meaning.specs.Part.{block_is_written, declares_functions
 ghost use Rattle.module_meaning.specs.Part.{expression_is_of_part, literal_is_of_part};
 ghost use Rattle.module_meaning.specs.Part.{function_is_written, is_literal, is_unbound};
 ghost use Rattle.module_meaning.specs.Part.{is_extended, is_written_so_far, local_is_written};
-ghost use Rattle.module_meaning.specs.Part.{known_types_have_forms, names_nothing, needs_nothing};
+ghost use Rattle.module_meaning.specs.Part.{known_types_have_forms, needs_nothing};
 ghost use Rattle.module_meaning.specs.Part.{statement_is_written, type_is_of_part, types_allow};
 ghost use Rattle.module_meaning.specs.Part.{types_allow_all, types_have_forms};
 
@@ -26,8 +26,8 @@ use naga_ir::{
 
 /// Whether the module is of the part that is written so far: it declares nothing but functions and
 /// types that need no extension, no declaration and are no atomics; the types have forms, and so has
-/// what is known of the functions' expressions. The functions have no names of their expressions;
-/// their arguments and results are bound to nothing, their locals have a literal as first value or
+/// what is known of the functions' expressions. The functions'
+/// arguments and results are bound to nothing, their locals have a literal as first value or
 /// none; their expressions are arguments, locals, literals of all types but 16 bits, zero values,
 /// values of a type composed of others, loads, operators with a sign, choices, vectors of one value,
 /// swizzles, parts at an index, conversions, derivatives, operations on images, lengths of arrays,
@@ -153,17 +153,10 @@ fn functions_are_written(functions: &Arena<Function>) -> bool
 fn function_is_written(function: &Function) -> bool
     ensures { result ≡ function_is_written function.now }
 {
-    names_nothing(function)
-        && is_unbound(function)
+    is_unbound(function)
         && expressions_are_written(&function.expressions)
         && locals_are_written(&function.expressions, &function.local_variables)
         && block_is_written(&function.body)
-}
-
-fn names_nothing(function: &Function) -> bool
-    ensures { result ≡ names_nothing function.now }
-{
-    function.named_expressions.is_empty()
 }
 
 fn is_unbound(function: &Function) -> bool

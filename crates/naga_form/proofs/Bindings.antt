@@ -156,7 +156,7 @@ told_spells true t es h = by (slice_get es h)
     by None = refl
     by (Some k) = row k.ty
 
-functions_tell : (explicit : Bool) (names : NameMap) (m : Module) (info : ModuleInfo) (g : ℕ) (fs : List ir_function.Function) (ess : List (List ExpressionInfo)) → IsTrue (list_all function_is_written fs) → map (λ (f : tree_functions.Function). statements_annotations f.body) (functions_form explicit names m info g fs ess) ≡ module_annotations explicit (names_of m.types names) (namings_from names g (function_shapes m info fs ess)) ess
+functions_tell : (explicit : Bool) (names : NameMap) (m : Module) (info : ModuleInfo) (g : ℕ) (fs : List ir_function.Function) (ess : List (List ExpressionInfo)) → IsTrue (list_all function_is_written fs) → map (λ (f : tree_functions.Function). statements_annotations f.body) (functions_form explicit names m info g fs ess) ≡ module_annotations explicit (names_of m.types names) (namings_from names m g (function_shapes m info fs ess)) ess
 functions_tell explicit names m info g [] ess written = refl
 functions_tell explicit names m info g (f ∷ fs) [] written = refl
 functions_tell explicit names m info g (f ∷ fs) (es ∷ ess) written =

@@ -1,9 +1,12 @@
--- Lemmas of lists that are made from others, and of functions in which front ends name nothing.
-use Rattle.std.proofs.Common.{[], ◌≡◌, ℕ, suc, zero, Bool, true, false, List, ◌∷◌, map}
-use Rattle.std.proofs.Common.{length, Some, refl, ap, ◌∙◌, ◌+◌}
-use Rattle.std.proofs.Common.{◌-◌, codes}
-use Rattle.std.specs.Prelude.{IsTrue, slice_get, unwrap_or, ◌==◌, get_or, cond}
-use Rattle.std.proofs.lemmas.Bool.{eqb-true}
+-- Lemmas of lists that are made from others, and of how many names front ends gave.
+use Rattle.std.proofs.Common.{[], ◌≡◌, ℕ, suc, zero, Bool, true, false, List, ◌∷◌, map, ◌++◌, ◌&&◌}
+use Rattle.std.proofs.Common.{length, Some, None, Option, refl, sym, ap, ◌∙◌, ◌+◌, ◌<◌, nat_eq, nat_lt}
+use Rattle.std.proofs.Common.{◌-◌, codes, arith, add-one, add-zero, zero-add, length-append, string_bytes}
+use Rattle.std.specs.Prelude.{slice_get, unwrap_or, get_or, cond, if◌then◌else◌}
+use Rattle.std.specs.List.{list_any}
+use Rattle.std.specs.Option.{is_some, option_map, option_to_list}
+use Rattle.std.proofs.lemmas.Bool.{ltb-true, ltb-false, lt-ltb, le-ltb}
+use Rattle.std.proofs.lemmas.Map.Made.{is_some-lookup}
 use Rattle.naga_ir.specs.StatementTree.{emit, store, StatementTree, simple, block, branch}
 use Rattle.naga_ir.specs.StatementTree.{switch, loop, BlockTree, no_statements, statement}
 use Rattle.naga_ir.specs.StatementTree.{CaseTrees, no_cases, case}
@@ -13,7 +16,6 @@ use Rattle.naga_ir.specs.declared.module.LocalVariable.{LocalVariable}
 use Rattle.naga_ir.specs.declared.module.Module.{Module}
 use Rattle.naga_info.specs.declared.info.ExpressionInfo.{ExpressionInfo}
 use Rattle.naga_info.specs.declared.info.ModuleInfo.{ModuleInfo}
-use Rattle.module_meaning.specs.Part.{names_nothing}
 use Rattle.naga_names.specs.Reset.{LabelledItem}
 use Rattle.shader_runs.specs.Value.{ValueType, BooleanType, type_at}
 use Rattle.shader_runs.specs.Program as shapes
@@ -24,10 +26,12 @@ use Rattle.shader_runs.specs.Scope.{given_after_all, given_by}
 use Rattle.module_meaning.specs.ExpressionOperators.{Surroundings, points_to_atomic}
 use Rattle.module_meaning.specs.FunctionShapes.{function_shape, statement_shape, statements_shape}
 use Rattle.module_meaning.specs.FunctionShapes.{cases_shape}
+use Rattle.module_meaning.specs.GivenLabels.{block_labels, cases_labels, label_of, labels_in}
+use Rattle.module_meaning.specs.GivenLabels.{labels_of_each}
 use Rattle.module_meaning.specs.Shapes.{given_from}
 use Rattle.module_meaning.specs.StatementShapes.{store_shape}
 use Rattle.module_meaning.specs.Surroundings.{declared, types_known}
-use Rattle.indexmap.specs.IndexMap.{keys}
+use Rattle.indexmap.specs.IndexMap.{get, keys}
 use Rattle.naga_names.specs.Naming.{label_or}
 use Rattle.naga_names.specs.declared.key.NameKey.TheVariants as key
 
@@ -45,63 +49,105 @@ pub mapped_length : {X Y : Type 0} (f : X → Y) (xs : List X) → length (map f
 mapped_length f [] = refl
 mapped_length f (x ∷ xs) = ap suc (mapped_length f xs)
 
--- ---- no front end's names
-pub nothing_given : (n : ℕ) (es : List ir.Expression) (h : ℕ) → get_or (given_from [] n es) h false ≡ false
-nothing_given n [] h = refl
-nothing_given n (e ∷ es) zero = refl
-nothing_given n (e ∷ es) (suc h) = nothing_given (n + 1) es h
-
-pub no_keys : (ks : List ℕ) → IsTrue (length ks == 0) → ks ≡ []
-no_keys [] e = refl
-no_keys (k ∷ ks) e = absurd (some_none (length ks) (eqb-true (length (k ∷ ks)) 0 e))
+-- ---- front ends' names
+lt_suc : (a b : ℕ) → nat_lt (suc a) (suc b) ≡ nat_lt a b
+lt_suc a b = by (nat_lt a b) refl
   where
-    some_none : (n : ℕ) → suc n ≡ 0 → ⊥
-    some_none n q = cc
+    by : (t : Bool) → nat_lt a b ≡ t → nat_lt (suc a) (suc b) ≡ t
+    by true e = let lt = ltb-true a b e in lt-ltb (suc a) (suc b) (omega (arith, lt))
+    by false e = let le = ltb-false a b e in le-ltb (suc a) (suc b) (omega (arith, le))
+
+-- a handle of these expressions is given where it is one of these keys
+given_at : (ks : List ℕ) (n : ℕ) (es : List ir.Expression) (h : ℕ) →
+    get_or (given_from ks n es) h false ≡ (nat_lt h (length es) && list_any (nat_eq (n + h)) ks)
+given_at ks n [] h =
+    sym (ap (λ b. b && list_any (nat_eq (n + h)) ks) (le-ltb h 0 (omega arith)))
+given_at ks n (e ∷ es) zero =
+    let some : 0 < length (e ∷ es) = omega arith in
+    ap (λ j. list_any (nat_eq j) ks) (sym (add-zero n))
+    ∙ sym (ap (λ b. b && list_any (nat_eq (n + 0)) ks) (lt-ltb 0 (length (e ∷ es)) some))
+given_at ks n (e ∷ es) (suc h) =
+    let same : n + 1 + h ≡ n + suc h = omega arith in
+    given_at ks (n + 1) es h
+    ∙ (λ i. sym (lt_suc h (length es)) i && list_any (nat_eq (same i)) ks)
+
+some_mapped : {X Y : Type 0} (t : X → Y) (o : Option X) → is_some (option_map t o) ≡ is_some o
+some_mapped t None = refl
+some_mapped t (Some x) = refl
 
 -- the item of a local
 abbrev pub local_item : ℕ → ℕ → LocalVariable → LabelledItem
 local_item g l v = (key.FunctionLocal g l, label_or v.name (codes "local"))
 
--- ---- a function in which front ends name nothing
-module _ (m : Module) (info : ModuleInfo) (f : ir_function.Function) (es : List ExpressionInfo) (unnamed : IsTrue (names_nothing f)) where
-  abbrev unnamed_shape : shapes.Function
-  unnamed_shape = function_shape m info f es
+-- ---- how many names front ends gave in front of a point
+joined : (k : ℕ) (xs ys : List (List ℕ)) → k + length xs + length ys ≡ k + length (xs ++ ys)
+joined k xs ys = let both = length-append xs ys in omega (arith, both)
+
+module _ (m : Module) (info : ModuleInfo) (f : ir_function.Function) (es : List ExpressionInfo) where
+  abbrev own_shape : shapes.Function
+  own_shape = function_shape m info f es
 
   abbrev around : Surroundings
   around = (declared m info (types_known es)).around
 
-  pub none_is_given : (h : ℕ) → is_given unnamed_shape h ≡ false
-  none_is_given h = ap (λ ks. get_or (given_from ks 0 f.expressions) h false) (no_keys (keys f.named_expressions) unnamed) ∙ nothing_given 0 f.expressions h
+  -- a handle is given a name where it has a label
+  pub given_is : (h : ℕ) → is_given own_shape h ≡ is_some (label_of f h)
+  given_is h =
+      given_at (keys f.named_expressions) 0 f.expressions h
+      ∙ (ap (λ j. nat_lt h (length f.expressions) && list_any (nat_eq j) (keys f.named_expressions)) (zero-add h)
+      ∙ by (nat_lt h (length f.expressions)))
+    where
+      found : is_some (option_map string_bytes (get nat_eq f.named_expressions h)) ≡ list_any (nat_eq h) (keys f.named_expressions)
+      found = some_mapped string_bytes (get nat_eq f.named_expressions h) ∙ is_some-lookup (nat_eq h) f.named_expressions.entries
 
-  given_one : (h k : ℕ) → given_after unnamed_shape h k ≡ k
-  given_one h k = ap (λ b. cond b (suc k) k) (none_is_given h)
+      by : (b : Bool) → (b && list_any (nat_eq h) (keys f.named_expressions)) ≡ is_some (if b then option_map string_bytes (get nat_eq f.named_expressions h) else None)
+      by true = sym found
+      by false = refl
 
-  given_some : (hs : List ℕ) (k : ℕ) → given_after_all unnamed_shape hs k ≡ k
-  given_some [] k = refl
-  given_some (h ∷ hs) k = given_some hs (given_after unnamed_shape h k) ∙ given_one h k
+  pub given_one : (h k : ℕ) → given_after own_shape h k ≡ k + length (option_to_list (label_of f h))
+  given_one h k = ap (λ b. cond b (suc k) k) (given_is h) ∙ by (label_of f h)
+    where
+      by : (o : Option (List ℕ)) → cond (is_some o) (suc k) k ≡ k + length (option_to_list o)
+      by None = sym (add-zero k)
+      by (Some label) = sym (add-one k)
+
+  pub given_some : (hs : List ℕ) (k : ℕ) → given_after_all own_shape hs k ≡ k + length (labels_of_each f hs)
+  given_some [] k = sym (add-zero k)
+  given_some (h ∷ hs) k =
+      given_some hs (given_after own_shape h k)
+      ∙ (ap (λ n. n + length (labels_of_each f hs)) (given_one h k)
+      ∙ joined k (option_to_list (label_of f h)) (labels_of_each f hs))
 
   mutual
-    pub none_given_by : (st : StatementTree) (k : ℕ) → given_by unnamed_shape (statement_shape around st) k ≡ k
-    none_given_by (simple (emit first last)) k = given_some (from first (last - first)) k
-    none_given_by (simple (store pointer value)) k = stored (points_to_atomic around pointer)
+    pub given_by_is : (st : StatementTree) (k : ℕ) → given_by own_shape (statement_shape around st) k ≡ k + length (labels_in f st)
+    given_by_is (simple (emit first last)) k = given_some (from first (last - first)) k
+    given_by_is (simple (store pointer value)) k = stored (points_to_atomic around pointer)
       where
-        stored : (b : Bool) → given_by unnamed_shape (store_shape b pointer value) k ≡ k
-        stored true = refl
-        stored false = refl
-    none_given_by (simple _) k = refl
-    none_given_by (block b) k = none_given_by_all b k
-    none_given_by (branch condition accept reject) k =
-        none_given_by_all reject (given_by_all unnamed_shape (statements_shape around accept) k) ∙ none_given_by_all accept k
-    none_given_by (switch selector cases) k = none_given_by_cases cases k
-    none_given_by (loop body continuing break_if) k =
-        none_given_by_all continuing (given_by_all unnamed_shape (statements_shape around body) k) ∙ none_given_by_all body k
+        stored : (b : Bool) → given_by own_shape (store_shape b pointer value) k ≡ k + 0
+        stored true = sym (add-zero k)
+        stored false = sym (add-zero k)
+    given_by_is (simple _) k = sym (add-zero k)
+    given_by_is (block b) k = given_by_all_is b k
+    given_by_is (branch condition accept reject) k =
+        given_by_all_is reject (given_by_all own_shape (statements_shape around accept) k)
+        ∙ (ap (λ n. n + length (block_labels f reject)) (given_by_all_is accept k)
+        ∙ joined k (block_labels f accept) (block_labels f reject))
+    given_by_is (switch selector cases) k = given_by_cases_is cases k
+    given_by_is (loop body continuing break_if) k =
+        given_by_all_is continuing (given_by_all own_shape (statements_shape around body) k)
+        ∙ (ap (λ n. n + length (block_labels f continuing)) (given_by_all_is body k)
+        ∙ joined k (block_labels f body) (block_labels f continuing))
 
-    pub none_given_by_all : (b : BlockTree) (k : ℕ) → given_by_all unnamed_shape (statements_shape around b) k ≡ k
-    none_given_by_all no_statements k = refl
-    none_given_by_all (statement st b) k =
-        none_given_by_all b (given_by unnamed_shape (statement_shape around st) k) ∙ none_given_by st k
+    pub given_by_all_is : (b : BlockTree) (k : ℕ) → given_by_all own_shape (statements_shape around b) k ≡ k + length (block_labels f b)
+    given_by_all_is no_statements k = sym (add-zero k)
+    given_by_all_is (statement st b) k =
+        given_by_all_is b (given_by own_shape (statement_shape around st) k)
+        ∙ (ap (λ n. n + length (block_labels f b)) (given_by_is st k)
+        ∙ joined k (labels_in f st) (block_labels f b))
 
-    none_given_by_cases : (cs : CaseTrees) (k : ℕ) → given_by_cases unnamed_shape (cases_shape around cs) k ≡ k
-    none_given_by_cases no_cases k = refl
-    none_given_by_cases (case value body falls cs) k =
-        none_given_by_cases cs (given_by_all unnamed_shape (statements_shape around body) k) ∙ none_given_by_all body k
+    given_by_cases_is : (cs : CaseTrees) (k : ℕ) → given_by_cases own_shape (cases_shape around cs) k ≡ k + length (cases_labels f cs)
+    given_by_cases_is no_cases k = sym (add-zero k)
+    given_by_cases_is (case value body falls cs) k =
+        given_by_cases_is cs (given_by_all own_shape (statements_shape around body) k)
+        ∙ (ap (λ n. n + length (cases_labels f cs)) (given_by_all_is body k)
+        ∙ joined k (block_labels f body) (cases_labels f cs))

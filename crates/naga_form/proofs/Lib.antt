@@ -24,6 +24,7 @@ pub mod FreeModules
 pub mod FreeNames
 pub mod FreeWords
 pub mod FunctionsFit
+pub mod GivenNames
 pub mod Images
 pub mod Interface
 pub mod Leaves

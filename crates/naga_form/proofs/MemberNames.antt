@@ -11,7 +11,7 @@ use Rattle.naga_names.specs.declared.key.NameKey.TheVariants as key
 use Rattle.naga_names.proofs.Members.{member_named, members_told}
 use Rattle.naga_names.proofs.NameShapes.{counted_more}
 use Rattle.naga_names.proofs.Naming.{has_named_nothing, has_named-push}
-use Rattle.module_meaning.specs.Names.{module_names, wgsl_names, name_in, NamesAreCounted}
+use Rattle.module_meaning.specs.Names.{module_names, wgsl_names, name_in, AreCounted, item_labels}
 
 -- ---- what names so many labels
 module _ (start : Names) where
@@ -34,7 +34,7 @@ module _ (start : Names) where
       let rest = named_on (earlier ++ label ∷ []) later _ (λ base. subst (λ labels. labels_with_base start labels base ≤ 2 ^ 32) (sym again) (few base)) grown in
       (rest.0, subst (HasNamed (with_uses rest.0)) again rest.1)
 
-module _ (m : Module) (counted : NamesAreCounted m) (keys : keys_fit (labelled_items wgsl_names m) ≡ true) where
+module _ (m : Module) (counted : AreCounted (item_labels m)) (keys : keys_fit (labelled_items wgsl_names m) ≡ true) where
   all_named : (u : Uses) × HasNamed (with_uses wgsl_names u) (labels_of (labelled_items wgsl_names m))
   unfolding wgsl_names
   all_named = named_on wgsl_names [] (labels_of (labelled_items wgsl_names m)) finite.empty counted (has_named_nothing (with_uses wgsl_names finite.empty) refl)

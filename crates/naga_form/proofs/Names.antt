@@ -30,7 +30,7 @@ use Rattle.wgsl_text.specs.Keywords.{builtin_words, reserved_words}
 use Rattle.wgsl_text.specs.Words.{stands_in, is_builtin, IsIdentifier, is_letter, is_word_byte}
 use Rattle.wgsl_text.specs.Words.{all_word_bytes, is_word_text, is_reserved}
 use Rattle.shader_runs.proofs.Update.{and_left, and_right}
-use Rattle.module_meaning.specs.Names.{module_names, NamesAreCounted, wgsl_names, numbered_text}
+use Rattle.module_meaning.specs.Names.{module_names, AreCounted, item_labels, wgsl_names, numbered_text}
 use Rattle.module_meaning.specs.Names.{numbered_name, name_in}
 
 -- ---- words
@@ -105,7 +105,7 @@ not_text : (w : List ℕ) (b : Bool) (h : ℕ) → is_word w ≡ true → (w ≡
 not_text w true h word not_so is = not_so is
 not_text w false h word not_so is = no_blanks w h word is
 
-unnumbered : (w : List ℕ) (h : ℕ) → is_word w ≡ true → (w ≡ codes "_e" ++ decimal h → ⊥) → w ≡ numbered_name h → ⊥
+pub unnumbered : (w : List ℕ) (h : ℕ) → is_word w ≡ true → (w ≡ codes "_e" ++ decimal h → ⊥) → w ≡ numbered_name h → ⊥
 unfolding numbered_name
 unnumbered w h word not_so is = not_text w (nat_lt h (2 ^ 64)) h word not_so is
 
@@ -153,7 +153,7 @@ module _ (m : Module) where
       let earlier = labels_of (take s.place (labelled_items wgsl_names m)) in
       unnumbered (name_after wgsl_names earlier item.1) h (name_after_is_word wgsl_names earlier item.1) (name_after_not_numbered wgsl_names earlier item.1 h) (sym (name_is item s) ∙ e)
 
-  pub items_tell : NamesAreCounted m → (a b : LabelledItem) → Stands (labelled_items wgsl_names m) a → Stands (labelled_items wgsl_names m) b → name_in (module_names m) a.0 ≡ name_in (module_names m) b.0 → a ≡ b
+  pub items_tell : AreCounted (item_labels m) → (a b : LabelledItem) → Stands (labelled_items wgsl_names m) a → Stands (labelled_items wgsl_names m) b → name_in (module_names m) a.0 ≡ name_in (module_names m) b.0 → a ≡ b
   items_tell few a b s t e =
       let place = item_names_tell wgsl_names (labelled_items wgsl_names m) few s.place t.place a b s.there t.there s.outside t.outside (sym (name_is a s) ∙ e ∙ name_is b t) in
       ap (λ o. unwrap_or o a) (sym s.there ∙ ap (slice_get (labelled_items wgsl_names m)) place ∙ t.there)

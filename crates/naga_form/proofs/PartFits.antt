@@ -40,7 +40,6 @@ use Rattle.module_meaning.specs.Surroundings.{declared, types_known}
 use Rattle.module_meaning.proofs.ExpressionShapes.{plain_load, plain_store}
 use Rattle.module_meaning.proofs.ModuleShapes.{points_plainly}
 use Rattle.module_meaning.proofs.Shapes.{operator_any}
-use Rattle.module_meaning.specs.Part.{names_nothing}
 use Rattle.naga_names.specs.Reset.{LabelledItem, labelled_items, labels_of}
 use Rattle.shader_runs.specs.Value.{ValueType}
 use Rattle.shader_runs.specs.Program as shapes
@@ -72,7 +71,10 @@ use Rattle.naga_names.proofs.NameShapes.{name_after_is_word}
 use Rattle.naga_names.proofs.NamedItems.{Stands, local_stands}
 use Rattle.wgsl_text.specs.Requests.{is_request}
 use Rattle.wgsl_text.specs.Words.{is_builtin}
-use Rattle.naga_form.proofs.Fits.{local_item, mapped_length, none_given_by_all}
+use Rattle.naga_form.proofs.Fits.{given_by_all_is, local_item, mapped_length}
+use Rattle.naga_form.proofs.GivenNames.{given_no_item, given_no_word, given_not_numbered}
+use Rattle.naga_form.proofs.GivenNames.{givens_tell, items_counted}
+use Rattle.module_meaning.specs.GivenLabels.{given_labels}
 use Rattle.naga_form.proofs.WellFormed.{any_shape}
 use Rattle.naga_form.proofs.FunctionsFit.{IsLeft}
 use Rattle.naga_form.proofs.Regular.{AreWorded, IsWorded}
@@ -111,17 +113,15 @@ use Rattle.std.specs.List.{list_all}
 -- ---- what is written so far
 -- all that a function's being written so far says here
 pub record FunctionParts (f : ir_function.Function) : Type 0 where
-  pub unnamed : IsTrue (names_nothing f)
   pub expressions : list_all expression_is_of_part f.expressions ≡ true
   pub body : block_is_written f.body ≡ true
 
 pub function_parts : (f : ir_function.Function) → IsTrue (function_is_written f) → FunctionParts f
 function_parts f written =
-    let one = and_parts (names_nothing f) _ written in
-    let two = and_parts (is_unbound f) _ one.1 in
+    let two = and_parts (is_unbound f) _ written in
     let three = and_parts (list_all expression_is_of_part f.expressions) _ two.1 in
     let four = and_parts (list_all (local_is_written f.expressions) f.local_variables) (block_is_written f.body) three.1 in
-    record { unnamed = one.0; expressions = three.0; body = four.1 }
+    record { expressions = three.0; body = four.1 }
 
 -- no constant is named
 pub no_constant_named : (f : ir_function.Function) → IsTrue (function_is_written f) → (h c : ℕ) → slice_get f.expressions h ≡ Some (expression.Constant c) → ⊥
@@ -172,8 +172,9 @@ module _ (m : Module) (info : ModuleInfo) (values : IsTrue (list_all type_is_of_
   abbrev d : Declared
   d = declared m info (types_known es)
 
-  none_given : (k : ℕ) → k < given_by_all shape (statements_shape d.around f.body) 0 → ⊥
-  none_given k lt = let none : k < 0 = subst (λ n. k < n) (none_given_by_all m info f es (function_parts f written).unnamed f.body 0) lt in omega (arith, none)
+  -- the names that front ends gave are those of labels
+  given_in : (k : ℕ) → k < given_by_all shape (statements_shape d.around f.body) 0 → k < length (given_labels f)
+  given_in k lt = let all = given_by_all_is m info f es f.body 0 in omega (arith, lt, all)
 
   -- ---- words
   word_of : (item : LabelledItem) → Stands (labelled_items wgsl_names m) item → is_word (name_in (module_names m) item.0) ≡ true
@@ -211,7 +212,7 @@ module _ (m : Module) (info : ModuleInfo) (values : IsTrue (list_all type_is_of_
       no_name (FixedKey (ConstantName i)) is e = none_listed i p.constant_types constants is
       no_name (FixedKey (GlobalName i)) is e = none_listed i p.global_types globals is
       no_name (NumberedKey h) is e = sign_not_numbered h c rest one two e
-      no_name (GivenKey k) is e = none_given k is
+      no_name (GivenKey k) is e = given_no_word m g f found k (given_in k is) (c ∷ rest) other e
 
   free_word : (w : List ℕ) → names_no_item w ≡ true → StandsFree p own w
   free_word [] free = absurd (cc)
@@ -524,19 +525,19 @@ module _ (m : Module) (info : ModuleInfo) (values : IsTrue (list_all type_is_of_
       mixed_keys i j li lj e =
           let a = element f.arguments.items i li in
           let b = element f.local_variables j lj in
-          let same = items_tell m named (argument_item m g i a.0) (local_item g j b.0) (argument_there m g f i a.0 found a.1) (local_stands wgsl_names m g f j b.0 found b.1) e in
+          let same = items_tell m (items_counted m named) (argument_item m g i a.0) (local_item g j b.0) (argument_there m g f i a.0 found a.1) (local_stands wgsl_names m g f j b.0 found b.1) e in
           mixed i j (ap (λ item. item.0) same)
 
       apart : (a b : NameKey) → IsName p shape a → IsName p shape b → name_at own.names a ≡ name_at own.names b → a ≡ b
       apart (FixedKey (ArgumentName i)) (FixedKey (ArgumentName j)) la lb e =
           let a = element f.arguments.items i (argument_in i la) in
           let b = element f.arguments.items j (argument_in j lb) in
-          let same = items_tell m named (argument_item m g i a.0) (argument_item m g j b.0) (argument_there m g f i a.0 found a.1) (argument_there m g f j b.0 found b.1) e in
+          let same = items_tell m (items_counted m named) (argument_item m g i a.0) (argument_item m g j b.0) (argument_there m g f i a.0 found a.1) (argument_there m g f j b.0 found b.1) e in
           ap (λ k. FixedKey (ArgumentName k)) (one_argument i j (ap (λ item. item.0) same))
       apart (FixedKey (LocalName i)) (FixedKey (LocalName j)) la lb e =
           let a = element f.local_variables i (local_in i la) in
           let b = element f.local_variables j (local_in j lb) in
-          let same = items_tell m named (local_item g i a.0) (local_item g j b.0) (local_stands wgsl_names m g f i a.0 found a.1) (local_stands wgsl_names m g f j b.0 found b.1) e in
+          let same = items_tell m (items_counted m named) (local_item g i a.0) (local_item g j b.0) (local_stands wgsl_names m g f i a.0 found a.1) (local_stands wgsl_names m g f j b.0 found b.1) e in
           ap (λ k. FixedKey (LocalName k)) (one_local i j (ap (λ item. item.0) same))
       apart (FixedKey (ArgumentName i)) (FixedKey (LocalName j)) la lb e = absurd (mixed_keys i j (argument_in i la) (local_in j lb) e)
       apart (FixedKey (LocalName i)) (FixedKey (ArgumentName j)) la lb e = absurd (mixed_keys j i (argument_in j lb) (local_in i la) (sym e))
@@ -549,10 +550,19 @@ module _ (m : Module) (info : ModuleInfo) (values : IsTrue (list_all type_is_of_
       apart (NumberedKey h) (FixedKey (LocalName i)) la lb e =
           let a = element f.local_variables i (local_in i lb) in absurd (item_not_numbered m (local_item g i a.0) h (local_stands wgsl_names m g f i a.0 found a.1) (sym e))
       apart (NumberedKey h) (NumberedKey k) la lb e = ap NumberedKey (numbered_distinct h k e)
-      apart (GivenKey k) y la lb e = absurd (none_given k la)
+      apart (GivenKey j) (GivenKey k) la lb e = ap GivenKey (givens_tell m g f found named j k (given_in j la) (given_in k lb) e)
+      apart (FixedKey (ArgumentName i)) (GivenKey k) la lb e =
+          let a = element f.arguments.items i (argument_in i la) in absurd (given_no_item m g f found named k (given_in k lb) (argument_item m g i a.0) (argument_there m g f i a.0 found a.1) e)
+      apart (GivenKey k) (FixedKey (ArgumentName i)) la lb e =
+          let a = element f.arguments.items i (argument_in i lb) in absurd (given_no_item m g f found named k (given_in k la) (argument_item m g i a.0) (argument_there m g f i a.0 found a.1) (sym e))
+      apart (FixedKey (LocalName i)) (GivenKey k) la lb e =
+          let a = element f.local_variables i (local_in i la) in absurd (given_no_item m g f found named k (given_in k lb) (local_item g i a.0) (local_stands wgsl_names m g f i a.0 found a.1) e)
+      apart (GivenKey k) (FixedKey (LocalName i)) la lb e =
+          let a = element f.local_variables i (local_in i lb) in absurd (given_no_item m g f found named k (given_in k la) (local_item g i a.0) (local_stands wgsl_names m g f i a.0 found a.1) (sym e))
+      apart (GivenKey k) (NumberedKey h) la lb e = absurd (given_not_numbered m g f found k h (given_in k la) e)
+      apart (NumberedKey h) (GivenKey k) la lb e = absurd (given_not_numbered m g f found k h (given_in k lb) (sym e))
       apart (FixedKey (ConstantName i)) y la lb e = absurd (none_listed i p.constant_types constants la)
       apart (FixedKey (GlobalName i)) y la lb e = absurd (none_listed i p.global_types globals la)
-      apart x (GivenKey k) la lb e = absurd (none_given k lb)
       apart x (FixedKey (ConstantName i)) la lb e = absurd (none_listed i p.constant_types constants lb)
       apart x (FixedKey (GlobalName i)) la lb e = absurd (none_listed i p.global_types globals lb)
 

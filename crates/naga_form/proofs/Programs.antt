@@ -95,7 +95,6 @@ use Rattle.naga_form.proofs.Images.{offset_alone, sampling_is, without_offset}
 use Rattle.naga_form.specs.Expressions.{constant_form, value_forms}
 use Rattle.naga_ir.specs.Operands.{level_operands}
 use Rattle.naga_form.proofs.Abstraction.{AreWritten}
-use Rattle.module_meaning.specs.Part.{names_nothing}
 use Rattle.module_meaning.specs.FunctionShapes.{function_shape}
 use Rattle.naga_form.proofs.WrittenHandles.{AreClosed, all_front, all_map, all_rest, written_are_closed}
 use Rattle.module_meaning.specs.Written.{AllWrittenHaveForms, IsSpelledIn, IsWrittenIn, OfArgument}
@@ -103,8 +102,8 @@ use Rattle.module_meaning.specs.Written.{OfLocal, OfResult, WrittenHaveForms}
 use Rattle.module_meaning.specs.Written.{block_roots, cases_roots, simple_roots, statement_roots}
 use Rattle.std.specs.List.{AllByRecursion, filter}
 use Rattle.std.specs.Prelude.{if◌then◌else◌}
-use Rattle.std.proofs.Common.{add-zero, zero-add}
-use Rattle.std.specs.Option.{option_to_list}
+use Rattle.std.proofs.Common.{add-zero, length-append, zero-add}
+use Rattle.std.specs.Option.{is_some, option_to_list}
 use Rattle.naga_form.specs.Expressions.{cast_tree, operator_type}
 use Rattle.naga_form.proofs.Letters.{letters_are_a_word}
 use Rattle.std.proofs.lemmas.Bool.{eqb-true}
@@ -138,7 +137,11 @@ use Rattle.shader_runs.specs.Scope.{standing_without_name, with_emitted_handle}
 use Rattle.shader_runs.specs.Scope.{after_emit, forgotten_if}
 use Rattle.module_meaning.specs.FunctionShapes.{statement_shape, statements_shape}
 use Rattle.module_meaning.specs.Namings.{function_naming}
-use Rattle.naga_form.proofs.Fits.{local_item, none_is_given}
+use Rattle.naga_form.proofs.Fits.{given_by_all_is, given_by_is, given_is, given_one, local_item}
+use Rattle.naga_form.proofs.GivenNames.{given_is_identifier}
+use Rattle.module_meaning.specs.GivenLabels.{block_labels, cases_labels, given_labels, label_of}
+use Rattle.module_meaning.specs.GivenLabels.{labels_in, labels_of_each}
+use Rattle.module_meaning.specs.Names.{given_name}
 use Rattle.naga_form.proofs.ModulePlaces.{expression_is}
 
 -- ---- numbered names
@@ -289,7 +292,7 @@ AreAllowed W m es f =
     (h : ℕ) (e : ir.Expression) → slice_get f.expressions h ≡ Some e → W h →
     types_allow m.types es e ≡ true
 
-module _ (m : Module) (info : ModuleInfo) (g : ℕ) (f : ir_function.Function) (found : slice_get m.functions g ≡ Some f) (es : List ExpressionInfo) (callees : ℕ) (ranges : function_in_range m callees f ≡ true) (unnamed : IsTrue (names_nothing f)) (W : ℕ → Type 0) (closed : AreClosed W (binds (function_shape m info f es)) f) (written : AreWritten W m f es) (allowed : AreAllowed W m es f) (are : TypesAreCounted m) (fits : (h : ℕ) (k : ExpressionInfo) → slice_get es h ≡ Some k → IsFit m k.ty) (values : list_all type_is_of_part m.types ≡ true) (explicit : Bool) (spelled : (r : TypeResolution) → IsSpelledIn explicit m info f es r → type_has_form m.types r ≡ true) (few : length f.expressions ≤ 2 ^ 64) where
+module _ (m : Module) (info : ModuleInfo) (g : ℕ) (f : ir_function.Function) (found : slice_get m.functions g ≡ Some f) (es : List ExpressionInfo) (callees : ℕ) (ranges : function_in_range m callees f ≡ true) (W : ℕ → Type 0) (closed : AreClosed W (binds (function_shape m info f es)) f) (written : AreWritten W m f es) (allowed : AreAllowed W m es f) (are : TypesAreCounted m) (fits : (h : ℕ) (k : ExpressionInfo) → slice_get es h ≡ Some k → IsFit m k.ty) (values : list_all type_is_of_part m.types ≡ true) (explicit : Bool) (spelled : (r : TypeResolution) → IsSpelledIn explicit m info f es r → type_has_form m.types r ≡ true) (few : length f.expressions ≤ 2 ^ 64) where
   abbrev own : Naming
   own = function_naming (module_names m) m info g f es
 
@@ -450,17 +453,31 @@ module _ (m : Module) (info : ModuleInfo) (g : ℕ) (f : ir_function.Function) (
   plain_is : (s : Handles) → NamesAre s → (h : ℕ) → W h → IsPlainForm (plain_form own source s h)
   plain_is s well h w = below_is s well (length f.expressions) h w
 
+  -- as many labels as these, from the one with this number on, are given in this function
+  abbrev HasRoom : ℕ → List (List ℕ) → Type 0
+  HasRoom k labels = k + length labels ≤ length (given_labels f)
+
+  room_front : (k : ℕ) (xs ys : List (List ℕ)) → HasRoom k (xs ++ ys) → HasRoom k xs
+  room_front k xs ys room = let both = length-append xs ys in omega (arith, room, both)
+
+  room_rest : (k j : ℕ) (xs ys : List (List ℕ)) → HasRoom k (xs ++ ys) → j ≡ k + length xs → HasRoom j ys
+  room_rest k j xs ys room is = let both = length-append xs ys in omega (arith, room, both, is)
+
   -- a bound handle's name
-  bound_is : (k h : ℕ) → binds own.function h ≡ true → IsIdentifier (bound_name own k h)
-  bound_is k h bound = subst (λ b. IsIdentifier (cond b [] (numbered_name h))) (sym (none_is_given m info f es unnamed h)) (numbered_is h (within (slice_get f.expressions h) refl))
+  bound_is : (k h : ℕ) → binds own.function h ≡ true → HasRoom k (option_to_list (label_of f h)) → IsIdentifier (bound_name own k h)
+  bound_is k h bound room = subst (λ b. IsIdentifier (cond b (given_name m g k) (numbered_name h))) (sym (given_is m info f es h)) (by (label_of f h) room)
     where
       within : (o : Option ir.Expression) → slice_get f.expressions h ≡ o → h < 2 ^ 64
       within (Some e) at = let lt = slice_get_within f.expressions h e at in omega (arith, lt, few)
       within None at = absurd (true≢false (sym bound ∙ ap (binds_as own.function h) (expression_is m info f es h ∙ ap (option_map (shape_of d f.expressions h)) at)))
 
+      by : (o : Option (List ℕ)) → HasRoom k (option_to_list o) → IsIdentifier (cond (is_some o) (given_name m g k) (numbered_name h))
+      by (Some label) room = given_is_identifier m g f found k (omega (arith, room))
+      by None room = numbered_is h (within (slice_get f.expressions h) refl)
+
   -- one more handle
-  after_one_is : (k h : ℕ) (s : Handles) → NamesAre s → NamesAre (after_one own k h s)
-  after_one_is k h s well = emitted_is (binds own.function h) refl (is_pure (expression_of own.function h)) (usable_all own.function s (operands_of (expression_of own.function h)))
+  after_one_is : (k h : ℕ) (s : Handles) → NamesAre s → HasRoom k (option_to_list (label_of f h)) → NamesAre (after_one own k h s)
+  after_one_is k h s well room = emitted_is (binds own.function h) refl (is_pure (expression_of own.function h)) (usable_all own.function s (operands_of (expression_of own.function h)))
     where
       updated : (a : Standing) → ((x : List ℕ) → a ≡ Named x → IsIdentifier x) → NamesAre (update s h a)
       updated a here j x is = by (nat_eq j h) is
@@ -481,32 +498,44 @@ module _ (m : Module) (info : ModuleInfo) (g : ℕ) (f : ir_function.Function) (
       the_name y x is e = subst IsIdentifier (ap (λ a. name_in_scope y a) e) is
 
       emitted_is : (b : Bool) → binds own.function h ≡ b → (o u : Bool) → NamesAre (with_emitted_handle b o u (bound_name own k h) s h)
-      emitted_is true bound o u = updated (Named (bound_name own k h)) (λ x e. the_name (bound_name own k h) x (bound_is k h bound) e)
+      emitted_is true bound o u = updated (Named (bound_name own k h)) (λ x e. the_name (bound_name own k h) x (bound_is k h bound room) e)
       emitted_is false bound true u = updated (standing_without_name u (s h)) (unbound_is u (s h) (well h))
       emitted_is false bound false u = well
 
-  after_emit_is : (k : ℕ) (hs : List ℕ) (s : Handles) → NamesAre s → NamesAre (after_emit own k hs s)
-  after_emit_is k [] s well = well
-  after_emit_is k (h ∷ hs) s well = after_emit_is (given_after own.function h k) hs (after_one own k h s) (after_one_is k h s well)
+  after_emit_is : (k : ℕ) (hs : List ℕ) (s : Handles) → NamesAre s → HasRoom k (labels_of_each f hs) → NamesAre (after_emit own k hs s)
+  after_emit_is k [] s well room = well
+  after_emit_is k (h ∷ hs) s well room =
+      let here = option_to_list (label_of f h) in
+      after_emit_is (given_after own.function h k) hs (after_one own k h s) (after_one_is k h s well (room_front k here (labels_of_each f hs) room))
+      (room_rest k (given_after own.function h k) here (labels_of_each f hs) room (given_one m info f es h k))
 
-  after_is : (k : ℕ) (st : StatementTree) → StatementsFit st → (s : Handles) → NamesAre s → NamesAre (after own k (statement_shape d.around st) s)
-  after_is k (simple (emit first last)) fit s well = after_emit_is k (from first (last - first)) s well
-  after_is k (simple (store pointer value)) fit s well = stored (points_to_atomic d.around pointer)
+  after_is : (k : ℕ) (st : StatementTree) → StatementsFit st → (s : Handles) → NamesAre s → HasRoom k (labels_in f st) → NamesAre (after own k (statement_shape d.around st) s)
+  after_is k (simple (emit first last)) fit s well room = after_emit_is k (from first (last - first)) s well room
+  after_is k (simple (store pointer value)) fit s well room = stored (points_to_atomic d.around pointer)
     where
       stored : (b : Bool) → NamesAre (after own k (store_shape b pointer value) s)
       stored true = well
       stored false = well
-  after_is k (simple (return value)) fit s well = well
-  after_is k (simple break) fit s well = well
-  after_is k (simple continue) fit s well = well
-  after_is k (simple kill) fit s well = well
-  after_is k (simple _) fit s well = absurd cc
-  after_is k _ fit s well = well
+  after_is k (simple (return value)) fit s well room = well
+  after_is k (simple break) fit s well room = well
+  after_is k (simple continue) fit s well room = well
+  after_is k (simple kill) fit s well room = well
+  after_is k (simple _) fit s well room = absurd cc
+  after_is k _ fit s well room = well
 
-  after_all_is : (k : ℕ) (b : BlockTree) → AllFit b → (s : Handles) → NamesAre s → NamesAre (after_all own k (statements_shape d.around b) s)
-  after_all_is k no_statements fit s well = well
-  after_all_is k (statement st b) fit s well =
-      by (holds_continue (statement_shape d.around st)) (after_all_is (given_by own.function (statement_shape d.around st) k) b fit.1 (after own k (statement_shape d.around st) s) (after_is k st fit.0 s well))
+  -- behind a statement, and behind a block
+  room_behind : (k : ℕ) (st : StatementTree) (b : BlockTree) → HasRoom k (labels_in f st ++ block_labels f b) → HasRoom (given_by own.function (statement_shape d.around st) k) (block_labels f b)
+  room_behind k st b room = room_rest k (given_by own.function (statement_shape d.around st) k) (labels_in f st) (block_labels f b) room (given_by_is m info f es st k)
+
+  room_beyond : (k : ℕ) (b : BlockTree) (rest : List (List ℕ)) → HasRoom k (block_labels f b ++ rest) → HasRoom (given_by_all own.function (statements_shape d.around b) k) rest
+  room_beyond k b rest room = room_rest k (given_by_all own.function (statements_shape d.around b) k) (block_labels f b) rest room (given_by_all_is m info f es b k)
+
+  after_all_is : (k : ℕ) (b : BlockTree) → AllFit b → (s : Handles) → NamesAre s → HasRoom k (block_labels f b) → NamesAre (after_all own k (statements_shape d.around b) s)
+  after_all_is k no_statements fit s well room = well
+  after_all_is k (statement st b) fit s well room =
+      by (holds_continue (statement_shape d.around st))
+      (after_all_is (given_by own.function (statement_shape d.around st) k) b fit.1 (after own k (statement_shape d.around st) s) (after_is k st fit.0 s well (room_front k (labels_in f st) (block_labels f b) room))
+      (room_behind k st b room))
     where
       last : Handles
       last = after_all own (given_by own.function (statement_shape d.around st) k) (statements_shape d.around b) (after own k (statement_shape d.around st) s)
@@ -533,11 +562,16 @@ module _ (m : Module) (info : ModuleInfo) (g : ℕ) (f : ir_function.Function) (
   abbrev bound : ℕ → Bool
   bound = binds own.function
 
-  lets_are : (told : ℕ → Option TypeSpecifier) → ((h : ℕ) (t : TypeSpecifier) → told h ≡ Some t → IsType t) → (k : ℕ) (hs : List ℕ) (s : Handles) → NamesAre s → (rest : tree.Statements) → IsStatements rest → Writes (filter bound hs) → IsStatements (lets_form own told source k hs s rest)
-  lets_are told told_well k [] s well rest is w = is
-  lets_are told told_well k (h ∷ hs) s well rest is w =
-      then_is (bound h) refl w (lets_are told told_well (given_after own.function h k) hs (after_one own k h s) (after_one_is k h s well) rest is)
+  lets_are : (told : ℕ → Option TypeSpecifier) → ((h : ℕ) (t : TypeSpecifier) → told h ≡ Some t → IsType t) → (k : ℕ) (hs : List ℕ) (s : Handles) → NamesAre s → HasRoom k (labels_of_each f hs) → (rest : tree.Statements) → IsStatements rest → Writes (filter bound hs) → IsStatements (lets_form own told source k hs s rest)
+  lets_are told told_well k [] s well room rest is w = is
+  lets_are told told_well k (h ∷ hs) s well room rest is w =
+      then_is (bound h) refl w
+      (lets_are told told_well (given_after own.function h k) hs (after_one own k h s) (after_one_is k h s well here)
+      (room_rest k (given_after own.function h k) (option_to_list (label_of f h)) (labels_of_each f hs) room (given_one m info f es h k)) rest is)
     where
+      here : HasRoom k (option_to_list (label_of f h))
+      here = room_front k (option_to_list (label_of f h)) (labels_of_each f hs) room
+
       e : tree_expressions.Expression
       e = as_value (unnamed_form own source s h)
 
@@ -546,7 +580,7 @@ module _ (m : Module) (info : ModuleInfo) (g : ℕ) (f : ir_function.Function) (
 
       then_is : (b : Bool) → bound h ≡ b → Writes (if b then h ∷ filter bound hs else filter bound hs) → (Writes (filter bound hs) → IsStatements behind) → IsStatements (then_if b (let_form (told h) (bound_name own k h) e) behind)
       then_is true is_bound w more = (
-        let_is (told h) (told_well h) (bound_name own k h) e (bound_is k h is_bound) (value_is_one (unnamed_form own source s h) (own_if_is (plain_form own source s) (plain_is s well) h w.0 (slice_get f.expressions h) refl)),
+        let_is (told h) (told_well h) (bound_name own k h) e (bound_is k h is_bound here) (value_is_one (unnamed_form own source s h) (own_if_is (plain_form own source s) (plain_is s well) h w.0 (slice_get f.expressions h) refl)),
         more w.1,
       )
       then_is false is_bound w more = more w
@@ -555,13 +589,13 @@ module _ (m : Module) (info : ModuleInfo) (g : ℕ) (f : ir_function.Function) (
   return_is s well None w = tt
   return_is s well (Some h) w = value_is_one (plain_form own source s h) (plain_is s well h w.0)
 
-  simple_is : (told : ℕ → Option TypeSpecifier) → ((h : ℕ) (t : TypeSpecifier) → told h ≡ Some t → IsType t) → (k : ℕ) (st : SimpleStatement) (s : Handles) → NamesAre s → (rest : tree.Statements) → IsStatements rest → Writes (simple_roots bound st) → IsStatements (simple_form own told source k st s rest)
-  simple_is told told_well k (emit first last) s well rest is w = lets_are told told_well k (from first (last - first)) s well rest is w
-  simple_is told told_well k (store pointer value) s well rest is w =
+  simple_is : (told : ℕ → Option TypeSpecifier) → ((h : ℕ) (t : TypeSpecifier) → told h ≡ Some t → IsType t) → (k : ℕ) (st : SimpleStatement) (s : Handles) → NamesAre s → HasRoom k (labels_in f (simple st)) → (rest : tree.Statements) → IsStatements rest → Writes (simple_roots bound st) → IsStatements (simple_form own told source k st s rest)
+  simple_is told told_well k (emit first last) s well room rest is w = lets_are told told_well k (from first (last - first)) s well room rest is w
+  simple_is told told_well k (store pointer value) s well room rest is w =
       let r = reference_is_one (plain_form own source s pointer) (plain_is s well pointer w.0) in
       ((r.0, value_is_one (plain_form own source s value) (plain_is s well value w.1.0), r.1), is)
-  simple_is told told_well k (return v) s well rest is w = (return_is s well v w, is)
-  simple_is told told_well k _ s well rest is w = (tt, is)
+  simple_is told told_well k (return v) s well room rest is w = (return_is s well v w, is)
+  simple_is told told_well k _ s well room rest is w = (tt, is)
 
   value_at_is : (s : Handles) → NamesAre s → (h : ℕ) → W h → IsExpression (value_form own source s h)
   value_at_is s well h w = value_is_one (plain_form own source s h) (plain_is s well h w)
@@ -577,43 +611,46 @@ module _ (m : Module) (info : ModuleInfo) (g : ℕ) (f : ir_function.Function) (
   cases_stay told k labels (case value body false cs) stays s = refl
 
   mutual
-    line_is : (told : ℕ → Option TypeSpecifier) → ((h : ℕ) (t : TypeSpecifier) → told h ≡ Some t → IsType t) → (k : ℕ) (st : StatementTree) → StatementsFit st → (s : Handles) → NamesAre s → (rest : tree.Statements) → IsStatements rest → Writes (statement_roots bound st) → IsStatements (line_form own told source k st s rest)
-    line_is told told_well k (simple st) fit s well rest is w = simple_is told told_well k st s well rest is w
-    line_is told told_well k (block b) fit s well rest is w = (lines_are told told_well k b fit s well w, is)
-    line_is told told_well k (branch condition accept reject) fit s well rest is w =
+    line_is : (told : ℕ → Option TypeSpecifier) → ((h : ℕ) (t : TypeSpecifier) → told h ≡ Some t → IsType t) → (k : ℕ) (st : StatementTree) → StatementsFit st → (s : Handles) → NamesAre s → HasRoom k (labels_in f st) → (rest : tree.Statements) → IsStatements rest → Writes (statement_roots bound st) → IsStatements (line_form own told source k st s rest)
+    line_is told told_well k (simple st) fit s well room rest is w = simple_is told told_well k st s well room rest is w
+    line_is told told_well k (block b) fit s well room rest is w = (lines_are told told_well k b fit s well room w, is)
+    line_is told told_well k (branch condition accept reject) fit s well room rest is w =
         let behind = given_by_all own.function (statements_shape d.around accept) k in
         let one = all_front W (block_roots bound accept) (block_roots bound reject) w.1 in
         let other = all_rest W (block_roots bound accept) (block_roots bound reject) w.1 in
-        ((value_at_is s well condition w.0, lines_are told told_well k accept fit.0 s well one, lines_are told told_well behind reject fit.1 s well other), is)
-    line_is told told_well k (switch selector cs) fit s well rest is w =
-        ((value_at_is s well selector w.0, cases_are told told_well k [] tt cs fit.1 s well w.1, cases_stay told k [] cs fit.0 s), is)
-    line_is told told_well k (loop body continuing break_if) fit s well rest is w =
+        ((value_at_is s well condition w.0, lines_are told told_well k accept fit.0 s well (room_front k (block_labels f accept) (block_labels f reject) room) one, lines_are told told_well behind reject fit.1 s well (room_beyond k accept (block_labels f reject) room) other), is)
+    line_is told told_well k (switch selector cs) fit s well room rest is w =
+        ((value_at_is s well selector w.0, cases_are told told_well k [] tt cs fit.1 s well room w.1, cases_stay told k [] cs fit.0 s), is)
+    line_is told told_well k (loop body continuing break_if) fit s well room rest is w =
+        let front = room_front k (block_labels f body) (block_labels f continuing) room in
+        let beyond = room_beyond k body (block_labels f continuing) room in
         let behind = given_by_all own.function (statements_shape d.around body) k in
         let inside = after_all own k (statements_shape d.around body) s in
-        let inside_well = after_all_is k body fit.0 s well in
+        let inside_well = after_all_is k body fit.0 s well front in
         let one = all_front W (block_roots bound body) (block_roots bound continuing ++ option_to_list break_if) w in
         let more = all_rest W (block_roots bound body) (block_roots bound continuing ++ option_to_list break_if) w in
         let other = all_front W (block_roots bound continuing) (option_to_list break_if) more in
         let value = all_rest W (block_roots bound continuing) (option_to_list break_if) more in
-        (loop_is _ _ (after_all own behind (statements_shape d.around continuing) inside) (after_all_is behind continuing fit.1 inside inside_well) break_if value (lines_are told told_well k body fit.0 s well one) (lines_are told told_well behind continuing fit.1 inside inside_well other), is)
+        (loop_is _ _ (after_all own behind (statements_shape d.around continuing) inside) (after_all_is behind continuing fit.1 inside inside_well beyond) break_if value (lines_are told told_well k body fit.0 s well front one) (lines_are told told_well behind continuing fit.1 inside inside_well beyond other), is)
 
-    lines_are : (told : ℕ → Option TypeSpecifier) → ((h : ℕ) (t : TypeSpecifier) → told h ≡ Some t → IsType t) → (k : ℕ) (b : BlockTree) → AllFit b → (s : Handles) → NamesAre s → Writes (block_roots bound b) → IsStatements (lines_form own told source k b s)
-    lines_are told told_well k no_statements fit s well w = tt
-    lines_are told told_well k (statement st b) fit s well w =
+    lines_are : (told : ℕ → Option TypeSpecifier) → ((h : ℕ) (t : TypeSpecifier) → told h ≡ Some t → IsType t) → (k : ℕ) (b : BlockTree) → AllFit b → (s : Handles) → NamesAre s → HasRoom k (block_labels f b) → Writes (block_roots bound b) → IsStatements (lines_form own told source k b s)
+    lines_are told told_well k no_statements fit s well room w = tt
+    lines_are told told_well k (statement st b) fit s well room w =
+        let here = room_front k (labels_in f st) (block_labels f b) room in
         let one = all_front W (statement_roots bound st) (block_roots bound b) w in
         let more = all_rest W (statement_roots bound st) (block_roots bound b) w in
-        line_is told told_well k st fit.0 s well (lines_form own told source (given_by own.function (statement_shape d.around st) k) b (after own k (statement_shape d.around st) s))
-        (lines_are told told_well (given_by own.function (statement_shape d.around st) k) b fit.1 (after own k (statement_shape d.around st) s) (after_is k st fit.0 s well) more) one
+        line_is told told_well k st fit.0 s well here (lines_form own told source (given_by own.function (statement_shape d.around st) k) b (after own k (statement_shape d.around st) s))
+        (lines_are told told_well (given_by own.function (statement_shape d.around st) k) b fit.1 (after own k (statement_shape d.around st) s) (after_is k st fit.0 s well here) (room_behind k st b room) more) one
 
-    cases_are : (told : ℕ → Option TypeSpecifier) → ((h : ℕ) (t : TypeSpecifier) → told h ≡ Some t → IsType t) → (k : ℕ) (labels : List tree.Label) → Each IsLabel labels → (cs : CaseTrees) → CasesFit cs → (s : Handles) → NamesAre s → Writes (cases_roots bound cs) → IsCases (cases_form own told source k labels cs s)
-    cases_are told told_well k labels are no_cases fit s well w = tt
-    cases_are told told_well k labels are (case value body true cs) fit s well w =
-        cases_are told told_well (given_by_all own.function (statements_shape d.around body) k) (labels ++ label_form value ∷ []) (labels_more labels value are fit.0) cs fit.2 s well
+    cases_are : (told : ℕ → Option TypeSpecifier) → ((h : ℕ) (t : TypeSpecifier) → told h ≡ Some t → IsType t) → (k : ℕ) (labels : List tree.Label) → Each IsLabel labels → (cs : CaseTrees) → CasesFit cs → (s : Handles) → NamesAre s → HasRoom k (cases_labels f cs) → Writes (cases_roots bound cs) → IsCases (cases_form own told source k labels cs s)
+    cases_are told told_well k labels are no_cases fit s well room w = tt
+    cases_are told told_well k labels are (case value body true cs) fit s well room w =
+        cases_are told told_well (given_by_all own.function (statements_shape d.around body) k) (labels ++ label_form value ∷ []) (labels_more labels value are fit.0) cs fit.2 s well (room_beyond k body (cases_labels f cs) room)
         (all_rest W (block_roots bound body) (cases_roots bound cs) w)
-    cases_are told told_well k labels are (case value body false cs) fit s well w = (
+    cases_are told told_well k labels are (case value body false cs) fit s well room w = (
       labels_are labels value are fit.0,
-      lines_are told told_well k body fit.1 s well (all_front W (block_roots bound body) (cases_roots bound cs) w),
-      cases_are told told_well (given_by_all own.function (statements_shape d.around body) k) [] tt cs fit.2 s well
+      lines_are told told_well k body fit.1 s well (room_front k (block_labels f body) (cases_labels f cs) room) (all_front W (block_roots bound body) (cases_roots bound cs) w),
+      cases_are told told_well (given_by_all own.function (statements_shape d.around body) k) [] tt cs fit.2 s well (room_beyond k body (cases_labels f cs) room)
           (all_rest W (block_roots bound body) (cases_roots bound cs) w),
     )
 
@@ -663,13 +700,14 @@ module _ (m : Module) (info : ModuleInfo) (g : ℕ) (f : ir_function.Function) (
   function_is : AllFit f.body → IsFunction (function_form explicit (module_names m) m info g f es)
   function_is fit =
       let all : 0 + length f.arguments.items ≡ length f.arguments.items = omega arith in
+      let all_labels : HasRoom 0 (given_labels f) = omega arith in
       let all_locals : 0 + length f.local_variables ≡ length f.local_variables = omega arith in
       record {
         name = item_is_identifier m (function_item m g f) (function_there m g f found);
         parameters = parameters_are 0 f.arguments.items all (λ k. ap (slice_get f.arguments.items) (sym (add-zero k)));
         result = result_is f.result refl;
         locals = locals_are 0 f.local_variables all_locals (λ k. ap (slice_get f.local_variables) (sym (add-zero k))) (locals_are_in_range m callees f ranges);
-        body = lines_are (told_type explicit (type_names m) es) (told_is m are explicit es fits) 0 f.body fit (at_start own.function) start_is closed.body;
+        body = lines_are (told_type explicit (type_names m) es) (told_is m are explicit es fits) 0 f.body fit (at_start own.function) start_is all_labels closed.body;
       }
 
 module _ (explicit : Bool) (m : Module) (info : ModuleInfo) (accepted : IsTrue (is_accepted m info)) (of_part : IsTrue (is_written_so_far m info)) where
@@ -679,7 +717,7 @@ module _ (explicit : Bool) (m : Module) (info : ModuleInfo) (accepted : IsTrue (
   one_is : (g : ℕ) (f : ir_function.Function) (found : slice_get m.functions g ≡ Some f) (es : List ExpressionInfo) → slice_get info.functions.items g ≡ Some es → (callees : ℕ) → function_in_range m callees f ≡ true → IsTrue (function_is_written f) → WrittenHaveForms explicit m info f es → IsTrue (types_allow_all m.types f es) → length f.expressions ≤ 2 ^ 64 → IsFunction (function_form explicit (module_names m) m info g f es)
   one_is g f found es here callees ranges written have may few =
       let parts = function_parts f written in
-      function_is m info g f found es callees ranges parts.unnamed (IsWrittenIn m info f es)
+      function_is m info g f found es callees ranges (IsWrittenIn m info f es)
       (written_are_closed m info f es) have.expressions
       (λ h e at w. list_all_at (types_allow m.types es) f.expressions h e may at)
       are (known_fits m info accepted g es here) (written_so_far_parts m info of_part).1 explicit

@@ -85,7 +85,7 @@ module _ (m : Module) (info : ModuleInfo) (callees : ℕ) (f : ir_function.Funct
 
 module _ (m : Module) (info : ModuleInfo) (accepted : IsTrue (is_accepted m info)) where
   leaves_stand : (g : ℕ) (fs : List ir_function.Function) (ess : List (List ExpressionInfo)) → ((i : ℕ) (f : ir_function.Function) → slice_get fs i ≡ Some f → slice_get m.functions (g + i) ≡ Some f) →
-      (behind : List Naming) → LeavesStand behind → LeavesStand (reverse_aux (namings_from (module_names m) g (function_shapes m info fs ess)) behind)
+      (behind : List Naming) → LeavesStand behind → LeavesStand (reverse_aux (namings_from (module_names m) m g (function_shapes m info fs ess)) behind)
   leaves_stand g [] ess there behind all = all
   leaves_stand g (f ∷ fs) [] there behind all = all
   leaves_stand g (f ∷ fs) (es ∷ ess) there behind all =

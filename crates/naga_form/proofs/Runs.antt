@@ -27,6 +27,7 @@ use Rattle.naga_form.proofs.AcceptedFunctions.{functions_paired}
 use Rattle.module_meaning.specs.InfoSizes.{function_size_fits}
 use Rattle.module_meaning.proofs.SideBySide.{paired_at}
 use Rattle.naga_form.proofs.ToldItems.{written_are_told}
+use Rattle.naga_form.proofs.GivenNames.{items_counted}
 use Rattle.naga_form.proofs.Names.{items_tell, function_item, function_there}
 use Rattle.naga_names.proofs.Refusal.{element}
 use Rattle.naga_names.specs.declared.key.NameKey.TheVariants as key
@@ -77,7 +78,7 @@ shapes_counted m info (f ∷ fs) [] paired = absurd (omega (arith, paired))
 shapes_counted m info (f ∷ fs) (es ∷ ess) paired = ap suc (shapes_counted m info fs ess (omega (arith, paired)))
 
 functions_read : (explicit : Bool) (m : Module) (info : ModuleInfo) → IsTrue (list_all type_is_of_part m.types) → (g : ℕ) (fs : List ir_function.Function) (ess : List (List ExpressionInfo)) → IsTrue (list_all function_is_written fs) → ((i : ℕ) (f : ir_function.Function) (es : List ExpressionInfo) → slice_get fs i ≡ Some f → slice_get ess i ≡ Some es → WrittenHaveForms explicit m info f es) → ((i : ℕ) (f : ir_function.Function) (es : List ExpressionInfo) → slice_get fs i ≡ Some f → slice_get ess i ≡ Some es → length f.expressions ≡ length es) →
-    map function_read (functions_form explicit (module_names m) m info g fs ess) ≡ map form_function (namings_from (module_names m) g (function_shapes m info fs ess))
+    map function_read (functions_form explicit (module_names m) m info g fs ess) ≡ map form_function (namings_from (module_names m) m g (function_shapes m info fs ess))
 functions_read explicit m info values g [] [] is have sizes = refl
 functions_read explicit m info values g [] (es ∷ ess) is have sizes = refl
 functions_read explicit m info values g (f ∷ fs) [] is have sizes = refl
@@ -98,7 +99,7 @@ all_reversed test (x ∷ xs) behind all = and_from (test x) (list_all test xs) (
 -- the square: what is written of the module is read as its functions are written
 pub program_reads : (m : Module) (info : ModuleInfo) (explicit : Bool) → IsTrue (is_accepted m info) → IsTrue (is_written_so_far m info) → AllWrittenHaveForms explicit m info → program_read (written_program m info explicit) ≡ form_module (functions_alone m info) (outer_names (module_names m)) (namings (module_names m) m info)
 program_reads m info explicit accepted written have =
-    let listed = namings_from (module_names m) 0 (function_shapes m info m.functions info.functions.items) in
+    let listed = namings_from (module_names m) m 0 (function_shapes m info m.functions info.functions.items) in
     let each = functions_read explicit m info (written_so_far_parts m info written).1 0 m.functions info.functions.items (functions_are_written m info written) (λ i f es here known. have i f es here known) sized in
     λ i. record {
       constants = [];
@@ -175,8 +176,8 @@ module _ (m : Module) (info : ModuleInfo) (accepted : IsTrue (is_accepted m info
         }
 
     -- nothing is left of each function, behind those before it
-    all_left : (g : ℕ) (fs : List ir_function.Function) (ess : List (List ExpressionInfo)) → ((i : ℕ) (f : ir_function.Function) → slice_get fs i ≡ Some f → slice_get m.functions (g + i) ≡ Some f) → IsTrue (list_all function_is_written fs) → IsTrue (list_all (λ p. types_allow_all m.types p.0 p.1) (zip fs ess)) → IsTrue (list_all fits_function (namings_from (module_names m) g (function_shapes m info fs ess))) →
-        (behind : List Naming) → length behind ≡ g → AllBehind (IsLeft p (outer_names (module_names m))) behind → AllBehind (IsLeft p (outer_names (module_names m))) (reverse_aux (namings_from (module_names m) g (function_shapes m info fs ess)) behind)
+    all_left : (g : ℕ) (fs : List ir_function.Function) (ess : List (List ExpressionInfo)) → ((i : ℕ) (f : ir_function.Function) → slice_get fs i ≡ Some f → slice_get m.functions (g + i) ≡ Some f) → IsTrue (list_all function_is_written fs) → IsTrue (list_all (λ p. types_allow_all m.types p.0 p.1) (zip fs ess)) → IsTrue (list_all fits_function (namings_from (module_names m) m g (function_shapes m info fs ess))) →
+        (behind : List Naming) → length behind ≡ g → AllBehind (IsLeft p (outer_names (module_names m))) behind → AllBehind (IsLeft p (outer_names (module_names m))) (reverse_aux (namings_from (module_names m) m g (function_shapes m info fs ess)) behind)
     all_left g [] ess there is allowed scoped behind at so_far = so_far
     all_left g (f ∷ fs) [] there is allowed scoped behind at so_far = so_far
     all_left g (f ∷ fs) (es ∷ ess) there is allowed scoped behind at so_far =
@@ -185,7 +186,7 @@ module _ (m : Module) (info : ModuleInfo) (accepted : IsTrue (is_accepted m info
         let own = function_naming (module_names m) m info g f es in
         let all = and_parts (function_is_written f) (list_all function_is_written fs) is in
         let may = and_parts (types_allow_all m.types f es) (list_all (λ p. types_allow_all m.types p.0 p.1) (zip fs ess)) allowed in
-        let scopes = and_parts (fits_function own) (list_all fits_function (namings_from (module_names m) (g + 1) (function_shapes m info fs ess))) scoped in
+        let scopes = and_parts (fits_function own) (list_all fits_function (namings_from (module_names m) m (g + 1) (function_shapes m info fs ess))) scoped in
         let at_function = function_there_known m info accepted g f found in
         let fits = accepted_at m info accepted g f at_function.0 at_function.1 in
         let this = is_left m info (written_so_far_parts m info written).1 (types_are_counted m info accepted told) g f found es fits.callees fits.ranges all.0 may.0 p no_constant_types no_global_types all_counted (functions_of behind) (length-functions_of behind ∙ at) counted scopes.0 in
@@ -204,14 +205,14 @@ module _ (m : Module) (info : ModuleInfo) (accepted : IsTrue (is_accepted m info
 
     pub module_fits : ModuleFits (module_shape m info) (outer_names (module_names m)) (namings (module_names m) m info)
     module_fits =
-        let listed = namings_from (module_names m) 0 (function_shapes m info m.functions info.functions.items) in
+        let listed = namings_from (module_names m) m 0 (function_shapes m info m.functions info.functions.items) in
         record {
           functions = same_functions m info accepted written;
           distinct = record {
             functions = λ g k lg lk e.
                 let a = element m.functions g (subst (λ n. g < n) all_counted lg) in
                 let b = element m.functions k (subst (λ n. k < n) all_counted lk) in
-                one_function g k (ap (λ item. item.0) (items_tell m counted (function_item m g a.0) (function_item m k b.0) (function_there m g a.0 a.1) (function_there m k b.0 b.1) e));
+                one_function g k (ap (λ item. item.0) (items_tell m (items_counted m counted) (function_item m g a.0) (function_item m k b.0) (function_there m g a.0 a.1) (function_there m k b.0 b.1) e));
           };
           constants = subst (λ p. ConstantsFit p (outer_names (module_names m))) (sym same) no_constants;
           all = all_fit m info accepted told constants_typed (λ k f es at. no_case_falls f (written_at k f es at)) (outer_names (module_names m)) (namings (module_names m) m info) (same_functions m info accepted written)

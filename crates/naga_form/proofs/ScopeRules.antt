@@ -31,15 +31,15 @@ pub functions_of-map : (ns : List Naming) → functions_of ns ≡ map (λ n. n.f
 functions_of-map [] = refl
 functions_of-map (n ∷ ns) = ap (λ fs. n.function ∷ fs) (functions_of-map ns)
 
-pub functions_of_namings : (names : NameMap) (g : ℕ) (fs : List shapes.Function) → map (λ n. n.function) (namings_from names g fs) ≡ fs
-functions_of_namings names g [] = refl
-functions_of_namings names g (f ∷ fs) = ap (λ fs. f ∷ fs) (functions_of_namings names (g + 1) fs)
+pub functions_of_namings : (names : NameMap) (m : Module) (g : ℕ) (fs : List shapes.Function) → map (λ n. n.function) (namings_from names m g fs) ≡ fs
+functions_of_namings names m g [] = refl
+functions_of_namings names m g (f ∷ fs) = ap (λ fs. f ∷ fs) (functions_of_namings names m (g + 1) fs)
 
 -- the functions of the namings are those of the module that declares them alone
 pub namings_functions : (m : Module) (info : ModuleInfo) → functions_of (namings (module_names m) m info) ≡ (functions_alone m info).functions
 namings_functions m info =
-    let listed = namings_from (module_names m) 0 (function_shapes m info m.functions info.functions.items) in
-    functions_of-map (reverse listed) ∙ (map-reverse (λ n. n.function) listed ∙ ap reverse (functions_of_namings (module_names m) 0 (function_shapes m info m.functions info.functions.items)))
+    let listed = namings_from (module_names m) m 0 (function_shapes m info m.functions info.functions.items) in
+    functions_of-map (reverse listed) ∙ (map-reverse (λ n. n.function) listed ∙ ap reverse (functions_of_namings (module_names m) m 0 (function_shapes m info m.functions info.functions.items)))
 
 -- operands stand before their expressions
 abbrev IsOrdered : List shapes.Function → Naming → Type 0

@@ -14,7 +14,7 @@ use Rattle.naga_names.specs.declared.key.NameKey.TheVariants as key
 use Rattle.naga_names.proofs.NamedItems.{Stands, type_stands, override_stands}
 use Rattle.naga_names.proofs.Refusal.{element}
 use Rattle.naga_words.specs.Spelling.{is_struct}
-use Rattle.module_meaning.specs.Names.{ItemsAreCounted, ItemsAreTold, NamesAreCounted}
+use Rattle.module_meaning.specs.Names.{AreCounted, ItemsAreCounted, ItemsAreTold, item_labels}
 use Rattle.module_meaning.specs.Names.{TypesAreTold, module_names, name_in, wgsl_names}
 use Rattle.module_meaning.specs.Part.{is_written_so_far, needs_nothing, type_is_of_part}
 use Rattle.module_meaning.proofs.Lists.{list_all_at}
@@ -24,7 +24,7 @@ use Rattle.naga_form.proofs.Names.{items_tell}
 
 module _ (m : Module) where
   -- ---- names that are counted
-  one_key : NamesAreCounted m → (a b : LabelledItem) → Stands (labelled_items wgsl_names m) a →
+  one_key : AreCounted (item_labels m) → (a b : LabelledItem) → Stands (labelled_items wgsl_names m) a →
       Stands (labelled_items wgsl_names m) b →
       name_in (module_names m) a.0 ≡ name_in (module_names m) b.0 → a.0 ≡ b.0
   one_key counted a b s t e = ap (λ item. item.0) (items_tell m counted a b s t e)
@@ -38,7 +38,7 @@ module _ (m : Module) where
   no_override : (h o : ℕ) → key.Type_ h ≡ key.Override o → ⊥
   no_override h o e = cc
 
-  pub types_are_told : NamesAreCounted m → TypesAreTold m
+  pub types_are_told : AreCounted (item_labels m) → TypesAreTold m
   types_are_told counted = record {
     structs = λ h k t u at there is_t is_u e.
         one_type h k

@@ -57,9 +57,9 @@ first_everywhere : (b : Bool) → is_everywhere (first_standing b) ≡ b
 first_everywhere true = refl
 first_everywhere false = refl
 
-first_at_start : (name : List ℕ) (b : Bool) → standing_of name (first_standing b) ≡ start_standing b
-first_at_start name true = refl
-first_at_start name false = refl
+first_at_start : (given : ℕ → List ℕ) (name : List ℕ) (b : Bool) → standing_of given name (first_standing b) ≡ start_standing b
+first_at_start given name true = refl
+first_at_start given name false = refl
 
 -- the cell of a handle at the start
 abbrev pub first_cell :
@@ -188,27 +188,27 @@ module _ (m : Module) (info : ModuleInfo) (f : ir_function.Function) (es : List 
   pub counted : length shape.expressions ≡ all
   counted = shapes_length (declared m info (types_known es)) f.expressions 0 f.expressions
 
-  pub start_handles : (table : List Standing) → IsStart m info f es table all →
-      handles_of table ≡ at_start shape
-  start_handles table s = λ i h. each h i
+  pub start_handles : (given : ℕ → List ℕ) (table : List Standing) → IsStart m info f es table all →
+      handles_of given table ≡ at_start shape
+  start_handles given table s = λ i h. each h i
     where
-      inside : (h : ℕ) → h < all → handles_of table h ≡ at_start shape h
+      inside : (h : ℕ) → h < all → handles_of given table h ≡ at_start shape h
       inside h lt =
-          ap (standing_of (numbered_name h)) (s.cells h lt)
-          ∙ first_at_start (numbered_name h) (pure h && constant_to all h)
+          ap (standing_of given (numbered_name h)) (s.cells h lt)
+          ∙ first_at_start given (numbered_name h) (pure h && constant_to all h)
           ∙ ap₂ (λ p n. start_standing (p && constant_to n h)) (sym (pure_at m info f es h))
           (sym counted)
 
-      outside : (h : ℕ) → all ≤ h → handles_of table h ≡ at_start shape h
+      outside : (h : ℕ) → all ≤ h → handles_of given table h ≡ at_start shape h
       outside h le =
           let past : length table ≤ h = omega (arith, le, s.size) in
-          ap (standing_of (numbered_name h)) (get_or_past table h Absent past)
+          ap (standing_of given (numbered_name h)) (get_or_past table h Absent past)
           ∙ ap (λ e. start_standing (is_pure e && constant_to (length shape.expressions) h))
           (sym (no_expression_at m info f es h (slice_get_past f.expressions h le)))
 
-      by : (h : ℕ) (b : Bool) → nat_lt h all ≡ b → handles_of table h ≡ at_start shape h
+      by : (h : ℕ) (b : Bool) → nat_lt h all ≡ b → handles_of given table h ≡ at_start shape h
       by h true is = inside h (ltb-true h all is)
       by h false is = outside h (ltb-false h all is)
 
-      each : (h : ℕ) → handles_of table h ≡ at_start shape h
+      each : (h : ℕ) → handles_of given table h ≡ at_start shape h
       each h = by h (nat_lt h all) refl

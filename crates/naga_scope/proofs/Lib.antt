@@ -1,6 +1,7 @@
 pub mod Shaped
 pub mod Constants
 pub mod Emitting
+pub mod GivenNames
 pub mod Holding
 pub mod Marking
 pub mod Offsets

@@ -17,8 +17,7 @@ use Rattle.module_meaning.specs.Premises.{OperandsStandBefore}
 use Rattle.module_meaning.specs.Surroundings.{declared, types_known}
 use Rattle.naga_form.proofs.Ordered.{shape_ordered}
 use Rattle.naga_form.proofs.WellFormed.{any_shape}
-use Rattle.naga_scope.specs.Plans.{IsPlan, IsPlanOf, OfFunctionAt}
-use Rattle.naga_scope.specs.declared.points.Standing.{Standing}
+use Rattle.naga_scope.specs.Plans.{IsPlan, IsPlanOf, OfFunctionAt, Planned}
 
 -- the check of a function decides whether the rules of scope hold in it
 pub check_is_the_rules : (m : Module) (info : ModuleInfo) (f : ir_function.Function) (es : List ExpressionInfo) →
@@ -46,10 +45,10 @@ shape_found m info (x ∷ fs) (y ∷ ess) (suc g) f es at known =
 
 -- a plan of a function that there is
 pub plan_found : (m : Module) (info : ModuleInfo) (g : ℕ) (f : ir_function.Function)
-    (es : List ExpressionInfo) (table : List Standing) → slice_get m.functions g ≡ Some f →
-    slice_get info.functions.items g ≡ Some es → IsPlanOf m info g table →
-    IsPlan m info f es table
-plan_found m info g f es table at known plan = plan f es at known
+    (es : List ExpressionInfo) (planned : Planned) → slice_get m.functions g ≡ Some f →
+    slice_get info.functions.items g ≡ Some es → IsPlanOf m info g planned →
+    IsPlan m info f es planned
+plan_found m info g f es planned at known plan = plan f es at known
 
 -- what holds of a function that there is, where a call has an answer, holds of the one with its handle
 module _ {T : Type 0} (Q : ir_function.Function → List ExpressionInfo → T → Type 0) (m : Module)

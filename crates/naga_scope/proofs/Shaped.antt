@@ -3,7 +3,7 @@
 use Rattle.std.proofs.Common.{◌≡◌, ℕ, Bool, ◌||◌, true, false, List, [], ◌∷◌, map}
 use Rattle.std.proofs.Common.{length, get_or, nat_le, nat_lt, Option, Some, None, refl, sym, ap, ◌∙◌}
 use Rattle.std.specs.Prelude.{IsTrue, slice_get, if◌then◌else◌}
-use Rattle.std.specs.Option.{option_map_or}
+use Rattle.std.specs.Option.{is_some, option_map_or}
 use Rattle.naga_ir.specs.Kinds.{kind_of}
 use Rattle.naga_ir.specs.Operands.{expression_operands}
 use Rattle.naga_ir.specs.declared.expression.Expression as ir
@@ -44,7 +44,8 @@ use Rattle.module_meaning.specs.Types.{declared_type}
 use Rattle.module_meaning.proofs.ExpressionShapes.{kind_shaped, shape_kinds, shape_operands}
 use Rattle.module_meaning.proofs.Lists.{list_all_at}
 use Rattle.module_meaning.proofs.Shapes.{operator_bound}
-use Rattle.naga_form.proofs.Fits.{mapped_length, none_is_given}
+use Rattle.naga_form.proofs.Fits.{given_is, mapped_length}
+use Rattle.module_meaning.specs.GivenLabels.{label_of}
 use Rattle.naga_form.proofs.ModulePlaces.{expression_at, no_expression_at}
 use Rattle.naga_form.proofs.PartFits.{function_parts}
 use Rattle.naga_form.proofs.WellFormed.{applied_any}
@@ -249,10 +250,12 @@ module _ (m : Module) (info : ModuleInfo) (f : ir_function.Function) (es : List 
     abbrev count : ℕ → ℕ
     count h = get_or (map (λ e. e.ref_count) es) h 0
 
-    counted_from : (least h : ℕ) → is_counted shape least h ≡ nat_le least (count h)
-    counted_from least h =
-        ap (λ b. b || nat_le least (count h))
-        (none_is_given m info f es (function_parts f written).unnamed h)
+    -- whether it has a name, or is used so often
+    abbrev named_or : ℕ → Bool → Bool
+    named_or h counts = is_some (label_of f h) || counts
+
+    counted_from : (least h : ℕ) → is_counted shape least h ≡ named_or h (nat_le least (count h))
+    counted_from least h = ap (λ b. b || nat_le least (count h)) (given_is m info f es h)
 
     -- an operator that asks for nothing is bound from the second use on
     silent_binds : (h : ℕ) (op : TableOperator) (xs : List ℕ) → asks op ≡ false →
@@ -273,11 +276,11 @@ module _ (m : Module) (info : ModuleInfo) (f : ir_function.Function) (es : List 
     query_bound h query.NumLayers xs = refl
     query_bound h query.NumSamples xs = refl
 
-    -- what an Emit may give is bound from its number of uses on, or always
+    -- what an Emit may give is bound where it has a name, and from its number of uses on, or always
     pub emitted_binds : IsTrue (types_allow_all m.types f es) → (h : ℕ) (e : ir.Expression) →
         slice_get f.expressions h ≡ Some e →
         is_emittable_kind (kind_of e) ≡ true →
-        (is_image_operation e || nat_le (count_to_bind e) (count h)) ≡ binds shape h
+        (is_image_operation e || named_or h (nat_le (count_to_bind e) (count h))) ≡ binds shape h
     emitted_binds allowed h e at may =
         sym
         (ap (binds_as shape h) (expression_at m info f es h e at)
@@ -288,7 +291,7 @@ module _ (m : Module) (info : ModuleInfo) (f : ir_function.Function) (es : List 
             types_allow m.types es e ≡ true →
             is_emittable_kind (kind_of e) ≡ true →
             binds_as shape h (Some (shape_of d f.expressions h e)) ≡
-            (is_image_operation e || nat_le (count_to_bind e) (count h))
+            (is_image_operation e || named_or h (nat_le (count_to_bind e) (count h)))
         own (expression.Load pointer) is types may = by (points_to_atomic d.around pointer)
           where
             by : (atomic : Bool) →
@@ -296,7 +299,7 @@ module _ (m : Module) (info : ModuleInfo) (f : ir_function.Function) (es : List 
                 (Some
                 (applied_or (Load pointer) (pointer ∷ [])
                 (if atomic then Some AtomicLoad else None))) ≡
-                nat_le 1 (count h)
+                named_or h (nat_le 1 (count h))
             by true = counted_from 1 h
             by false = counted_from 1 h
         own (expression.Unary op expr) is types may = counted_from 2 h

@@ -1,4 +1,5 @@
 pub mod Standings
 pub mod Forms
 pub mod Marks
+pub mod GivenNames
 pub mod Plans

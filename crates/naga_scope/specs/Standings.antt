@@ -15,22 +15,41 @@ use Rattle.naga_ir.specs.declared.module.Function.{Function}
 use Rattle.shader_runs.specs.Program.{Function as Shape}
 use Rattle.shader_runs.specs.Scope as runs
 use Rattle.module_meaning.specs.Names.{numbered_name}
+use Rattle.naga_scope.specs.declared.points.BoundName.{BoundName}
+use Rattle.naga_scope.specs.declared.points.BoundName.TheVariants.{Numbered, Given}
 use Rattle.naga_scope.specs.declared.points.Standing.{Standing}
 use Rattle.naga_scope.specs.declared.points.Standing.TheVariants.{Absent, Barred, Everywhere}
 use Rattle.naga_scope.specs.declared.points.Standing.TheVariants.{Inline, Named}
 
--- what a cell says of a handle that has this name where it is bound
-abbrev pub standing_of : List ℕ → Standing → runs.Standing
-standing_of name Absent = runs.Absent
-standing_of name Barred = runs.Barred
-standing_of name Everywhere = runs.Everywhere
-standing_of name Inline = runs.Inline
-standing_of name Named = runs.Named name
+-- what contracts see of a point: a table of one cell for each expression, and how many names that
+-- front ends gave stand in front of it
+pub record TextPoint : Type 0 where
+  pub table : List Standing
+  pub given : ℕ
 
--- what a table of one cell for each expression says
--- of each handle; one past the table's end is absent
-abbrev pub handles_of : List Standing → runs.Handles
-handles_of table h = standing_of (numbered_name h) (get_or table h Absent)
+-- the name of a bound handle, by those that front ends gave in the order of the text and by that
+-- which the handle has where they gave it none
+abbrev pub name_of_bound : (given : ℕ → List ℕ) → (numbered : List ℕ) → BoundName → List ℕ
+name_of_bound given numbered Numbered = numbered
+name_of_bound given numbered (Given number) = given number
+
+-- the name of a handle that is bound behind so many given ones, whether it is given one or not
+abbrev pub next_name : (is_given : Bool) → (number : ℕ) → BoundName
+next_name true number = Given number
+next_name false number = Numbered
+
+-- what a cell says of a handle, by these names
+abbrev pub standing_of : (given : ℕ → List ℕ) → (numbered : List ℕ) → Standing → runs.Standing
+standing_of given numbered Absent = runs.Absent
+standing_of given numbered Barred = runs.Barred
+standing_of given numbered Everywhere = runs.Everywhere
+standing_of given numbered Inline = runs.Inline
+standing_of given numbered (Named name) = runs.Named (name_of_bound given numbered name)
+
+-- what a table of one cell for each expression says of each handle, by the names that front ends
+-- gave; one past the table's end is absent
+abbrev pub handles_of : (given : ℕ → List ℕ) → List Standing → runs.Handles
+handles_of given table h = standing_of given (numbered_name h) (get_or table h Absent)
 
 -- the kind of the expression with this handle; where there is none, it is as a result that no
 -- statement gives
@@ -116,8 +135,9 @@ unbound_standing true before = Inline
 unbound_standing false Absent = Barred
 unbound_standing false before = before
 
--- the cell of an expression behind its Emit
-abbrev pub emitted_standing : (is_bound is_operator has_operands : Bool) → Standing → Standing
-emitted_standing true o u before = Named
-emitted_standing false true u before = unbound_standing u before
-emitted_standing false false u before = before
+-- the cell of an expression behind its Emit, which has this name where it is bound
+abbrev pub emitted_standing : (is_bound is_operator has_operands : Bool) → BoundName → Standing →
+    Standing
+emitted_standing true o u name before = Named name
+emitted_standing false true u name before = unbound_standing u before
+emitted_standing false false u name before = before

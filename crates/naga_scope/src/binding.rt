@@ -1,10 +1,12 @@
 //! What kind of thing an expression is to the rules of scope, and which expressions a `let` binds
 //! where they are emitted.
 
-ghost use Rattle.std.specs.Prelude.{◌≡◌, List, get_or, map, slice_get, IsTrue};
-ghost use Rattle.std.specs.Option.{option_map};
+ghost use Rattle.std.specs.Prelude.{◌≡◌, ◌||◌, List, get_or, map, nat_le, slice_get, IsTrue};
+ghost use Rattle.std.specs.Option.{is_some, option_map};
 ghost use Rattle.module_meaning.specs.FunctionShapes.{function_shape};
+ghost use Rattle.module_meaning.specs.GivenLabels.{label_of};
 ghost use Rattle.module_meaning.specs.Part.{function_is_written, types_allow_all};
+ghost use Rattle.naga_back.specs.Baking.{count_to_bind};
 ghost use Rattle.naga_info.specs.declared.info.ModuleInfo.{ModuleInfo};
 ghost use Rattle.naga_ir.specs.declared.module.Module.{Module};
 ghost use Rattle.shader_runs.specs.Program.{binds};
@@ -24,6 +26,26 @@ pub(crate) fn expression_at(function: &Function, handle: Handle<Expression>) -> 
     } else {
         None
     }
+}
+
+/// The label that a front end gave the expression with this handle, if it gave one.
+pub(crate) fn label_of(function: &Function, handle: Handle<Expression>) -> Option<&str>
+    ensures { option_map (λ l. l.now) result ≡ label_of function.now handle }
+{
+    if function.named_expressions.is_empty() || handle.index() >= function.expressions.len() {
+        return None;
+    }
+    match function.named_expressions.get(&handle) {
+        Some(label) => Some(label.as_str()),
+        None => None,
+    }
+}
+
+/// Whether a front end named the expression with this handle.
+pub(crate) fn is_named(function: &Function, handle: Handle<Expression>) -> bool
+    ensures { result ≡ is_some (label_of function.now handle) }
+{
+    label_of(function, handle).is_some()
 }
 
 /// How often the expression with this handle is used.
@@ -89,9 +111,23 @@ fn asks_an_image(expression: &Expression) -> bool
     }
 }
 
+/// Whether a front end named the expression with this handle, or it is used as often as its kind
+/// asks.
+fn is_asked_for(
+    function: &Function,
+    info: &FunctionInfo,
+    handle: Handle<Expression>,
+    expression: &Expression,
+) -> bool
+    ensures { result ≡ (is_some (label_of function.now handle)
+        || nat_le (count_to_bind expression.now) (get_or (map (λ e. e.ref_count) info.now) handle 0)) }
+{
+    is_named(function, handle) || count_of(info, handle) >= expression.bake_ref_count()
+}
+
 /// Whether a `let` binds the expression with this handle where it is emitted: an operation on an
-/// image, a `Load` or a derivative with a use, or another operator, but no part at an index, with two.
-/// It is for functions that are written so far, in which no front end named an expression.
+/// image, a `Load` or a derivative with a use, or another operator, but no part at an index, with two,
+/// and whatever a front end named. It is for functions that are written so far.
 pub fn binds(function: &Function, info: &FunctionInfo, handle: Handle<Expression>) -> bool
     requires written { IsTrue (function_is_written function.now) }
     ensures { (m : Module) (known : ModuleInfo) →
@@ -102,7 +138,7 @@ pub fn binds(function: &Function, info: &FunctionInfo, handle: Handle<Expression
         Some(expression) => {
             is_emittable(expression.kind())
                 && (asks_an_image(expression)
-                    || count_of(info, handle) >= expression.bake_ref_count())
+                    || is_asked_for(function, info, handle, expression))
         }
         None => false,
     }

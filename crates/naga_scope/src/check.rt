@@ -1,7 +1,9 @@
 //! The check that each expression is in scope where it is used.
 
-ghost use Rattle.std.specs.Prelude.{◌≡◌, ◌-◌, ℕ, List, length, IsTrue};
+ghost use Rattle.std.specs.Prelude.{◌≡◌, ◌+◌, ◌-◌, ◌<◌, ◌^◌, ℕ, List, length, IsTrue};
 ghost use Rattle.module_meaning.specs.FunctionShapes.{function_shape, statement_shape};
+ghost use Rattle.module_meaning.specs.GivenLabels.{given_labels, labels_in, labels_of_each};
+ghost use Rattle.module_meaning.specs.Names.{given_name};
 ghost use Rattle.module_meaning.specs.Namings.{function_naming};
 ghost use Rattle.module_meaning.specs.Part.{function_is_written, statement_is_written};
 ghost use Rattle.module_meaning.specs.Part.{types_allow_all};
@@ -25,8 +27,9 @@ use naga_ir::{Expression, Function, Handle, LocalVariable, Place, Range, Stateme
 
 /// Whether the expression, if there is one, may be written at this point.
 fn is_usable_if(scope: &Scope, function: &Function, handle: Option<Handle<Expression>>) -> bool
-    ensures { (m : Module) (known : ModuleInfo) (es : List ExpressionInfo) →
-        result ≡ usable_if (function_shape m known function.now es) (handles_of scope.now) handle }
+    ensures { (given : ℕ → List ℕ) (m : Module) (known : ModuleInfo) (es : List ExpressionInfo) →
+        result ≡ usable_if (function_shape m known function.now es)
+        (handles_of given scope.now.table) handle }
 {
     match handle {
         Some(handle) => scope.is_usable(function, handle),
@@ -58,18 +61,20 @@ fn first_value_holds(
     handle: Handle<LocalVariable>,
     local: &LocalVariable,
 ) -> bool
-    ensures { (m : Module) (known : ModuleInfo) (es : List ExpressionInfo) →
+    ensures { (given : ℕ → List ℕ) (m : Module) (known : ModuleInfo) (es : List ExpressionInfo) →
         let shape = function_shape m known function.now es in
-        result ≡ usable_if (before_local shape handle) (handles_of scope.now) local.now.init }
+        result ≡ usable_if (before_local shape handle) (handles_of given scope.now.table)
+        local.now.init }
 {
     is_usable_if(scope, function, local.init) && is_earlier(function, local.init, handle)
 }
 
 /// Whether the first value of each local is in scope where it stands, at the start of the function.
 fn first_values_hold(scope: &Scope, function: &Function) -> bool
-    ensures { (m : Module) (known : ModuleInfo) (es : List ExpressionInfo) →
+    ensures { (given : ℕ → List ℕ) (m : Module) (known : ModuleInfo) (es : List ExpressionInfo) →
         let shape = function_shape m known function.now es in
-        handles_of scope.now ≡ at_start shape → result ≡ first_values_fit shape 0 shape.first_values }
+        handles_of given scope.now.table ≡ at_start shape →
+        result ≡ first_values_fit shape 0 shape.first_values }
 {
     for (handle, local) in function.local_variables.iter() {
         if !first_value_holds(scope, function, handle, local) {
@@ -86,19 +91,25 @@ fn emit_holds(scope: &mut Scope, function: &Function, info: &FunctionInfo, range
     requires ordered { OperandsStandBefore function.now.expressions }
     requires held { (m : Module) (known : ModuleInfo) →
         IsTrue (types_allow_all m.types function.now info.now) →
-        KeepsStart (function_shape m known function.now info.now) (handles_of scope.old) }
-    requires size { length scope.old ≡ length function.now.expressions }
-    ensures fits { (names : NameMap) (m : Module) (known : ModuleInfo) (g k : ℕ) →
+        KeepsStart (function_shape m known function.now info.now)
+        (handles_of (given_name m 0) scope.old.table) }
+    requires size { length scope.old.table ≡ length function.now.expressions }
+    requires room { scope.old.given
+        + length (labels_of_each function.now (from range.first (range.end - range.first))) < 2 ^ 64 }
+    ensures fits { (names : NameMap) (m : Module) (known : ModuleInfo) (g : ℕ) →
         IsTrue (types_allow_all m.types function.now info.now) →
         let n = function_naming names m known g function.now info.now in
-        result
-        ≡ may_emit_all n k (from range.first (range.end - range.first)) (handles_of scope.old) }
-    ensures after { (names : NameMap) (m : Module) (known : ModuleInfo) (g k : ℕ) →
+        result ≡ may_emit_all n scope.old.given (from range.first (range.end - range.first))
+        (handles_of (given_name m g) scope.old.table) }
+    ensures after { (names : NameMap) (m : Module) (known : ModuleInfo) (g : ℕ) →
         IsTrue (types_allow_all m.types function.now info.now) → IsTrue result →
         let n = function_naming names m known g function.now info.now in
-        handles_of scope.new
-        ≡ after_emit n k (from range.first (range.end - range.first)) (handles_of scope.old) }
-    ensures size { length scope.new ≡ length scope.old }
+        handles_of (given_name m g) scope.new.table
+        ≡ after_emit n scope.old.given (from range.first (range.end - range.first))
+        (handles_of (given_name m g) scope.old.table) }
+    ensures given { IsTrue result → scope.new.given ≡ scope.old.given
+        + length (labels_of_each function.now (from range.first (range.end - range.first))) }
+    ensures size { length scope.new.table ≡ length scope.old.table }
 {
     for index in range.first..range.end {
         let handle = Place::from_index(index);
@@ -123,20 +134,27 @@ fn statement_holds(
     requires ordered { OperandsStandBefore function.now.expressions }
     requires held { (m : Module) (known : ModuleInfo) →
         IsTrue (types_allow_all m.types function.now info.now) →
-        KeepsStart (function_shape m known function.now info.now) (handles_of scope.old) }
-    requires size { length scope.old ≡ length function.now.expressions }
-    ensures fits { (names : NameMap) (m : Module) (known : ModuleInfo) (g k : ℕ) →
+        KeepsStart (function_shape m known function.now info.now)
+        (handles_of (given_name m 0) scope.old.table) }
+    requires size { length scope.old.table ≡ length function.now.expressions }
+    requires room { scope.old.given
+        + length (labels_in function.now (tree_of statement.now)) < 2 ^ 64 }
+    ensures fits { (names : NameMap) (m : Module) (known : ModuleInfo) (g : ℕ) →
         IsTrue (types_allow_all m.types function.now info.now) →
         let n = function_naming names m known g function.now info.now in
         let around = (declared m known (types_known info.now)).around in
-        result ≡ fits n k (statement_shape around (tree_of statement.now)) (handles_of scope.old) }
-    ensures after { (names : NameMap) (m : Module) (known : ModuleInfo) (g k : ℕ) →
+        result ≡ fits n scope.old.given (statement_shape around (tree_of statement.now))
+        (handles_of (given_name m g) scope.old.table) }
+    ensures after { (names : NameMap) (m : Module) (known : ModuleInfo) (g : ℕ) →
         IsTrue (types_allow_all m.types function.now info.now) → IsTrue result →
         let n = function_naming names m known g function.now info.now in
         let around = (declared m known (types_known info.now)).around in
-        handles_of scope.new
-        ≡ after n k (statement_shape around (tree_of statement.now)) (handles_of scope.old) }
-    ensures size { length scope.new ≡ length scope.old }
+        handles_of (given_name m g) scope.new.table
+        ≡ after n scope.old.given (statement_shape around (tree_of statement.now))
+        (handles_of (given_name m g) scope.old.table) }
+    ensures given { IsTrue result → scope.new.given
+        ≡ scope.old.given + length (labels_in function.now (tree_of statement.now)) }
+    ensures size { length scope.new.table ≡ length scope.old.table }
 {
     match statement {
         Statement::Emit(range) => emit_holds(scope, function, info, *range),
@@ -153,13 +171,15 @@ fn statement_holds(
 pub(crate) fn function_holds(scope: &mut Scope, function: &Function, info: &FunctionInfo) -> bool
     requires written { IsTrue (function_is_written function.now) }
     requires ordered { OperandsStandBefore function.now.expressions }
-    requires start { (m : Module) (known : ModuleInfo) →
-        handles_of scope.old ≡ at_start (function_shape m known function.now info.now) }
-    requires size { length scope.old ≡ length function.now.expressions }
+    requires start { (given : ℕ → List ℕ) (m : Module) (known : ModuleInfo) →
+        handles_of given scope.old.table ≡ at_start (function_shape m known function.now info.now) }
+    requires given { scope.old.given ≡ 0 }
+    requires size { length scope.old.table ≡ length function.now.expressions }
+    requires room { length (given_labels function.now) < 2 ^ 64 }
     ensures scope { (names : NameMap) (m : Module) (known : ModuleInfo) (g : ℕ) →
         IsTrue (types_allow_all m.types function.now info.now) →
         result ≡ fits_function (function_naming names m known g function.now info.now) }
-    ensures size { length scope.new ≡ length scope.old }
+    ensures size { length scope.new.table ≡ length scope.old.table }
 {
     if !first_values_hold(scope, function) {
         return false;

@@ -5,6 +5,7 @@
 pub mod binding;
 pub mod check;
 mod forms;
+mod given;
 pub mod plan;
 pub mod points;
 mod written;
@@ -12,4 +13,4 @@ mod written;
 pub use binding::binds;
 pub use forms::{converted_scalar, sampling_has_form};
 pub use plan::{Plan, PlanError};
-pub use points::{Scope, Standing};
+pub use points::{BoundName, Scope, Standing};

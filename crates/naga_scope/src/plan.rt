@@ -1,7 +1,10 @@
 //! What is decided of a function before its text.
 
-ghost use Rattle.std.specs.Prelude.{◌≡◌, ◌<◌, List, IfErr, IfOk, IsTrue, length};
+ghost use Rattle.std.specs.Prelude.{◌≡◌, ◌<◌, [], List, IfErr, IfOk, IsTrue, OnErr, length, map};
+ghost use Rattle.std.specs.Prelude.{string_bytes};
 ghost use Rattle.module_meaning.specs.Accepted.{is_accepted};
+ghost use Rattle.module_meaning.specs.GivenLabels.{given_labels};
+ghost use Rattle.module_meaning.specs.Names.{labels_given};
 ghost use Rattle.module_meaning.specs.Part.{function_is_written, is_written_so_far};
 ghost use Rattle.module_meaning.specs.Part.{types_allow_all, types_have_forms};
 ghost use Rattle.module_meaning.specs.Premises.{OperandsStandBefore};
@@ -9,13 +12,17 @@ ghost use Rattle.naga_info.specs.declared.info.ModuleInfo.{ModuleInfo};
 ghost use Rattle.naga_ir.specs.declared.module.Module.{Module};
 ghost use Rattle.naga_scope.specs.Forms.{AreKnownIn};
 ghost use Rattle.naga_scope.specs.Plans.{IsPlan, IsPlanOf, IsRefusalToPlan, IsRefusalToPlanOf};
-ghost use Rattle.naga_scope.specs.declared.plan.PlanError.TheVariants.{Memory};
+ghost use Rattle.naga_scope.specs.GivenNames.{HasBegunLabels, NamesLabels};
+ghost use Rattle.naga_scope.specs.declared.plan.PlanError.TheVariants.{Memory, Unnamed};
 
 use crate::check::function_holds;
+use crate::given::given_names;
 use crate::points::Scope;
 use crate::written::written_without_form;
 use naga_info::{FunctionInfo, ModuleInfo};
 use naga_ir::{Expression, Function, Handle, Module, Type_, UniqueArena};
+use naga_names::NamerError;
+use naga_names::namer::Namer;
 use std::alloc::{AllocError, Global};
 use std::marker::Model;
 
@@ -27,8 +34,18 @@ pub enum PlanError {
     OutOfScope,
     /// The expression with this handle is written, and has no form.
     WithoutForm(Handle<Expression>),
+    /// A label that a front end gave gets no name.
+    Unnamed(NamerError),
     /// Memory has run out.
     Memory(AllocError),
+}
+
+impl From<NamerError> for PlanError {
+    ghost from_gives = { λ refusal error. error ≡ Unnamed refusal };
+
+    fn from(refusal: NamerError) -> PlanError {
+        PlanError::Unnamed(refusal)
+    }
 }
 
 impl From<AllocError> for PlanError {
@@ -40,51 +57,62 @@ impl From<AllocError> for PlanError {
 }
 
 /// What is decided of a function before its text: that each of its expressions is in scope where it
-/// is used and each `Emit` is allowed, that each that is written has a form, and where the
-/// expressions stand at its start.
+/// is used and each `Emit` is allowed, that each that is written has a form, where the expressions
+/// stand at its start, and the names that front ends gave, in the order of its text.
 ///
 /// Which expressions a `let` binds is not kept: [`binds`](crate::binds) tells it of each as fast as
 /// a table would.
 #[derive(Debug, Drop)]
 pub struct Plan {
     scope: Scope,
+    given: Vec<String>,
 }
 
-/// Contracts see a plan as the table of where the expressions stand at the function's start.
+/// Contracts see a plan as where the expressions stand at the function's start, and the names.
 impl Model for Plan {
-    ghost use Rattle.std.specs.Prelude.{List};
-    ghost use Rattle.naga_scope.specs.declared.points.Standing.{Standing};
+    ghost use Rattle.std.specs.Prelude.{map, string_bytes};
+    ghost use Rattle.naga_scope.specs.Plans.{Planned};
 
-    ghost Value = { List Standing };
+    ghost Value = { Planned };
 
-    ghost view = { λ p. p.scope };
+    ghost view = { λ p. record { scope = p.scope; given = map string_bytes p.given.items } };
 }
 
 impl Plan {
     /// The plan of the function with this handle, for a module that is accepted with what is known
     /// of it, and is of the part that is written so far. Where the rules of scope don't hold in the
-    /// function, a written expression has no form, or there is no memory, there is no plan.
+    /// function, a written expression has no form, a label gets no name, or there is no memory,
+    /// there is no plan.
     ///
-    /// It takes memory three times: one table serves the check, is then set back to the function's
-    /// start, and serves the text; two others have the marks of what may be written out as a constant
-    /// and of what is written, and are given back.
+    /// The namer names the labels that front ends gave to what the function emits, in the order of
+    /// the text. Where there is no plan, it has named some first ones of them.
+    ///
+    /// Beside the names it takes memory three times: one table serves the check, is then set back to
+    /// the function's start, and serves the text; two others have the marks of what may be written out
+    /// as a constant and of what is written, and are given back.
     pub fn of(
         alloc: Global,
         module: &Module,
         info: &ModuleInfo,
         handle: Handle<Function>,
+        namer: &mut Namer,
     ) -> Result<Plan, PlanError>
         requires accepted { IsTrue (is_accepted «module».now info.now) }
         requires written { IsTrue (is_written_so_far «module».now info.now) }
         requires handle { handle < length «module».now.functions }
         ensures ok { IfOk result (IsPlanOf «module».now info.now handle) }
-        ensures err { IfErr result (IsRefusalToPlanOf «module».now info.now handle) }
+        ensures named { IfOk result (λ p.
+            NamesLabels namer.old [] (labels_given «module».now handle) namer.new p.given) }
+        ensures err { IfErr result (IsRefusalToPlanOf «module».now info.now handle namer.old) }
+        ensures begun { OnErr result
+            (HasBegunLabels namer.old (labels_given «module».now handle) namer.new) }
     {
         Plan::of_function(
             alloc,
             &module.types,
             &module.functions[handle],
             &info[handle],
+            namer,
         )
     }
 
@@ -93,6 +121,7 @@ impl Plan {
         types: &UniqueArena<Type_>,
         function: &Function,
         info: &FunctionInfo,
+        namer: &mut Namer,
     ) -> Result<Plan, PlanError>
         requires ordered { OperandsStandBefore function.now.expressions }
         requires written { IsTrue (function_is_written function.now) }
@@ -101,10 +130,15 @@ impl Plan {
         ensures ok { (m : Module) (known : ModuleInfo) → m.types ≡ types.now →
             IsTrue (types_allow_all m.types function.now info.now) →
             IfOk result (IsPlan m known function.now info.now) }
+        ensures named { IfOk result (λ p.
+            NamesLabels namer.old [] (given_labels function.now) namer.new p.given) }
         ensures err { (m : Module) (known : ModuleInfo) → m.types ≡ types.now →
             IsTrue (types_allow_all m.types function.now info.now) →
-            IfErr result (IsRefusalToPlan m known function.now info.now) }
+            IfErr result (IsRefusalToPlan m known function.now info.now namer.old) }
+        ensures begun { OnErr result
+            (HasBegunLabels namer.old (given_labels function.now) namer.new) }
     {
+        let given = given_names(alloc, function, namer)?;
         let mut scope = Scope::start(alloc, function)?;
         if !function_holds(&mut scope, function, info) {
             return Err(PlanError::OutOfScope);
@@ -113,14 +147,15 @@ impl Plan {
             return Err(PlanError::WithoutForm(handle));
         }
         scope.restart(function);
-        Ok(Plan { scope })
+        Ok(Plan { scope, given })
     }
 
-    /// Where the expressions stand at the function's start.
-    pub fn into_scope(self) -> Scope
-        ensures { result ≡ self }
+    /// Where the expressions stand at the function's start, and the names that front ends gave.
+    pub fn into_parts(self) -> (Scope, Vec<String>)
+        ensures scope { result.0 ≡ self.scope }
+        ensures given { map string_bytes result.1.items ≡ self.given }
     {
-        let Plan { scope } = self;
-        scope
+        let Plan { scope, given } = self;
+        (scope, given)
     }
 }

@@ -24,7 +24,7 @@ use Rattle.shader_runs.specs.Scope.{Handles, Naming}
 use Rattle.wgsl_words.specs.Words.{operator_text, unary_text}
 use Rattle.naga_form.proofs.Operators.{constructor_called, operator_row, typed_notation}
 use Rattle.naga_form.proofs.Operators.{unary_row}
-use Rattle.module_meaning.specs.Names.{numbered_name}
+use Rattle.module_meaning.specs.Names.{given_name, numbered_name}
 use Rattle.module_meaning.specs.ExpressionOperators.{applied_operator, constructor}
 use Rattle.module_meaning.specs.ExpressionOperators.{load_operator}
 use Rattle.module_meaning.specs.AlikeTypes.{has_form}
@@ -61,7 +61,8 @@ use Rattle.wgsl_text.proofs.Expressions.{call_text as call_row_text}
 use Rattle.wgsl_text.proofs.Expressions.{argument_text as argument_row_text}
 use Rattle.wgsl_text.proofs.Expressions.{next_argument_text as next_argument_row_text}
 use Rattle.wgsl_text.proofs.Expressions.{address_text as address_row_text, dereference_text}
-use Rattle.naga_scope.specs.Standings.{handles_of, standing_of}
+use Rattle.naga_scope.specs.Standings.{standing_of}
+use Rattle.naga_wgsl_fns.specs.Names.{bound_text}
 use Rattle.naga_scope.specs.declared.points.Standing.{Standing}
 use Rattle.naga_scope.specs.declared.points.Standing.TheVariants.{Absent, Barred, Everywhere}
 use Rattle.naga_scope.specs.declared.points.Standing.TheVariants.{Inline, Named}
@@ -69,7 +70,8 @@ use Rattle.naga_words.specs.Output.{joined_texts}
 use Rattle.naga_wgsl_fns.specs.Literals.{literal_text}
 use Rattle.wgsl_text.specs.Reading.{expression_layout}
 use Rattle.naga_wgsl_fns.specs.declared.functions.FunctionText.{FunctionText}
-use Rattle.naga_wgsl_fns.specs.FunctionText.{CanWrite, around, expressions, naming, source}
+use Rattle.naga_wgsl_fns.specs.FunctionText.{CanWrite, around, expressions, handles_in, naming}
+use Rattle.naga_wgsl_fns.specs.FunctionText.{source}
 use Rattle.naga_wgsl_fns.specs.Names.{name_of_argument, name_of_local}
 use Rattle.naga_wgsl_fns.specs.Expressions.{address_text, applied_text, called_text, form_at}
 use Rattle.naga_wgsl_fns.specs.Expressions.{next_operand_text, operands_at, operands_left}
@@ -191,20 +193,20 @@ module _ (n : Naming) (code : Source) (before : OperandsStandBefore code.express
 -- ---- rows
 -- a handle's form, by its cell in the table
 pub cell_form : (f : FunctionText) (table : List Standing) (handle : ℕ) → CanWrite f → handle < length (expressions f)
-    → plain_form (naming f) (source f) (handles_of table) handle ≡ standing_plain (standing_of (numbered_name handle) (get_or table handle Absent)) (own_form f table handle)
-cell_form f table handle can lt = plain_level (naming f) (source f) (ordered f can) (handles_of table) handle lt
+    → plain_form (naming f) (source f) (handles_in f table) handle ≡ standing_plain (standing_of (given_name f.shader.now f.handle) (numbered_name handle) (get_or table handle Absent)) (own_form f table handle)
+cell_form f table handle can lt = plain_level (naming f) (source f) (ordered f can) (handles_in f table) handle lt
 
 -- a value, by its cell
 abbrev pub value_at : FunctionText → (table : List Standing) → (handle : ℕ) → (cell : Standing) → List ℕ
-value_at f table handle Named = numbered_name handle
+value_at f table handle (Named name) = bound_text f handle name
 value_at f table handle _ = own_text f table handle
 
 pub value_row : (f : FunctionText) (table : List Standing) (handle : ℕ) → CanWrite f → handle < length (expressions f) → value_text f table handle ≡ value_at f table handle (get_or table handle Absent)
-unfolding value_text own_text
+unfolding value_text own_text bound_text
 value_row f table handle can lt = ap (λ form. expression_layout (as_value form)) (cell_form f table handle can lt) ∙ by (get_or table handle Absent)
   where
-    by : (cell : Standing) → expression_layout (as_value (standing_plain (standing_of (numbered_name handle) cell) (own_form f table handle))) ≡ value_at f table handle cell
-    by Named = name_text (numbered_name handle)
+    by : (cell : Standing) → expression_layout (as_value (standing_plain (standing_of (given_name f.shader.now f.handle) (numbered_name handle) cell) (own_form f table handle))) ≡ value_at f table handle cell
+    by (Named name) = name_text (bound_text f handle name)
     by Absent = refl
     by Barred = refl
     by Everywhere = refl
@@ -249,7 +251,7 @@ unfolding own_text literal_text name_of_argument address_text reference_text app
 own_row f table handle can = by (slice_get (expressions f) handle) refl
   where
     operand : ℕ → PlainForm
-    operand = plain_form (naming f) (source f) (handles_of table)
+    operand = plain_form (naming f) (source f) (handles_in f table)
 
     applied : (type : Option TypeSpecifier) (hs : List ℕ) (o : Option Operator) →
         expression_layout (as_value (applied_plain no_form type operand hs o)) ≡
@@ -313,7 +315,7 @@ reference_by f table handle _ = pointed_text f table handle
 
 abbrev pub reference_at : FunctionText → (table : List Standing) → (handle : ℕ) → (cell : Standing) →
     Option ir.Expression → List ℕ
-reference_at f table handle Named e = pointed_text f table handle
+reference_at f table handle (Named name) e = pointed_text f table handle
 reference_at f table handle _ e = reference_by f table handle e
 
 pub reference_row : (f : FunctionText) (table : List Standing) (handle : ℕ) → CanWrite f →
@@ -328,7 +330,7 @@ reference_row f table handle can lt =
     cell = get_or table handle Absent
 
     operand : ℕ → PlainForm
-    operand = plain_form (naming f) (source f) (handles_of table)
+    operand = plain_form (naming f) (source f) (handles_in f table)
 
     own : Option ir.Expression → PlainForm
     own o = own_if (naming f) (source f) operand o
@@ -337,9 +339,9 @@ reference_row f table handle can lt =
     e = slice_get (expressions f) handle
 
     form : Standing → PlainForm
-    form c = standing_plain (standing_of (numbered_name handle) c) (own e)
+    form c = standing_plain (standing_of (given_name f.shader.now f.handle) (numbered_name handle) c) (own e)
 
-    is : plain_form (naming f) (source f) (handles_of table) handle ≡ form cell
+    is : plain_form (naming f) (source f) (handles_in f table) handle ≡ form cell
     is = cell_form f table handle can lt
 
     valued : (one : Expression) (type : Option TypeSpecifier) (hs : List ℕ) (o : Option Operator) →
@@ -403,7 +405,7 @@ reference_row f table handle can lt =
 
     by : (c : Standing) → form_at f table handle ≡ form c →
         expression_layout (as_reference (form c)) ≡ reference_at f table handle c e
-    by Named mine = ap (λ q. expression_layout (Dereference (as_value q))) (sym mine)
+    by (Named name) mine = ap (λ q. expression_layout (Dereference (as_value q))) (sym mine)
     by Absent mine = kind mine e refl
     by Barred mine = kind mine e refl
     by Everywhere mine = kind mine e refl
@@ -416,7 +418,7 @@ pub prefix_row : (f : FunctionText) (table : List Standing) (op : ir_unary.Unary
     (joined_texts (codes "(") (joined_texts (value_text f table operand) (codes ")")))
 unfolding applied_text value_text joined_texts
 prefix_row f table op operand =
-    let form = value_form (naming f) (source f) (handles_of table) in
+    let form = value_form (naming f) (source f) (handles_in f table) in
     unary_row_text (unary_form op) (form operand)
     ∙ ap (λ w. joined_texts w (joined_texts (codes "(") (joined_texts (expression_layout (form operand)) (codes ")")))) (sym (unary_row op))
 
@@ -431,7 +433,7 @@ pub infix_row : (f : FunctionText) (table : List Standing) (op : ir_operator.Bin
     (joined_texts (codes " ") (joined_texts (value_text f table right) (codes ")"))))))
 unfolding applied_text value_text joined_texts
 infix_row f table op left right =
-    let form = value_form (naming f) (source f) (handles_of table) in
+    let form = value_form (naming f) (source f) (handles_in f table) in
     binary_row_text (form left) (operator_form op) (form right)
     ∙ ap (λ w. joined_texts (codes "(") (joined_texts (expression_layout (form left)) (joined_texts (codes " ") (joined_texts w (joined_texts (codes " ") (joined_texts (expression_layout (form right)) (codes ")"))))))) (sym (operator_row op))
 
@@ -533,4 +535,4 @@ address_row f local = address_row_text (Name (name_of_local f local)) ∙ ap (λ
 
 pub pointed_row : (f : FunctionText) (table : List Standing) (handle : ℕ) → pointed_text f table handle ≡ joined_texts (codes "(*") (joined_texts (value_text f table handle) (codes ")"))
 unfolding pointed_text value_text joined_texts
-pointed_row f table handle = dereference_text (value_form (naming f) (source f) (handles_of table) handle)
+pointed_row f table handle = dereference_text (value_form (naming f) (source f) (handles_in f table) handle)

@@ -3,7 +3,8 @@
 use Rattle.std.proofs.Common.{◌≡◌, ℕ, ◌+◌, ◌<◌, ◌≤◌, ◌==◌, zero, suc, add-one, arith, ne_eqb}
 use Rattle.std.proofs.Common.{false, Option, None, Some, refl, sym, ap, subst, ◌∙◌, codes}
 use Rattle.std.proofs.Common.{List, [], ◌∷◌, ◌++◌, append_assoc, drop, length}
-use Rattle.std.proofs.Common.{slice_get, slice_index_or}
+use Rattle.std.proofs.Common.{slice_get, slice_index_or, get_or, map, string_bytes, ◌^◌}
+use Rattle.std.specs.declared.string.String.{String}
 use Rattle.std.specs.Prelude.{if◌then◌else◌, unwrap_or, IsTrue}
 use Rattle.std.specs.List.{list_all, zip}
 use Rattle.std.specs.Option.{option_map_or}
@@ -39,9 +40,11 @@ use Rattle.wgsl_text.proofs.Functions.{value_text as value_row_text, locals_text
 use Rattle.wgsl_text.proofs.Functions.{function_text as function_row_text}
 use Rattle.naga_names.specs.Keys.{names_in}
 use Rattle.shader_runs.specs.Scope.{Handles}
-use Rattle.module_meaning.specs.Names.{HasNamesOf, module_names}
+use Rattle.module_meaning.specs.GivenLabels.{given_labels}
+use Rattle.module_meaning.specs.Names.{HasNamesOf, given_name, module_names}
 use Rattle.module_meaning.specs.Written.{ExpressionsHaveForms}
 use Rattle.module_meaning.proofs.Part.{functions_allow, written_so_far_parts}
+use Rattle.naga_scope.specs.Standings.{TextPoint}
 use Rattle.naga_scope.specs.declared.points.Standing.{Standing}
 use Rattle.naga_words.specs.declared.error.TypeTextError.{TypeTextError}
 use Rattle.naga_words.specs.declared.error.TypeTextError.TheVariants.{Sink, Memory, NoForm}
@@ -95,8 +98,9 @@ one_is_known m info accepted g f es here known =
     let both = zip_at m.functions info.functions.items g f es here known in
     (accepted_at m info accepted g f es (in_left (zip m.functions info.functions.items) (entry_points_known m info) g (f, es) both)).size
 
-pub can_write : (t : FunctionText) → IsTrue (is_accepted t.shader.now t.module_info.now) → IsTrue (is_written_so_far t.shader.now t.module_info.now) → HasNamesOf t.shader.now (names_in t.names.now) → slice_get t.shader.now.functions t.handle ≡ Some t.function.now → slice_get t.module_info.now.functions.items t.handle ≡ Some t.info.now → ExpressionsHaveForms t.shader.now t.module_info.now t.function.now t.info.now → CanWrite t
-can_write t accepted written named here known formed =
+pub can_write : (t : FunctionText) → IsTrue (is_accepted t.shader.now t.module_info.now) → IsTrue (is_written_so_far t.shader.now t.module_info.now) → HasNamesOf t.shader.now (names_in t.names.now) → slice_get t.shader.now.functions t.handle ≡ Some t.function.now → slice_get t.module_info.now.functions.items t.handle ≡ Some t.info.now → ExpressionsHaveForms t.shader.now t.module_info.now t.function.now t.info.now →
+    ((number : ℕ) → option_map_or string_bytes (slice_get t.given.now number) [] ≡ given_name t.shader.now t.handle number) → length (given_labels t.function.now) < 2 ^ 64 → CanWrite t
+can_write t accepted written named here known formed given room =
     let m = t.shader.now in
     let info = t.module_info.now in
     let f = t.function.now in
@@ -113,7 +117,15 @@ can_write t accepted written named here known formed =
       written = list_all_at function_is_written m.functions t.handle f part.2 here;
       allowed = functions_allow m info written t.handle f t.info.now here known;
       formed = formed;
+      given = given;
+      room = room;
     }
+
+-- the names that a plan has are those of its texts
+pub names_read : {Y : Type 0} (names : List (String Y)) (number : ℕ) → option_map_or string_bytes (slice_get names number) [] ≡ get_or (map string_bytes names) number []
+names_read [] number = refl
+names_read (name ∷ names) zero = refl
+names_read (name ∷ names) (suc number) = names_read names number
 
 -- the text of a function that there is
 pub text_of_function_at : (t : FunctionText) → slice_get t.shader.now.functions t.handle ≡ Some t.function.now → slice_get t.module_info.now.functions.items t.handle ≡ Some t.info.now → text_of_function t.shader.now t.module_info.now t.flags t.handle ≡ function_text t
@@ -264,10 +276,10 @@ locals_row f = ap (λ t. locals_left f 0 f.function.now.local_variables ++ t) (s
     by (local ∷ more) = ap (λ b. if b then [] else codes "\n") (ne_eqb (suc (length more)) 0 (λ same. absurd (omega arith)))
 
 -- ---- the whole
-pub body_row : (f : FunctionText) (table : List Standing) → StartsAt f table → joined_texts (locals_text f) (joined_texts (block_text f table 1 f.function.now.body) (codes "}\n")) ≡ body_text f
+pub body_row : (f : FunctionText) (at : TextPoint) → StartsAt f at.table → at.given ≡ 0 → joined_texts (locals_text f) (joined_texts (block_text f at 1 f.function.now.body) (codes "}\n")) ≡ body_text f
 unfolding body_text block_text joined_texts
-body_row f table start =
-    ap (λ (s : Handles). locals_text f ++ (lines_text 1 (lines_form (naming f) (let_annotation f) (source f) 0 f.function.now.body s) ++ codes "}\n")) start
+body_row f at start none =
+    λ i. locals_text f ++ (lines_text 1 (lines_form (naming f) (let_annotation f) (source f) (none i) f.function.now.body (start i)) ++ codes "}\n")
 
 pub function_row : (f : FunctionText) → function_text f ≡ joined_texts (head_text f) (body_text f)
 unfolding function_text head_text body_text name_of_function arguments_text result_text locals_text joined_texts

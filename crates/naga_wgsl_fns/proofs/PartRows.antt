@@ -42,7 +42,7 @@ use Rattle.std.specs.Prelude.{IsTrue}
 use Rattle.module_meaning.specs.ExpressionOperators.{applied_operator}
 use Rattle.module_meaning.specs.ExpressionOperators.{load_operator, points_to_atomic}
 use Rattle.module_meaning.specs.OperatorTable.{AtomicLoad, Operator, WithoutForm}
-use Rattle.module_meaning.specs.Names.{numbered_name}
+use Rattle.module_meaning.specs.Names.{given_name, numbered_name}
 use Rattle.module_meaning.specs.Part.{expression_is_of_part}
 use Rattle.naga_form.specs.Expressions.{PlainForm, Source, ValueForm, applied_plain, as_reference}
 use Rattle.module_meaning.specs.ExpressionOperators.{type_known}
@@ -52,12 +52,14 @@ use Rattle.naga_form.specs.Expressions.{standing_plain, value_forms}
 use Rattle.naga_form.specs.TypeTrees.{type_tree}
 use Rattle.naga_form.specs.Operators.{applied_form, notation}
 use Rattle.naga_info.specs.declared.info.TypeResolution.TheVariants.{Handle}
-use Rattle.naga_scope.specs.Standings.{handles_of, standing_of}
+use Rattle.naga_scope.specs.Standings.{standing_of}
+use Rattle.naga_scope.specs.declared.points.BoundName.{BoundName}
 use Rattle.naga_scope.specs.declared.points.Standing.TheVariants as cell
 use Rattle.naga_wgsl_fns.proofs.ExpressionRows.{cell_form}
 use Rattle.naga_wgsl_fns.proofs.Wanted.{is_of_part}
 use Rattle.naga_wgsl_fns.specs.Expressions.{own_form}
-use Rattle.naga_wgsl_fns.specs.FunctionText.{CanWrite, around, expressions, naming, source}
+use Rattle.naga_wgsl_fns.specs.FunctionText.{CanWrite, around, expressions, handles_in, naming}
+use Rattle.naga_wgsl_fns.specs.FunctionText.{source}
 use Rattle.shader_runs.specs.Scope.{Handles, Naming, Named as RunNamed, Standing as RunStanding}
 use Rattle.wgsl_text.specs.Literals.{Truth}
 use Rattle.wgsl_text.specs.Text.{text}
@@ -299,7 +301,7 @@ pub base_pointed : (f : FunctionText) (table : List Standing) (base : ℕ) →
 unfolding reference_text part_base_text joined_texts
 base_pointed f table base is =
     let e = as_reference (form_at f table base) in
-    let none = below_unsigned (naming f) (source f) (handles_of table) (length (expressions f)) base in
+    let none = below_unsigned (naming f) (source f) (handles_in f table) (length (expressions f)) base in
     sym
     (ap
     (λ b.
@@ -329,7 +331,7 @@ is_prefix _ = false
 
 -- by its cell
 abbrev pub signed_at : Option ir.Expression → (cell : Standing) → Bool
-signed_at e cell.Named = false
+signed_at e (cell.Named name) = false
 signed_at e _ = is_prefix e
 
 pub signed_row : (f : FunctionText) (table : List Standing) (handle : ℕ) → CanWrite f →
@@ -341,7 +343,7 @@ signed_row f table handle can lt =
     ∙ by (get_or table handle cell.Absent)
   where
     operand : ℕ → PlainForm
-    operand = plain_form (naming f) (source f) (handles_of table)
+    operand = plain_form (naming f) (source f) (handles_in f table)
 
     loaded : (pointer : ℕ) (atomic : Bool) →
         is_signed
@@ -350,7 +352,7 @@ signed_row f table handle can lt =
         (if atomic then Some AtomicLoad else None))) ≡ false
     loaded pointer true = refl
     loaded pointer false =
-        below_unsigned (naming f) (source f) (handles_of table) (length (expressions f)) pointer
+        below_unsigned (naming f) (source f) (handles_in f table) (length (expressions f)) pointer
 
     parted : (o : Option ir.Expression) → slice_get (expressions f) handle ≡ o → (base : ℕ) →
         base_of o ≡ Some base →
@@ -412,9 +414,10 @@ signed_row f table handle can lt =
     by : (c : Standing) →
         is_signed
         (as_value
-        (standing_plain (standing_of (numbered_name handle) c) (own_form f table handle))) ≡
+        (standing_plain (standing_of (given_name f.shader.now f.handle) (numbered_name handle) c)
+        (own_form f table handle))) ≡
         signed_at (slice_get (expressions f) handle) c
-    by cell.Named = refl
+    by (cell.Named name) = refl
     by cell.Absent = whole
     by cell.Barred = whole
     by cell.Everywhere = whole
@@ -423,12 +426,13 @@ signed_row f table handle can lt =
 -- ---- what is found of a handle tells it
 module _ (f : FunctionText) (table : List Standing) (handle : ℕ) (can : CanWrite f)
     (lt : handle < length (expressions f)) (c : Standing) (at : c ≡ get_or table handle cell.Absent) where
-  pub signed_named : c ≡ cell.Named → false ≡ is_signed (as_value (form_at f table handle))
-  signed_named is =
+  pub signed_named : (name : BoundName) → c ≡ cell.Named name →
+      false ≡ is_signed (as_value (form_at f table handle))
+  signed_named name is =
       sym (signed_row f table handle can lt
       ∙ ap (signed_at (slice_get (expressions f) handle)) (sym at ∙ is))
 
-  pub signed_unnamed : (c ≡ cell.Named → ⊥) → (e : ir.Expression) →
+  pub signed_unnamed : ((name : BoundName) → c ≡ cell.Named name → ⊥) → (e : ir.Expression) →
       slice_get (expressions f) handle ≡ Some e →
       is_prefix (Some e) ≡ is_signed (as_value (form_at f table handle))
   signed_unnamed not_named e here =
@@ -436,9 +440,9 @@ module _ (f : FunctionText) (table : List Standing) (handle : ℕ) (can : CanWri
       ∙ (ap (signed_at (slice_get (expressions f) handle)) (sym at)
       ∙ (by c not_named ∙ ap is_prefix here)))
     where
-      by : (c : Standing) → (c ≡ cell.Named → ⊥) →
+      by : (c : Standing) → ((name : BoundName) → c ≡ cell.Named name → ⊥) →
           signed_at (slice_get (expressions f) handle) c ≡ is_prefix (slice_get (expressions f) handle)
-      by cell.Named not_named = absurd (not_named refl)
+      by (cell.Named name) not_named = absurd (not_named name refl)
       by cell.Absent not_named = refl
       by cell.Barred not_named = refl
       by cell.Everywhere not_named = refl

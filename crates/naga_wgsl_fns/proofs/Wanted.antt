@@ -1,11 +1,11 @@
 -- What the parts of a function want, from what the function wants.
 use Rattle.std.proofs.Common.{Vec, Global}
-use Rattle.std.proofs.Common.{◌≡◌, ℕ, suc, ◌<◌, true, false, List, [], ◌++◌, codes, length}
+use Rattle.std.proofs.Common.{◌≡◌, ℕ, ◌+◌, Bool, ◌<◌, true, false, List, [], ◌++◌, codes, length}
 use Rattle.std.proofs.Common.{Option, Some, None, refl, sym, ap, subst, ◌∙◌, IsTrue, arith}
 use Rattle.std.proofs.lemmas.Option.{same_Some}
 use Rattle.std.specs.Prelude.{slice_get, cond, nat_lt, unwrap_or}
 use Rattle.std.specs.List.{list_all}
-use Rattle.std.specs.Option.{is_some, option_map, option_map_or, option_and_then}
+use Rattle.std.specs.Option.{is_some, option_map, option_map_or, option_and_then, option_to_list}
 use Rattle.std.proofs.lemmas.Bool.{and_parts, ltb-true}
 use Rattle.naga_ir.specs.Operands.{expression_operands}
 use Rattle.naga_ir.specs.StatementTree.{StatementTree}
@@ -36,7 +36,7 @@ use Rattle.naga_wgsl_fns.specs.FunctionText.{AreInText}
 use Rattle.module_meaning.proofs.ModuleShapes.{points_plainly}
 use Rattle.module_meaning.specs.ExpressionOperators.{points_to_atomic}
 use Rattle.module_meaning.specs.FunctionShapes.{statement_shape}
-use Rattle.module_meaning.specs.Names.{module_names, numbered_name}
+use Rattle.module_meaning.specs.Names.{given_name, module_names, numbered_name}
 use Rattle.module_meaning.specs.OperatorTable.{relational_word}
 use Rattle.module_meaning.specs.AlikeTypes.{has_form}
 use Rattle.module_meaning.specs.Part.{expression_is_written, is_written_literal, types_allow}
@@ -65,14 +65,16 @@ use Rattle.naga_wgsl_fns.specs.Expressions.{has_components, is_of_components, is
 use Rattle.naga_wgsl_fns.specs.FunctionText.{source}
 use Rattle.std.proofs.lemmas.Option.{slice_get_within}
 use Rattle.std.specs.Prelude.{if◌then◌else◌}
-use Rattle.module_meaning.specs.Part.{names_nothing}
 use Rattle.module_meaning.specs.Ranges.{is_below, local_in_range, names_in_range, resolution_fits}
 use Rattle.module_meaning.specs.Premises.{OperandsStandBefore}
 use Rattle.module_meaning.specs.Types.{type_names}
 use Rattle.shader_runs.specs.Premises.{AllBelow}
-use Rattle.shader_runs.specs.Scope.{bound_name, given_after, given_by}
+use Rattle.shader_runs.specs.Scope.{given_after, given_by}
 use Rattle.naga_form.proofs.AcceptedFunctions.{locals_are_in_range, names_are_in_range}
-use Rattle.naga_form.proofs.Fits.{none_is_given, none_given_by as nothing_given_by}
+use Rattle.naga_form.proofs.Fits.{given_by_is, given_is, given_one}
+use Rattle.module_meaning.specs.GivenLabels.{label_of, labels_in}
+use Rattle.naga_scope.specs.Standings.{name_of_bound, next_name}
+use Rattle.naga_wgsl_fns.specs.Names.{bound_text, next_name_text}
 use Rattle.naga_form.proofs.Ordered.{operands_stand_before}
 use Rattle.naga_form.proofs.PartFits.{function_parts}
 use Rattle.naga_form.proofs.WrittenTypes.{no_struct, no_struct_known, tree_there}
@@ -483,14 +485,19 @@ module _ (t : FunctionText) (can : CanWrite t) where
       by _ is none = absurd cc
 
   -- ---- names of handles
-  unnamed : IsTrue (names_nothing f)
-  unnamed = (function_parts f can.written).unnamed
+  pub given_after_one : (h k : ℕ) → given_after (naming t).function h k ≡ k + length (option_to_list (label_of f h))
+  given_after_one h k = given_one m t.module_info.now f es h k
 
-  pub none_given : (h k : ℕ) → given_after (naming t).function h k ≡ k
-  none_given h k = ap (λ b. cond b (suc k) k) (none_is_given m t.module_info.now f es unnamed h)
+  pub given_after_statement : (st : StatementTree) (k : ℕ) → given_by (naming t).function (statement_shape (around t) st) k ≡ k + length (labels_in f st)
+  given_after_statement st k = given_by_is m t.module_info.now f es st k
 
-  pub bound_is : (h : ℕ) → numbered_name h ≡ bound_name (naming t) 0 h
-  bound_is h = sym (ap (λ b. cond b [] (numbered_name h)) (none_is_given m t.module_info.now f es unnamed h))
-
-  pub none_given_by : (st : StatementTree) → given_by (naming t).function (statement_shape (around t) st) 0 ≡ 0
-  none_given_by st = nothing_given_by m t.module_info.now f es unnamed st 0
+  -- what a `let` names a handle behind so many given names
+  pub next_row : (k h : ℕ) → bound_text t h (next_name (is_some (label_of f h)) k) ≡ next_name_text t k h
+  unfolding bound_text next_name_text
+  next_row k h =
+      by (is_some (label_of f h))
+      ∙ sym (ap (λ b. cond b (given_name m g k) (numbered_name h)) (given_is m t.module_info.now f es h))
+    where
+      by : (b : Bool) → name_of_bound (given_name m g) (numbered_name h) (next_name b k) ≡ cond b (given_name m g k) (numbered_name h)
+      by true = refl
+      by false = refl

@@ -31,19 +31,19 @@ use Rattle.naga_form.specs.Expressions.{PlainForm, as_value, as_reference, value
 use Rattle.naga_form.specs.Expressions.{plain_form, unnamed_form}
 use Rattle.naga_form.specs.Operators.{Notation, Called, applied_form}
 use Rattle.naga_scope.specs.declared.points.Standing.{Standing}
-use Rattle.naga_scope.specs.Standings.{handles_of}
 use Rattle.wgsl_text.specs.Reading.{expression_layout}
 use Rattle.naga_wgsl_fns.specs.declared.functions.FunctionText.{FunctionText}
 use Rattle.naga_form.specs.Types.{type_form}
-use Rattle.naga_wgsl_fns.specs.FunctionText.{expressions, naming, source, type_names_of}
+use Rattle.naga_wgsl_fns.specs.FunctionText.{expressions, handles_in, naming, source}
+use Rattle.naga_wgsl_fns.specs.FunctionText.{type_names_of}
 
 -- the form of a handle
 abbrev pub form_at : FunctionText → (table : List Standing) → (handle : ℕ) → PlainForm
-form_at f table handle = plain_form (naming f) (source f) (handles_of table) handle
+form_at f table handle = plain_form (naming f) (source f) (handles_in f table) handle
 
 -- the same whether it has a name or not
 abbrev pub own_form : FunctionText → (table : List Standing) → (handle : ℕ) → PlainForm
-own_form f table handle = unnamed_form (naming f) (source f) (handles_of table) handle
+own_form f table handle = unnamed_form (naming f) (source f) (handles_in f table) handle
 
 -- as a value: its name where it has one, else what it is made of
 unfoldable pub value_text : FunctionText → (table : List Standing) → (handle : ℕ) → List ℕ

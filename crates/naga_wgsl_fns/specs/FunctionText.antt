@@ -4,7 +4,10 @@ use Rattle.module_meaning.specs.Written.{ExpressionsHaveForms, IsWrittenIn}
 use Rattle.shader_runs.specs.Program.{binds}
 use Rattle.std.specs.List.{AllByRecursion}
 use Rattle.std.specs.Prelude.{◌≡◌, ℕ, ◌<◌, Bool, List, Option, Some, IsTrue, slice_get, bit_and, ◌==◌}
-use Rattle.std.specs.Prelude.{length}
+use Rattle.std.specs.Prelude.{length, [], ◌^◌, string_bytes}
+use Rattle.std.specs.Option.{option_map_or}
+use Rattle.naga_scope.specs.declared.points.Standing.{Standing}
+use Rattle.naga_scope.specs.Standings.{handles_of}
 use Rattle.std.specs.List.{list_all}
 use Rattle.naga_ir.specs.declared.expression.Expression.{Expression}
 use Rattle.module_meaning.specs.Accepted.{is_accepted}
@@ -12,8 +15,9 @@ use Rattle.module_meaning.specs.Part.{function_is_written, is_written_so_far, ty
 use Rattle.module_meaning.specs.Part.{types_allow_all}
 use Rattle.module_meaning.specs.Ranges.{function_in_range}
 use Rattle.naga_names.specs.Keys.{names_in}
-use Rattle.shader_runs.specs.Scope.{Naming}
-use Rattle.module_meaning.specs.Names.{HasNamesOf, module_names}
+use Rattle.shader_runs.specs.Scope.{Handles, Naming}
+use Rattle.module_meaning.specs.GivenLabels.{given_labels}
+use Rattle.module_meaning.specs.Names.{HasNamesOf, given_name, module_names}
 use Rattle.module_meaning.specs.ExpressionOperators.{Surroundings}
 use Rattle.module_meaning.specs.Namings.{function_naming}
 use Rattle.naga_form.specs.Expressions.{Source, function_source}
@@ -33,6 +37,10 @@ abbrev pub naming : FunctionText → Naming
 naming f =
     let m = f.shader.now in
     function_naming (module_names m) m f.module_info.now f.handle f.function.now f.info.now
+
+-- what a table of where its expressions stand says of them
+abbrev pub handles_in : FunctionText → List Standing → Handles
+handles_in f table = handles_of (given_name f.shader.now f.handle) table
 
 -- its expressions
 abbrev pub expressions : FunctionText → List Expression
@@ -70,7 +78,8 @@ AreInText f handles = AllByRecursion (IsInText f) handles
 
 -- It is a function of its module, which is accepted and of the part that is written so far, and has
 -- its names. All that it names is there, if it may call the functions before it, and of each of its
--- expressions one type is known. Each expression that is written has a form.
+-- expressions one type is known. Each expression that is written has a form. Its names that
+-- front ends gave are there, in the order of the text, and told apart in 64 bits.
 pub record CanWrite (f : FunctionText) : Type 0 where
   pub named : HasNamesOf f.shader.now (names_in f.names.now)
   pub accepted : IsTrue (is_accepted f.shader.now f.module_info.now)
@@ -83,3 +92,6 @@ pub record CanWrite (f : FunctionText) : Type 0 where
   pub written : IsTrue (function_is_written f.function.now)
   pub formed : ExpressionsHaveForms f.shader.now f.module_info.now f.function.now f.info.now
   pub allowed : IsTrue (types_allow_all f.shader.now.types f.function.now f.info.now)
+  pub given : (number : ℕ) → option_map_or string_bytes (slice_get f.given.now number) []
+      ≡ given_name f.shader.now f.handle number
+  pub room : length (given_labels f.function.now) < 2 ^ 64

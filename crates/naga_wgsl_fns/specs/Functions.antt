@@ -18,11 +18,11 @@ use Rattle.wgsl_text.specs.Functions.{function_pieces}
 use Rattle.naga_form.specs.Functions.{parameter_form, function_form}
 use Rattle.naga_form.specs.Types.{type_form}
 use Rattle.naga_scope.specs.declared.points.Standing.{Standing}
-use Rattle.naga_scope.specs.Standings.{handles_of}
 use Rattle.wgsl_text.specs.Text.{text}
 use Rattle.naga_back.specs.declared.flags.WriterFlags.{WriterFlags}
 use Rattle.naga_wgsl_fns.specs.declared.functions.FunctionText.{FunctionText}
-use Rattle.naga_wgsl_fns.specs.FunctionText.{source, naming, tells_types, type_names_of}
+use Rattle.naga_wgsl_fns.specs.FunctionText.{handles_in, source, naming, tells_types}
+use Rattle.naga_wgsl_fns.specs.FunctionText.{type_names_of}
 use Rattle.naga_wgsl_fns.specs.Names.{name_of_function}
 use Rattle.naga_wgsl_fns.specs.Statements.{lines_text}
 use Rattle.naga_wgsl_fns.specs.Types.{type_text}
@@ -87,7 +87,7 @@ answer_text f ty = codes " -> " ++ type_text f ty
 -- ---- the body
 -- the table has what is in scope at the start
 abbrev pub StartsAt : FunctionText → (table : List Standing) → Type 0
-StartsAt f table = handles_of table ≡ at_start (naming f).function
+StartsAt f table = handles_in f table ≡ at_start (naming f).function
 
 -- the locals, and an empty line behind them if there are any
 unfoldable pub locals_text : FunctionText → List ℕ

@@ -1,5 +1,5 @@
--- The texts of statements, by the level of their lines and the table of what is in scope before
--- them.
+-- The texts of statements, by the level of their lines and the point in front of them: the table of
+-- what is in scope there, and how many names that front ends gave stand in front of it.
 use Rattle.std.specs.Prelude.{ℕ, List, ◌++◌, Option, cond, []}
 use Rattle.naga_ir.specs.StatementTree.{BlockTree, StatementTree}
 use Rattle.naga_back.specs.Indentation.{indentation}
@@ -10,10 +10,10 @@ use Rattle.wgsl_text.specs.Statements.{Statement, Assign, ReturnValue, Statement
 use Rattle.wgsl_text.specs.Statements.{statement_pieces, statements_pieces}
 use Rattle.naga_form.specs.Statements.{let_form, lets_form, return_line, line_form, lines_form}
 use Rattle.naga_scope.specs.declared.points.Standing.{Standing}
-use Rattle.naga_scope.specs.Standings.{handles_of}
+use Rattle.naga_scope.specs.Standings.{TextPoint}
 use Rattle.wgsl_text.specs.Text.{text}
 use Rattle.naga_wgsl_fns.specs.declared.functions.FunctionText.{FunctionText}
-use Rattle.naga_wgsl_fns.specs.FunctionText.{source, naming, let_annotation}
+use Rattle.naga_wgsl_fns.specs.FunctionText.{handles_in, source, naming, let_annotation}
 use Rattle.naga_wgsl_fns.specs.Expressions.{form_at, own_form}
 
 -- a statement's lines
@@ -36,7 +36,7 @@ store_text f table level pointer value =
 unfoldable pub return_text : FunctionText → (table : List Standing)
     → (level : ℕ) (value : Option ℕ) → List ℕ
 return_text f table level value =
-    line_text level (return_line (naming f) (source f) (handles_of table) value)
+    line_text level (return_line (naming f) (source f) (handles_in f table) value)
 
 unfoldable pub return_value_text : FunctionText → (table : List Standing)
     → (level value : ℕ) → List ℕ
@@ -44,40 +44,36 @@ return_value_text f table level value =
     line_text level (ReturnValue (as_value (form_at f table value)))
 
 -- the `let` of a handle
-abbrev pub let_line : FunctionText → (table : List Standing) → (handle : ℕ) → Statement
-let_line f table handle =
-    let_form (let_annotation f handle) (bound_name (naming f) 0 handle)
-    (as_value (own_form f table handle))
+abbrev pub let_line : FunctionText → TextPoint → (handle : ℕ) → Statement
+let_line f at handle =
+    let_form (let_annotation f handle) (bound_name (naming f) at.given handle)
+    (as_value (own_form f at.table handle))
 
-unfoldable pub let_text : FunctionText → (table : List Standing) → (level handle : ℕ) → List ℕ
-let_text f table level handle = line_text level (let_line f table handle)
+unfoldable pub let_text : FunctionText → TextPoint → (level handle : ℕ) → List ℕ
+let_text f at level handle = line_text level (let_line f at handle)
 
 -- the same, if it is to be bound
-unfoldable pub emitted_text : FunctionText → (table : List Standing) → (level handle : ℕ) → List ℕ
-emitted_text f table level handle =
-    cond (binds (naming f).function handle) (let_text f table level handle) []
+unfoldable pub emitted_text : FunctionText → TextPoint → (level handle : ℕ) → List ℕ
+emitted_text f at level handle =
+    cond (binds (naming f).function handle) (let_text f at level handle) []
 
 -- the `let`s of these handles
-unfoldable pub lets_text : FunctionText → (table : List Standing) → (level : ℕ)
-    → (handles : List ℕ) → List ℕ
-lets_text f table level handles =
-    let rest = NoStatements in
+unfoldable pub lets_text : FunctionText → TextPoint → (level : ℕ) → (handles : List ℕ) → List ℕ
+lets_text f at level handles =
     let lets =
-    lets_form (naming f) (let_annotation f) (source f) 0 handles (handles_of table) rest in
+    lets_form (naming f) (let_annotation f) (source f) at.given handles (handles_in f at.table)
+    NoStatements in
     lines_text level lets
 
 -- a statement of a block
-unfoldable pub statement_text : FunctionText → (table : List Standing) → (level : ℕ)
-    → StatementTree → List ℕ
-statement_text f table level statement =
-    let rest = NoStatements in
+unfoldable pub statement_text : FunctionText → TextPoint → (level : ℕ) → StatementTree → List ℕ
+statement_text f at level statement =
     let lines =
-    line_form (naming f) (let_annotation f) (source f) 0 statement (handles_of table)
-    rest in
+    line_form (naming f) (let_annotation f) (source f) at.given statement (handles_in f at.table)
+    NoStatements in
     lines_text level lines
 
-unfoldable pub block_text : FunctionText → (table : List Standing) → (level : ℕ)
-    → BlockTree → List ℕ
-block_text f table level block =
+unfoldable pub block_text : FunctionText → TextPoint → (level : ℕ) → BlockTree → List ℕ
+block_text f at level block =
     lines_text level
-    (lines_form (naming f) (let_annotation f) (source f) 0 block (handles_of table))
+    (lines_form (naming f) (let_annotation f) (source f) at.given block (handles_in f at.table))

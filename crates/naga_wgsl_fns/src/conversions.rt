@@ -37,7 +37,7 @@ impl FunctionText<'_> {
         requires formed { IsTrue (expression_is_written self.now.shader.now.types self.now.info.now
             (As operand kind convert)) }
         ensures { Writes W.text W.failures out.old out.new
-            (made_text self.now scope.now (conversion_callee self.now operand kind convert)
+            (made_text self.now scope.now.table (conversion_callee self.now operand kind convert)
             handle) }
     {
         self.write_callee(alloc, operand, kind, convert, out);

@@ -23,7 +23,6 @@ ghost use Rattle.wgsl_words.specs.Words.{math_word, unary_text};
 use crate::functions::FunctionText;
 use crate::images::image_query_str;
 use crate::literal::write_literal;
-use crate::names::write_bound_name;
 use naga_back::binary_operation_str;
 use naga_ir::{
     BinaryOperator, DerivativeAxis, DerivativeControl, Expression, Handle, LocalVariable,
@@ -49,10 +48,10 @@ impl FunctionText<'_> {
     )
         requires can { CanWrite self.now }
         requires handle { IsInText self.now handle }
-        ensures { Writes W.text W.failures out.old out.new (value_text self.now scope.now handle) }
+        ensures { Writes W.text W.failures out.old out.new (value_text self.now scope.now.table handle) }
     {
         match scope.standing(handle) {
-            Standing::Named => write_bound_name(handle, out),
+            Standing::Named(name) => self.write_bound_name(handle, name, out),
             _ => self.write_own(alloc, scope, handle, out),
         }
     }
@@ -69,7 +68,7 @@ impl FunctionText<'_> {
     )
         requires can { CanWrite self.now }
         requires handle { IsInText self.now handle }
-        ensures { Writes W.text W.failures out.old out.new (own_text self.now scope.now handle) }
+        ensures { Writes W.text W.failures out.old out.new (own_text self.now scope.now.table handle) }
     {
         match &self.function.expressions[handle] {
             Expression::Literal(literal) => write_literal(*literal, out),
@@ -142,10 +141,10 @@ impl FunctionText<'_> {
         requires can { CanWrite self.now }
         requires handle { IsInText self.now handle }
         ensures { Writes W.text W.failures out.old out.new
-            (reference_text self.now scope.now handle) }
+            (reference_text self.now scope.now.table handle) }
     {
         match scope.standing(handle) {
-            Standing::Named => self.write_dereference(alloc, scope, handle, out),
+            Standing::Named(_) => self.write_dereference(alloc, scope, handle, out),
             _ => match &self.function.expressions[handle] {
                 Expression::LocalVariable(local) => self.write_local_name(*local, out),
                 Expression::Access { base, .. } => {
@@ -172,7 +171,7 @@ impl FunctionText<'_> {
         requires can { CanWrite self.now }
         requires handle { IsInText self.now handle }
         ensures { Writes W.text W.failures out.old out.new
-            (pointed_text self.now scope.now handle) }
+            (pointed_text self.now scope.now.table handle) }
     {
         out.put("(*");
         self.write_value(alloc, scope, handle, out);
@@ -193,7 +192,7 @@ impl FunctionText<'_> {
         requires can { CanWrite self.now }
         requires operand { IsInText self.now operand }
         ensures { Writes W.text W.failures out.old out.new
-            (applied_text self.now scope.now (Prefix (unary_form op)) (operand ∷ [])) }
+            (applied_text self.now scope.now.table (Prefix (unary_form op)) (operand ∷ [])) }
     {
         out.put(unary_operation_str(op));
         out.put("(");
@@ -217,7 +216,7 @@ impl FunctionText<'_> {
         requires left { IsInText self.now left }
         requires right { IsInText self.now right }
         ensures { Writes W.text W.failures out.old out.new
-            (applied_text self.now scope.now (Infix (operator_form op)) (left ∷ right ∷ [])) }
+            (applied_text self.now scope.now.table (Infix (operator_form op)) (left ∷ right ∷ [])) }
     {
         out.put("(");
         self.write_value(alloc, scope, left, out);
@@ -242,7 +241,7 @@ impl FunctionText<'_> {
         requires can { CanWrite self.now }
         requires handle { IsInText self.now handle }
         ensures { Writes W.text W.failures out.old out.new
-            (called_text self.now scope.now word.now handle) }
+            (called_text self.now scope.now.table word.now handle) }
     {
         out.put(word);
         out.put("(");
@@ -264,7 +263,7 @@ impl FunctionText<'_> {
         requires handle { IsInText self.now handle }
         requires formed { IsTrue (has_form self.now.shader.now.types (resolution.Handle ty)) }
         ensures { Writes W.text W.failures out.old out.new
-            (made_text self.now scope.now (made_type self.now ty) handle) }
+            (made_text self.now scope.now.table (made_type self.now ty) handle) }
     {
         self.write_type(alloc, ty, out);
         out.put("(");
@@ -283,7 +282,7 @@ impl FunctionText<'_> {
         requires can { CanWrite self.now }
         requires handle { IsInText self.now handle }
         ensures { Writes W.text W.failures out.old out.new
-            (operands_text self.now scope.now handle) }
+            (operands_text self.now scope.now.table handle) }
     {
         let mut is_first = true;
         for operand in self.function.expressions[handle].operands() {
@@ -307,7 +306,7 @@ impl FunctionText<'_> {
         requires can { CanWrite self.now }
         requires operand { IsInText self.now operand }
         ensures { Writes W.text W.failures out.old out.new
-            (next_operand_text self.now scope.now is_first operand) }
+            (next_operand_text self.now scope.now.table is_first operand) }
     {
         out.put(if is_first { "" } else { ", " });
         self.write_value(alloc, scope, operand, out);

@@ -9,7 +9,7 @@ ghost use Rattle.module_meaning.specs.Part.{is_written_so_far};
 ghost use Rattle.naga_info.specs.declared.info.TypeResolution.TheVariants as resolution;
 ghost use Rattle.module_meaning.specs.Names.{HasNamesOf};
 ghost use Rattle.naga_names.specs.Keys.{names_in};
-ghost use Rattle.naga_scope.specs.Plans.{IsPlanOf};
+ghost use Rattle.naga_scope.specs.Plans.{AreGivenNames, IsPlanOf};
 ghost use Rattle.naga_words.specs.Output.{Writes};
 ghost use Rattle.naga_words.specs.Sink.{IsBehind};
 ghost use Rattle.naga_wgsl_fns.specs.Errors.{IsWant};
@@ -37,7 +37,8 @@ use std::alloc::Global;
 use std::collections::HashMap;
 
 /// Writes the declaration of a function, with the line end behind its last line: the function, its
-/// arguments and its locals under their names in `names`, which has them all.
+/// arguments and its locals under their names in `names`, which has them all, and what front ends
+/// named under the names that the plan has.
 ///
 /// The module is accepted with what is known of it, and is one of those that are written so far.
 /// The plan is that of the function.
@@ -61,6 +62,7 @@ pub fn write_function<W: TextSink>(
     requires handle { handle < length «module».now.functions }
     requires names { HasNamesOf «module».now (names_in names.now) }
     requires planned { IsPlanOf «module».now info.now handle plan }
+    requires named { AreGivenNames «module».now handle plan.given }
     ensures text_ok { OnOk result (W.text out.new
         ≡ W.text out.old ++ text_of_function «module».now info.now flags handle) }
     ensures text_err { OnErr result (IsBehind (W.text out.old)
@@ -68,17 +70,19 @@ pub fn write_function<W: TextSink>(
     ensures failures_ok { OnOk result (W.failures out.new ≡ W.failures out.old) }
     ensures reason { IfErr result (IsWant (W.failures out.old) (W.failures out.new)) }
 {
+    let (mut scope, given) = plan.into_parts();
     let text = FunctionText {
         shader: module,
         module_info: info,
         names,
+        given: given.as_slice(),
         flags,
         handle,
         function: &module.functions[handle],
         info: &info[handle],
     };
     let mut written = Output::new(out);
-    text.write_declaration(alloc, plan, &mut written);
+    text.write_declaration(alloc, &mut scope, &mut written);
     match written.outcome() {
         Ok(()) => Ok(()),
         Err(want) => Err(error_of_want(want)),
@@ -91,6 +95,8 @@ pub(crate) struct FunctionText<'a> {
     pub(crate) shader: &'a Module,
     pub(crate) module_info: &'a ModuleInfo,
     pub(crate) names: &'a HashMap<NameKey, String>,
+    /// The names that front ends gave, in the order of the text.
+    pub(crate) given: &'a [String],
     pub(crate) flags: WriterFlags,
     pub(crate) handle: Handle<Function>,
     pub(crate) function: &'a Function,
@@ -98,17 +104,22 @@ pub(crate) struct FunctionText<'a> {
 }
 
 impl FunctionText<'_> {
-    /// The whole function. The plan has what is in scope at its start.
+    /// The whole function. `scope` is what is in scope at its start.
     #[tactic(auto, using(naga_words::proofs::Writing::writes_then, crate::proofs::FunctionRows::function_row))]
-    fn write_declaration<W: TextSink>(&self, alloc: Global, plan: Plan, out: &mut Output<'_, W>)
+    fn write_declaration<W: TextSink>(
+        &self,
+        alloc: Global,
+        scope: &mut Scope,
+        out: &mut Output<'_, W>,
+    )
         requires can { CanWrite self.now }
-        requires start { StartsAt self.now plan }
-        requires size { length plan ≡ length self.now.function.now.expressions }
+        requires start { StartsAt self.now scope.old.table }
+        requires given { scope.old.given ≡ 0 }
+        requires size { length scope.old.table ≡ length self.now.function.now.expressions }
         ensures { Writes W.text W.failures out.old out.new (function_text self.now) }
     {
         self.write_head(alloc, out);
-        let mut scope = plan.into_scope();
-        self.write_body(alloc, &mut scope, out);
+        self.write_body(alloc, scope, out);
     }
 
     /// What stands before the locals.
@@ -201,8 +212,9 @@ impl FunctionText<'_> {
     #[tactic(auto, using(naga_words::proofs::Writing::writes_then, crate::proofs::FunctionRows::body_row))]
     fn write_body<W: TextSink>(&self, alloc: Global, scope: &mut Scope, out: &mut Output<'_, W>)
         requires can { CanWrite self.now }
-        requires start { StartsAt self.now scope.old }
-        requires size { length scope.old ≡ length self.now.function.now.expressions }
+        requires start { StartsAt self.now scope.old.table }
+        requires given { scope.old.given ≡ 0 }
+        requires size { length scope.old.table ≡ length self.now.function.now.expressions }
         ensures { Writes W.text W.failures out.old out.new (body_text self.now) }
     {
         self.write_locals(alloc, scope, out);
@@ -214,7 +226,7 @@ impl FunctionText<'_> {
     #[tactic(auto, using(naga_words::proofs::Writing::loop_writes))]
     fn write_locals<W: TextSink>(&self, alloc: Global, scope: &Scope, out: &mut Output<'_, W>)
         requires can { CanWrite self.now }
-        requires start { StartsAt self.now scope.now }
+        requires start { StartsAt self.now scope.now.table }
         ensures { Writes W.text W.failures out.old out.new (locals_text self.now) }
     {
         for index in 0..self.function.local_variables.len() {
@@ -232,7 +244,7 @@ impl FunctionText<'_> {
         out: &mut Output<'_, W>,
     )
         requires can { CanWrite self.now }
-        requires start { StartsAt self.now scope.now }
+        requires start { StartsAt self.now scope.now.table }
         requires local { handle < length self.now.function.now.local_variables }
         ensures { Writes W.text W.failures out.old out.new (local_text self.now handle) }
     {
@@ -254,7 +266,7 @@ impl FunctionText<'_> {
         out: &mut Output<'_, W>,
     )
         requires can { CanWrite self.now }
-        requires start { StartsAt self.now scope.now }
+        requires start { StartsAt self.now scope.now.table }
         requires value { AreInText self.now (option_to_list value) }
         ensures { Writes W.text W.failures out.old out.new (first_text self.now value) }
     {
@@ -273,7 +285,7 @@ impl FunctionText<'_> {
         out: &mut Output<'_, W>,
     )
         requires can { CanWrite self.now }
-        requires start { StartsAt self.now scope.now }
+        requires start { StartsAt self.now scope.now.table }
         requires value { IsInText self.now value }
         ensures { Writes W.text W.failures out.old out.new (first_value_text self.now value) }
     {

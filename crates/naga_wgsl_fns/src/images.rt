@@ -36,7 +36,7 @@ impl FunctionText<'_> {
         requires can { CanWrite self.now }
         requires handle { IsInText self.now handle }
         requires sampled { IsTrue (is_sampled (slice_get (expressions self.now) handle)) }
-        ensures { Writes W.text W.failures out.old out.new (own_text self.now scope.now handle) }
+        ensures { Writes W.text W.failures out.old out.new (own_text self.now scope.now.table handle) }
     {
         match &self.function.expressions[handle] {
             Expression::ImageSample {
@@ -112,7 +112,7 @@ impl FunctionText<'_> {
         requires can { CanWrite self.now }
         requires operand { AreInText self.now (option_to_list operand) }
         ensures { Writes W.text W.failures out.old out.new
-            (furthers_text self.now scope.now (option_to_list operand)) }
+            (furthers_text self.now scope.now.table (option_to_list operand)) }
     {
         if let Some(operand) = operand {
             self.write_next_operand(alloc, scope, false, operand, out);
@@ -131,7 +131,7 @@ impl FunctionText<'_> {
         requires can { CanWrite self.now }
         requires level { AreInText self.now (level_operands level) }
         ensures { Writes W.text W.failures out.old out.new
-            (furthers_text self.now scope.now (level_operands level)) }
+            (furthers_text self.now scope.now.table (level_operands level)) }
     {
         match level {
             SampleLevel::Auto => {}

@@ -1,16 +1,18 @@
 //! Names, of which a function's module has a text for each key.
 
 ghost use Rattle.std.specs.Prelude.{◌≡◌, ◌<◌, Some, length};
-ghost use Rattle.module_meaning.specs.Names.{module_names, name_in, numbered_name};
+ghost use Rattle.module_meaning.specs.Names.{given_name, module_names, name_in, numbered_name};
 ghost use Rattle.naga_names.specs.Keys.{names_in};
 ghost use Rattle.naga_words.specs.Output.{Writes};
 ghost use Rattle.naga_wgsl_fns.specs.FunctionText.{CanWrite};
-ghost use Rattle.naga_wgsl_fns.specs.Names.{name_of_argument, name_of_function, name_of_local};
+ghost use Rattle.naga_wgsl_fns.specs.Names.{bound_text, name_of_argument, name_of_function};
+ghost use Rattle.naga_wgsl_fns.specs.Names.{name_of_local, next_name_text};
 
 use crate::functions::FunctionText;
 use itoa::Buffer;
 use naga_ir::{Expression, Handle, LocalVariable};
 use naga_names::NameKey;
+use naga_scope::{BoundName, Scope};
 use naga_words::{Output, TextSink};
 
 // A key is large, and stands in the frames of these functions alone: the writing of nested operands
@@ -49,6 +51,51 @@ impl FunctionText<'_> {
         self.write_name(&NameKey::FunctionLocal(self.handle, local), out);
     }
 
+    /// The name of an expression that a `let` binds.
+    #[inline(never)]
+    #[tactic(auto, unfolding(crate::specs::Names::bound_text))]
+    pub(crate) fn write_bound_name<W: TextSink>(
+        &self,
+        handle: Handle<Expression>,
+        name: BoundName,
+        out: &mut Output<'_, W>,
+    )
+        requires { CanWrite self.now }
+        ensures { Writes W.text W.failures out.old out.new (bound_text self.now handle name) }
+    {
+        match name {
+            BoundName::Numbered => write_numbered_name(handle, out),
+            BoundName::Given(number) => self.write_given_name(number, out),
+        }
+    }
+
+    /// The name that a `let` gives the expression at this point.
+    pub(crate) fn write_next_name<W: TextSink>(
+        &self,
+        scope: &Scope,
+        handle: Handle<Expression>,
+        out: &mut Output<'_, W>,
+    )
+        requires { CanWrite self.now }
+        ensures { Writes W.text W.failures out.old out.new
+            (next_name_text self.now scope.now.given handle) }
+    {
+        let name = scope.next_name(self.function, handle);
+        self.write_bound_name(handle, name, out);
+    }
+
+    /// The name with this number of those that front ends gave; there is none past them.
+    fn write_given_name<W: TextSink>(&self, number: usize, out: &mut Output<'_, W>)
+        requires { CanWrite self.now }
+        ensures { Writes W.text W.failures out.old out.new
+            (given_name self.now.shader.now self.now.handle number) }
+    {
+        match self.given.get(number) {
+            Some(name) => out.put(name),
+            None => {}
+        }
+    }
+
     // In each caller the kind of the key is known, so that hashing it takes no choice there.
     #[inline(always)]
     fn write_name<W: TextSink>(&self, key: &NameKey, out: &mut Output<'_, W>)
@@ -64,10 +111,10 @@ impl FunctionText<'_> {
     }
 }
 
-/// The name of an expression that a `let` binds.
+/// The name of an expression that no front end named.
 #[inline(never)]
 #[tactic(auto, using(naga_words::proofs::Writing::writes_then, crate::proofs::NameRows::bound_row))]
-pub(crate) fn write_bound_name<W: TextSink>(handle: Handle<Expression>, out: &mut Output<'_, W>)
+fn write_numbered_name<W: TextSink>(handle: Handle<Expression>, out: &mut Output<'_, W>)
     ensures { Writes W.text W.failures out.old out.new (numbered_name handle) }
 {
     let mut digits = Buffer::new();

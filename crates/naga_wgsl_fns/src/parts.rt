@@ -40,7 +40,7 @@ impl FunctionText<'_> {
         requires handle { IsInText self.now handle }
         requires part { base_of (slice_get self.now.function.now.expressions handle) ≡ Some base }
         ensures { Writes W.text W.failures out.old out.new
-            (part_value_text self.now scope.now handle base) }
+            (part_value_text self.now scope.now.table handle base) }
     {
         if self.points(base) {
             self.write_part_address(alloc, scope, handle, base, out);
@@ -63,7 +63,7 @@ impl FunctionText<'_> {
         requires handle { IsInText self.now handle }
         requires part { base_of (slice_get self.now.function.now.expressions handle) ≡ Some base }
         ensures { Writes W.text W.failures out.old out.new
-            (part_reference_text self.now scope.now handle base) }
+            (part_reference_text self.now scope.now.table handle base) }
     {
         if self.points(base) {
             self.write_part(alloc, scope, handle, base, out);
@@ -87,7 +87,7 @@ impl FunctionText<'_> {
         requires handle { IsInText self.now handle }
         requires part { base_of (slice_get self.now.function.now.expressions handle) ≡ Some base }
         ensures { Writes W.text W.failures out.old out.new
-            (plain_address_text self.now scope.now handle) }
+            (plain_address_text self.now scope.now.table handle) }
     {
         out.put("(&");
         self.write_part(alloc, scope, handle, base, out);
@@ -108,7 +108,7 @@ impl FunctionText<'_> {
         requires can { CanWrite self.now }
         requires handle { IsInText self.now handle }
         requires part { base_of (slice_get self.now.function.now.expressions handle) ≡ Some base }
-        ensures { Writes W.text W.failures out.old out.new (plain_text self.now scope.now handle) }
+        ensures { Writes W.text W.failures out.old out.new (plain_text self.now scope.now.table handle) }
     {
         self.write_part_base(alloc, scope, base, out);
         self.write_part_end(alloc, scope, handle, base, out);
@@ -127,7 +127,7 @@ impl FunctionText<'_> {
         requires can { CanWrite self.now }
         requires base { IsInText self.now base }
         ensures { Writes W.text W.failures out.old out.new
-            (part_base_text self.now scope.now base) }
+            (part_base_text self.now scope.now.table base) }
     {
         if self.points(base) {
             self.write_reference(alloc, scope, base, out);
@@ -150,7 +150,7 @@ impl FunctionText<'_> {
         requires handle { IsInText self.now handle }
         requires part { base_of (slice_get self.now.function.now.expressions handle) ≡ Some base }
         ensures { Writes W.text W.failures out.old out.new
-            (part_end_text self.now scope.now handle) }
+            (part_end_text self.now scope.now.table handle) }
     {
         match &self.function.expressions[handle] {
             Expression::Access { index, .. } => self.write_index(alloc, scope, *index, out),
@@ -170,7 +170,7 @@ impl FunctionText<'_> {
     )
         requires can { CanWrite self.now }
         requires index { IsInText self.now index }
-        ensures { Writes W.text W.failures out.old out.new (index_text self.now scope.now index) }
+        ensures { Writes W.text W.failures out.old out.new (index_text self.now scope.now.table index) }
     {
         out.put("[");
         self.write_value(alloc, scope, index, out);
@@ -266,7 +266,7 @@ impl FunctionText<'_> {
         requires can { CanWrite self.now }
         requires vector { IsInText self.now vector }
         ensures { Writes W.text W.failures out.old out.new
-            (member_text self.now scope.now vector (swizzle_letters size pattern.now)) }
+            (member_text self.now scope.now.table vector (swizzle_letters size pattern.now)) }
     {
         self.write_base(alloc, scope, vector, out);
         out.put(".");
@@ -286,7 +286,7 @@ impl FunctionText<'_> {
         requires can { CanWrite self.now }
         requires handle { IsInText self.now handle }
         ensures { Writes W.text W.failures out.old out.new
-            (base_text self.now scope.now handle) }
+            (base_text self.now scope.now.table handle) }
     {
         if self.is_signed(scope, handle) {
             self.write_in_parentheses(alloc, scope, handle, out);
@@ -307,7 +307,7 @@ impl FunctionText<'_> {
         requires can { CanWrite self.now }
         requires handle { IsInText self.now handle }
         ensures { Writes W.text W.failures out.old out.new
-            (parenthesized_text self.now scope.now handle) }
+            (parenthesized_text self.now scope.now.table handle) }
     {
         out.put("(");
         self.write_value(alloc, scope, handle, out);
@@ -318,10 +318,10 @@ impl FunctionText<'_> {
     fn is_signed(&self, scope: &Scope, handle: Handle<Expression>) -> bool
         requires can { CanWrite self.now }
         requires handle { IsInText self.now handle }
-        ensures { result ≡ is_signed (as_value (form_at self.now scope.now handle)) }
+        ensures { result ≡ is_signed (as_value (form_at self.now scope.now.table handle)) }
     {
         match scope.standing(handle) {
-            Standing::Named => false,
+            Standing::Named(_) => false,
             _ => matches!(&self.function.expressions[handle], Expression::Unary { .. }),
         }
     }

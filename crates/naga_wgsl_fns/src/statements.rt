@@ -1,12 +1,12 @@
 //! Blocks and statements.
 
-ghost use Rattle.std.specs.Prelude.{◌≡◌, ◌<◌, ◌-◌, ◌≤◌, IsTrue, length};
+ghost use Rattle.std.specs.Prelude.{◌≡◌, ◌+◌, ◌<◌, ◌-◌, ◌≤◌, ◌^◌, IsTrue, length};
+ghost use Rattle.module_meaning.specs.GivenLabels.{block_labels, labels_in, labels_of_each};
 ghost use Rattle.module_meaning.specs.Part.{block_is_written, statement_is_written};
 ghost use Rattle.module_meaning.specs.Ranges.{block_in_range, is_below, statement_in_range};
 ghost use Rattle.naga_back.specs.Indentation.{indentation};
 ghost use Rattle.module_meaning.specs.FunctionShapes.{statement_shape};
 ghost use Rattle.naga_ir.specs.StatementViews.{tree_of};
-ghost use Rattle.naga_scope.specs.Standings.{handles_of};
 ghost use Rattle.shader_runs.specs.Program.{from};
 ghost use Rattle.shader_runs.specs.Scope.{after, after_emit};
 ghost use Rattle.naga_words.specs.Output.{Writes};
@@ -14,13 +14,12 @@ ghost use Rattle.std.specs.List.{filter};
 ghost use Rattle.std.specs.Option.{option_to_list};
 ghost use Rattle.module_meaning.specs.Written.{block_roots, statement_roots};
 ghost use Rattle.naga_wgsl_fns.specs.FunctionText.{AreInText, CanWrite, IsInText, around, bound};
-ghost use Rattle.naga_wgsl_fns.specs.FunctionText.{naming};
+ghost use Rattle.naga_wgsl_fns.specs.FunctionText.{handles_in, naming};
 ghost use Rattle.naga_wgsl_fns.specs.Statements.{block_text, emitted_text, let_text, lets_text};
 ghost use Rattle.naga_wgsl_fns.specs.Statements.{line_start, return_text, return_value_text};
 ghost use Rattle.naga_wgsl_fns.specs.Statements.{statement_text, store_text};
 
 use crate::functions::FunctionText;
-use crate::names::write_bound_name;
 use naga_back::{INDENT, Level};
 use naga_ir::{Block, Expression, Handle, Place, Range, Statement};
 use naga_scope::{Scope, binds};
@@ -39,11 +38,13 @@ impl FunctionText<'_> {
         out: &mut Output<'_, W>,
     )
         requires can { CanWrite self.now }
-        requires size { length scope.old ≡ length self.now.function.now.expressions }
+        requires size { length scope.old.table ≡ length self.now.function.now.expressions }
         requires in_range { IsTrue (block_in_range self.now.handle
             (length self.now.function.now.expressions) block.now) }
         requires written { IsTrue (block_is_written block.now) }
         requires roots { AreInText self.now (block_roots (bound self.now) block.now) }
+        requires room { scope.old.given + length (block_labels self.now.function.now block.now)
+            < 2 ^ 64 }
         ensures { Writes W.text W.failures out.old out.new
             (block_text self.now scope.old level.0 block.now) }
     {
@@ -66,17 +67,21 @@ impl FunctionText<'_> {
         out: &mut Output<'_, W>,
     )
         requires can { CanWrite self.now }
-        requires size { length scope.old ≡ length self.now.function.now.expressions }
+        requires size { length scope.old.table ≡ length self.now.function.now.expressions }
         requires in_range { IsTrue (statement_in_range self.now.handle
             (length self.now.function.now.expressions) (tree_of statement.now)) }
         requires written { IsTrue (statement_is_written (tree_of statement.now)) }
         requires roots { AreInText self.now (statement_roots (bound self.now) (tree_of statement.now)) }
+        requires room { scope.old.given
+            + length (labels_in self.now.function.now (tree_of statement.now)) < 2 ^ 64 }
         ensures lines { Writes W.text W.failures out.old out.new
             (statement_text self.now scope.old level.0 (tree_of statement.now)) }
-        ensures after { handles_of scope.new
-            ≡ after (naming self.now) 0 (statement_shape (around self.now) (tree_of statement.now))
-            (handles_of scope.old) }
-        ensures size { length scope.new ≡ length scope.old }
+        ensures after { handles_in self.now scope.new.table ≡ after (naming self.now)
+            scope.old.given (statement_shape (around self.now) (tree_of statement.now))
+            (handles_in self.now scope.old.table) }
+        ensures given { scope.new.given ≡ scope.old.given
+            + length (labels_in self.now.function.now (tree_of statement.now)) }
+        ensures size { length scope.new.table ≡ length scope.old.table }
     {
         match statement {
             Statement::Emit(range) => self.write_emit(alloc, level, *range, scope, out),
@@ -100,16 +105,20 @@ impl FunctionText<'_> {
         out: &mut Output<'_, W>,
     )
         requires can { CanWrite self.now }
-        requires size { length scope.old ≡ length self.now.function.now.expressions }
+        requires size { length scope.old.table ≡ length self.now.function.now.expressions }
         requires range { range.end ≤ length self.now.function.now.expressions }
         requires roots { AreInText self.now
             (filter (bound self.now) (from range.first (range.end - range.first))) }
+        requires room { scope.old.given + length (labels_of_each self.now.function.now
+            (from range.first (range.end - range.first))) < 2 ^ 64 }
         ensures lets { Writes W.text W.failures out.old out.new
             (lets_text self.now scope.old level.0 (from range.first (range.end - range.first))) }
-        ensures after { handles_of scope.new
-            ≡ after_emit (naming self.now) 0 (from range.first (range.end - range.first))
-            (handles_of scope.old) }
-        ensures size { length scope.new ≡ length scope.old }
+        ensures after { handles_in self.now scope.new.table ≡ after_emit (naming self.now)
+            scope.old.given (from range.first (range.end - range.first))
+            (handles_in self.now scope.old.table) }
+        ensures given { scope.new.given ≡ scope.old.given + length (labels_of_each
+            self.now.function.now (from range.first (range.end - range.first))) }
+        ensures size { length scope.new.table ≡ length scope.old.table }
     {
         for index in range.first..range.end {
             let handle = Place::from_index(index);
@@ -154,7 +163,7 @@ impl FunctionText<'_> {
             (let_text self.now scope.now level.0 handle) }
     {
         write_line_start(level, "let ", out);
-        write_bound_name(handle, out);
+        self.write_next_name(scope, handle, out);
         self.write_told_type(alloc, handle, out);
         out.put(" = ");
         self.write_own(alloc, scope, handle, out);
@@ -175,7 +184,7 @@ impl FunctionText<'_> {
         requires pointer { IsInText self.now pointer }
         requires value { IsInText self.now value }
         ensures { Writes W.text W.failures out.old out.new
-            (store_text self.now scope.now level.0 pointer value) }
+            (store_text self.now scope.now.table level.0 pointer value) }
     {
         write_line_start(level, "", out);
         self.write_reference(alloc, scope, pointer, out);
@@ -196,7 +205,7 @@ impl FunctionText<'_> {
         requires can { CanWrite self.now }
         requires value { AreInText self.now (option_to_list value) }
         ensures { Writes W.text W.failures out.old out.new
-            (return_text self.now scope.now level.0 value) }
+            (return_text self.now scope.now.table level.0 value) }
     {
         match value {
             Some(value) => self.write_return_value(alloc, level, scope, value, out),
@@ -216,7 +225,7 @@ impl FunctionText<'_> {
         requires can { CanWrite self.now }
         requires value { IsInText self.now value }
         ensures { Writes W.text W.failures out.old out.new
-            (return_value_text self.now scope.now level.0 value) }
+            (return_value_text self.now scope.now.table level.0 value) }
     {
         write_line_start(level, "return ", out);
         self.write_value(alloc, scope, value, out);

@@ -1,6 +1,9 @@
 -- What was written is faithful to the module.
 use Rattle.std.proofs.Common.{◌≡◌, ◌<◌, ◌∙◌, ◌++◌, ℕ, Bool, false, List, [], ◌∷◌, Ok, Err}
-use Rattle.std.proofs.Common.{ap, drop, inl, inr, length, subst, sym}
+use Rattle.std.proofs.Common.{ap, drop, inl, inr, length, subst, sym, None, Option, Some, refl}
+use Rattle.std.proofs.Common.{slice_get}
+use Rattle.std.proofs.lemmas.Option.{slice_get_within}
+use Rattle.naga_ir.specs.declared.module.Function.{Function}
 use Rattle.std.specs.Prelude.{IfErr, IsTrue, OnErr, OnOk, Result}
 use Rattle.naga_ir.specs.declared.module.Module.{Module}
 use Rattle.module_meaning.specs.Accepted.{is_accepted}
@@ -37,7 +40,8 @@ use Rattle.naga_wgsl_out.proofs.Functions.{lines_behind, lines_split, written_li
 use Rattle.naga_wgsl_out.proofs.Scopes.{all_planned_counted, all_planned_formed, all_planned_hold}
 use Rattle.naga_wgsl_out.proofs.Scopes.{fault_refuses, fault_told}
 use Rattle.naga_wgsl_out.specs.Refusals.{ComesBeforeText, HasAllNames, IsNamesRefusal, IsRefusal}
-use Rattle.naga_wgsl_out.specs.Refusals.{TellsOfModule, TellsOfFunction}
+use Rattle.naga_wgsl_out.specs.Refusals.{NamerIsFull, TellsOfModule, TellsOfFunction}
+use Rattle.naga_wgsl_out.proofs.GivenNames.{none_past}
 use Rattle.naga_wgsl_out.specs.Headline.{EachReading, FaithfulWriting}
 
 -- what stands behind the same text is the same
@@ -51,7 +55,8 @@ refused m info error held now before after is = record { refusals = is; reading 
 
 -- names that can't be told are a reason
 pub for_names : (m : Module) (info : ModuleInfo) (error : Error) (before after : ℕ) → IsNamesRefusal m error → IsRefusal m info before after error
-for_names m info (Custom message) before after is = inl is
+for_names m info (Custom message) before after (inl full) = inl (inl (full.0, inl full.1))
+for_names m info (Custom message) before after (inr key) = inl (inr key)
 for_names m info (Memory e) before after is = tt
 for_names m info _ before after is = absurd is
 
@@ -75,10 +80,11 @@ want_tells_nothing (FmtError e) before after is tells = tells
 want_tells_nothing (Memory e) before after is tells = tells
 want_tells_nothing _ before after is tells = is
 
-pub function_tells_of_module : (error : Error) → TellsOfFunction error → TellsOfModule error
-function_tells_of_module (Custom message) told = tt
-function_tells_of_module error (inr told) = told.0
-function_tells_of_module _ (inl told) = absurd told
+pub function_tells_of_module : (m : Module) (error : Error) → TellsOfFunction m error → TellsOfModule error
+function_tells_of_module m (Custom message) told = tt
+function_tells_of_module m error (inr (inl told)) = told.0
+function_tells_of_module m _ (inr (inr told)) = absurd told.0
+function_tells_of_module m _ (inl told) = absurd told
 
 -- a text that was appended
 module _ (m : Module) (info : ModuleInfo) (flags : WriterFlags)
@@ -113,10 +119,19 @@ module _ (m : Module) (info : ModuleInfo) (flags : WriterFlags)
     pub binds : OnOk r (EachReading held now (BindsAs m info explicit))
     pub text_ok : OnOk r (now ≡ held ++ written_text m info flags)
     pub text_err : OnErr r (IsBehind held (written_text m info flags) now)
-    pub untouched : IfErr r (λ e. ComesBeforeText e → now ≡ held)
-    pub written_before : IfErr r (λ e. TellsOfFunction e → WroteFunctionsBefore m info flags held now)
+    pub untouched : IfErr r (λ e. ComesBeforeText m e → now ≡ held)
+    pub written_before : IfErr r (λ e. TellsOfFunction m e → WroteFunctionsBefore m info flags held now)
     pub unfailed : IfErr r (λ e. TellsOfModule e → after ≡ before)
     pub failures_ok : OnOk r (after ≡ before)
+
+  -- each label has a name
+  none_told : AllPlanned → NamerIsFull m → ⊥
+  none_told planned (inl items) = has.told items
+  none_told planned (inr full) = by (slice_get m.functions full.0) refl
+    where
+      by : (o : Option Function) → slice_get m.functions full.0 ≡ o → ⊥
+      by None past = none_past m full.0 past full.1
+      by (Some f) at = (planned full.0 (slice_get_within m.functions full.0 f at)).told full.1
 
   same_text : module_lines m info flags ≡ written_text m info flags
   same_text = written_lines m info flags accepted
@@ -136,7 +151,7 @@ module _ (m : Module) (info : ModuleInfo) (flags : WriterFlags)
               written = written;
               in_scope = rules;
               formed = formed;
-              told = has.told;
+              told = none_told w.planned;
               keys = has.keys;
             };
             reading = record {
@@ -147,10 +162,10 @@ module _ (m : Module) (info : ModuleInfo) (flags : WriterFlags)
             };
             interface = reading (HasInterfaceOf m) (has_interface m info explicit (functions_counted m info accepted));
             runs = reading (RunsAs m info)
-                (runs_as m info explicit accepted written have rules has.counted);
+                (runs_as m info explicit accepted written have rules w.counted);
           };
           resolved = reading (ResolvesAs m info)
-              (resolves m info explicit accepted written have rules has.counted);
+              (resolves m info explicit accepted written have rules w.counted);
           binds = reading (BindsAs m info explicit) (binds_as m info explicit accepted written have);
           text_ok = appended;
           text_err = tt;
@@ -171,7 +186,7 @@ module _ (m : Module) (info : ModuleInfo) (flags : WriterFlags)
       text_err = subst (λ t. IsBehind held t now) same_text s.behind;
       untouched = λ first. absurd (want_tells_nothing e before after s.reason first.0);
       written_before = λ told.
-          absurd (want_tells_nothing e before after s.reason (function_tells_of_module e told));
+          absurd (want_tells_nothing e before after s.reason (function_tells_of_module m e told));
       unfailed = λ tells. absurd (want_tells_nothing e before after s.reason tells);
       failures_ok = tt;
     }
@@ -191,7 +206,7 @@ module _ (m : Module) (info : ModuleInfo) (flags : WriterFlags)
         s.before.written,
       );
       untouched = λ first.
-          absurd (first.1 (fault_told m info s.before.handle e s.tells s.fault));
+          absurd (first.1 (fault_told m info s.before.handle has.told e s.tells s.fault));
       written_before = λ told. s.before;
       unfailed = λ tells. s.kept;
       failures_ok = tt;

@@ -21,8 +21,8 @@ use Rattle.wgsl_text.proofs.Text.{text-append}
 use Rattle.naga_names.proofs.Refusal.{element}
 use Rattle.naga_form.proofs.AcceptedFunctions.{functions_counted}
 use Rattle.wgsl_text.specs.Text.{text}
-use Rattle.naga_scope.specs.Plans.{IsPlanOf}
-use Rattle.naga_scope.specs.declared.points.Standing.{Standing}
+use Rattle.naga_names.specs.Naming.{Names}
+use Rattle.naga_scope.specs.Plans.{Planned}
 use Rattle.module_meaning.specs.Names.{module_names}
 use Rattle.naga_wgsl_fns.specs.Appends.{StoppedWithin, Wrote}
 use Rattle.naga_wgsl_fns.specs.FunctionText.{tells_types}
@@ -31,9 +31,11 @@ use Rattle.naga_wgsl_fns.specs.declared.error.Error.{Error}
 use Rattle.naga_wgsl_fns.specs.declared.error.Error.TheVariants.{Memory}
 use Rattle.naga_wgsl_fns.proofs.Appending.{stopped_first, stopped_then, wrote_nothing, wrote_then}
 use Rattle.naga_back.specs.declared.flags.WriterFlags.{WriterFlags}
-use Rattle.naga_wgsl_out.specs.Refusals.{IsFault, IsPlanRefusal, TellsOfModule}
-use Rattle.naga_wgsl_out.specs.Writing.{HasPlan, MetNoPlan, WritesFunctions, WroteFunctions}
+use Rattle.naga_wgsl_out.specs.Refusals.{HasNamedBefore, IsFault, IsPlanRefusal, TellsOfModule}
+use Rattle.naga_wgsl_out.specs.Writing.{HasPlan, IsNamedPlan, MetNoPlan, WritesFunctions}
+use Rattle.naga_wgsl_out.specs.Writing.{WroteFunctions}
 use Rattle.naga_wgsl_out.specs.Writing.{line_of, lines_before, lines_of, module_lines, written_text}
+use Rattle.naga_wgsl_out.proofs.GivenNames.{all_counted, none_full}
 use Rattle.naga_wgsl_out.proofs.Scopes.{fault_fails, planned_holds}
 
 functions_text : (m : Module) (info : ModuleInfo) (flags : WriterFlags) (g : ℕ) (fs : List Function) (ess : List (List ExpressionInfo)) → length fs ≡ length ess → ((i : ℕ) (es : List ExpressionInfo) → slice_get ess i ≡ Some es → known_of info (g + i) ≡ es) → text (functions_pieces (functions_form (tells_types flags) (module_names m) m info g fs ess)) ≡ lines_of m info flags (enumerate_from g fs)
@@ -101,14 +103,19 @@ writes_err {m} {info} {flags} {held} {now} {failed} {failures} (Err e) is w =
     subst (λ e. WritesFunctions m info flags (Err e) held failed now failures) (sym is) w
 
 pub record IsUpTo (m : Module) (info : ModuleInfo) (flags : WriterFlags) (n : ℕ) (held : List ℕ)
-    (failed : ℕ) (now : List ℕ) (failures : ℕ) : Type 0 where
+    (failed : ℕ) (namer : Names) (now : List ℕ) (failures : ℕ) : Type 0 where
   pub wrote : Wrote held failed (lines_before m info flags n) now failures
   pub planned : (i : ℕ) → i < n → HasPlan m info i
+  pub named : HasNamedBefore m n namer
 
 pub up_to_none : (m : Module) (info : ModuleInfo) (flags : WriterFlags) (held : List ℕ)
-    (failed : ℕ) → IsUpTo m info flags 0 held failed held failed
-up_to_none m info flags held failed =
-    record { wrote = wrote_nothing held failed; planned = λ i lt. absurd (omega (arith, lt)) }
+    (failed : ℕ) (namer : Names) → HasNamedBefore m 0 namer →
+    IsUpTo m info flags 0 held failed namer held failed
+up_to_none m info flags held failed namer named = record {
+  wrote = wrote_nothing held failed;
+  planned = λ i lt. absurd (omega (arith, lt));
+  named = named;
+}
 
 -- the functions from this one on
 abbrev pub lines_behind : Module → ModuleInfo → WriterFlags → (n : ℕ) → List ℕ
@@ -123,7 +130,7 @@ lines_split m info flags n =
     ∙ ap (lines_of m info flags) (take-append-drop n all)
 
 module _ (m : Module) (info : ModuleInfo) (flags : WriterFlags) {n : ℕ} {held middle : List ℕ}
-    {failed among : ℕ} (so_far : IsUpTo m info flags n held failed middle among) where
+    {failed among : ℕ} {namer : Names} (so_far : IsUpTo m info flags n held failed namer middle among) where
   abbrev all : List (ℕ × Function)
   all = enumerate_from 0 m.functions
 
@@ -133,6 +140,7 @@ module _ (m : Module) (info : ModuleInfo) (flags : WriterFlags) {n : ℕ} {held 
     wrote = subst (λ fs. Wrote held failed (lines_of m info flags fs) middle among)
         (take_all n all (omega (arith, is, length-enumerate_from 0 m.functions))) so_far.wrote;
     planned = λ i lt. so_far.planned i (omega (arith, is, lt));
+    counted = all_counted m namer (subst (λ k. HasNamedBefore m k namer) is so_far.named);
   }
 
   -- at the function with this handle
@@ -168,14 +176,19 @@ module _ (m : Module) (info : ModuleInfo) (flags : WriterFlags) {n : ℕ} {held 
         (ap (λ q. take n all ++ q ∷ []) stands ∙ sym (take_more all n here below)))
 
     -- one more
-    pub up_to_more : (table : List Standing) {now : List ℕ} {failures : ℕ} →
-        IsPlanOf m info handle table → Wrote middle among line now failures →
-        IsUpTo m info flags (n + 1) held failed now failures
-    up_to_more table {now} {failures} plan wrote = record {
+    pub up_to_more : (planned : Planned) (next : Names) {now : List ℕ} {failures : ℕ} →
+        IsNamedPlan m info handle next planned → Wrote middle among line now failures →
+        IsUpTo m info flags (n + 1) held failed next now failures
+    up_to_more planned next {now} {failures} plan wrote = record {
       wrote = subst (λ t. Wrote held failed t now failures) one_more_line
           (wrote_then so_far.wrote wrote);
       planned = below_more (HasPlan m info) n so_far.planned
-          (subst (HasPlan m info) is (record { table = table; plan = plan }));
+          (subst (HasPlan m info) is (record {
+            planned = planned;
+            plan = plan.plan;
+            told = none_full m handle next (subst (λ k. k < length m.functions) (sym is) lt) plan.namer_is;
+          }));
+      named = subst (λ k. HasNamedBefore m (k + 1) next) is plan.namer_is;
     }
 
     -- memory or the sink stopped it

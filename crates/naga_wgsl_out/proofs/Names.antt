@@ -1,6 +1,6 @@
 -- What a `Namer` that was reset by a module knows of the module's names.
 use Rattle.std.proofs.Common.{◌≡◌, ℕ, zero, suc, ◌<◌, ◌≤◌, ◌^◌, true, false, List, length, Some}
-use Rattle.std.proofs.Common.{sym, ap, subst, ◌∙◌, arith}
+use Rattle.std.proofs.Common.{sym, ap, subst, ◌∙◌, arith, append-nil}
 use Rattle.std.specs.Prelude.{slice_get, map, Result, Ok, Err, OnOk, IfErr, IsErr}
 use Rattle.std.specs.FinSet as set
 use Rattle.std.proofs.lemmas.Bool.{ltb-true}
@@ -8,22 +8,22 @@ use Rattle.naga_ir.specs.declared.module.Function.{Function}
 use Rattle.naga_ir.specs.declared.module.Module.{Module}
 use Rattle.naga_keywords.specs.Words.{Words}
 use Rattle.naga_keywords.specs.declared.keywords.TheConstants.{RESERVED, BUILTIN_IDENTIFIERS}
-use Rattle.naga_names.specs.Naming.{Names, new_names}
+use Rattle.naga_names.specs.Naming.{HasNamed, Names, new_names}
 use Rattle.naga_names.specs.Refusal.{SomeNameIsFull, SomeKeyIsFull, IsResetRefusal}
 use Rattle.naga_names.specs.declared.error.NamerError.{NamerError}
 use Rattle.wgsl_text.specs.Keywords.{reserved_words, builtin_words}
 use Rattle.naga_names.specs.Keys.{NameMap}
 use Rattle.naga_names.specs.Reset.{labelled_items, key_fits, HasNamedItems}
 use Rattle.naga_names.specs.declared.key.NameKey.TheVariants as key
-use Rattle.naga_names.proofs.NamedItems.{named_there, few_labels, local_stands}
+use Rattle.naga_names.proofs.NamedItems.{named_there, local_stands}
 use Rattle.module_meaning.specs.Names.{reserved_prefixes, wgsl_names, module_names, function_name}
-use Rattle.module_meaning.specs.Names.{HasNamesOf}
+use Rattle.module_meaning.specs.Names.{HasNamesOf, item_labels}
 use Rattle.naga_form.proofs.Names.{name_is, function_item, argument_item, function_there}
 use Rattle.naga_form.proofs.Names.{argument_there}
 use Rattle.naga_names.proofs.Refusal.{element}
 use Rattle.module_meaning.proofs.Lists.{list_all_at}
 use Rattle.naga_form.proofs.Fits.{local_item}
-use Rattle.naga_wgsl_out.specs.Refusals.{NamerIsFull, KeyIsOutOfRange, HasAllNames}
+use Rattle.naga_wgsl_out.specs.Refusals.{ItemsAreFull, KeyIsOutOfRange, HasAllNames, HasNamedBefore}
 
 module _ (m : Module) (before now : NameMap) (names : Names) (has : HasNamedItems wgsl_names before (labelled_items wgsl_names m) names now) where
   -- the map has an item's name
@@ -53,8 +53,12 @@ module _ (m : Module) (before now : NameMap) (names : Names) (has : HasNamedItem
       at_most zero below = omega arith
       at_most (suc k) below = let last : k < 2 ^ 32 = below k (omega arith) in omega (arith, last)
 
-  pub has_all : (NamerIsFull m → ⊥) → (KeyIsOutOfRange m → ⊥) → HasAllNames m now
-  has_all told keys = record { named = has_names; counted = few_labels wgsl_names before m names now has; told = told; keys = keys }
+  pub has_all : (ItemsAreFull m → ⊥) → (KeyIsOutOfRange m → ⊥) → HasAllNames m now
+  has_all told keys = record { named = has_names; told = told; keys = keys }
+
+  -- and the namer has named the items' labels
+  pub has_named : HasNamedBefore m 0 names
+  has_named = record { words = has.words; labels = subst (HasNamed names) (sym (append-nil (item_labels m))) has.labels }
 
 -- the words and prefixes of WGSL
 pub start_is : (reserved builtin caseless : Words) (prefixes : List (List ℕ)) → reserved ≡ set.from_list (map (λ word. word.now) RESERVED.now) → builtin ≡ set.from_list (map (λ word. word.now) BUILTIN_IDENTIFIERS.now) → caseless ≡ set.empty → prefixes ≡ reserved_prefixes → new_names reserved builtin caseless prefixes ≡ wgsl_names
@@ -74,6 +78,12 @@ pub names_after_reset : (answer : Result Unit NamerError) (m : Module) (start : 
     → OnOk answer (HasNamedItems start before (labelled_items start m) names now) → (SomeNameIsFull start (labelled_items start m) → IsErr answer) → (SomeKeyIsFull (labelled_items start m) → IsErr answer) → OnOk answer (HasAllNames m now)
 names_after_reset (Ok _) m start before now names is has full keys = after_reset m start before now names is has (λ told. no_error (full told)) (λ told. no_error (keys told))
 names_after_reset (Err _) m start before now names is has full keys = tt
+
+-- of its uses
+pub namer_after_reset : (answer : Result Unit NamerError) (m : Module) (start : Names) (before now : NameMap) (names : Names) → start ≡ wgsl_names
+    → OnOk answer (HasNamedItems start before (labelled_items start m) names now) → OnOk answer (HasNamedBefore m 0 names)
+namer_after_reset (Ok _) m start before now names is has = has_named m before now names (subst (λ s. HasNamedItems s before (labelled_items s m) names now) is has)
+namer_after_reset (Err _) m start before now names is has = tt
 
 -- and of its reason
 pub refusal_of_reset : (answer : Result Unit NamerError) (m : Module) (start : Names) → start ≡ wgsl_names → IfErr answer (IsResetRefusal start m) → IfErr answer (IsResetRefusal wgsl_names m)

@@ -1,9 +1,10 @@
 -- The rules of scope in the functions of a module, one by one and in all.
 use Rattle.std.proofs.Common.{◌≡◌, ◌<◌, ◌^◌, ◌∙◌, ℕ, Bool, true, zero, suc, List, [], ◌∷◌}
 use Rattle.std.proofs.Common.{None, Option, Some, ap, arith, inl, inr, length, nat_le, refl, subst}
-use Rattle.std.proofs.Common.{codes, sym}
+use Rattle.std.proofs.Common.{codes, sym, ◌++◌}
 use Rattle.std.specs.Prelude.{IfSome, IsFalse, IsSomeAnd, IsTrue, slice_get}
 use Rattle.std.specs.List.{list_all}
+use Rattle.std.specs.Option.{option_map_or}
 use Rattle.std.proofs.lemmas.Bool.{and_from}
 use Rattle.std.proofs.lemmas.Option.{slice_get_within}
 use mathlib.Core.List.{reverse_aux}
@@ -39,10 +40,16 @@ use Rattle.naga_ir.specs.declared.types.Type_.{Type_}
 use Rattle.naga_ir.specs.declared.types.TypeInner.{TypeInner}
 use Rattle.std.proofs.lemmas.Bool.{ltb-true}
 use Rattle.std.specs.Prelude.{nat_lt}
+use Rattle.naga_names.specs.Naming.{Names, label_base, labels_with_base}
+use Rattle.naga_names.specs.declared.error.NamerError.{NamerError}
+use Rattle.naga_names.specs.declared.error.NamerError.TheVariants as namer_error
 use Rattle.naga_names.proofs.Refusal.{element}
+use Rattle.module_meaning.specs.GivenLabels.{SomeLabelIsFull, given_labels}
+use Rattle.module_meaning.specs.Names.{labels_before, labels_given}
+use Rattle.naga_scope.specs.GivenNames.{IsRefusalOfLabels}
 use Rattle.naga_scope.specs.Plans.{IsRefusalToPlanOf, ScopeHoldsIn}
 use Rattle.naga_scope.specs.declared.plan.PlanError.{PlanError}
-use Rattle.naga_scope.specs.declared.plan.PlanError.TheVariants.{OutOfScope, WithoutForm}
+use Rattle.naga_scope.specs.declared.plan.PlanError.TheVariants.{OutOfScope, WithoutForm, Unnamed}
 use Rattle.naga_scope.specs.declared.plan.PlanError.TheVariants as plan_error
 use Rattle.naga_scope.proofs.Planned.{shape_found}
 use Rattle.naga_wgsl_fns.specs.declared.error.Error.{Error}
@@ -50,7 +57,8 @@ use Rattle.naga_wgsl_fns.specs.declared.error.Error.TheVariants.{Custom, FmtErro
 use Rattle.naga_wgsl_fns.specs.declared.error.Error.TheVariants.{Unimplemented}
 use Rattle.naga_words.specs.declared.sink.SinkError.{SinkError}
 use Rattle.naga_wgsl_fns.specs.Errors.{IsCustom}
-use Rattle.naga_wgsl_out.specs.Refusals.{IsFault, IsOfPlan, IsPlanRefusal, IsRefusal}
+use Rattle.naga_wgsl_out.specs.Refusals.{GivenAreFullIn, HasNamedBefore, IsErrorOfNames, IsFault}
+use Rattle.naga_wgsl_out.specs.Refusals.{IsOfPlan, IsPlanRefusal, IsRefusal, ItemsAreFull}
 use Rattle.naga_wgsl_out.specs.Refusals.{MakesFormed, NamesConversion, NamesExpression}
 use Rattle.naga_wgsl_out.specs.Refusals.{NamesFormless, NamesLiteral, converted}
 use Rattle.naga_wgsl_out.specs.Refusals.{TellsOfFunction, TellsOfModule, TellsPlanError}
@@ -105,6 +113,7 @@ planned_holds m info i has = record {
   in_scope = of_shape m info m.functions info.functions.items i ScopeHolds
       (λ f es at known. (has.plan f es at known).in_scope);
   formed = λ f es at known. (has.plan f es at known).formed;
+  told = has.told;
 }
 
 -- more shapes than functions there are none
@@ -184,20 +193,22 @@ module _ (m : Module) (info : ModuleInfo) (i : ℕ) (error : Error)
       let formless = named.2 in
       absurd cc
 
-  pub formless_told : TellsOfModule error → TellsOfFunction error
+  pub formless_told : TellsOfModule error → TellsOfFunction m error
   formless_told tells =
-      inr (tells, (m.types, n.known, n.function.expressions, named.0, named.3))
+      inr (inl (tells, (m.types, n.known, n.function.expressions, named.0, named.3)))
 
 -- what a fault is
 module _ (m : Module) (info : ModuleInfo) (i : ℕ) where
   pub fault_fails : (error : Error) → IsFault m info i error → IsWritableAt m info i → ⊥
   fault_fails error (inl scope) w = scope.1 w.in_scope
-  fault_fails error (inr formless) w = formless_fails m info i error formless w
+  fault_fails error (inr (inl formless)) w = formless_fails m info i error formless w
+  fault_fails error (inr (inr full)) w = w.told full.1
 
-  pub fault_told : (error : Error) → TellsOfModule error → IsFault m info i error →
-      TellsOfFunction error
-  fault_told error tells (inl scope) = inl scope.0
-  fault_told error tells (inr formless) = formless_told m info i error formless tells
+  pub fault_told : (ItemsAreFull m → ⊥) → (error : Error) → TellsOfModule error →
+      IsFault m info i error → TellsOfFunction m error
+  fault_told items error tells (inl scope) = inl scope.0
+  fault_told items error tells (inr (inl formless)) = formless_told m info i error formless tells
+  fault_told items error tells (inr (inr full)) = inr (inr (full.0, items))
 
   pub fault_refuses : (before after : ℕ) → IsTrue (is_written_so_far m info) → (error : Error) →
       TellsOfModule error → IsFault m info i error → IsRefusal m info before after error
@@ -205,12 +216,17 @@ module _ (m : Module) (info : ModuleInfo) (i : ℕ) where
   fault_refuses before after written (Memory e) tells fault = absurd tells
   fault_refuses before after written (Custom message) tells (inl scope) =
       inr (inl (scope.0, λ rules. scope.1 (scope_holds_in m info written rules i)))
-  fault_refuses before after written (Custom message) tells (inr formless) = inr (inr (i, formless))
+  fault_refuses before after written (Custom message) tells (inr (inl formless)) =
+      inr (inr (i, formless))
+  fault_refuses before after written (Custom message) tells (inr (inr full)) =
+      inl (inl (full.0, inr (i, full.1)))
   fault_refuses before after written (Unimplemented message) tells (inl scope) = absurd scope.0
-  fault_refuses before after written (Unimplemented message) tells (inr formless) =
+  fault_refuses before after written (Unimplemented message) tells (inr (inl formless)) =
       inr (i, formless)
+  fault_refuses before after written (Unimplemented message) tells (inr (inr full)) = absurd full.0
   fault_refuses before after written _ tells (inl scope) = absurd scope.0
-  fault_refuses before after written _ tells (inr formless) = (i, formless)
+  fault_refuses before after written _ tells (inr (inl formless)) = (i, formless)
+  fault_refuses before after written _ tells (inr (inr full)) = absurd full.0
 
 -- ---- what is told of a plan's error
 -- no refusal that names an expression is the sink's
@@ -262,8 +278,9 @@ module _ (m : Module) (info : ModuleInfo) (accepted : IsTrue (is_accepted m info
       list_all_at function_is_written m.functions i f (functions_are_written m info written) stands
 
   -- where the check of the function fails, the rules don't hold in it
-  out_of_scope : IsRefusalToPlanOf m info i OutOfScope → ScopeHoldsIn m info i → ⊥
-  out_of_scope refusal holds =
+  out_of_scope : (namer : Names) → IsRefusalToPlanOf m info i namer OutOfScope →
+      ScopeHoldsIn m info i → ⊥
+  out_of_scope namer refusal holds =
       refusal f known.0 stands known.1 (subst (λ o. IfSome o ScopeHolds)
       (shape_found m info m.functions info.functions.items i f known.0 stands known.1) holds)
 
@@ -290,9 +307,10 @@ module _ (m : Module) (info : ModuleInfo) (accepted : IsTrue (is_accepted m info
       by _ range = tt
 
   pub is_of_plan : (es : List ExpressionInfo) → slice_get info.functions.items i ≡ Some es →
-      (error : PlanError) → IsRefusalToPlanOf m info i error → IsOfPlan m.types f es error
-  is_of_plan es here OutOfScope refusal = tt
-  is_of_plan es here (WithoutForm h) refusal =
+      (namer : Names) (error : PlanError) → IsRefusalToPlanOf m info i namer error →
+      IsOfPlan m.types f es error
+  is_of_plan es here namer OutOfScope refusal = tt
+  is_of_plan es here namer (WithoutForm h) refusal =
       both (slice_get f.expressions h) refl (refusal f es stands here).1
     where
       both : (o : Option Expression) → slice_get f.expressions h ≡ o →
@@ -301,7 +319,8 @@ module _ (m : Module) (info : ModuleInfo) (accepted : IsTrue (is_accepted m info
           IsFalse (expression_has_form m.types es f.expressions e) × MakesFormed m.types e)
       both None at is = is
       both (Some e) at is = (is, makes_formed h e at)
-  is_of_plan es here (plan_error.Memory e) refusal = tt
+  is_of_plan es here namer (Unnamed e) refusal = tt
+  is_of_plan es here namer (plan_error.Memory e) refusal = tt
 
   for_scope : (told : Error) → IsCustom (codes "operand out of scope") told →
       (ScopeHoldsIn m info i → ⊥) → IsPlanRefusal m info i told
@@ -314,13 +333,47 @@ module _ (m : Module) (info : ModuleInfo) (accepted : IsTrue (is_accepted m info
       let at = named m info i (FmtError reason) n in
       absurd (names_no_sink m.types n.known n.function.expressions at.0 reason at.3)
   for_form (Memory e) n = tt
-  for_form _ n = (tt, inr n)
+  for_form _ n = (tt, inr (inl n))
+
+  for_full : (told : Error) → IsCustom (codes "namer is full") told → GivenAreFullIn m i →
+      IsPlanRefusal m info i told
+  for_full (Custom message) is full = (tt, inr (inr (is, full)))
+  for_full (Memory e) is full = tt
+  for_full _ is full = absurd is
+
+  -- the labels of the function are those of its handle
+  labels_are : given_labels f ≡ labels_given m i
+  labels_are = sym (ap (λ o. option_map_or given_labels o []) stands)
+
+  full_is : (namer : Names) → HasNamedBefore m i namer →
+      SomeLabelIsFull namer (labels_before m i) (given_labels f) → GivenAreFullIn m i
+  full_is namer before full = record {
+    named = full.named;
+    label = full.label;
+    left = full.left;
+    all = sym labels_are ∙ full.all;
+    full = sym (ap (λ (n : Names). labels_with_base n (labels_before m i ++ full.named)
+        (label_base n full.label)) before.words) ∙ full.full;
+  }
+
+  for_names : (namer : Names) → HasNamedBefore m i namer → (error : NamerError) (told : Error) →
+      IsRefusalOfLabels namer (labels_before m i) (given_labels f) error →
+      IsErrorOfNames error told → IsPlanRefusal m info i told
+  for_names namer before namer_error.Full told refusal is =
+      for_full told is (full_is namer before refusal)
+  for_names namer before namer_error.KeyFull told refusal is = absurd refusal
+  for_names namer before (namer_error.Memory e) told refusal is =
+      subst (IsPlanRefusal m info i) (sym is) tt
 
   pub plan_refusal : (es : List ExpressionInfo) → slice_get info.functions.items i ≡ Some es →
-      (error : PlanError) (told : Error) → IsRefusalToPlanOf m info i error →
-      TellsPlanError m.types f es error told → IsPlanRefusal m info i told
-  plan_refusal es at OutOfScope told refusal is = for_scope told is (out_of_scope refusal)
-  plan_refusal es at (WithoutForm h) told refusal is =
+      (namer : Names) → HasNamedBefore m i namer → (error : PlanError) (told : Error) →
+      IsRefusalToPlanOf m info i namer error → TellsPlanError m.types f es error told →
+      IsPlanRefusal m info i told
+  plan_refusal es at namer before (Unnamed e) told refusal is =
+      for_names namer before e told (refusal f es stands at (labels_before m i) before.labels) is
+  plan_refusal es at namer before OutOfScope told refusal is =
+      for_scope told is (out_of_scope namer refusal)
+  plan_refusal es at namer before (WithoutForm h) told refusal is =
       let here = refusal f es stands at in
       for_form told (record {
         function = f;
@@ -336,4 +389,5 @@ module _ (m : Module) (info : ModuleInfo) (accepted : IsTrue (is_accepted m info
           IsSomeAnd o Q → IsSomeAnd o (λ e. P e × Q e)
       both P Q None p q = absurd p
       both P Q (Some e) p q = (p, q)
-  plan_refusal es at (plan_error.Memory e) told refusal is = subst (IsPlanRefusal m info i) (sym is) tt
+  plan_refusal es at namer before (plan_error.Memory e) told refusal is =
+      subst (IsPlanRefusal m info i) (sym is) tt

@@ -29,11 +29,14 @@ use Rattle.naga_names.specs.declared.error.NamerError.{NamerError}
 use Rattle.naga_names.specs.declared.error.NamerError.TheVariants as namer_error
 use Rattle.naga_names.specs.Keys.{NameMap}
 use Rattle.naga_names.specs.Reset.{labelled_items}
-use Rattle.module_meaning.specs.Names.{wgsl_names, HasNamesOf, NamesAreCounted}
+use Rattle.module_meaning.specs.GivenLabels.{SomeLabelIsFull}
+use Rattle.module_meaning.specs.Names.{HasNamesOf, labels_before, labels_given, wgsl_names}
+use Rattle.naga_names.specs.Naming.{HasNamed, Names}
+use Rattle.naga_scope.specs.GivenNames.{HasOtherUses}
 use Rattle.module_meaning.specs.Premises.{ScopesHold}
 use Rattle.naga_scope.specs.Plans.{ScopeHoldsIn}
 use Rattle.naga_scope.specs.declared.plan.PlanError.{PlanError}
-use Rattle.naga_scope.specs.declared.plan.PlanError.TheVariants.{OutOfScope, WithoutForm}
+use Rattle.naga_scope.specs.declared.plan.PlanError.TheVariants.{OutOfScope, WithoutForm, Unnamed}
 use Rattle.naga_scope.specs.declared.plan.PlanError.TheVariants as plan_error
 use Rattle.naga_wgsl_fns.specs.Errors.{IsCustom, IsSinkWant, IsUnimplemented}
 use Rattle.naga_wgsl_fns.specs.declared.error.Error.{Error}
@@ -41,10 +44,17 @@ use Rattle.naga_wgsl_fns.specs.declared.error.Error.TheVariants.{FmtError, Custo
 use Rattle.naga_wgsl_fns.specs.declared.error.Error.TheVariants.{Memory, Unsupported}
 use Rattle.naga_wgsl_fns.specs.declared.error.Error.TheVariants.{UnsupportedRelationalFunction}
 
--- the names of some items of the module can't be told: so many of them have one base, or the key of
--- one is out of range
+-- the names of some items of the module can't be told, since so many of them have one base; or those
+-- of some labels that front ends gave in the function with this handle, behind all labels in front
+-- of them; or, of either, the key of an item is out of range
+abbrev pub ItemsAreFull : Module → Type 0
+ItemsAreFull m = SomeNameIsFull wgsl_names (labelled_items wgsl_names m)
+
+abbrev pub GivenAreFullIn : Module → (handle : ℕ) → Type 0
+GivenAreFullIn m handle = SomeLabelIsFull wgsl_names (labels_before m handle) (labels_given m handle)
+
 abbrev pub NamerIsFull : Module → Type 0
-NamerIsFull m = SomeNameIsFull wgsl_names (labelled_items wgsl_names m)
+NamerIsFull m = ItemsAreFull m ⊎ ((handle : ℕ) × GivenAreFullIn m handle)
 
 abbrev pub KeyIsOutOfRange : Module → Type 0
 KeyIsOutOfRange m = SomeKeyIsFull (labelled_items wgsl_names m)
@@ -55,9 +65,15 @@ IsToldOf m message =
     ((message ≡ codes "namer is full") × NamerIsFull m)
     ⊎ ((message ≡ codes "name key out of range") × KeyIsOutOfRange m)
 
+-- the same of its items alone
+abbrev pub IsToldOfItems : Module → (message : List ℕ) → Type 0
+IsToldOfItems m message =
+    ((message ≡ codes "namer is full") × ItemsAreFull m)
+    ⊎ ((message ≡ codes "name key out of range") × KeyIsOutOfRange m)
+
 -- why the items of a module get no names
 abbrev pub IsNamesRefusal : Module → Error → Type 0
-IsNamesRefusal m (Custom message) = IsToldOf m (string_bytes message)
+IsNamesRefusal m (Custom message) = IsToldOfItems m (string_bytes message)
 IsNamesRefusal m (Memory e) = ⊤
 IsNamesRefusal m _ = ⊥
 
@@ -187,19 +203,29 @@ TellsOfForm error =
     TellsOfModule error × ((types : List Type_) × (known : List ExpressionInfo)
     × (es : List Expression) × (e : Expression) × NamesExpression types known es e error)
 
--- the error tells of one of the functions, of which each is looked at before its text
-abbrev pub TellsOfFunction : Error → Type 0
-TellsOfFunction error = TellsOfScope error ⊎ TellsOfForm error
+-- the error tells that a name can't be told
+abbrev pub TellsOfFullNamer : Error → Type 0
+TellsOfFullNamer (Custom message) = string_bytes message ≡ codes "namer is full"
+TellsOfFullNamer _ = ⊥
+
+-- The error tells of one of the functions, of which each is looked at before its text. That a name
+-- can't be told, it tells of a function where the items of the module can all be named.
+abbrev pub TellsOfFunction : Module → Error → Type 0
+TellsOfFunction m error =
+    TellsOfScope error
+    ⊎ (TellsOfForm error ⊎ (TellsOfFullNamer error × (ItemsAreFull m → ⊥)))
 
 -- the error comes before any text: it tells of the module, and not of one of its functions
-abbrev pub ComesBeforeText : Error → Type 0
-ComesBeforeText error = TellsOfModule error × (TellsOfFunction error → ⊥)
+abbrev pub ComesBeforeText : Module → Error → Type 0
+ComesBeforeText m error = TellsOfModule error × (TellsOfFunction m error → ⊥)
 
--- why the function with this handle has no plan: the rules of scope don't hold in it, or an
--- expression without a form is written in it; or memory ran out
+-- why the function with this handle has no plan: the rules of scope don't hold in it, an expression
+-- without a form is written in it, or a label that a front end gave in it gets no name; or memory
+-- ran out
 abbrev pub IsFault : Module → ModuleInfo → (handle : ℕ) → Error → Type 0
 IsFault m info handle error =
-    (TellsOfScope error × (ScopeHoldsIn m info handle → ⊥)) ⊎ NamesFormless m info handle error
+    (TellsOfScope error × (ScopeHoldsIn m info handle → ⊥))
+    ⊎ (NamesFormless m info handle error ⊎ (TellsOfFullNamer error × GivenAreFullIn m handle))
 
 abbrev pub IsPlanRefusal : Module → ModuleInfo → (handle : ℕ) → Error → Type 0
 IsPlanRefusal m info handle (Memory e) = ⊤
@@ -224,6 +250,7 @@ TellsPlanError types f known OutOfScope told = IsCustom (codes "operand out of s
 TellsPlanError types f known (WithoutForm handle) told =
     IsSomeAnd (slice_get f.expressions handle) (λ e.
     NamesExpression types known f.expressions e told)
+TellsPlanError types f known (Unnamed e) told = IsErrorOfNames e told
 TellsPlanError types f known (plan_error.Memory e) told = told ≡ Memory e
 
 -- no reason stands in the module
@@ -242,6 +269,11 @@ RefusesOnlyFor (Err error) m info before now = IsRefusal m info before now error
 -- the map has the names of all items of the module, which can all be told
 pub record HasAllNames (m : Module) (names : NameMap) : Type 0 where
   pub named : HasNamesOf m names
-  pub counted : NamesAreCounted m
-  pub told : NamerIsFull m → ⊥
+  pub told : ItemsAreFull m → ⊥
   pub keys : KeyIsOutOfRange m → ⊥
+
+-- the namer has the words and prefixes of WGSL, and has named the labels of the module in front of
+-- those that front ends gave in this function
+pub record HasNamedBefore (m : Module) (handle : ℕ) (namer : Names) : Type 0 where
+  pub words : HasOtherUses wgsl_names namer
+  pub labels : HasNamed namer (labels_before m handle)

@@ -1,25 +1,25 @@
 -- What contracts see of a writer, and the text that it writes.
 --
 -- Throughout, m is the module, and p a handle with its function.
-use Rattle.std.specs.Prelude.{◌≡◌, ◌<◌, ◌++◌, ◌⊎◌, ℕ, List, Result, Ok, Err, codes, length, take}
+use Rattle.std.specs.Prelude.{◌≡◌, ◌+◌, ◌<◌, ◌++◌, ◌⊎◌, ℕ, List, Result, Ok, Err, codes, length, take}
 use Rattle.std.specs.List.{enumerate_from, flat_map}
 use Rattle.naga_ir.specs.declared.module.Function.{Function}
 use Rattle.naga_ir.specs.declared.module.Module.{Module}
 use Rattle.naga_info.specs.declared.info.ModuleInfo.{ModuleInfo}
 use Rattle.module_meaning.specs.Written.{ExpressionsHaveForms}
-use Rattle.naga_scope.specs.Plans.{IsPlanOf, OfFunctionAt, ScopeHoldsIn}
-use Rattle.naga_scope.specs.declared.points.Standing.{Standing}
+use Rattle.naga_scope.specs.Plans.{AreGivenNames, IsPlanOf, OfFunctionAt, Planned, ScopeHoldsIn}
 use Rattle.wgsl_text.specs.Functions.{function_pieces}
 use Rattle.naga_form.specs.Functions.{function_form}
 use Rattle.naga_form.specs.Declarations.{written_program}
-use Rattle.module_meaning.specs.Names.{module_names}
+use Rattle.module_meaning.specs.Names.{NamesAreCounted, module_names}
+use Rattle.naga_names.specs.Naming.{Names}
 use Rattle.wgsl_text.specs.Text.{text}
 use Rattle.wgsl_text.specs.Reading.{layout}
 use Rattle.naga_wgsl_fns.specs.Appends.{StoppedWithin, Wrote}
 use Rattle.naga_wgsl_fns.specs.FunctionText.{tells_types}
 use Rattle.naga_wgsl_fns.specs.Functions.{known_of}
 use Rattle.naga_wgsl_fns.specs.declared.error.Error.{Error}
-use Rattle.naga_wgsl_out.specs.Refusals.{IsFault, TellsOfModule}
+use Rattle.naga_wgsl_out.specs.Refusals.{GivenAreFullIn, HasNamedBefore, IsFault, TellsOfModule}
 use Rattle.naga_back.specs.declared.flags.WriterFlags.{WriterFlags}
 
 pub record Writing (W : Type 0) : Type 0 where
@@ -48,10 +48,12 @@ abbrev pub lines_before : Module → ModuleInfo → WriterFlags → (handle : �
 lines_before m info flags handle =
     lines_of m info flags (take handle (enumerate_from 0 m.functions))
 
--- the rules of scope hold in the function with this handle, and each written handle of it has a form
+-- the rules of scope hold in the function with this handle, each written handle of it has a form, and
+-- the labels that front ends gave in it can all be named
 pub record IsWritableAt (m : Module) (info : ModuleInfo) (handle : ℕ) : Type 0 where
   pub in_scope : ScopeHoldsIn m info handle
   pub formed : OfFunctionAt m info handle (ExpressionsHaveForms m info)
+  pub told : GivenAreFullIn m handle → ⊥
 
 -- Behind what the sink held stand the functions in front of the first one for which that does not
 -- hold, an empty line behind each, and nothing else.
@@ -64,16 +66,26 @@ pub record WroteFunctionsBefore (m : Module) (info : ModuleInfo) (flags : Writer
   pub hold : (i : ℕ) → i < handle → IsWritableAt m info i
   pub written : now ≡ held ++ lines_before m info flags handle
 
--- there is a plan of the function with this handle
+-- there is a plan of the function with this handle, which has names for its labels
 pub record HasPlan (m : Module) (info : ModuleInfo) (handle : ℕ) : Type 0 where
-  pub table : List Standing
-  pub plan : IsPlanOf m info handle table
+  pub planned : Planned
+  pub plan : IsPlanOf m info handle planned
+  pub told : GivenAreFullIn m handle → ⊥
 
--- all functions stand behind what the sink held, each written by a plan of it
+-- a plan with its names, behind which the namer has named the labels of the function too
+pub record IsNamedPlan (m : Module) (info : ModuleInfo) (handle : ℕ) (namer : Names)
+    (planned : Planned) : Type 0 where
+  pub plan : IsPlanOf m info handle planned
+  pub names : AreGivenNames m handle planned.given
+  pub namer_is : HasNamedBefore m (handle + 1) namer
+
+-- all functions stand behind what the sink held, each written by a plan of it, and the names of the
+-- module are counted
 pub record WroteFunctions (m : Module) (info : ModuleInfo) (flags : WriterFlags) (held : List ℕ)
     (failed : ℕ) (now : List ℕ) (failures : ℕ) : Type 0 where
   pub wrote : Wrote held failed (module_lines m info flags) now failures
   pub planned : (i : ℕ) → i < length m.functions → HasPlan m info i
+  pub counted : NamesAreCounted m
 
 -- the first one without a plan was met, and told
 pub record MetNoPlan (m : Module) (info : ModuleInfo) (flags : WriterFlags) (held : List ℕ)

@@ -12,16 +12,18 @@ ghost use Rattle.module_meaning.specs.Names.{HasNamesOf, wgsl_names};
 ghost use Rattle.module_meaning.specs.Resolution.{ResolvesAs};
 ghost use Rattle.module_meaning.specs.Bindings.{BindsAs};
 ghost use Rattle.naga_scope.specs.Forms.{AreKnownIn};
-ghost use Rattle.naga_scope.specs.Plans.{IsPlanOf};
+ghost use Rattle.naga_scope.specs.Plans.{AreGivenNames, IsPlanOf};
 ghost use Rattle.naga_wgsl_fns.specs.Appends.{Appends};
 ghost use Rattle.naga_wgsl_fns.specs.FunctionText.{tells_types};
 ghost use Rattle.naga_wgsl_fns.specs.Functions.{text_of_function};
 ghost use Rattle.naga_wgsl_out.specs.Headline.{EachReading, FaithfulWriting, answer_of, text_of};
-ghost use Rattle.naga_wgsl_out.specs.Refusals.{ComesBeforeText, HasAllNames, IsErrorOfNames};
+ghost use Rattle.naga_wgsl_out.specs.Refusals.{ComesBeforeText, HasAllNames, HasNamedBefore};
+ghost use Rattle.naga_wgsl_out.specs.Refusals.{IsErrorOfNames};
 ghost use Rattle.naga_wgsl_out.specs.Refusals.{IsNamesRefusal, IsPlanRefusal, IsOfPlan};
 ghost use Rattle.naga_wgsl_out.specs.Refusals.{TellsPlanError};
 ghost use Rattle.naga_wgsl_out.specs.Refusals.{TellsOfModule, TellsOfFunction};
-ghost use Rattle.naga_wgsl_out.specs.Writing.{WritesFunctions, Writing, WroteFunctionsBefore};
+ghost use Rattle.naga_wgsl_out.specs.Writing.{IsNamedPlan, WritesFunctions, Writing};
+ghost use Rattle.naga_wgsl_out.specs.Writing.{WroteFunctionsBefore};
 ghost use Rattle.naga_wgsl_out.specs.Writing.{written_text};
 
 use crate::forms::without_form;
@@ -94,9 +96,12 @@ impl<W: TextSink> Writer<W> {
     /// a sampling without a form as `Unimplemented`, `sampling form`, and one with an offset that
     /// applies an operator as `Custom`, `operator in a constant`; a load of a texel of both a sample
     /// and a level as `Custom`, `image load with sample and level`.
-    /// Where several such stand in a module, one is told. Each function is looked at before its
-    /// text, so the functions in front of the first that has one then stand behind what the sink
-    /// held, whole, an empty line behind each. Any other refusal leaves the sink's text as it was.
+    /// A module of which so many labels are alike that one gets no name is refused as `Custom`, `namer
+    /// is full`. Where several such stand in a module, one is told. Each function is looked at before
+    /// its text, and so are the labels that front ends gave in it, so the functions in front of the
+    /// first that has such a thing then stand behind what the sink held, whole, an empty line behind
+    /// each. Any other refusal, `namer is full` for the module's own items among them, leaves the
+    /// sink's text as it was.
     /// None of them is a failure of the sink.
     ///
     /// So far a module is refused as `Unimplemented`, `not yet written`, unless it declares nothing
@@ -105,12 +110,14 @@ impl<W: TextSink> Writer<W> {
     /// arguments, locals, literals, zero values, values of a type composed of others, loads,
     /// choices, operators with a sign, vectors of one value, swizzles, parts at an index of what has
     /// parts, conversions, derivatives, operations on images, lengths of arrays, products of
-    /// cooperative matrices, functions of mathematics, and relations, without names of their own, and
+    /// cooperative matrices, functions of mathematics, and relations, and
     /// whose statements are `Emit`s, `Store`s and `Return`s.
     ///
-    /// An emitted expression is bound by a `let` where it is an operation on an image, a `Load` or a
-    /// derivative that is used at all, or another operator, but no part at an index, that is used at
-    /// least twice; `EXPLICIT_TYPES` has each `let` tell its type.
+    /// An emitted expression is bound by a `let` where a front end named it, or where it is an
+    /// operation on an image, a `Load` or a derivative that is used at all, or another operator, but
+    /// no part at an index, that is used at least twice; `EXPLICIT_TYPES` has each `let` tell its type.
+    /// What a front end named is bound under an identifier made of that label, the next one in the
+    /// order of the text behind those of the module's items.
     pub fn write(&mut self, module: &Module, info: &ModuleInfo) -> Result<(), Error>
         requires accepted { IsTrue (is_accepted «module».now info.now) }
         ensures faithful { FaithfulWriting «module».now info.now result
@@ -128,10 +135,10 @@ impl<W: TextSink> Writer<W> {
         ensures text_err { OnErr result (IsBehind (W.text self.old.sink)
             (written_text «module».now info.now self.old.flags) (W.text self.new.sink)) }
         ensures failures_ok { OnOk result (W.failures self.new.sink ≡ W.failures self.old.sink) }
-        ensures untouched { IfErr result (λ e. ComesBeforeText e →
+        ensures untouched { IfErr result (λ e. ComesBeforeText «module».now e →
             W.text self.new.sink ≡ W.text self.old.sink) }
         // What stands in front of the function that is refused.
-        ensures written_before { IfErr result (λ e. TellsOfFunction e →
+        ensures written_before { IfErr result (λ e. TellsOfFunction «module».now e →
             WroteFunctionsBefore «module».now info.now self.old.flags
             (W.text self.old.sink) (W.text self.new.sink)) }
         ensures unfailed { IfErr result (λ e. TellsOfModule e →
@@ -141,30 +148,41 @@ impl<W: TextSink> Writer<W> {
         if !is_written_so_far(module, info) {
             return Err(not_yet_written(self.alloc));
         }
-        let names = names_of(self.alloc, module)?;
-        write_functions(self.alloc, module, info, &names, self.flags, &mut self.out)
+        let (names, mut namer) = names_of(self.alloc, module)?;
+        write_functions(
+            self.alloc,
+            module,
+            info,
+            &names,
+            &mut namer,
+            self.flags,
+            &mut self.out,
+        )
     }
 }
 
 /// Writes the functions of the module, an empty line behind each, up to the first in which an
-/// operand is out of scope or an expression without a form is written.
+/// operand is out of scope, an expression without a form is written, or a label gets no name. The
+/// namer has named the items of the module, and goes on with what front ends named.
 fn write_functions<W: TextSink>(
     alloc: Global,
     module: &Module,
     info: &ModuleInfo,
     names: &HashMap<NameKey, String>,
+    namer: &mut Namer,
     flags: WriterFlags,
     out: &mut W,
 ) -> Result<(), Error>
     requires accepted { IsTrue (is_accepted «module».now info.now) }
     requires written { IsTrue (is_written_so_far «module».now info.now) }
     requires names { HasNamesOf «module».now (names_in names.now) }
+    requires namer { HasNamedBefore «module».now 0 namer.old }
     ensures { WritesFunctions «module».now info.now flags result (W.text out.old)
         (W.failures out.old) (W.text out.new) (W.failures out.new) }
 {
     for index in 0..module.functions.len() {
         let handle = Place::from_index(index);
-        let plan = plan_of(alloc, module, info, handle)?;
+        let plan = plan_of(alloc, module, info, handle, namer)?;
         write_function_line(alloc, module, info, names, flags, handle, plan, out)?;
     }
     Ok(())
@@ -176,14 +194,16 @@ fn plan_of(
     module: &Module,
     info: &ModuleInfo,
     handle: Handle<Function>,
+    namer: &mut Namer,
 ) -> Result<Plan, Error>
     requires accepted { IsTrue (is_accepted «module».now info.now) }
     requires written { IsTrue (is_written_so_far «module».now info.now) }
     requires handle { handle < length «module».now.functions }
-    ensures ok { IfOk result (IsPlanOf «module».now info.now handle) }
+    requires namer { HasNamedBefore «module».now handle namer.old }
+    ensures ok { IfOk result (IsNamedPlan «module».now info.now handle namer.new) }
     ensures err { IfErr result (IsPlanRefusal «module».now info.now handle) }
 {
-    match Plan::of(alloc, module, info, handle) {
+    match Plan::of(alloc, module, info, handle, namer) {
         Ok(plan) => Ok(plan),
         Err(error) => Err(error_of_plan(
             alloc,
@@ -213,6 +233,7 @@ fn error_of_plan(
         PlanError::WithoutForm(handle) => {
             without_form(alloc, types, info, &function.expressions[handle])
         }
+        PlanError::Unnamed(error) => names_error(alloc, error),
         PlanError::Memory(error) => Error::Memory(error),
     }
 }
@@ -232,6 +253,7 @@ fn write_function_line<W: TextSink>(
     requires handle { handle < length «module».now.functions }
     requires names { HasNamesOf «module».now (names_in names.now) }
     requires planned { IsPlanOf «module».now info.now handle plan }
+    requires named { AreGivenNames «module».now handle plan.given }
     ensures { Appends result (W.text out.old) (W.failures out.old)
         (text_of_function «module».now info.now flags handle ++ codes "\n")
         (W.text out.new) (W.failures out.new) }
@@ -240,15 +262,16 @@ fn write_function_line<W: TextSink>(
     put("\n", out)
 }
 
-/// The names of a module in WGSL.
-fn names_of(alloc: Global, module: &Module) -> Result<HashMap<NameKey, String>, Error>
-    ensures ok { IfOk result (λ names. HasAllNames «module».now (names_in names)) }
+/// The names of a module's items in WGSL, and the namer that gave them.
+fn names_of(alloc: Global, module: &Module) -> Result<(HashMap<NameKey, String>, Namer), Error>
+    ensures ok { IfOk result (λ r. HasAllNames «module».now (names_in r.0)) }
+    ensures namer { IfOk result (λ r. HasNamedBefore «module».now 0 r.1) }
     ensures err { IfErr result (IsNamesRefusal «module».now) }
 {
     let mut names = HashMap::new(alloc);
     let mut namer = Namer::default(alloc);
     name_items(alloc, module, &mut namer, &mut names)?;
-    Ok(names)
+    Ok((names, namer))
 }
 
 /// Gives the items of a module names that are identifiers of WGSL, and puts these into the map.
@@ -259,6 +282,7 @@ fn name_items(
     names: &mut HashMap<NameKey, String>,
 ) -> Result<(), Error>
     ensures ok { OnOk result (HasAllNames «module».now (names_in names.new)) }
+    ensures namer { OnOk result (HasNamedBefore «module».now 0 namer.new) }
     ensures err { IfErr result (IsNamesRefusal «module».now) }
 {
     match reset_for_wgsl(alloc, module, namer, names) {
@@ -275,6 +299,7 @@ fn reset_for_wgsl(
     names: &mut HashMap<NameKey, String>,
 ) -> Result<(), NamerError>
     ensures ok { OnOk result (HasAllNames «module».now (names_in names.new)) }
+    ensures namer { OnOk result (HasNamedBefore «module».now 0 namer.new) }
     ensures err { IfErr result (IsResetRefusal wgsl_names «module».now) }
 {
     let reserved = reserved_words(alloc)?;
@@ -289,7 +314,7 @@ fn reset_for_wgsl(
     )
 }
 
-/// The refusal of a module whose items get no names.
+/// The refusal of a module of which an item or a label gets no name.
 fn names_error(alloc: Global, error: NamerError) -> Error
     ensures { IsErrorOfNames error result }
 {

@@ -27,6 +27,8 @@ pub enum Row {
     Inline,
     /// A function that uses a sum twice: to store it, and to multiply it.
     Twofold,
+    /// A function that returns a sum which a front end named.
+    Named,
 }
 
 impl Row {
@@ -43,6 +45,7 @@ impl Row {
             "late" => Some(Row::Late),
             "inline" => Some(Row::Inline),
             "twofold" => Some(Row::Twofold),
+            "named" => Some(Row::Named),
             _ => None,
         }
     }
@@ -60,6 +63,7 @@ impl Row {
             Row::Late => build_late(sample),
             Row::Inline => build_inline(sample),
             Row::Twofold => build_twofold(sample),
+            Row::Named => build_named(sample),
         }
     }
 }
@@ -88,6 +92,16 @@ fn build_negative(sample: &mut Sample) -> Result<(), AllocError> {
     sample.returns(i64_type);
     let minus_seven = sample.literal(Literal::I64(-7), i64_type)?;
     sample.end_with(minus_seven)
+}
+
+fn build_named(sample: &mut Sample) -> Result<(), AllocError> {
+    let i32_type = sample.begin("e")?;
+    sample.argument("x", i32_type)?;
+    let x = sample.expression(Expression::FunctionArgument(0), i32_type)?;
+    let sum = sample.binary(BinaryOperator::Add, x, x, i32_type)?;
+    sample.named(sum, "x")?;
+    sample.emit(sum, sum)?;
+    sample.end_with(sum)
 }
 
 /// A local, a literal 1 that is its first value, and a read of it.

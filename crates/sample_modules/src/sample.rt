@@ -151,6 +151,13 @@ impl Sample {
         self.expression(Expression::Literal(literal), ty)
     }
 
+    /// Gives an expression of the function the label of a front end.
+    pub fn named(&mut self, expression: Handle<Expression>, label: &str) -> Result<(), AllocError> {
+        let label = String::from_str(self.alloc, label)?;
+        self.function.named_expressions.insert(expression, label)?;
+        Ok(())
+    }
+
     /// Adds the `Emit` of all expressions from the first to the last to the function.
     pub fn emit(
         &mut self,

@@ -1,6 +1,7 @@
 use naga_acceptance::{accepts, is_written_so_far};
 use naga_info::ModuleInfo;
 use naga_ir::{BinaryOperator, Expression, Handle, Literal, Module, Place, Scalar, Type_};
+use naga_names::namer::Namer;
 use naga_scope::{Plan, PlanError};
 use sample_modules::Sample;
 use std::alloc::{AllocError, Global};
@@ -145,10 +146,11 @@ fn first_holds(
     if !accepts(module, info) || !is_written_so_far(module, info) || module.functions.len() != 1 {
         return Ok(None);
     }
-    match Plan::of(alloc, module, info, Place::from_index(0)) {
+    let mut namer = Namer::default(alloc);
+    match Plan::of(alloc, module, info, Place::from_index(0), &mut namer) {
         Ok(_) => Ok(Some(true)),
         Err(PlanError::OutOfScope) => Ok(Some(false)),
-        Err(PlanError::WithoutForm(_)) => Ok(None),
+        Err(PlanError::WithoutForm(_)) | Err(PlanError::Unnamed(_)) => Ok(None),
         Err(PlanError::Memory(error)) => Err(error),
     }
 }

@@ -17,6 +17,7 @@ mod images;
 mod indexed;
 mod made;
 mod mathematics;
+mod names;
 mod operators;
 mod parts;
 mod samplings;
@@ -97,8 +98,13 @@ fn rows_are_written(rt: HostRuntime) -> Result<(), Fail> {
 }
 
 /// Rows with their texts, without and with the types of their `let`s. Loads are bound where they
-/// are emitted, and operators where they are used twice.
+/// are emitted, operators where they are used twice, and what has a name.
 const ROWS_WITH_LETS: &[(&str, &str, &str)] = &[
+    (
+        "named",
+        "fn e(x: i32) -> i32 {\n    let x_1 = (x + x);\n    return x_1;\n}\n\n",
+        "fn e(x: i32) -> i32 {\n    let x_1: i32 = (x + x);\n    return x_1;\n}\n\n",
+    ),
     (
         "store",
         "fn g() -> i32 {\n    var a: i32 = 1i;\n\n    let _e2 = a;\n    a = 2i;\n    return _e2;\n}\n\n",

@@ -1,4 +1,6 @@
-use Rattle.std.proofs.Common.{◌≡◌, ℕ, ◌-◌, length}
+use Rattle.std.proofs.Common.{◌≡◌, ℕ, ◌+◌, ◌-◌, length}
+use Rattle.module_meaning.specs.GivenLabels.{labels_of_each}
+use Rattle.module_meaning.specs.Names.{given_name}
 use Rattle.naga_ir.specs.declared.module.Module.{Module}
 use Rattle.naga_info.specs.declared.info.ModuleInfo.{ModuleInfo}
 use Rattle.naga_names.specs.Keys.{NameMap}
@@ -13,15 +15,17 @@ use Rattle.naga_scope.proofs.check.emit_holds.Given as goal
 
 abbrev pub invariant-loop-index : goal.invariant-loop-index
 invariant-loop-index l = record {
-  size : length l.scope ≡ length l.initial.scope;
-  holds : (names : NameMap) (m : Module) (known : ModuleInfo) (g k : ℕ) →
+  size : length l.scope.table ≡ length l.initial.scope.table;
+  given : l.scope.given + length (labels_of_each l.function (from l.index (l.fn.range.end - l.index)))
+      ≡ l.initial.scope.given + length (labels_of_each l.function (from l.fn.range.first (l.fn.range.end - l.fn.range.first)));
+  holds : (names : NameMap) (m : Module) (known : ModuleInfo) (g : ℕ) →
       IsTrue (types_allow_all m.types l.function l.info) →
-      may_emit_all (function_naming names m known g l.function l.info) k (from l.index (l.fn.range.end - l.index)) (handles_of l.scope)
-      ≡ may_emit_all (function_naming names m known g l.function l.info) k (from l.fn.range.first (l.fn.range.end - l.fn.range.first)) (handles_of l.initial.scope);
-  behind : (names : NameMap) (m : Module) (known : ModuleInfo) (g k : ℕ) →
+      may_emit_all (function_naming names m known g l.function l.info) l.scope.given (from l.index (l.fn.range.end - l.index)) (handles_of (given_name m g) l.scope.table)
+      ≡ may_emit_all (function_naming names m known g l.function l.info) l.initial.scope.given (from l.fn.range.first (l.fn.range.end - l.fn.range.first)) (handles_of (given_name m g) l.initial.scope.table);
+  behind : (names : NameMap) (m : Module) (known : ModuleInfo) (g : ℕ) →
       IsTrue (types_allow_all m.types l.function l.info) →
-      after_emit (function_naming names m known g l.function l.info) k (from l.index (l.fn.range.end - l.index)) (handles_of l.scope)
-      ≡ after_emit (function_naming names m known g l.function l.info) k (from l.fn.range.first (l.fn.range.end - l.fn.range.first)) (handles_of l.initial.scope);
+      after_emit (function_naming names m known g l.function l.info) l.scope.given (from l.index (l.fn.range.end - l.index)) (handles_of (given_name m g) l.scope.table)
+      ≡ after_emit (function_naming names m known g l.function l.info) l.initial.scope.given (from l.fn.range.first (l.fn.range.end - l.fn.range.first)) (handles_of (given_name m g) l.initial.scope.table);
   held : (m : Module) (known : ModuleInfo) → IsTrue (types_allow_all m.types l.function l.info) →
-      KeepsStart (function_shape m known l.function l.info) (handles_of l.scope);
+      KeepsStart (function_shape m known l.function l.info) (handles_of (given_name m 0) l.scope.table);
 }

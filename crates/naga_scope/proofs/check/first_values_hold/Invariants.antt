@@ -1,4 +1,4 @@
-use Rattle.std.proofs.Common.{◌≡◌, List}
+use Rattle.std.proofs.Common.{◌≡◌, ℕ, List}
 use Rattle.naga_ir.specs.declared.module.Module.{Module}
 use Rattle.naga_info.specs.declared.info.ModuleInfo.{ModuleInfo}
 use Rattle.naga_info.specs.declared.info.ExpressionInfo.{ExpressionInfo}
@@ -9,5 +9,5 @@ use Rattle.naga_scope.proofs.FirstValues.{all_fit}
 use Rattle.naga_scope.proofs.check.first_values_hold.Given as goal
 
 abbrev pub invariant-loop-handle : goal.invariant-loop-handle
-invariant-loop-handle l = (m : Module) (known : ModuleInfo) (es : List ExpressionInfo) → handles_of l.scope ≡ at_start (function_shape m known l.function es) →
+invariant-loop-handle l = (given : ℕ → List ℕ) (m : Module) (known : ModuleInfo) (es : List ExpressionInfo) → handles_of given l.scope.table ≡ at_start (function_shape m known l.function es) →
     all_fit (function_shape m known l.function es) l.handle-iterator ≡ first_values_fit (function_shape m known l.function es) 0 (function_shape m known l.function es).first_values

@@ -1,4 +1,6 @@
-use Rattle.std.proofs.Common.{◌≡◌, ℕ, length, drop}
+use Rattle.std.proofs.Common.{◌≡◌, ℕ, ◌+◌, length, drop}
+use Rattle.module_meaning.specs.GivenLabels.{block_labels, given_labels}
+use Rattle.module_meaning.specs.Names.{given_name}
 use Rattle.naga_ir.specs.StatementViews.{block_of}
 use Rattle.naga_ir.specs.declared.module.Module.{Module}
 use Rattle.naga_info.specs.declared.info.ModuleInfo.{ModuleInfo}
@@ -14,11 +16,12 @@ use Rattle.naga_scope.proofs.check.function_holds.Given as goal
 
 abbrev pub invariant-loop-statement : goal.invariant-loop-statement
 invariant-loop-statement l = record {
-  size : length l.scope ≡ length l.function.expressions;
+  size : length l.scope.table ≡ length l.function.expressions;
+  given : l.scope.given + length (block_labels l.function (block_of (drop l.statement-index l.statement-items))) ≡ length (given_labels l.function);
   holds : (names : NameMap) (m : Module) (known : ModuleInfo) (g : ℕ) →
       IsTrue (types_allow_all m.types l.function l.info) →
-      fits_all (function_naming names m known g l.function l.info) 0 (statements_shape (declared m known (types_known l.info)).around (block_of (drop l.statement-index l.statement-items))) (handles_of l.scope)
+      fits_all (function_naming names m known g l.function l.info) l.scope.given (statements_shape (declared m known (types_known l.info)).around (block_of (drop l.statement-index l.statement-items))) (handles_of (given_name m g) l.scope.table)
       ≡ fits_all (function_naming names m known g l.function l.info) 0 (statements_shape (declared m known (types_known l.info)).around l.function.body) (at_start (function_shape m known l.function l.info));
   held : (m : Module) (known : ModuleInfo) → IsTrue (types_allow_all m.types l.function l.info) →
-      KeepsStart (function_shape m known l.function l.info) (handles_of l.scope);
+      KeepsStart (function_shape m known l.function l.info) (handles_of (given_name m 0) l.scope.table);
 }

@@ -5,5 +5,5 @@ use Rattle.naga_scope.specs.Standings.{handles_of}
 use Rattle.naga_scope.proofs.check.is_usable_if.Goals as goal
 
 pub returns-in-Some : goal.returns-in-Some
-returns-in-Some c m known es =
-    c.is_usable.ensures m known es ∙ ap (usable_if (function_shape m known c.args.function.now es) (handles_of c.args.scope.now)) (sym c.in-Some.is)
+returns-in-Some c given m known es =
+    c.is_usable.ensures given m known es ∙ ap (usable_if (function_shape m known c.args.function.now es) (handles_of given c.args.scope.now.table)) (sym c.in-Some.is)

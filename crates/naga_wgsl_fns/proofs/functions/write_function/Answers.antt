@@ -1,30 +1,47 @@
-use Rattle.std.proofs.Common.{◌≡◌, ◌<◌, ◌∙◌, Some, arith, ap, length, subst, sym}
+use Rattle.std.proofs.Common.{[], ◌≡◌, ◌<◌, ◌∙◌, Global, List, Some, arith, ap, get_or, length, slice_get}
+use Rattle.std.proofs.Common.{string_bytes, subst, sym}
+use Rattle.std.specs.Option.{option_map_or}
+use Rattle.std.specs.declared.string.String.{String}
+use Rattle.module_meaning.specs.Names.{given_name}
+use Rattle.naga_scope.specs.Standings.{TextPoint, handles_of}
 use Rattle.naga_form.proofs.AcceptedFunctions.{functions_counted}
 use Rattle.naga_words.proofs.Writing.{held_part_as, held_whole_as, never_formless, reason_given}
 use Rattle.naga_words.proofs.Writing.{same_sink, writes_as}
 use Rattle.naga_scope.proofs.Planned.{plan_found}
 use Rattle.naga_wgsl_fns.specs.Errors.{IsWant}
-use Rattle.naga_wgsl_fns.proofs.FunctionRows.{can_write, reason_told, text_of_function_at}
+use Rattle.naga_wgsl_fns.proofs.FunctionRows.{can_write, names_read, reason_told, text_of_function_at}
 use Rattle.naga_wgsl_fns.proofs.functions.write_function.Goals as goal
 
 pub write_declaration-requires-clause-can : goal.write_declaration-requires-clause-can
 write_declaration-requires-clause-can g c =
+    let plan = plan_found c.args.module.now c.args.info.now c.args.handle c.index.result.now
+    c.index-2.result.now c.args.plan c.index.ensures c.index-2.ensures c.requires.planned in
     can_write _ c.requires.accepted c.requires.written c.requires.names c.index.ensures
-    c.index-2.ensures
-    (plan_found c.args.module.now c.args.info.now c.args.handle c.index.result.now
-    c.index-2.result.now c.args.plan c.index.ensures c.index-2.ensures c.requires.planned).formed
+    c.index-2.ensures plan.formed
+    (λ number. ap (λ (xs : List (String Global)). option_map_or string_bytes (slice_get xs number) []) c.as_slice.ensures.value
+    ∙ (names_read c.into_parts-scope.result.1.items number
+    ∙ (ap (λ ns. get_or ns number []) c.into_parts-scope.ensures.given ∙ c.requires.named number)))
+    plan.room
 
 pub write_declaration-requires-clause-start : goal.write_declaration-requires-clause-start
 write_declaration-requires-clause-start g c =
-    (plan_found c.args.module.now c.args.info.now c.args.handle c.index.result.now
-    c.index-2.result.now c.args.plan c.index.ensures c.index-2.ensures c.requires.planned).starts
+    let plan = plan_found c.args.module.now c.args.info.now c.args.handle c.index.result.now
+    c.index-2.result.now c.args.plan c.index.ensures c.index-2.ensures c.requires.planned in
+    let given = given_name c.args.module.now c.args.handle in
+    ap (λ (p : TextPoint). handles_of given p.table) c.into_parts-scope.ensures.scope
+    ∙ plan.starts given
+
+pub write_declaration-requires-clause-given : goal.write_declaration-requires-clause-given
+write_declaration-requires-clause-given g c =
+    let plan = plan_found c.args.module.now c.args.info.now c.args.handle c.index.result.now
+    c.index-2.result.now c.args.plan c.index.ensures c.index-2.ensures c.requires.planned in
+    ap (λ (p : TextPoint). p.given) c.into_parts-scope.ensures.scope ∙ plan.no_name
 
 pub write_declaration-requires-clause-size : goal.write_declaration-requires-clause-size
 write_declaration-requires-clause-size g c =
-    let f = c.index.result.now in
-    let plan = plan_found c.args.module.now c.args.info.now c.args.handle f c.index-2.result.now
-    c.args.plan c.index.ensures c.index-2.ensures c.requires.planned in
-    plan.size
+    let plan = plan_found c.args.module.now c.args.info.now c.args.handle c.index.result.now
+    c.index-2.result.now c.args.plan c.index.ensures c.index-2.ensures c.requires.planned in
+    ap (λ (p : TextPoint). length p.table) c.into_parts-scope.ensures.scope ∙ plan.size
 
 pub index-requires-2 : goal.index-requires-2
 index-requires-2 g c =
@@ -41,15 +58,15 @@ returns-in-Ok-clause-text_ok g c =
     (writes_as (sym (text_of_function_at _ c.index.ensures c.index-2.ensures)) c.write_declaration.ensures)
     c.new-written.ensures.want c.in-Ok.ensures.whole
 
-pub returns-in-Err-clause-text_err : goal.returns-in-Err-clause-text_err
-returns-in-Err-clause-text_err g c =
+pub returns-clause-text_err : goal.returns-clause-text_err
+returns-clause-text_err g c =
     let same : c.write_declaration.new.out.sink.ghost_name ≡ c.new-written.result.sink.ghost_name = same_sink _ _ _ c.write_declaration.ensures in
     held_part_as _ _ _ _ _ _ (grind arith) (grind arith)
     (writes_as (sym (text_of_function_at _ c.index.ensures c.index-2.ensures)) c.write_declaration.ensures)
     c.new-written.ensures.want c.in-Err.ensures.wanting
 
-pub returns-in-Err-clause-reason : goal.returns-in-Err-clause-reason
-returns-in-Err-clause-reason g c =
+pub returns-clause-reason : goal.returns-clause-reason
+returns-clause-reason g c =
     let same : c.write_declaration.new.out.sink.ghost_name ≡ c.new-written.result.sink.ghost_name = same_sink _ _ _ c.write_declaration.ensures in
     let reason = reason_given _ _ _ c.in-Err.want c.write_declaration.ensures c.new-written.ensures.want c.in-Err.ensures.wanting in
     let told = reason_told (g.W.TextSink.failures c.new-written.result.sink.now) (g.W.TextSink.failures c.write_declaration.new.out.sink.now) c.in-Err.want c.error_of_want.result reason c.error_of_want.ensures in

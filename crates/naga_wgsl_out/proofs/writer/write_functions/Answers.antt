@@ -1,4 +1,5 @@
-use Rattle.std.proofs.Common.{◌≡◌, ◌<◌, arith, length}
+use Rattle.std.proofs.Common.{◌≡◌, ◌<◌, arith, length, subst, sym}
+use Rattle.naga_wgsl_out.specs.Refusals.{HasNamedBefore}
 use Rattle.naga_wgsl_out.proofs.Functions.{up_to_all, up_to_more, up_to_none}
 use Rattle.naga_wgsl_out.proofs.Functions.{up_to_stopped, up_to_unplanned}
 use Rattle.naga_wgsl_out.proofs.writer.write_functions.Goals as goal
@@ -7,13 +8,14 @@ pub loop-index-init : goal.loop-index-init
 loop-index-init g c =
     up_to_none c.args.«module».now c.args.info.now c.args.flags
     (g.W.TextSink.text c.args.out.now) (g.W.TextSink.failures c.args.out.now)
+    c.args.namer.now c.requires.namer
 
 pub loop-index-preserved : goal.loop-index-preserved
 loop-index-preserved g c =
     let within : c.loop-index.index < length c.args.«module».now.functions =
     omega (arith, c.loop-index-test.true, c.len-index-end.ensures) in
     up_to_more _ _ _ c.loop-index.invariant c.from_index-handle.result c.from_index-handle.ensures
-    within c.in_ok-plan.plan c.in_ok-plan.ensures.ok c.in_ok-write_function_line.ensures
+    within c.in_ok-plan.plan _ c.in_ok-plan.ensures.ok c.in_ok-write_function_line.ensures
 
 pub returns-in_err-plan : goal.returns-in_err-plan
 returns-in_err-plan g c =
@@ -37,3 +39,8 @@ returns g c =
     let all : c.loop-index.index ≡ length c.args.«module».now.functions =
     omega (arith, c.loop-index-test.false, c.len-index-end.ensures) in
     up_to_all _ _ _ c.loop-index.invariant all
+
+pub plan_of-plan-requires-clause-namer : goal.plan_of-plan-requires-clause-namer
+plan_of-plan-requires-clause-namer g c =
+    subst (λ h. HasNamedBefore c.args.«module».now h c.loop-index.namer)
+    (sym c.from_index-handle.ensures) c.loop-index.invariant.named

@@ -5,4 +5,4 @@ abbrev pub invariant-loop-index : goal.invariant-loop-index
 invariant-loop-index g l =
     IsUpTo l.«module» l.info l.flags l.index
     (g.W.TextSink.text l.initial.out) (g.W.TextSink.failures l.initial.out)
-    (g.W.TextSink.text l.out) (g.W.TextSink.failures l.out)
+    l.namer (g.W.TextSink.text l.out) (g.W.TextSink.failures l.out)

@@ -1,4 +1,7 @@
-use Rattle.std.proofs.Common.{◌≡◌, ◌<◌, ◌∙◌, length, refl, subst, sym}
+use Rattle.std.proofs.Common.{[], ◌≡◌, ◌<◌, ◌∙◌, ap, length, refl, subst, sym}
+use Rattle.std.specs.Option.{option_map_or}
+use Rattle.module_meaning.specs.GivenLabels.{given_labels}
+use Rattle.module_meaning.specs.Names.{labels_given}
 use Rattle.module_meaning.specs.Part.{function_is_written}
 use Rattle.module_meaning.proofs.Lists.{list_all_at}
 use Rattle.module_meaning.proofs.Part.{functions_allow, functions_are_written}
@@ -6,6 +9,8 @@ use Rattle.module_meaning.proofs.Part.{written_so_far_parts}
 use Rattle.naga_form.proofs.AcceptedGroups.{fits_in_range, known_is_fit}
 use Rattle.naga_form.proofs.AcceptedFunctions.{accepted_at, function_there, functions_counted}
 use Rattle.naga_form.proofs.Ordered.{operands_stand_before}
+use Rattle.std.specs.Prelude.{IfOk, OnErr}
+use Rattle.naga_scope.specs.GivenNames.{HasBegunLabels, NamesLabels}
 use Rattle.naga_scope.specs.Plans.{IsPlan, IsRefusalToPlan}
 use Rattle.naga_scope.proofs.Planned.{of_the_err, of_the_ok}
 use Rattle.naga_scope.proofs.plan.Plan.of.Goals as goal
@@ -42,9 +47,13 @@ returns c =
     let f = c.index.result.now in
     let es = c.index-2.result.now in
     let allowed = functions_allow m info c.requires.written g f es c.index.ensures c.index-2.ensures in
+    let labels : given_labels f ≡ labels_given m g = sym (ap (λ o. option_map_or given_labels o []) c.index.ensures) in
     record {
       ok = of_the_ok (IsPlan m info) m info g f es c.index.ensures c.index-2.ensures
           c.of_function.result (c.of_function.ensures.ok m info refl allowed);
-      err = of_the_err (IsRefusalToPlan m info) m info g f es c.index.ensures c.index-2.ensures
-          c.of_function.result (c.of_function.ensures.err m info refl allowed);
+      named = subst (λ ls. IfOk c.of_function.result (λ p. NamesLabels c.args.namer.now [] ls c.of_function.new.namer p.given)) labels c.of_function.ensures.named;
+      err = of_the_err (λ f es. IsRefusalToPlan m info f es c.args.namer.now) m info g f es
+          c.index.ensures c.index-2.ensures c.of_function.result
+          (c.of_function.ensures.err m info refl allowed);
+      begun = subst (λ ls. OnErr c.of_function.result (HasBegunLabels c.args.namer.now ls c.of_function.new.namer)) labels c.of_function.ensures.begun;
     }

@@ -1,4 +1,8 @@
-use Rattle.std.proofs.Common.{◌∙◌, None, Some, subst, sym, true≢false}
+use Rattle.std.proofs.Common.{◌+◌, ◌<◌, ◌^◌, ◌≡◌, ◌∙◌, List, ℕ, None, Some, arith, length, map, string_bytes}
+use Rattle.std.proofs.Common.{subst, sym, true≢false}
+use Rattle.std.specs.declared.string.String.{String}
+use Rattle.module_meaning.specs.GivenLabels.{given_labels}
+use Rattle.naga_form.proofs.Fits.{mapped_length}
 use Rattle.module_meaning.specs.FunctionShapes.{function_shape}
 use Rattle.module_meaning.specs.Part.{expression_has_form}
 use Rattle.module_meaning.specs.Written.{function_roots}
@@ -8,7 +12,7 @@ use Rattle.naga_scope.proofs.Planned.{check_is_the_rules}
 use Rattle.naga_scope.proofs.plan.Plan.of_function.Goals as goal
 
 pub function_holds-requires-clause-start : goal.function_holds-requires-clause-start
-function_holds-requires-clause-start c m known = c.in_ok-scope.ensures.start m known c.args.info.now
+function_holds-requires-clause-start c given m known = c.in_ok-scope.ensures.start given m known c.args.info.now
 
 pub returns-then-not-function_holds-clause-err : goal.returns-then-not-function_holds-clause-err
 returns-then-not-function_holds-clause-err c m known same allowed rules =
@@ -19,6 +23,10 @@ returns-then-not-function_holds-clause-err c m known same allowed rules =
     ∙ c.if-not-function_holds.true in
     true≢false (sym holds ∙ fails)
 
+-- there are as many names as labels
+few : {X : Type 0} (labels : List (List ℕ)) (names : List (String X)) → length (map string_bytes names) ≡ 0 + length labels → length names < 2 ^ 64 → length labels < 2 ^ 64
+few labels names count small = let same = mapped_length string_bytes names in omega (arith, count, small, same)
+
 pub returns-clause-ok : goal.returns-clause-ok
 returns-clause-ok c m known same allowed =
     let f = c.args.function.now in
@@ -28,10 +36,13 @@ returns-clause-ok c m known same allowed =
     let roots = function_roots (binds (function_shape m known f es)) f in
     record {
       in_scope = (check_is_the_rules m known f es c.requires.ordered).0 holds;
-      starts = c.restart.ensures.start m known es;
+      starts = λ given. c.restart.ensures.start given m known es;
+      no_name = c.restart.ensures.given;
       size = c.restart.ensures.size
           ∙ (c.function_holds.ensures.size ∙ c.in_ok-scope.ensures.size);
       counted = c.in_ok-scope.ensures.counted;
+      room = few (given_labels f) c.in_ok-given.given.items c.in_ok-given.ensures.ok.count
+          (omega (arith, c.in_ok-given.given.ok.0, c.in_ok-given.given.small));
       formed = subst (λ types. Sweeps (expression_has_form types es f.expressions) f.expressions roots None) (sym same)
           (subst (Sweeps (expression_has_form c.args.types.now es f.expressions) f.expressions roots) c.in_default.is
           (c.in_ok-handle.ensures m known allowed));

@@ -5,25 +5,25 @@ use Rattle.naga_scope.specs.Standings.{handles_of}
 use Rattle.naga_scope.proofs.points.Scope.are_usable.Goals as goal
 
 pub returns-then-not-is_usable : goal.returns-then-not-is_usable
-returns-then-not-is_usable c m known es =
+returns-then-not-is_usable c given m known es =
     let shape = function_shape m known c.args.function.now es in
-    let s = handles_of c.args.self.now in
-    sym (sym (c.loop-operand.invariant m known es)
+    let s = handles_of given c.args.self.now.table in
+    sym (sym (c.loop-operand.invariant given m known es)
     ∙ ap (usable_all shape s) c.in-Some.ensures.steps
     ∙ ap (λ b. b && usable_all shape s c.next.new.self)
-    (sym (c.is_usable.ensures m known es) ∙ c.if-not-is_usable.true))
+    (sym (c.is_usable.ensures given m known es) ∙ c.if-not-is_usable.true))
 
 pub loop-operand-preserved : goal.loop-operand-preserved
-loop-operand-preserved c m known es =
+loop-operand-preserved c given m known es =
     let shape = function_shape m known c.args.function.now es in
-    let s = handles_of c.args.self.now in
+    let s = handles_of given c.args.self.now.table in
     sym (ap (usable_all shape s) c.in-Some.ensures.steps
     ∙ ap (λ b. b && usable_all shape s c.next.new.self)
-    (sym (c.is_usable.ensures m known es) ∙ c.if-not-is_usable.false))
-    ∙ c.loop-operand.invariant m known es
+    (sym (c.is_usable.ensures given m known es) ∙ c.if-not-is_usable.false))
+    ∙ c.loop-operand.invariant given m known es
 
 pub returns : goal.returns
-returns c m known es =
+returns c given m known es =
     let shape = function_shape m known c.args.function.now es in
-    let s = handles_of c.args.self.now in
-    sym (ap (usable_all shape s) c.in-None.ensures.steps.0) ∙ c.loop-operand.invariant m known es
+    let s = handles_of given c.args.self.now.table in
+    sym (ap (usable_all shape s) c.in-None.ensures.steps.0) ∙ c.loop-operand.invariant given m known es

@@ -1,4 +1,4 @@
-use Rattle.std.proofs.Common.{◌≡◌, List}
+use Rattle.std.proofs.Common.{◌≡◌, ℕ, List}
 use Rattle.naga_ir.specs.Operands.{expression_operands}
 use Rattle.naga_ir.specs.declared.module.Module.{Module}
 use Rattle.naga_info.specs.declared.info.ModuleInfo.{ModuleInfo}
@@ -10,7 +10,7 @@ use Rattle.naga_scope.proofs.points.Scope.are_usable.Given as goal
 
 abbrev pub invariant-loop-operand : goal.invariant-loop-operand
 invariant-loop-operand l =
-    (m : Module) (known : ModuleInfo) (es : List ExpressionInfo) →
+    (given : ℕ → List ℕ) (m : Module) (known : ModuleInfo) (es : List ExpressionInfo) →
     let shape = function_shape m known l.function es in
-    usable_all shape (handles_of l.self) l.operand-iterator ≡
-    usable_all shape (handles_of l.self) (expression_operands l.expression)
+    usable_all shape (handles_of given l.self.table) l.operand-iterator ≡
+    usable_all shape (handles_of given l.self.table) (expression_operands l.expression)

@@ -6,13 +6,13 @@ use Rattle.naga_ir.specs.Kinds.{kind_of}
 use Rattle.naga_ir.specs.Operands.{expression_operands}
 use Rattle.naga_ir.specs.declared.kind.ExpressionKind.TheVariants.{Result}
 use Rattle.shader_runs.specs.Scope.{all_constant}
-use Rattle.naga_scope.specs.Standings.{is_constant_by, first_standing, is_pure_kind}
+use Rattle.naga_scope.specs.Standings.{TextPoint, is_constant_by, first_standing, is_pure_kind}
 use Rattle.naga_scope.proofs.Constants.{IsStart, is_start_none, is_start_more, start_handles}
 use Rattle.naga_scope.proofs.points.Scope.restart.Goals as goal
 
 pub loop-index-init : goal.loop-index-init
 loop-index-init c =
-    let size = ap length c.self.view_is ∙ c.requires.size in
+    let size = ap (λ (p : TextPoint). length p.table) c.self.view_is ∙ c.requires.size in
     record {
       size = size;
       starts = λ m known es. is_start_none m known c.args.function.now es c.self.inside.standings.items size;
@@ -39,11 +39,11 @@ loop-index-preserved c =
     }
 
 pub returns-clause-start : goal.returns-clause-start
-returns-clause-start c m known es =
+returns-clause-start c given m known es =
     let f = c.args.function.now in
     let table = c.loop-index.self-inside.standings.items in
     let all : c.loop-index.index ≡ length f.expressions = omega (arith, c.len-index-end.ensures) in
-    start_handles m known f es c.requires.ordered table
+    start_handles m known f es c.requires.ordered given table
     (subst (IsStart m known f es table) all (c.loop-index.invariant.starts m known es))
 
 pub returns-clause-size : goal.returns-clause-size

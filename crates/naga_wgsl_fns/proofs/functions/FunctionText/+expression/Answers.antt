@@ -133,7 +133,7 @@ write_own-returns-in-ZeroValue g t c =
     made_value c.args.self.now c.requires.can c.args.handle c.index.result.now _ _ c.index.ensures
     c.requires.handle c.in-ZeroValue.is refl in
     writes_as
-    (own_made c.args.self.now c.args.scope.now c.args.handle _ _ c.index.result.now _
+    (own_made c.args.self.now c.args.scope.now.table c.args.handle _ _ c.index.result.now _
     c.requires.can value c.index.ensures c.in-ZeroValue.is refl)
     c.write_made.ensures
 
@@ -143,21 +143,21 @@ write_own-returns-in-Compose g t c =
     made_value c.args.self.now c.requires.can c.args.handle c.index.result.now _ _ c.index.ensures
     c.requires.handle c.in-Compose.is refl in
     writes_as
-    (own_made c.args.self.now c.args.scope.now c.args.handle _ _ c.index.result.now _
+    (own_made c.args.self.now c.args.scope.now.table c.args.handle _ _ c.index.result.now _
     c.requires.can value c.index.ensures c.in-Compose.is refl)
     c.write_made-in-Compose.ensures
 
 pub write_own-returns-in-Select : goal.write_own-returns-in-Select
 write_own-returns-in-Select g t c =
     writes_as
-    (own_called c.args.self.now c.args.scope.now c.args.handle c.index.result.now _ _ _
+    (own_called c.args.self.now c.args.scope.now.table c.args.handle c.index.result.now _ _ _
     c.requires.can c.index.ensures c.in-Select.is refl refl)
     c.write_called.ensures
 
 pub write_own-returns-in-Splat : goal.write_own-returns-in-Splat
 write_own-returns-in-Splat g t c =
     writes_as
-    (own_called c.args.self.now c.args.scope.now c.args.handle c.index.result.now _ _ _
+    (own_called c.args.self.now c.args.scope.now.table c.args.handle c.index.result.now _ _ _
     c.requires.can c.index.ensures c.in-Splat.is c.vector_str.ensures refl)
     c.write_called-in-Splat.ensures
 
@@ -169,14 +169,14 @@ write_own-math_function_str-requires g t c =
 pub write_own-returns-in-Derivative : goal.write_own-returns-in-Derivative
 write_own-returns-in-Derivative g t c =
     writes_as
-    (own_called c.args.self.now c.args.scope.now c.args.handle c.index.result.now _ _ _
+    (own_called c.args.self.now c.args.scope.now.table c.args.handle c.index.result.now _ _ _
     c.requires.can c.index.ensures c.in-Derivative.is c.derivative_str.ensures refl)
     c.write_called-in-Derivative.ensures
 
 pub write_own-returns-in-Math : goal.write_own-returns-in-Math
 write_own-returns-in-Math g t c =
     writes_as
-    (own_called c.args.self.now c.args.scope.now c.args.handle c.index.result.now _ _ _
+    (own_called c.args.self.now c.args.scope.now.table c.args.handle c.index.result.now _ _ _
     c.requires.can c.index.ensures c.in-Math.is c.math_function_str.ensures refl)
     c.write_called-in-Math.ensures
 
@@ -188,14 +188,14 @@ write_own-relational_function_str-requires g t c =
 pub write_own-returns-in-Relational : goal.write_own-returns-in-Relational
 write_own-returns-in-Relational g t c =
     writes_as
-    (own_called c.args.self.now c.args.scope.now c.args.handle c.index.result.now _ _ _
+    (own_called c.args.self.now c.args.scope.now.table c.args.handle c.index.result.now _ _ _
     c.requires.can c.index.ensures c.in-Relational.is c.relational_function_str.ensures refl)
     c.write_called-in-Relational.ensures
 
 pub write_operands-loop-operand-init : goal.write_operands-loop-operand-init
 write_operands-loop-operand-init g t c =
     let self = c.args.self.now in
-    let scope = c.args.scope.now in
+    let scope = c.args.scope.now.table in
     let h = c.args.handle in
     let items = c.into_iter-operand-iterator.ensures.into_iter_gives ∙ c.operands-operand-items.ensures in
     let there = ap (λ o. option_map_or expression_operands o []) c.index.ensures in
@@ -216,7 +216,7 @@ write_operands-write_next_operand-requires g t c κs within =
 pub write_operands-loop-operand-preserved : goal.write_operands-loop-operand-preserved
 write_operands-loop-operand-preserved g t c =
     let self = c.args.self.now in
-    let scope = c.args.scope.now in
+    let scope = c.args.scope.now.table in
     let steps = c.in-Some.ensures.steps in
     let first = c.loop-operand.is_first in
     record {
@@ -230,7 +230,7 @@ write_operands-loop-operand-preserved g t c =
 pub write_operands-returns : goal.write_operands-returns
 write_operands-returns g t c =
     let self = c.args.self.now in
-    let scope = c.args.scope.now in
+    let scope = c.args.scope.now.table in
     let first = c.loop-operand.is_first in
     leaves_last _ _ _ _ _ c.loop-operand.invariant.writes
     (writes_as
@@ -241,14 +241,14 @@ write_operands-returns g t c =
 pub write_base-returns-then-is_signed : goal.write_base-returns-then-is_signed
 write_base-returns-then-is_signed g t c =
     writes_as
-    (base_signed c.args.self.now c.args.scope.now c.args.handle
+    (base_signed c.args.self.now c.args.scope.now.table c.args.handle
     (sym c.if-is_signed.true ∙ c.is_signed.ensures))
     c.write_in_parentheses.ensures
 
 pub write_base-returns-else-is_signed : goal.write_base-returns-else-is_signed
 write_base-returns-else-is_signed g t c =
     writes_as
-    (base_unsigned c.args.self.now c.args.scope.now c.args.handle
+    (base_unsigned c.args.self.now c.args.scope.now.table c.args.handle
     (sym c.if-is_signed.false ∙ c.is_signed.ensures))
     c.write_value.ensures
 
@@ -260,14 +260,14 @@ write_part_value-points-requires-clause-handle g t c =
 pub write_part_value-returns-then-points : goal.write_part_value-returns-then-points
 write_part_value-returns-then-points g t c =
     writes_as
-    (value_pointed c.args.self.now c.args.scope.now c.args.handle c.args.base
+    (value_pointed c.args.self.now c.args.scope.now.table c.args.handle c.args.base
     (sym c.points.ensures ∙ c.if-points.true))
     c.write_part_address.ensures
 
 pub write_part_value-returns-else-points : goal.write_part_value-returns-else-points
 write_part_value-returns-else-points g t c =
     writes_as
-    (value_unpointed c.args.self.now c.args.scope.now c.args.handle c.args.base
+    (value_unpointed c.args.self.now c.args.scope.now.table c.args.handle c.args.base
     (sym c.points.ensures ∙ c.if-points.false))
     c.write_part.ensures
 
@@ -283,14 +283,14 @@ write_part_reference-write_dereference-requires g t c κs within =
 pub write_part_reference-returns-then-points : goal.write_part_reference-returns-then-points
 write_part_reference-returns-then-points g t c =
     writes_as
-    (reference_pointed c.args.self.now c.args.scope.now c.args.handle c.args.base
+    (reference_pointed c.args.self.now c.args.scope.now.table c.args.handle c.args.base
     (sym c.points.ensures ∙ c.if-points.true))
     c.write_part.ensures
 
 pub write_part_reference-returns-else-points : goal.write_part_reference-returns-else-points
 write_part_reference-returns-else-points g t c =
     writes_as
-    (reference_unpointed c.args.self.now c.args.scope.now c.args.handle c.args.base
+    (reference_unpointed c.args.self.now c.args.scope.now.table c.args.handle c.args.base
     (sym c.points.ensures ∙ c.if-points.false))
     c.write_dereference.ensures
 
@@ -304,21 +304,21 @@ pub write_part-returns : goal.write_part-returns
 write_part-returns g t c =
     writes_as
     (sym
-    (plain_row c.args.self.now c.args.scope.now c.args.handle c.args.base c.requires.can
+    (plain_row c.args.self.now c.args.scope.now.table c.args.handle c.args.base c.requires.can
     c.requires.part))
     (writes_then c.write_part_base.ensures c.write_part_end.ensures)
 
 pub write_part_base-returns-then-points : goal.write_part_base-returns-then-points
 write_part_base-returns-then-points g t c =
     writes_as
-    (base_pointed c.args.self.now c.args.scope.now c.args.base
+    (base_pointed c.args.self.now c.args.scope.now.table c.args.base
     (sym c.points.ensures ∙ c.if-points.true))
     c.write_reference.ensures
 
 pub write_part_base-returns-else-points : goal.write_part_base-returns-else-points
 write_part_base-returns-else-points g t c =
     writes_as
-    (base_unpointed c.args.self.now c.args.scope.now c.args.base
+    (base_unpointed c.args.self.now c.args.scope.now.table c.args.base
     (sym c.points.ensures ∙ c.if-points.false))
     c.write_base.ensures
 
@@ -338,14 +338,14 @@ write_part_end-write_selector-requires-clause-allowed g t c =
 pub write_part_end-returns-in-Access : goal.write_part_end-returns-in-Access
 write_part_end-returns-in-Access g t c =
     writes_as
-    (element_end c.args.self.now c.args.scope.now c.args.handle c.index.result.now _ _
+    (element_end c.args.self.now c.args.scope.now.table c.args.handle c.index.result.now _ _
     c.index.ensures c.in-Access.is)
     c.write_index.ensures
 
 pub write_part_end-returns-in-AccessIndex : goal.write_part_end-returns-in-AccessIndex
 write_part_end-returns-in-AccessIndex g t c =
     writes_as
-    (selected_end c.args.self.now c.args.scope.now c.args.handle c.args.base c.index.result.now _ _
+    (selected_end c.args.self.now c.args.scope.now.table c.args.handle c.args.base c.index.result.now _ _
     c.index.ensures c.in-AccessIndex.is c.requires.part)
     c.write_selector.ensures
 
@@ -365,7 +365,7 @@ pub write_conversion-returns : goal.write_conversion-returns
 write_conversion-returns g t c =
     writes_as
     (sym
-    (conversion_row c.args.self.now c.args.scope.now c.args.operand c.args.kind c.args.convert
+    (conversion_row c.args.self.now c.args.scope.now.table c.args.operand c.args.kind c.args.convert
     c.args.handle))
     (writes_then c.write_callee.ensures (writes_then c.put.ensures c.write_operands.ensures))
 
@@ -375,14 +375,14 @@ write_own-returns-in-As g t c =
     conversion_formed c.args.self.now c.requires.can c.args.handle c.index.result.now _ _ _
     c.index.ensures c.requires.handle c.in-As.is in
     writes_as
-    (own_conversion c.args.self.now c.args.scope.now c.args.handle c.index.result.now _ _ _
+    (own_conversion c.args.self.now c.args.scope.now.table c.args.handle c.index.result.now _ _ _
     c.requires.can allowed c.index.ensures c.in-As.is)
     c.write_conversion.ensures
 
 pub write_own-returns-in-ImageLoad : goal.write_own-returns-in-ImageLoad
 write_own-returns-in-ImageLoad g t c =
     writes_as
-    (own_called c.args.self.now c.args.scope.now c.args.handle c.index.result.now _ _ _
+    (own_called c.args.self.now c.args.scope.now.table c.args.handle c.index.result.now _ _ _
     c.requires.can c.index.ensures c.in-ImageLoad.is
     (texel_word c.args.self.now c.requires.can c.args.handle c.index.result.now _ _ _ _ _
     c.index.ensures c.requires.handle c.in-ImageLoad.is)
@@ -392,29 +392,29 @@ write_own-returns-in-ImageLoad g t c =
 pub write_own-returns-in-ImageQuery : goal.write_own-returns-in-ImageQuery
 write_own-returns-in-ImageQuery g t c =
     writes_as
-    (own_called c.args.self.now c.args.scope.now c.args.handle c.index.result.now _ _ _
+    (own_called c.args.self.now c.args.scope.now.table c.args.handle c.index.result.now _ _ _
     c.requires.can c.index.ensures c.in-ImageQuery.is c.image_query_str.ensures
-    (query_called c.args.self.now c.args.scope.now _ _))
+    (query_called c.args.self.now c.args.scope.now.table _ _))
     c.write_called-in-ImageQuery.ensures
 
 pub write_own-returns-in-ArrayLength : goal.write_own-returns-in-ArrayLength
 write_own-returns-in-ArrayLength g t c =
     writes_as
-    (own_called c.args.self.now c.args.scope.now c.args.handle c.index.result.now _ _ _
+    (own_called c.args.self.now c.args.scope.now.table c.args.handle c.index.result.now _ _ _
     c.requires.can c.index.ensures c.in-ArrayLength.is refl refl)
     c.write_called-in-ArrayLength.ensures
 
 pub write_own-returns-in-CooperativeMultiplyAdd : goal.write_own-returns-in-CooperativeMultiplyAdd
 write_own-returns-in-CooperativeMultiplyAdd g t c =
     writes_as
-    (own_called c.args.self.now c.args.scope.now c.args.handle c.index.result.now _ _ _
+    (own_called c.args.self.now c.args.scope.now.table c.args.handle c.index.result.now _ _ _
     c.requires.can c.index.ensures c.in-CooperativeMultiplyAdd.is refl refl)
     c.write_called-in-CooperativeMultiplyAdd.ensures
 
 pub write_further-returns-in-Some : goal.write_further-returns-in-Some
 write_further-returns-in-Some g t c =
     let self = c.args.self.now in
-    let scope = c.args.scope.now in
+    let scope = c.args.scope.now.table in
     writes_as
     (furthers_one self scope c.in-Some.operand
     ∙ ap (λ o. furthers_text self scope (option_to_list o)) (sym c.in-Some.is))
@@ -423,7 +423,7 @@ write_further-returns-in-Some g t c =
 pub write_further-returns-in_default : goal.write_further-returns-in_default
 write_further-returns-in_default g t c =
     let self = c.args.self.now in
-    let scope = c.args.scope.now in
+    let scope = c.args.scope.now.table in
     writes_as
     (furthers_none self scope
     ∙ ap (λ o. furthers_text self scope (option_to_list o)) (sym c.in_default.is))
@@ -432,7 +432,7 @@ write_further-returns-in_default g t c =
 pub write_level-returns-in-Auto : goal.write_level-returns-in-Auto
 write_level-returns-in-Auto g t c =
     let self = c.args.self.now in
-    let scope = c.args.scope.now in
+    let scope = c.args.scope.now.table in
     writes_as
     (furthers_none self scope
     ∙ ap (λ l. furthers_text self scope (level_operands l)) (sym c.in-Auto.is))
@@ -441,7 +441,7 @@ write_level-returns-in-Auto g t c =
 pub write_level-returns-in-Zero : goal.write_level-returns-in-Zero
 write_level-returns-in-Zero g t c =
     let self = c.args.self.now in
-    let scope = c.args.scope.now in
+    let scope = c.args.scope.now.table in
     writes_as
     (furthers_none self scope
     ∙ ap (λ l. furthers_text self scope (level_operands l)) (sym c.in-Zero.is))
@@ -450,7 +450,7 @@ write_level-returns-in-Zero g t c =
 pub write_level-returns-in-Exact : goal.write_level-returns-in-Exact
 write_level-returns-in-Exact g t c =
     let self = c.args.self.now in
-    let scope = c.args.scope.now in
+    let scope = c.args.scope.now.table in
     writes_as
     (furthers_one self scope c.in-Exact.level
     ∙ ap (λ l. furthers_text self scope (level_operands l)) (sym c.in-Exact.is))
@@ -459,7 +459,7 @@ write_level-returns-in-Exact g t c =
 pub write_level-returns-in-Bias : goal.write_level-returns-in-Bias
 write_level-returns-in-Bias g t c =
     let self = c.args.self.now in
-    let scope = c.args.scope.now in
+    let scope = c.args.scope.now.table in
     writes_as
     (furthers_one self scope c.in-Bias.bias
     ∙ ap (λ l. furthers_text self scope (level_operands l)) (sym c.in-Bias.is))
@@ -468,7 +468,7 @@ write_level-returns-in-Bias g t c =
 pub write_level-returns-in-Gradient : goal.write_level-returns-in-Gradient
 write_level-returns-in-Gradient g t c =
     let self = c.args.self.now in
-    let scope = c.args.scope.now in
+    let scope = c.args.scope.now.table in
     writes_as
     (furthers_two self scope c.in-Gradient.x c.in-Gradient.y
     ∙ ap (λ l. furthers_text self scope (level_operands l)) (sym c.in-Gradient.is))
@@ -590,7 +590,7 @@ pub write_sampling-returns : goal.write_sampling-returns
 write_sampling-returns g t c =
     let s = c.in-ImageSample in
     writes_as
-    (sampling_whole c.args.self.now c.args.scope.now c.args.handle s.image s.sampler s.gather
+    (sampling_whole c.args.self.now c.args.scope.now.table c.args.handle s.image s.sampler s.gather
     s.coordinate s.array_index s.offset s.level s.depth_ref s.clamp_to_edge
     (c.index.ensures ∙ ap Some s.is) c.is_some-compares.result c.is_some-compares.ensures
     c.level_str.result.now

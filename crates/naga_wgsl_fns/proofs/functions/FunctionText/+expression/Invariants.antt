@@ -97,5 +97,5 @@ pub record OperandsLeft (start now : OutputView) (f : FunctionText) (table : Lis
 abbrev pub invariant-write_operands-loop-operand : goal.invariant-write_operands-loop-operand
 invariant-write_operands-loop-operand g l =
     OperandsLeft (output_view g.W.TextSink.text g.W.TextSink.failures l.initial.out)
-    (output_view g.W.TextSink.text g.W.TextSink.failures l.out) l.self l.scope l.fn.handle l.is_first
+    (output_view g.W.TextSink.text g.W.TextSink.failures l.out) l.self l.scope.table l.fn.handle l.is_first
     l.operand-iterator

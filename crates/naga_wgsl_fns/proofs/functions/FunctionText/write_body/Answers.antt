@@ -1,3 +1,4 @@
+use Rattle.std.proofs.Common.{arith}
 use Rattle.naga_form.proofs.AcceptedFunctions.{ranges_are}
 use Rattle.naga_form.proofs.PartFits.{function_parts}
 use Rattle.naga_words.proofs.Writing.{writes_as, writes_then}
@@ -19,5 +20,9 @@ write_block-requires-clause-roots g c = body_in_text c.args.self.now c.requires.
 
 pub returns : goal.returns
 returns g c =
-    writes_as (body_row c.args.self.now c.args.scope.now c.requires.start)
+    writes_as (body_row c.args.self.now c.args.scope.now c.requires.start c.requires.given)
     (writes_then c.write_locals.ensures (writes_then c.write_block.ensures c.put.ensures))
+
+pub write_block-requires-clause-room : goal.write_block-requires-clause-room
+write_block-requires-clause-room g c =
+    let room = c.requires.can.room in let none = c.requires.given in omega (arith, room, none)

@@ -4,5 +4,5 @@ use Rattle.naga_wgsl_fns.proofs.functions.FunctionText.write_first.Goals as goal
 
 pub returns : goal.returns
 returns g c =
-    writes_as (first_value_row c.args.self.now c.args.scope.now c.args.value c.requires.start)
+    writes_as (first_value_row c.args.self.now c.args.scope.now.table c.args.value c.requires.start)
     (writes_then c.put.ensures (writes_then c.write_value.ensures c.put-2.ensures))

@@ -1,4 +1,5 @@
-use Rattle.std.proofs.Common.{IsTrue, length, subst}
+use Rattle.std.proofs.Common.{◌+◌, ◌<◌, ◌^◌, IsTrue, length, subst}
+use Rattle.module_meaning.specs.GivenLabels.{labels_in}
 use Rattle.module_meaning.specs.Ranges.{statement_in_range}
 use Rattle.naga_ir.specs.StatementViews.{tree_of}
 use Rattle.module_meaning.specs.Written.{statement_roots}
@@ -35,3 +36,8 @@ write_return-requires-clause-value g c =
 pub unreachable-requires : goal.unreachable-requires
 unreachable-requires g c =
     no_other_statement c.args.statement.now c.requires.written c.in_default.not-Emit c.in_default.not-Store c.in_default.not-Return
+
+pub write_emit-requires-clause-room : goal.write_emit-requires-clause-room
+write_emit-requires-clause-room g c =
+    let f = c.args.self.now.function.now in
+    subst (λ s. c.args.scope.now.given + length (labels_in f (tree_of s)) < 2 ^ 64) c.in-Emit.is c.requires.room

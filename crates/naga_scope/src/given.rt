@@ -1,0 +1,103 @@
+//! The names that front ends gave to a function's expressions.
+
+ghost use Rattle.std.specs.Prelude.{[], ◌∷◌, ◌-◌, IfErr, IfOk, IsTrue, OnOk, map, string_bytes};
+ghost use Rattle.module_meaning.specs.GivenLabels.{given_labels, label_of, labels_in};
+ghost use Rattle.module_meaning.specs.GivenLabels.{labels_of_each};
+ghost use Rattle.module_meaning.specs.Part.{function_is_written, statement_is_written};
+ghost use Rattle.naga_ir.specs.StatementViews.{tree_of};
+ghost use Rattle.std.specs.Option.{option_to_list};
+ghost use Rattle.naga_scope.specs.GivenNames.{NamesLabels, RefusesLabels};
+ghost use Rattle.shader_runs.specs.Program.{from};
+
+use crate::binding::label_of;
+use naga_ir::{Expression, Function, Handle, Place, Range, Statement};
+use naga_names::NamerError;
+use naga_names::namer::Namer;
+use std::alloc::Global;
+
+/// The names that front ends gave to what the function emits, in the order of its text: each is
+/// what the namer makes of the label.
+pub(crate) fn given_names(
+    alloc: Global,
+    function: &Function,
+    namer: &mut Namer,
+) -> Result<Vec<String>, NamerError>
+    requires written { IsTrue (function_is_written function.now) }
+    ensures ok { IfOk result (λ names. NamesLabels namer.old [] (given_labels function.now)
+        namer.new (map string_bytes names.items)) }
+    ensures err { IfErr result (RefusesLabels namer.old (given_labels function.now) namer.new) }
+{
+    let mut names = Vec::new(alloc);
+    for statement in function.body.as_slice() {
+        name_statement(function, statement, namer, &mut names)?;
+    }
+    Ok(names)
+}
+
+/// The names of what a statement emits, behind those that there are.
+fn name_statement(
+    function: &Function,
+    statement: &Statement,
+    namer: &mut Namer,
+    names: &mut Vec<String>,
+) -> Result<(), NamerError>
+    requires { IsTrue (statement_is_written (tree_of statement.now)) }
+    ensures ok { OnOk result (NamesLabels namer.old (map string_bytes names.old.items)
+        (labels_in function.now (tree_of statement.now)) namer.new
+        (map string_bytes names.new.items)) }
+    ensures err { IfErr result
+        (RefusesLabels namer.old (labels_in function.now (tree_of statement.now)) namer.new) }
+{
+    match statement {
+        Statement::Emit(range) => name_emitted(function, *range, namer, names),
+        Statement::Store { .. } | Statement::Return { .. } => Ok(()),
+        _ => unreachable!(),
+    }
+}
+
+fn name_emitted(
+    function: &Function,
+    range: Range,
+    namer: &mut Namer,
+    names: &mut Vec<String>,
+) -> Result<(), NamerError>
+    ensures ok { OnOk result (NamesLabels namer.old (map string_bytes names.old.items)
+        (labels_of_each function.now (from range.first (range.end - range.first))) namer.new
+        (map string_bytes names.new.items)) }
+    ensures err { IfErr result (RefusesLabels namer.old
+        (labels_of_each function.now (from range.first (range.end - range.first))) namer.new) }
+{
+    for index in range.first..range.end {
+        name_expression(function, Place::from_index(index), namer, names)?;
+    }
+    Ok(())
+}
+
+/// The name of an expression, where a front end named it.
+fn name_expression(
+    function: &Function,
+    handle: Handle<Expression>,
+    namer: &mut Namer,
+    names: &mut Vec<String>,
+) -> Result<(), NamerError>
+    ensures ok { OnOk result (NamesLabels namer.old (map string_bytes names.old.items)
+        (option_to_list (label_of function.now handle)) namer.new
+        (map string_bytes names.new.items)) }
+    ensures err { IfErr result
+        (RefusesLabels namer.old (option_to_list (label_of function.now handle)) namer.new) }
+{
+    match label_of(function, handle) {
+        Some(label) => name_label(label, namer, names),
+        None => Ok(()),
+    }
+}
+
+fn name_label(label: &str, namer: &mut Namer, names: &mut Vec<String>) -> Result<(), NamerError>
+    ensures ok { OnOk result (NamesLabels namer.old (map string_bytes names.old.items)
+        (label.now ∷ []) namer.new (map string_bytes names.new.items)) }
+    ensures err { IfErr result (RefusesLabels namer.old (label.now ∷ []) namer.new) }
+{
+    let name = namer.call(label)?;
+    names.push(name)?;
+    Ok(())
+}
