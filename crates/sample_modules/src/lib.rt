@@ -2,6 +2,7 @@
 //! the programs and tests of this repository write and ask about.
 #![tactic(auto)]
 
+mod expression_rows;
 pub mod rows;
 pub mod sample;
 

@@ -1,5 +1,8 @@
 //! The rows: sample modules under their names.
 
+use crate::expression_rows::{
+    build_double, build_float, build_idle, build_negate, build_pointer, build_sample, build_select,
+};
 use crate::sample::Sample;
 use naga_ir::{BinaryOperator, Expression, Handle, Literal, Scalar, Type_};
 use std::alloc::AllocError;
@@ -29,6 +32,20 @@ pub enum Row {
     Twofold,
     /// A function that returns a sum which a front end named.
     Named,
+    /// A function that stores through a pointer which a front end named.
+    Pointer,
+    /// A function that returns one of two values.
+    Select,
+    /// A function that returns a component of a negated vector.
+    Negate,
+    /// A function whose one expression has a text that doubles twelve times.
+    Double,
+    /// A function that returns a float literal, which is refused.
+    Float,
+    /// A function with a float literal that nothing mentions.
+    Idle,
+    /// A function that samples an image at level zero.
+    Sampled,
 }
 
 impl Row {
@@ -46,6 +63,13 @@ impl Row {
             "inline" => Some(Row::Inline),
             "twofold" => Some(Row::Twofold),
             "named" => Some(Row::Named),
+            "pointer" => Some(Row::Pointer),
+            "select" => Some(Row::Select),
+            "negate" => Some(Row::Negate),
+            "double" => Some(Row::Double),
+            "float" => Some(Row::Float),
+            "idle" => Some(Row::Idle),
+            "sample" => Some(Row::Sampled),
             _ => None,
         }
     }
@@ -64,6 +88,13 @@ impl Row {
             Row::Inline => build_inline(sample),
             Row::Twofold => build_twofold(sample),
             Row::Named => build_named(sample),
+            Row::Pointer => build_pointer(sample),
+            Row::Select => build_select(sample),
+            Row::Negate => build_negate(sample),
+            Row::Double => build_double(sample),
+            Row::Float => build_float(sample),
+            Row::Idle => build_idle(sample),
+            Row::Sampled => build_sample(sample),
         }
     }
 }

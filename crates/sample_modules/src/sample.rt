@@ -36,12 +36,14 @@ impl Sample {
         }
     }
 
+    /// The unnamed type of this form.
+    pub fn inner(&mut self, inner: TypeInner) -> Result<Handle<Type_>, AllocError> {
+        self.module.types.insert(Type_ { name: None, inner })
+    }
+
     /// The unnamed scalar type.
     pub fn scalar(&mut self, scalar: Scalar) -> Result<Handle<Type_>, AllocError> {
-        self.module.types.insert(Type_ {
-            name: None,
-            inner: TypeInner::Scalar(scalar),
-        })
+        self.inner(TypeInner::Scalar(scalar))
     }
 
     /// Begins a function of this label with a result of the type `i32`, which it gives.
@@ -67,6 +69,18 @@ impl Sample {
             binding: None,
         })?;
         Ok(())
+    }
+
+    /// Adds an argument to the function, which has as many before it as its number says, and the
+    /// expression that is its value.
+    pub fn argument_value(
+        &mut self,
+        label: &str,
+        number: u32,
+        ty: Handle<Type_>,
+    ) -> Result<Handle<Expression>, AllocError> {
+        self.argument(label, ty)?;
+        self.expression(Expression::FunctionArgument(number), ty)
     }
 
     /// Gives the function a result of this type.

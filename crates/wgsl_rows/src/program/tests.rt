@@ -87,6 +87,15 @@ const ROWS: &[(&str, &str)] = &[
         "unused",
         "fn g() -> i32 {\n    var a: i32 = 1i;\n\n    a = 2i;\n    return 2i;\n}\n\n",
     ),
+    (
+        "select",
+        "fn sel(c: bool, a: i32, b: i32) -> i32 {\n    return select(b, a, c);\n}\n\n",
+    ),
+    (
+        "negate",
+        "fn neg(v: vec3<i32>) -> i32 {\n    return (-(v)).x;\n}\n\n",
+    ),
+    ("idle", "fn u() -> i32 {\n    return 1i;\n}\n\n"),
 ];
 
 #[test]
@@ -100,6 +109,16 @@ fn rows_are_written(rt: HostRuntime) -> Result<(), Fail> {
 /// Rows with their texts, without and with the types of their `let`s. Loads are bound where they
 /// are emitted, operators where they are used twice, and what has a name.
 const ROWS_WITH_LETS: &[(&str, &str, &str)] = &[
+    (
+        "pointer",
+        "fn h() {\n    var arr: array<i32, 4>;\n\n    let p = (&arr[0]);\n    (*p) = 2i;\n}\n\n",
+        "fn h() {\n    var arr: array<i32, 4>;\n\n    let p: ptr<function, i32> = (&arr[0]);\n    (*p) = 2i;\n}\n\n",
+    ),
+    (
+        "sample",
+        "fn sp(t: texture_2d<f32>, s: sampler, p: vec2<f32>) -> vec4<f32> {\n    let _e3 = textureSampleLevel(t, s, p, 0.0);\n    return _e3;\n}\n\n",
+        "fn sp(t: texture_2d<f32>, s: sampler, p: vec2<f32>) -> vec4<f32> {\n    let _e3: vec4<f32> = textureSampleLevel(t, s, p, 0.0);\n    return _e3;\n}\n\n",
+    ),
     (
         "named",
         "fn e(x: i32) -> i32 {\n    let x_1 = (x + x);\n    return x_1;\n}\n\n",
@@ -131,6 +150,21 @@ const ROWS_WITH_LETS: &[(&str, &str, &str)] = &[
 fn values_are_bound(rt: HostRuntime) -> Result<(), Fail> {
     for (row, text, explicit) in ROWS_WITH_LETS {
         check_row(&rt, rt.alloc(), *row, *text, *explicit)?;
+    }
+    Ok(())
+}
+
+/// Rows that are refused, with what is told.
+const REFUSED_ROWS: &[(&str, &str)] = &[("float", "refused: float literal\n")];
+
+#[test]
+fn rows_are_refused(rt: HostRuntime) -> Result<(), Fail> {
+    for (row, told) in REFUSED_ROWS {
+        assert!(rt; gives(rt.alloc(), &[*row], "", *told, 1)?, "{row}");
+        assert!(rt;
+            gives(rt.alloc(), &[*row, "explicit"], "", *told, 1)?,
+            "{row} explicit"
+        );
     }
     Ok(())
 }

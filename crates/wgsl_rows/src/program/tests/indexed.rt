@@ -1,16 +1,16 @@
 //! Parts at an index: components, columns and elements, of values and of what is pointed at.
 
 use crate::program::tests::operators::{is_text, is_written};
+use crate::program::tests::status;
 use crate::program::tests::values::{
     MAT3X2_F32, VEC2_F32, VEC3_F32, Value, add_type, build_argument,
 };
 use bitflags::Flags;
-use naga_wgsl_out::info::{TypeResolution, accepts};
+use naga_wgsl_out::info::TypeResolution;
 use naga_wgsl_out::ir::{
-    AddressSpace, BinaryOperator, Expression, Handle, LocalVariable, Scalar, TypeInner,
-    UnaryOperator, VectorSize,
+    AddressSpace, Expression, Handle, LocalVariable, Scalar, TypeInner, UnaryOperator, VectorSize,
 };
-use naga_wgsl_out::wgsl::{WriterFlags, write_string};
+use naga_wgsl_out::wgsl::WriterFlags;
 use sample_modules::Sample;
 use std::alloc::{AllocError, Global};
 use std::test::Fail;
@@ -20,8 +20,6 @@ const I32: Value = Value::Scalar(Scalar::I32);
 const F32: Value = Value::Scalar(Scalar::F32);
 
 const VEC3_I32: Value = Value::Vector(VectorSize::Tri, Scalar::I32);
-
-const VEC4_I32: Value = Value::Vector(VectorSize::Quad, Scalar::I32);
 
 /// A function that takes parts.
 #[derive(Clone, Copy)]
@@ -295,52 +293,17 @@ fn parts_are_taken(rt: HostRuntime) -> Result<(), Fail> {
     Ok(())
 }
 
-/// An element at the sum of an element with itself, and so on: no `let` binds an element, so that
-/// each sum has its text twice.
-fn build_doubled(sample: &mut Sample, times: usize) -> Result<(), AllocError> {
-    sample.label("d")?;
-    let t = argument(sample, "t", 0, VEC4_I32)?;
-    let x = argument(sample, "x", 1, I32)?;
-    let ty = add_type(sample, I32)?;
-    let first = sample.used(Expression::Access { base: t, index: x }, ty, 2)?;
-    let mut last = first;
-    for _ in 0..times {
-        let sum = Expression::Binary {
-            op: BinaryOperator::Add,
-            left: last,
-            right: last,
-        };
-        let index = sample.used(sum, ty, 1)?;
-        last = sample.used(Expression::Access { base: t, index }, ty, 2)?;
-    }
-    sample.returns(ty);
-    sample.emit(first, last)?;
-    sample.end_with(last)
-}
-
-/// The length of the text in bytes, if it is written.
-fn doubled_length(alloc: Global, times: usize) -> Result<Option<usize>, AllocError> {
-    let mut sample = Sample::new(alloc);
-    build_doubled(&mut sample, times)?;
-    if !accepts(&sample.module, &sample.info) {
-        return Ok(None);
-    }
-    match write_string(alloc, &sample.module, &sample.info, WriterFlags::empty()) {
-        Ok(text) => Ok(Some(text.len())),
-        Err(_) => Ok(None),
-    }
+/// The length of the row's text in bytes, if it is written.
+fn doubled_length(alloc: Global) -> Result<usize, AllocError> {
+    let mut out = Vec::new(alloc);
+    let mut err = Vec::new(alloc);
+    let given = status(alloc, &["double"], &mut out, &mut err)?;
+    Ok(if given == 0 { out.len() } else { 0 })
 }
 
 #[test]
 fn elements_are_doubled(rt: HostRuntime) -> Result<(), Fail> {
     let around = "fn d(t: vec4<i32>, x: i32) -> i32 {\n    return ;\n}\n\n".len();
-    assert!(rt;
-        doubled_length(rt.alloc(), 0)? == Some(around.saturating_add(4)),
-        "t[x]"
-    );
-    assert!(rt;
-        doubled_length(rt.alloc(), 12)? == Some(around.saturating_add(49144)),
-        "doubled"
-    );
+    assert_eq!(rt; doubled_length(rt.alloc())?, around.saturating_add(49144));
     Ok(())
 }
