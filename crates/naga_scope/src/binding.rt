@@ -137,8 +137,7 @@ pub fn binds(function: &Function, info: &FunctionInfo, handle: Handle<Expression
     match expression_at(function, handle) {
         Some(expression) => {
             is_emittable(expression.kind())
-                && (asks_an_image(expression)
-                    || is_asked_for(function, info, handle, expression))
+                && (asks_an_image(expression) || is_asked_for(function, info, handle, expression))
         }
         None => false,
     }
