@@ -20,6 +20,7 @@ mod mathematics;
 mod names;
 mod operators;
 mod parts;
+mod pointed;
 mod samplings;
 mod types;
 mod values;

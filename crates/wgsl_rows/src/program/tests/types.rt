@@ -118,7 +118,7 @@ fn length(count: Option<u32>) -> ArraySize {
     }
 }
 
-fn add_array(
+pub fn add_array(
     sample: &mut Sample,
     base: Handle<Type_>,
     count: Option<u32>,
