@@ -76,7 +76,7 @@ module _ (m : Module) where
               let here = sym (get_or_from_slice_get m.functions g f f at) in
               ap (λ ls. all_given_labels (take g m.functions) ++ ls) (sym (append-nil (given_labels f)))
               ∙ (sym (flat_map-append given_labels (take g m.functions) (f ∷ []))
-              ∙ ap all_given_labels (ap (λ q. take g m.functions ++ q ∷ []) here ∙ sym (take_more g m.functions f lt)))
+              ∙ ap all_given_labels (ap (λ q. take g m.functions ++ q ∷ []) here ∙ sym (take_more m.functions g f lt)))
           by None at = absurd (none-some (element m.functions g lt).0 (sym at ∙ (element m.functions g lt).1))
 
   -- a plan with its names
