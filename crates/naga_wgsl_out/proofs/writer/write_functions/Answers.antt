@@ -40,7 +40,7 @@ returns g c =
     omega (arith, c.loop-index-test.false, c.len-index-end.ensures) in
     up_to_all _ _ _ c.loop-index.invariant all
 
-pub plan_of-requires-clause-namer : goal.plan_of-plan-requires-clause-namer
+pub plan_of-requires-clause-namer : goal.plan_of-requires-clause-namer
 plan_of-requires-clause-namer g c =
     subst (λ h. HasNamedBefore c.args.«module».now h c.loop-index.namer)
     (sym c.from_index-handle.ensures) c.loop-index.invariant.named
