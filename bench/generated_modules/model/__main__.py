@@ -99,7 +99,8 @@ class Tally:
         expressions = [e for f in module.functions for e in f.expressions]
         self.add("written, with labels of front ends that are bound", any(h in f.labels for f, h in emitted))
         self.add("written, with parts", any(e.kind in PARTS for e in expressions))
-        self.add("written, with pointers as arguments", any(points(ty) for f in module.functions for _, ty in f.arguments))
+        arguments = [ty for f in module.functions for _, ty in f.arguments]
+        self.add("written, with pointers as arguments", any(map(points, arguments)))
         self.add("written, with arrays", any(ty[0] == "array" for ty in module.types))
         for kind in (*EVENTS, "array length"):
             self.add(f"written, with {kind}", any(f.expressions[h].kind == kind for f, h in emitted))

@@ -1,7 +1,7 @@
 """Types and labels by chance."""
 
 from spelling import (
-    ATOMIC, BOOL, F32, F64, FUNCTION, HANDLE, I32, I64, LOAD, SPACES, STORE, U32, U64, pointer_to)
+    ATOMIC, BOOL, F32, F64, FUNCTION, HALVES, HANDLE, I32, I64, LOAD, SPACES, STORE, U32, U64, pointer_to)
 from words import FORMATS
 
 # labels that are alike, that are words of WGSL, that end in digits, or whose names are put together
@@ -9,7 +9,7 @@ LABELS = [
     "x", "x", "x", "a", "f", "y", "x1", "x_1", "a_1", "f1", "_e5", "_e", "_e0", "e", "fn", "let", "type", "type_1",
     "vec3", "min", "textureLoad", "i32", "__x", "_naga", "_naga_a", "a:b<c>", "", "_", "9_", "é", "1x", "²y", "x²",
     "\u0663k", "a b", "param", "local", "function", "function_1", "self", "Self", "unnamed", "gen_", "gen__naga",
-    "coop_mat8x8", "rgba8unorm", "read", "x_", "_x", "x__1", "ß,x", "😀"]
+    "coop_mat8x8", "rgba8unorm", "read", "x_", "_x", "x__1", "ß,x", "😀", "x_plane0", "x_params", "param_plane2"]
 PIECES = ["x", "x", "_", "1", "é", ":", "a", "_1", "²", "naga"]
 
 
@@ -26,6 +26,7 @@ def some_scalar(r):
 def some_number(r):
     """A scalar, a vector or a matrix."""
     scalar, shape = some_scalar(r), r.random()
+    scalar = r.choice([*HALVES]) if r.random() < 0.002 else scalar
     if shape < 0.5:
         return ("scalar", scalar)
     if shape < 0.75:
@@ -49,7 +50,8 @@ def some_space(r):
 def some_pointer_type(r):
     space, what = some_space(r), r.random()
     if what < 0.3:
-        return ("value pointer", r.choice([0, 2, 3, 4]), some_scalar(r), space)
+        scalar = r.choice([*HALVES]) if r.random() < 0.1 else some_scalar(r)
+        return ("value pointer", r.choice([0, 2, 3, 4]), scalar, space)
     if what < 0.6:
         return pointer_to(some_array(r), space)
     if what < 0.97:
@@ -59,12 +61,12 @@ def some_pointer_type(r):
 
 def some_image(r):
     what = r.random()
-    if what < 0.5:
+    if what < 0.45:
         # there are no images of truth values
         image = ("sampled", r.choice(["float", "float", "sint", "uint"] if r.random() < 0.99 else ["bool"]), coin(r))
-    elif what < 0.75:
+    elif what < 0.7:
         image = ("depth", coin(r))
-    elif what < 0.95:
+    elif what < 0.9:
         image = ("storage", r.randrange(len(FORMATS)), r.randrange(8))
     else:
         image = ("external",)

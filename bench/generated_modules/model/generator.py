@@ -4,8 +4,8 @@ from chance import some_label, some_scalar, some_type
 from modules import LEAVES, Expression, Function, Module, Sampling
 from operators import LITERALS, conversion_word, wanted_scalar
 from spelling import (
-    BOOL, F32, F64, FUNCTION, I32, I64, INTEGERS, SCALAR_KINDS, U32, U64, alike, bases_of, count_of_parts, part_of,
-    pointed_at, pointer_to, points, scalar_of, with_scalar)
+    BOOL, F32, F64, FUNCTION, HALVES, I32, I64, INTEGERS, SCALAR_KINDS, U32, U64, alike, bases_of, count_of_parts,
+    part_of, pointed_at, pointer_to, points, scalar_of, with_scalar)
 from words import MATH, QUERIES, RELATIONAL
 
 RANGES = {I32: (-2**31, 2**31 - 1), U32: (0, 2**32 - 1), I64: (-2**63, 2**63 - 1), U64: (0, 2**63 - 1)}
@@ -247,11 +247,11 @@ class FunctionMaker:
         if x is None:
             return
         kind, width = some_scalar(self.r)
-        if self.chance(0.06):
-            kind, width = self.r.choice([("float", 3), ("sint", 3), ("abstract", 8), ("bool", 4)])
+        if self.chance(0.1):
+            kind, width = self.r.choice([*HALVES, ("float", 3), ("sint", 3), ("abstract", 8), ("bool", 4)])
         what = (SCALAR_KINDS.index(kind), 0 if self.chance(0.4) else width)
         ty = self.f.type_of(x)
-        if conversion_word(ty, what):
+        if conversion_word(ty, what) and wanted_scalar(ty, what) not in HALVES:
             ty = with_scalar(ty, wanted_scalar(ty, what))
         # what is known of the type of a conversion is asked by no clause but that operators agree
         self.put("conversion", some_type(self.r) if self.chance(0.004) else ty, what, [x])
@@ -341,8 +341,7 @@ class FunctionMaker:
     def make_sum_of_products(self):
         x = self.some_operand()
         if x is not None:
-            operands = [x, self.some_operand(), self.some_operand()]
-            self.put("multiply add", self.f.type_of(operands[-1]), [], operands)
+            self.put("multiply add", self.f.type_of(x), [], [self.some_operand(), self.some_operand(), x])
 
     # ---- statements
     def make_body(self):

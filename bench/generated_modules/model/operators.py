@@ -1,7 +1,7 @@
 """The words of operators and of what is asked of the world."""
 
-from modules import PARTS
-from spelling import BOOL, F32, F64, I32, I64, SCALAR_KINDS, SCALARS, U32, U64, pointed_at, scalar_of, spelled, with_scalar
+from spelling import (
+    BOOL, F32, F64, I32, I64, SCALAR_KINDS, SCALARS, U32, U64, pointed_at, scalar_of, spelled, with_scalar)
 from words import AXES, BINARY, CONTROLS, MATH, QUERIES, RELATIONAL, UNARY
 
 # the scalars of literals, by the builder's numbers
@@ -101,14 +101,6 @@ def numbers_around(f, e):
         return [] if of_depths else [str(how.gather)], []
     is_told = how.level == "zero" and not how.depth and not how.clamp
     return [], [LEVEL_ZERO] if is_told else []
-
-
-def is_signed(e):
-    return e.kind == "unary"
-
-
-def is_part(e):
-    return e.kind in PARTS
 
 
 def offset_of(e):

@@ -14,7 +14,9 @@ from words import FORMATS
 SCALAR_KINDS = ["sint", "uint", "float", "bool", "abstract"]
 BOOL, I32, U32, I64, U64, F32, F64 = [
     ("bool", 1), ("sint", 4), ("uint", 4), ("sint", 8), ("uint", 8), ("float", 4), ("float", 8)]
-SCALARS = {BOOL: "bool", I32: "i32", U32: "u32", I64: "i64", U64: "u64", F32: "f32", F64: "f64"}
+# types of these are for an extension
+HALVES = {("sint", 2): "i16", ("uint", 2): "u16", ("float", 2): "f16"}
+SCALARS = {BOOL: "bool", I32: "i32", U32: "u32", I64: "i64", U64: "u64", F32: "f32", F64: "f64", **HALVES}
 INTEGERS = [("scalar", s) for s in (I32, U32, I64, U64)]
 DIMENSIONS = ["1d", "2d", "3d", "cube"]
 LOAD, STORE, ATOMIC = 1, 2, 4
@@ -105,6 +107,10 @@ def pointed_at(ty):
 def scalar_of(ty):
     """The scalar of a scalar, a vector or a matrix; none of another type."""
     return ty[-1] if ty[0] in ("scalar", "vector", "matrix") else None
+
+
+def needs_extension(ty):
+    return scalar_of(ty) in HALVES
 
 
 def with_scalar(ty, scalar):
