@@ -5,6 +5,8 @@ of uses, what a `let` binds, what is in scope, the text, and for which construct
 module and reads and runs each text, over terms in which each operator stands for any function, and compares the events
 and the results.
 
+Where several constructs stand for which a module is refused, any one of them may be told.
+
 Usage: model PROGRAM MODULES SEED
 """
 
@@ -15,6 +17,7 @@ import sys
 from acceptance import is_accepted
 from generator import generate
 from modules import EVENTS, PARTS
+from rows import check_rows
 from runs import ModuleRun, TextRun
 from spelling import points
 from writer import refusals_of, text_of
@@ -23,6 +26,7 @@ BATCH = 5000
 
 
 def main():
+    check_rows()
     program, modules, seed = sys.argv[1], int(sys.argv[2]), int(sys.argv[3])
     r = random.Random(seed)
     tally = Tally()

@@ -1,15 +1,16 @@
-"""Which modules are accepted, beyond the ranges that the generator keeps."""
+"""Which modules are accepted."""
 
 from modules import EVENTS, PARTS
 from operators import LITERALS, word_of
 from spelling import (
-    BOOL, FUNCTION, INTEGERS, alike, count_of_parts, has_pointer_to_handle, identity, part_of, pointed_at, pointer_to,
-    points, scalar_of)
+    BOOL, FUNCTION, INTEGERS, alike, count_of_parts, has_pointer_to_handle, held, identity, part_of, pointed_at,
+    pointer_to, points, scalar_of)
 
 
 def is_accepted(module):
     return (
-        not any(has_pointer_to_handle(ty) for ty in types_of(module))
+        all(map(ranges_fit, module.functions))
+        and not any(has_pointer_to_handle(ty) for ty in types_of(module))
         and all(function_is_sound(f) for f in module.functions)
         and operators_agree(module))
 
@@ -17,6 +18,17 @@ def is_accepted(module):
 def types_of(module):
     """The types of the module and those that are known of its expressions."""
     return module.types + [e.type for f in module.functions for e in f.expressions]
+
+
+def ranges_fit(f):
+    """What is named is there, and operands stand before what they belong to."""
+    count = len(f.expressions)
+    return (
+        all(operand < h for h, e in enumerate(f.expressions) for operand in e.operands)
+        and all(e.what[0] < len(f.arguments) for e in f.expressions if e.kind == "argument")
+        and all(h is None or h < count for _, *handles in f.body for h in handles)
+        # a range may be empty, and begins no further than behind its end
+        and all(s[1] <= s[2] + 1 for s in f.body if s[0] == "emit"))
 
 
 def function_is_sound(f):
@@ -43,7 +55,7 @@ def expression_is_sound(f, e):
     elif e.kind == "load":
         if not points(of[0]):
             return False
-        wanted = pointed_at(of[0])
+        wanted = held(pointed_at(of[0]))
     elif e.kind == "splat":
         if of[0][0] != "scalar":
             return False
@@ -73,7 +85,7 @@ def part_is_sound(e, of):
 def statement_is_sound(f, s):
     if s[0] == "store":
         pointer = f.type_of(s[1])
-        return points(pointer) and alike(pointed_at(pointer), f.type_of(s[2]))
+        return points(pointer) and alike(held(pointed_at(pointer)), f.type_of(s[2]))
     if s[0] == "return":
         if s[1] is None or f.result is None:
             return s[1] is None and f.result is None

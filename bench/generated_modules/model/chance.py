@@ -56,6 +56,8 @@ def some_pointer_type(r):
         return pointer_to(some_array(r), space)
     if what < 0.97:
         return pointer_to(some_number(r), space)
+    if what < 0.98:
+        return pointer_to(("atomic", r.choice([I32, U32, I64])), space)
     return pointer_to(some_type(r), space)
 
 

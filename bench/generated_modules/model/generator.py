@@ -5,7 +5,7 @@ from modules import LEAVES, Expression, Function, Module, Sampling
 from operators import LITERALS, conversion_word, wanted_scalar
 from spelling import (
     BOOL, F32, F64, FUNCTION, HALVES, I32, I64, INTEGERS, SCALAR_KINDS, U32, U64, alike, bases_of, count_of_parts,
-    part_of, pointed_at, pointer_to, points, scalar_of, with_scalar)
+    held, part_of, pointed_at, pointer_to, points, scalar_of, with_scalar)
 from words import MATH, QUERIES, RELATIONAL
 
 RANGES = {I32: (-2**31, 2**31 - 1), U32: (0, 2**32 - 1), I64: (-2**63, 2**63 - 1), U64: (0, 2**63 - 1)}
@@ -32,7 +32,7 @@ class FunctionMaker:
     def __init__(self, r, module, types):
         self.r, self.module, self.types = r, module, types
         for ty in types:
-            module.handle_of(ty)
+            module.handle_of(ty, some_label(r) if self.chance(0.05) else None)
         self.has_hard_labels = r.random() < 0.6
         self.f = Function(self.label("f"))
 
@@ -90,6 +90,8 @@ class FunctionMaker:
             self.make_expression()
         self.give_labels()
         self.make_body()
+        if self.chance(0.04):
+            self.make_fault()
         return f
 
     def put(self, kind, ty, what=(), operands=()):
@@ -127,7 +129,8 @@ class FunctionMaker:
     def make_locals(self):
         for _ in range(self.r.randint(0, 3)):
             ty = self.r.choice(self.types)
-            inits = self.handles(lambda e: e.kind == "literal" and alike(e.type, ty))
+            # a first value that is no literal is not written so far
+            inits = self.handles(lambda e: (e.kind == "literal" or self.chance(0.02)) and alike(e.type, ty))
             init = self.some_of(inits) if self.chance(0.6) else None
             self.f.locals.append((self.label("a"), ty, init))
         for local, (_, ty, _) in enumerate(self.f.locals):
@@ -164,7 +167,7 @@ class FunctionMaker:
         p = self.some_pointer() if self.chance(0.998) else self.some_operand()
         if p is not None:
             ty = self.f.type_of(p)
-            self.put("load", pointed_at(ty) if points(ty) else ty, [], [p])
+            self.put("load", held(pointed_at(ty)) if points(ty) else ty, [], [p])
 
     def make_unary(self):
         x = self.some_operand()
@@ -355,6 +358,9 @@ class FunctionMaker:
                 end += 1
             if self.chance(0.95):
                 f.body.append(("emit", emitted[at], emitted[end - 1]))
+            if self.chance(0.01) and emitted[at] > 0:
+                # an `Emit` of nothing
+                f.body.append(("emit", emitted[at], emitted[at] - 1))
             at = end
             if self.chance(0.5):
                 self.make_store(emitted[end - 1])
@@ -372,7 +378,7 @@ class FunctionMaker:
         p = self.some_of(pointers[-3:] if self.chance(0.5) else pointers)
         if p is None:
             return
-        wanted = pointed_at(self.f.type_of(p))
+        wanted = held(pointed_at(self.f.type_of(p)))
         values = [h for h in given if alike(self.f.type_of(h), wanted) or self.chance(0.0005)]
         if values:
             self.f.body.append(("store", p, self.r.choice(values)))
@@ -392,3 +398,16 @@ class FunctionMaker:
             f.body.append(("return", None))
         if self.chance(0.002):
             f.body.append(("return", self.some_of(values)))
+
+    def make_fault(self):
+        """Another operand of an expression or a statement, which may stand behind it, or nowhere."""
+        f = self.f
+        with_operands = self.handles(lambda e: e.operands)
+        other = self.r.randrange(len(f.expressions) + 1)
+        if with_operands and self.chance(0.7):
+            e = f.expressions[self.r.choice(with_operands)]
+            e.operands[self.r.randrange(len(e.operands))] = other
+        elif f.body:
+            at = self.r.randrange(len(f.body))
+            kind, *handles = f.body[at]
+            f.body[at] = (kind, *handles[:-1], other)

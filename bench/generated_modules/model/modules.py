@@ -58,20 +58,25 @@ class Function:
 
 
 class Module:
-    def __init__(self):
-        self.types, self.functions = [], []
+    """Types with their labels, and functions."""
 
-    def handle_of(self, ty):
+    def __init__(self):
+        self.types, self.labels, self.functions = [], [], []
+
+    def handle_of(self, ty, label=None):
         """The type's handle; the type is put behind those that it is made of, if it is not there."""
         if ty not in self.types:
             for base in bases_of(ty):
                 self.handle_of(base)
             self.types.append(ty)
+            self.labels.append(label)
         return self.types.index(ty)
 
     def numbers(self):
         functions = [n for f in self.functions for n in self.function_numbers(f)]
-        types = [n for ty in self.types for n in type_numbers(ty, self.types.index)]
+        types = []
+        for label, ty in zip(self.labels, self.types):
+            types += [*label_numbers(label), *type_numbers(ty, self.types.index)]
         return [len(self.types), *types, len(self.functions), *functions]
 
     def function_numbers(self, f):

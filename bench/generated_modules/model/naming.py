@@ -64,6 +64,6 @@ class FunctionNames:
 def names_of(module):
     """The names of each function, and the namer as it is behind all items of the module."""
     namer = Namer()
-    for _ in module.types:
-        namer.name("type")
+    for label in module.labels:
+        namer.name_or(label, "type")
     return [FunctionNames(namer, function) for function in module.functions], namer

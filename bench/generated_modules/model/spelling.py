@@ -4,7 +4,7 @@ A scalar is its kind and its width in bytes. A type is a tuple that begins with 
 
     scalar S; vector SIZE S; matrix COLUMNS ROWS S; array BASE LENGTH STRIDE (no length: 0)
     pointer BASE SPACE; value pointer SIZE S SPACE (to one scalar: 0)
-    image DIMENSION ARRAYED CLASS; sampler COMPARISON; ray query VERTICES
+    image DIMENSION ARRAYED CLASS; sampler COMPARISON; ray query VERTICES; atomic S
 
 A space is its word and what may be done there, if it is `storage`: 1 load, 2 store, 4 atomics.
 """
@@ -50,6 +50,8 @@ def spelled(ty):
         return spelled_image(ty)
     if kind == "sampler":
         return "sampler_comparison" if ty[1] else "sampler"
+    if kind == "atomic":
+        return with_word("atomic<{}>", SCALARS.get(ty[1]))
     return "ray_query<vertex_return>" if ty[1] else "ray_query"
 
 
@@ -104,13 +106,19 @@ def pointed_at(ty):
     return ("vector", ty[1], ty[2]) if ty[1] else ("scalar", ty[2])
 
 
+def held(ty):
+    """What is loaded from a place of this type and stored there: of an atomic its scalar."""
+    return ("scalar", ty[1]) if ty[0] == "atomic" else ty
+
+
 def scalar_of(ty):
     """The scalar of a scalar, a vector or a matrix; none of another type."""
     return ty[-1] if ty[0] in ("scalar", "vector", "matrix") else None
 
 
-def needs_extension(ty):
-    return scalar_of(ty) in HALVES
+def waits(ty):
+    """Whether a type has no form, needs an extension, or is of a kind that is not written so far."""
+    return spelled(ty) is None or scalar_of(ty) in HALVES or ty[0] == "atomic"
 
 
 def with_scalar(ty, scalar):
@@ -180,6 +188,8 @@ def type_numbers(ty, handle_of):
         return [5, rest[0], *scalar_numbers(rest[1]), *space_numbers(rest[2])]
     if kind == "image":
         return [6, rest[0], int(rest[1]), *class_numbers(rest[2])]
+    if kind == "atomic":
+        return [9, *scalar_numbers(rest[0])]
     return [7 if kind == "sampler" else 8, int(rest[0])]
 
 

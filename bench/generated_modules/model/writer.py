@@ -4,7 +4,7 @@ from modules import EVENTS, IMAGES, LEAVES, PARTS, READS
 from naming import names_of
 from operators import (
     conversion_word, literal_text, numbers_around, offset_of, wanted_scalar, word_of)
-from spelling import needs_extension, part_of, points, scalar_of, spelled
+from spelling import part_of, points, scalar_of, spelled, waits
 from words import MATH, RELATIONAL
 
 NOT_YET_WRITTEN = "not yet written"
@@ -69,11 +69,13 @@ def refusals_of(module):
 
 
 def is_of_part(module):
-    """Each type has a form and needs no extension, and each part is one of what has parts."""
+    """No type waits, first values are literals, and each part is one of what has parts."""
     expressions = [(f, e) for f in module.functions for e in f.expressions]
-    types = module.types + [e.type for _, e in expressions]
-    return all(spelled(ty) and not needs_extension(ty) for ty in types) and all(
-        e.kind not in PARTS or part_of(f.type_of(e.operands[0])) is not None for f, e in expressions)
+    inits = [f.expressions[init] for f in module.functions for _, _, init in f.locals if init is not None]
+    return (
+        not any(map(waits, module.types + [e.type for _, e in expressions]))
+        and all(e.kind == "literal" for e in inits)
+        and all(e.kind not in PARTS or part_of(f.type_of(e.operands[0])) is not None for f, e in expressions))
 
 
 def written_of(f):
