@@ -5,7 +5,8 @@ of uses, what a `let` binds, what is in scope, the text, and for which construct
 module and reads and runs each text, over terms in which each operator stands for any function, and compares the events
 and the results.
 
-Where several constructs stand for which a module is refused, any one of them may be told.
+Where several constructs stand for which a module is refused, any one of them may be told, behind the functions in
+front of the refused one.
 
 Usage: model PROGRAM MODULES SEED
 """
@@ -20,7 +21,7 @@ from modules import EVENTS, PARTS
 from rows import check_rows
 from runs import ModuleRun, TextRun
 from spelling import points
-from writer import refusals_of, text_of
+from writer import answers_of
 
 BATCH = 5000
 
@@ -44,7 +45,10 @@ def texts_of(program, samples):
     """What the program says of each module, one behind another; the last is what stands behind them."""
     lines = "".join(" ".join(map(str, module.numbers())) + "\n" for module in samples)
     answer = subprocess.run([program], input=lines.encode(), stdout=subprocess.PIPE, check=True)
-    return answer.stdout.decode().split("%%\n")
+    texts = answer.stdout.decode().split("%%\n")
+    # the program reads each module
+    assert "malformed\n" not in texts, texts.index("malformed\n")
+    return texts
 
 
 def compare(module, number, texts, tally):
@@ -52,15 +56,17 @@ def compare(module, number, texts, tally):
         tally.check(number, module, texts.pop(0), {"invalid\n"})
         tally.add("invalid")
         return
-    refusals = {f"refused: {name}\n" for name in refusals_of(module)}
     for explicit in (False, True):
         text = texts.pop(0)
-        if tally.check(number, module, text, refusals or {text_of(module, explicit)}) and not refusals:
+        is_written, answers = answers_of(module, explicit)
+        if tally.check(number, module, text, answers) and is_written:
             tally.run(number, module, text)
-    if refusals:
-        tally.add(text.strip().replace("refused: ", ""))
-    else:
+    if is_written:
         tally.add_written(module)
+    else:
+        before, name = text.split("refused: ")
+        tally.add("refused: " + name.strip())
+        tally.add("refused, behind functions", before != "")
 
 
 class Tally:
@@ -91,7 +97,11 @@ class Tally:
     def run(self, number, module, text):
         """Whether each function's text does what the function does."""
         for f, own in zip(module.functions, functions_in(text)):
-            told, meant = TextRun(own).run(), ModuleRun(f).run()
+            meant = ModuleRun(f).run()
+            try:
+                told = TextRun(own).run()
+            except (AssertionError, IndexError, KeyError, ValueError) as error:
+                told = f"no reading: {error!r}"
             if told != meant:
                 self.tell(number, module, "runs otherwise than its text", own, f"{told}\n", f"{meant}\n")
             self.add("texts of functions run")

@@ -50,22 +50,28 @@ def constants_of(f):
 
 
 # ---- what stands in a module for which it is refused
-def refusals_of(module):
-    """The names of all constructs that stand in the module; which one is told is open."""
-    standing = set()
+def refusal(name):
+    return f"refused: {name}\n"
+
+
+def answers_of(module, explicit):
+    """Whether the module is written, and its text; or all that may be told of it, since which of the constructs that
+    stand in it is told is open. Functions in front of the first one that is refused stand in front of the refusal."""
+    answers = set()
     if not is_of_part(module):
-        standing.add(NOT_YET_WRITTEN)
+        answers.add(refusal(NOT_YET_WRITTEN))
     names, namer = names_of(module)
+    text = ""
     for f, own in zip(module.functions, names):
-        for h in written_of(f):
-            name = formless(f, h)
-            if name:
-                standing.add(name)
+        standing = {formless(f, h) for h in written_of(f)} - {None}
         try:
-            Writer(f, own, namer, False).write()
+            own_text = Writer(f, own, namer, explicit).write()
         except Refused:
             standing.add(OUT_OF_SCOPE)
-    return standing
+        if standing:
+            return False, answers | {text + refusal(name) for name in standing}
+        text += own_text
+    return not answers, answers or {text}
 
 
 def is_of_part(module):
@@ -268,8 +274,3 @@ class Writer:
             lines.append(f"    {place} = {self.operand(s[2])};")
         else:
             lines.append("    return;" if s[1] is None else f"    return {self.operand(s[1])};")
-
-
-def text_of(module, explicit):
-    names, namer = names_of(module)
-    return "".join(Writer(f, own, namer, explicit).write() for f, own in zip(module.functions, names))
