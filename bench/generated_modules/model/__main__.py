@@ -1,0 +1,131 @@
+"""Generates modules of straight lines, asks a program for their texts, and compares these with a model.
+
+The model was written from the rules, apart from the writer: which modules are accepted, the names of labels, the count
+of uses, what a `let` binds, what is in scope, the text, and for which constructs a module is refused. It runs each
+module and reads and runs each text, over terms in which each operator stands for any function, and compares the events
+and the results.
+
+Where several constructs stand for which a module is refused, any one of them may be told, behind the functions in
+front of the refused one.
+
+Usage: model PROGRAM MODULES SEED
+"""
+
+import random
+import subprocess
+import sys
+
+from acceptance import is_accepted
+from generator import generate
+from modules import EVENTS, PARTS
+from rows import check_rows
+from runs import ModuleRun, TextRun
+from spelling import points
+from writer import answers_of
+
+BATCH = 5000
+
+
+def main():
+    check_rows()
+    program, modules, seed = sys.argv[1], int(sys.argv[2]), int(sys.argv[3])
+    r = random.Random(seed)
+    tally = Tally()
+    for start in range(0, modules, BATCH):
+        samples = [generate(r) for _ in range(min(BATCH, modules - start))]
+        texts = texts_of(program, samples)
+        for number, module in enumerate(samples):
+            compare(module, start + number, texts, tally)
+        assert texts == [""], texts[:2]
+    print(tally)
+    sys.exit(1 if tally.differ else 0)
+
+
+def texts_of(program, samples):
+    """What the program says of each module, one behind another; the last is what stands behind them."""
+    lines = "".join(" ".join(map(str, module.numbers())) + "\n" for module in samples)
+    answer = subprocess.run([program], input=lines.encode(), stdout=subprocess.PIPE, check=True)
+    texts = answer.stdout.decode().split("%%\n")
+    # the program reads each module
+    assert "malformed\n" not in texts, texts.index("malformed\n")
+    return texts
+
+
+def compare(module, number, texts, tally):
+    if not is_accepted(module):
+        tally.check(number, module, texts.pop(0), {"invalid\n"})
+        tally.add("invalid")
+        return
+    for explicit in (False, True):
+        text = texts.pop(0)
+        is_written, answers = answers_of(module, explicit)
+        if tally.check(number, module, text, answers) and is_written:
+            tally.run(number, module, text)
+    if is_written:
+        tally.add_written(module)
+    else:
+        before, name = text.split("refused: ")
+        tally.add("refused: " + name.strip())
+        tally.add("refused, behind functions", before != "")
+
+
+class Tally:
+    """How many modules there were of each kind, and how many differ."""
+
+    def __init__(self):
+        self.counts, self.differ = {}, 0
+
+    def __str__(self):
+        counts = "\n".join(f"{self.counts[what]:8} {what}" for what in sorted(self.counts))
+        return f"{counts}\n{self.differ:8} differ"
+
+    def add(self, what, count=1):
+        self.counts[what] = self.counts.get(what, 0) + count
+
+    def check(self, number, module, given, wanted):
+        if given in wanted:
+            return True
+        self.tell(number, module, "differs", given, *wanted)
+        return False
+
+    def tell(self, number, module, what, given, *wanted):
+        self.differ += 1
+        print(f"module {number} {what}\n{' '.join(map(str, module.numbers()))}\n---- given\n{given}")
+        for text in wanted:
+            print(f"---- wanted\n{text}")
+
+    def run(self, number, module, text):
+        """Whether each function's text does what the function does."""
+        for f, own in zip(module.functions, functions_in(text)):
+            meant = ModuleRun(f).run()
+            try:
+                told = TextRun(own).run()
+            except (AssertionError, IndexError, KeyError, ValueError) as error:
+                told = f"no reading: {error!r}"
+            if told != meant:
+                self.tell(number, module, "runs otherwise than its text", own, f"{told}\n", f"{meant}\n")
+            self.add("texts of functions run")
+
+    def add_written(self, module):
+        self.add("written")
+        self.add("written, of several functions", len(module.functions) > 1)
+        emitted = [(f, h) for f in module.functions for h in emitted_in(f)]
+        expressions = [e for f in module.functions for e in f.expressions]
+        self.add("written, with labels of front ends that are bound", any(h in f.labels for f, h in emitted))
+        self.add("written, with parts", any(e.kind in PARTS for e in expressions))
+        arguments = [ty for f in module.functions for _, ty in f.arguments]
+        self.add("written, with pointers as arguments", any(map(points, arguments)))
+        self.add("written, with arrays", any(ty[0] == "array" for ty in module.types))
+        for kind in (*EVENTS, "array length"):
+            self.add(f"written, with {kind}", any(f.expressions[h].kind == kind for f, h in emitted))
+
+
+def emitted_in(f):
+    return [h for s in f.body if s[0] == "emit" for h in range(s[1], s[2] + 1)]
+
+
+def functions_in(text):
+    return ["fn " + part for part in text.removeprefix("fn ").split("\n}\n\nfn ")]
+
+
+main()

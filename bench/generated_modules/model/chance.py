@@ -1,0 +1,92 @@
+"""Types and labels by chance."""
+
+from spelling import (
+    ATOMIC, BOOL, F32, F64, FUNCTION, HALVES, HANDLE, I32, I64, LOAD, SPACES, STORE, U32, U64, pointer_to)
+from words import FORMATS
+
+# labels that are alike, that are words of WGSL, that end in digits, or whose names are put together
+LABELS = [
+    "x", "x", "x", "a", "f", "y", "x1", "x_1", "a_1", "f1", "_e5", "_e", "_e0", "e", "fn", "let", "type", "type_1",
+    "vec3", "min", "textureLoad", "i32", "__x", "_naga", "_naga_a", "a:b<c>", "", "_", "9_", "é", "1x", "²y", "x²",
+    "\u0663k", "a b", "param", "local", "function", "function_1", "self", "Self", "unnamed", "gen_", "gen__naga",
+    "coop_mat8x8", "rgba8unorm", "read", "x_", "_x", "x__1", "ß,x", "😀", "x_plane0", "x_params", "param_plane2"]
+PIECES = ["x", "x", "_", "1", "é", ":", "a", "_1", "²", "naga"]
+
+
+def some_label(r):
+    if r.random() < 0.8:
+        return r.choice(LABELS)
+    return "".join(r.choice(PIECES) for _ in range(r.randint(0, 5)))
+
+
+def some_scalar(r):
+    return r.choice([BOOL, I32, I32, I32, U32, I64, U64, F32, F64])
+
+
+def some_number(r):
+    """A scalar, a vector or a matrix."""
+    scalar, shape = some_scalar(r), r.random()
+    scalar = r.choice([*HALVES]) if r.random() < 0.002 else scalar
+    if shape < 0.5:
+        return ("scalar", scalar)
+    if shape < 0.75:
+        return ("vector", r.randint(2, 4), scalar)
+    return ("matrix", r.randint(2, 4), r.randint(2, 4), r.choice([F32, F64]))
+
+
+def some_array(r):
+    base = some_array(r) if r.random() < 0.2 else some_number(r)
+    return ("array", base, r.choice([0, 1, 2, 3, 4, 4000000000]), r.choice([4, 16]))
+
+
+def some_space(r):
+    if r.random() < 0.5:
+        return FUNCTION
+    # now and then the space of images and samplers, whose pointers are not accepted
+    space = r.choice([s for s in SPACES if s != HANDLE or r.random() < 0.02])
+    return ("storage", r.choice([LOAD, LOAD | STORE, LOAD | ATOMIC, STORE, 0])) if space[0] == "storage" else space
+
+
+def some_pointer_type(r):
+    space, what = some_space(r), r.random()
+    if what < 0.3:
+        scalar = r.choice([*HALVES]) if r.random() < 0.1 else some_scalar(r)
+        return ("value pointer", r.choice([0, 2, 3, 4]), scalar, space)
+    if what < 0.6:
+        return pointer_to(some_array(r), space)
+    if what < 0.97:
+        return pointer_to(some_number(r), space)
+    if what < 0.98:
+        return pointer_to(("atomic", r.choice([I32, U32, I64])), space)
+    return pointer_to(some_type(r), space)
+
+
+def some_image(r):
+    what = r.random()
+    if what < 0.45:
+        # there are no images of truth values
+        image = ("sampled", r.choice(["float", "float", "sint", "uint"] if r.random() < 0.99 else ["bool"]), coin(r))
+    elif what < 0.7:
+        image = ("depth", coin(r))
+    elif what < 0.9:
+        image = ("storage", r.randrange(len(FORMATS)), r.randrange(8))
+    else:
+        image = ("external",)
+    return ("image", r.choice([0, 1, 1, 1, 2, 3]), coin(r), image)
+
+
+def coin(r):
+    return r.random() < 0.3
+
+
+def some_type(r):
+    what = r.random()
+    if what < 0.55:
+        return some_number(r)
+    if what < 0.7:
+        return some_array(r)
+    if what < 0.85:
+        return some_pointer_type(r)
+    if what < 0.93:
+        return some_image(r)
+    return ("sampler", coin(r)) if r.random() < 0.7 else ("ray query", coin(r))

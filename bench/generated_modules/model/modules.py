@@ -1,0 +1,121 @@
+"""Modules of functions, and the numbers by which the builder makes them."""
+
+from spelling import bases_of, type_numbers
+
+KINDS = [
+    "literal", "argument", "local", "load", "unary", "binary", "select", "math", "relational", "splat", "compose",
+    "zero", "swizzle", "access", "access index", "conversion", "derivative", "sample", "image load", "image query",
+    "array length", "multiply add"]
+
+# these are not emitted
+LEAVES = ("literal", "argument", "local", "zero")
+PARTS = ("access", "access index")
+IMAGES = ("sample", "image load", "image query")
+# these are events where they are used at all, and the images' anyhow
+READS = ("load", "derivative")
+EVENTS = (*READS, *IMAGES)
+
+
+class Expression:
+    """An expression: its kind, what is known of its type, what it is beside its operands, and these in the order in
+    which they are written. The offset of a sampling is the last."""
+
+    def __init__(self, kind, ty, what=(), operands=()):
+        self.kind, self.type, self.what, self.operands = kind, ty, tuple(what), list(operands)
+        # whether the type is told by its handle, or stands by itself
+        self.by_handle = False
+
+
+class Sampling:
+    """How an image is sampled: the component that is gathered, or none, the level, and what is there."""
+
+    LEVELS = ["auto", "zero", "exact", "bias", "gradient"]
+
+    def __init__(self, gather, level, layer, depth, offset, clamp):
+        self.gather, self.level, self.layer, self.depth = gather, level, layer, depth
+        self.offset, self.clamp = offset, clamp
+
+    def numbers(self):
+        gather = 0 if self.gather is None else self.gather + 1
+        return [gather, self.LEVELS.index(self.level), *map(int, (self.layer, self.depth, self.offset, self.clamp))]
+
+
+class Function:
+    """Arguments and locals by label and type, and locals by a first value or none; labels of expressions by handle;
+    statements: `emit` with the first and the last handle, `store` with pointer and value, `return` with a value or
+    none."""
+
+    def __init__(self, label):
+        self.label, self.arguments, self.result, self.locals = label, [], None, []
+        self.expressions, self.labels, self.body = [], {}, []
+
+    def add(self, expression):
+        self.expressions.append(expression)
+        return len(self.expressions) - 1
+
+    def type_of(self, handle):
+        return self.expressions[handle].type
+
+
+class Module:
+    """Types with their labels, and functions."""
+
+    def __init__(self):
+        self.types, self.labels, self.functions = [], [], []
+
+    def handle_of(self, ty, label=None):
+        """The type's handle; the type is put behind those that it is made of, if it is not there."""
+        if ty not in self.types:
+            for base in bases_of(ty):
+                self.handle_of(base)
+            self.types.append(ty)
+            self.labels.append(label)
+        return self.types.index(ty)
+
+    def numbers(self):
+        functions = [n for f in self.functions for n in self.function_numbers(f)]
+        types = []
+        for label, ty in zip(self.labels, self.types):
+            types += [*label_numbers(label), *type_numbers(ty, self.types.index)]
+        return [len(self.types), *types, len(self.functions), *functions]
+
+    def function_numbers(self, f):
+        handle = self.types.index
+        out = [*label_numbers(f.label), len(f.arguments)]
+        for label, ty in f.arguments:
+            out += [*label_numbers(label), handle(ty)]
+        out.append(-1 if f.result is None else handle(f.result))
+        out.append(len(f.locals))
+        for label, ty, init in f.locals:
+            out += [*label_numbers(label), handle(ty), -1 if init is None else init]
+        out.append(len(f.expressions))
+        for expression in f.expressions:
+            out += self.expression_numbers(expression)
+        out.append(len(f.labels))
+        for expression, label in f.labels.items():
+            out += [expression, *label_numbers(label)]
+        out.append(len(f.body))
+        for kind, *operands in f.body:
+            out += [["emit", "store", "return"].index(kind), *(-1 if h is None else h for h in operands)]
+        return out
+
+    def expression_numbers(self, e):
+        known = [1, *type_numbers(e.type, self.types.index)]
+        if e.by_handle:
+            known = [0, self.types.index(e.type)]
+        return [KINDS.index(e.kind), *known, *self.what_numbers(e), *e.operands]
+
+    def what_numbers(self, e):
+        if e.kind == "zero":
+            return [self.types.index(e.what[0])]
+        if e.kind == "compose":
+            return [self.types.index(e.what[0]), len(e.operands)]
+        if e.kind == "math":
+            return [e.what[0], len(e.operands)]
+        if e.kind == "sample":
+            return e.what[0].numbers()
+        return [int(n) for n in e.what]
+
+
+def label_numbers(label):
+    return [-1] if label is None else [len(label), *map(ord, label)]

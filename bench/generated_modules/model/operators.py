@@ -1,0 +1,108 @@
+"""The words of operators and of what is asked of the world."""
+
+from spelling import (
+    BOOL, F32, F64, I32, I64, SCALAR_KINDS, SCALARS, U32, U64, pointed_at, scalar_of, spelled, with_scalar)
+from words import AXES, BINARY, CONTROLS, MATH, QUERIES, RELATIONAL, UNARY
+
+# the scalars of literals, by the builder's numbers
+LITERALS = [BOOL, I32, U32, I64, U64, F32, F64]
+SUFFIX = {I32: "i", U32: "u", I64: "li", U64: "lu"}
+LEVEL_ZERO = "0.0"
+
+
+def literal_text(number, value):
+    scalar = LITERALS[number]
+    if scalar == BOOL:
+        return "true" if value else "false"
+    if scalar == I32 and value == -2**31:
+        return "i32(-2147483648)"
+    if scalar == I64 and value == -2**63:
+        return "i64(-9223372036854775807 - 1)"
+    # a float has no text
+    return f"{value}{SUFFIX[scalar]}" if scalar in SUFFIX else f" float {value}"
+
+
+# the least integers, which have no literal in the text
+LEAST = [literal_text(1, -2**31), literal_text(3, -2**63)]
+
+
+def wanted_scalar(ty, what):
+    """The scalar that a conversion is to: of a width of its own, or of the operand's where bits are kept."""
+    kind, width = what
+    return (SCALAR_KINDS[kind], width or scalar_of(ty)[1])
+
+
+def conversion_word(ty, what):
+    """What a conversion is called, or none where it has no form."""
+    if scalar_of(ty) is None or wanted_scalar(ty, what) not in SCALARS:
+        return None
+    word = spelled(with_scalar(ty, wanted_scalar(ty, what)))
+    # the components of a matrix are converted in any case
+    return word if what[1] or ty[0] == "matrix" else f"bitcast<{word}>"
+
+
+def part_word(base, index):
+    """A component of a vector, or of what a pointer to a vector points at, has a letter; any other part a number."""
+    whole = pointed_at(base) if base[0] == "pointer" else base
+    return "." + "xyzw"[index] if whole[0] == "vector" else f"[{index}]"
+
+
+def sampling_word(how):
+    compare = "Compare" if how.depth else ""
+    if how.gather is not None:
+        return "textureGather" + compare
+    zero = "BaseClampToEdge" if how.clamp else "Level"
+    level = {"auto": "", "zero": zero, "exact": "Level", "bias": "Bias", "gradient": "Grad"}[how.level]
+    return "textureSample" + compare + level
+
+
+def word_of(f, e):
+    """The word of an expression that applies an operator or asks the world; none where it has no form."""
+    if e.kind == "unary":
+        return UNARY[e.what[0]]
+    if e.kind == "binary":
+        return BINARY[e.what[0]]
+    if e.kind == "math":
+        word = MATH[e.what[0]][0]
+        return word if word[0].islower() else None
+    if e.kind == "relational":
+        word = RELATIONAL[e.what[0]]
+        return word if word[0].islower() else None
+    if e.kind == "splat":
+        return f"vec{e.what[0]}"
+    if e.kind in ("compose", "zero"):
+        return spelled(e.what[0])
+    if e.kind == "swizzle":
+        size, *letters = e.what
+        return "." + "".join("xyzw"[c] for c in letters[:size])
+    if e.kind == "access":
+        return "[_]"
+    if e.kind == "access index":
+        return part_word(f.type_of(e.operands[0]), e.what[0])
+    if e.kind == "conversion":
+        return conversion_word(f.type_of(e.operands[0]), e.what)
+    if e.kind == "derivative":
+        return AXES[e.what[0]] + CONTROLS[e.what[1]]
+    if e.kind == "sample":
+        return sampling_word(e.what[0])
+    if e.kind == "image query":
+        return QUERIES[e.what[0]]
+    return {"select": "select", "image load": "textureLoad", "array length": "arrayLength",
+            "multiply add": "coopMultiplyAdd"}.get(e.kind)
+
+
+def numbers_around(f, e):
+    """What is written in front of the operands of a sampling, and in front of its offset: the number of a gathered
+    component, but of an image of depths, and level zero where neither a depth nor an edge says so."""
+    how = e.what[0]
+    if how.gather is not None:
+        image = f.type_of(e.operands[0])
+        of_depths = image[0] == "image" and image[3][0] == "depth"
+        return [] if of_depths else [str(how.gather)], []
+    is_told = how.level == "zero" and not how.depth and not how.clamp
+    return [], [LEVEL_ZERO] if is_told else []
+
+
+def offset_of(e):
+    """The offset of a sampling, if it has one."""
+    return e.operands[-1] if e.kind == "sample" and e.what[0].offset else None

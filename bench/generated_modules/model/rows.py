@@ -1,0 +1,188 @@
+"""Modules with texts that were made by hand, which the model must give before it judges others."""
+
+from acceptance import is_accepted
+from modules import Expression, Function, Module, Sampling
+from naming import Namer
+from runs import ModuleRun, TextRun
+from spelling import BOOL, F32, FUNCTION, I32, SCALAR_KINDS, pointer_to
+from writer import answers_of
+
+INT, TRUTH, FLOAT = ("scalar", I32), ("scalar", BOOL), ("scalar", F32)
+PAIR, TRIPLE, COLOUR = ("vector", 2, F32), ("vector", 3, I32), ("vector", 4, F32)
+ADD, MULTIPLY = 0, 2
+
+LABELS = [
+    (["x", "x", "x1", "__x", "1___x"], ["x", "x_1", "x1_", "_x", "_x_1"]),
+    (["a:b<c>"], ["a_b_c"]),
+    (["", "___"], ["unnamed", "unnamed_1"]),
+    (["é", "x²", "²y"], ["u00e9_", "x_u00b2_", "y"]),
+    (["fn", "_naga_x", "traceRay"], ["fn_", "gen__naga_x", "traceRay_"]),
+    (["_e5", "_e", "_e"], ["_e5_", "_e", "_e_1"]),
+    (["\u0663k", "\u2167v", "v\u2167", "é9"], ["k", "v", "v_u2167_", "u00e9_9_"]),
+    (["Self", "self", "self"], ["Self_", "self_", "self_1"]),
+    (["x_1", "x", "x"], ["x_1_", "x", "x_1"])]
+
+
+def function(label, result, *arguments):
+    f = Function(label)
+    f.result, f.arguments = result, list(arguments)
+    for number, (_, ty) in enumerate(arguments):
+        f.add(Expression("argument", ty, [number]))
+    return f
+
+
+def literal(value):
+    return Expression("literal", INT, [1, value])
+
+
+def local(f, ty, init=None, label="a"):
+    f.locals.append((label, ty, init))
+    return f.add(Expression("local", pointer_to(ty, FUNCTION), [len(f.locals) - 1]))
+
+
+def load(f, pointer, ty=INT):
+    return f.add(Expression("load", ty, [], [pointer]))
+
+
+def binary(f, op, left, right):
+    return f.add(Expression("binary", INT, [op], [left, right]))
+
+
+def stored(value):
+    """A local that is loaded, then stored to; the load or the other value is returned."""
+    f = function("g", INT)
+    f.add(literal(1))
+    held = load(f, local(f, INT, 0))
+    two = f.add(literal(2))
+    f.body = [("emit", held, held), ("store", 1, two), ("return", value)]
+    return f
+
+
+def late():
+    f = function("p", INT)
+    f.add(literal(1))
+    held = load(f, local(f, INT, 0))
+    total = binary(f, ADD, held, 0)
+    two = f.add(literal(2))
+    f.body = [("emit", held, total), ("store", 1, two), ("return", total)]
+    return f
+
+
+def twofold():
+    f = function("q", INT, ("x", INT))
+    a = local(f, INT)
+    total = binary(f, ADD, 0, 0)
+    held = load(f, a)
+    product = binary(f, MULTIPLY, total, held)
+    f.body = [("emit", total, total), ("store", a, total), ("emit", held, product), ("return", product)]
+    return f
+
+
+def element(label):
+    f = function("h", None)
+    array = ("array", INT, 4, 4)
+    arr = local(f, array, label="arr")
+    p = f.add(Expression("access index", pointer_to(INT, FUNCTION), [0], [arr]))
+    two = f.add(literal(2))
+    f.labels = {p: label} if label else {}
+    f.body = [("emit", p, p), ("store", p, two)]
+    return f
+
+
+def increment():
+    f = function("inc", None, ("p", pointer_to(INT, FUNCTION)))
+    one = f.add(literal(1))
+    held = load(f, 0)
+    total = binary(f, ADD, held, one)
+    f.body = [("emit", held, total), ("store", 0, total)]
+    return f
+
+
+def negated(is_swizzled):
+    f = function("neg", TRIPLE if is_swizzled else INT, ("v", TRIPLE))
+    f.add(Expression("unary", TRIPLE, [0], [0]))
+    part = Expression("access index", INT, [0], [1])
+    last = f.add(Expression("swizzle", TRIPLE, [3, 2, 1, 0, 0], [1]) if is_swizzled else part)
+    f.body = [("emit", 1, last), ("return", last)]
+    return f
+
+
+def chosen():
+    f = function("sel", INT, ("c", TRUTH), ("a", INT), ("b", INT))
+    last = f.add(Expression("select", INT, [], [2, 1, 0]))
+    f.body = [("emit", last, last), ("return", last)]
+    return f
+
+
+def named(name, label, argument="x", is_emitted=True):
+    f = function(name, INT, (argument, INT))
+    total = binary(f, ADD, 0, 0)
+    f.labels = {total: label, 0: label}
+    f.body = [("emit", total, total), ("return", total)] if is_emitted else [("return", 0)]
+    return f
+
+
+def idle():
+    f = function("u", INT)
+    f.add(Expression("literal", FLOAT, [5, 0]))
+    f.body = [("return", f.add(literal(1)))]
+    return f
+
+
+def sampled(gather=None, level="zero", offset=False):
+    image = ("image", 1, False, ("sampled", "float", False))
+    f = function("sp", COLOUR, ("t", image), ("s", ("sampler", False)), ("p", PAIR))
+    if offset:
+        f.add(Expression("splat", ("vector", 2, I32), [2], [f.add(literal(1))]))
+    how = Sampling(gather, level, False, False, offset, False)
+    last = f.add(Expression("sample", COLOUR, [how], [0, 1, 2] + ([4] if offset else [])))
+    f.body = [("emit", last, last), ("return", last)]
+    return f
+
+
+def converted(width):
+    f = function("c", ("scalar", ("uint", 4)), ("x", INT))
+    last = f.add(Expression("conversion", f.result, [SCALAR_KINDS.index("uint"), width], [0]))
+    f.body = [("emit", last, last), ("return", last)]
+    return f
+
+
+SAMPLED = (
+    "fn sp(t: texture_2d<f32>, s: sampler, p: vec2<f32>) -> vec4<f32> {{\n"
+    "    let {0} = {1};\n    return {0};\n}}\n\n")
+TEXTS = [
+    ([stored(2)], "fn g() -> i32 {\n    var a: i32 = 1i;\n\n    let _e2 = a;\n    a = 2i;\n    return _e2;\n}\n\n"),
+    ([stored(3)], "fn g() -> i32 {\n    var a: i32 = 1i;\n\n    a = 2i;\n    return 2i;\n}\n\n"),
+    ([late()], "fn p() -> i32 {\n    var a: i32 = 1i;\n\n    let _e2 = a;\n    a = 2i;\n    return (_e2 + 1i);\n}\n\n"),
+    ([twofold()], "fn q(x: i32) -> i32 {\n    var a: i32;\n\n    let _e2 = (x + x);\n    a = _e2;\n"
+                  "    let _e3 = a;\n    return (_e2 * _e3);\n}\n\n"),
+    ([element("p")], "fn h() {\n    var arr: array<i32, 4>;\n\n    let p = (&arr[0]);\n    (*p) = 2i;\n}\n\n"),
+    ([element(None)], "fn h() {\n    var arr: array<i32, 4>;\n\n    arr[0] = 2i;\n}\n\n"),
+    ([increment()], "fn inc(p: ptr<function, i32>) {\n    let _e2 = (*p);\n    (*p) = (_e2 + 1i);\n}\n\n"),
+    ([negated(False)], "fn neg(v: vec3<i32>) -> i32 {\n    return (-(v)).x;\n}\n\n"),
+    ([negated(True)], "fn neg(v: vec3<i32>) -> vec3<i32> {\n    return (-(v)).zyx;\n}\n\n"),
+    ([chosen()], "fn sel(c: bool, a: i32, b: i32) -> i32 {\n    return select(b, a, c);\n}\n\n"),
+    ([named("e", "x")], "fn e(x: i32) -> i32 {\n    let x_1 = (x + x);\n    return x_1;\n}\n\n"),
+    ([named("f", "z", is_emitted=False), named("g", "z", "y")],
+     "fn f(x: i32) -> i32 {\n    return x;\n}\n\nfn g(y: i32) -> i32 {\n    let z = (y + y);\n    return z;\n}\n\n"),
+    ([idle()], "fn u() -> i32 {\n    return 1i;\n}\n\n"),
+    ([sampled()], SAMPLED.format("_e3", "textureSampleLevel(t, s, p, 0.0)")),
+    ([sampled(1, "auto")], SAMPLED.format("_e3", "textureGather(1, t, s, p)")),
+    ([sampled(None, "auto", True)], SAMPLED.format("_e5", "textureSample(t, s, p, vec2(1i))")),
+    ([converted(4)], "fn c(x: i32) -> u32 {\n    return u32(x);\n}\n\n"),
+    ([converted(0)], "fn c(x: i32) -> u32 {\n    return bitcast<u32>(x);\n}\n\n")]
+
+
+def check_rows():
+    for labels, names in LABELS:
+        namer = Namer()
+        assert [namer.name(label) for label in labels] == names, labels
+    for functions, text in TEXTS:
+        module = Module()
+        module.functions = functions
+        assert is_accepted(module) and answers_of(module, False) == (True, {text}), (answers_of(module, False), text)
+    told, meant = TextRun(TEXTS[2][1].removesuffix("}\n\n")).run(), ModuleRun(late()).run()
+    answer = ("answer", 1)
+    assert told == meant == (
+        [("first", ("local", 0), ("literal", "1i")), ("load", ("local", 0)),
+         ("store", ("local", 0), ("literal", "2i"))], ("+", answer, ("literal", "1i"))), (told, meant)

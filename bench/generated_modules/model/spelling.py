@@ -1,0 +1,202 @@
+"""Types, how they are spelled, and their parts.
+
+A scalar is its kind and its width in bytes. A type is a tuple that begins with what it is:
+
+    scalar S; vector SIZE S; matrix COLUMNS ROWS S; array BASE LENGTH STRIDE (no length: 0)
+    pointer BASE SPACE; value pointer SIZE S SPACE (to one scalar: 0)
+    image DIMENSION ARRAYED CLASS; sampler COMPARISON; ray query VERTICES; atomic S
+
+A space is its word and what may be done there, if it is `storage`: 1 load, 2 store, 4 atomics.
+"""
+
+from words import FORMATS
+
+SCALAR_KINDS = ["sint", "uint", "float", "bool", "abstract"]
+BOOL, I32, U32, I64, U64, F32, F64 = [
+    ("bool", 1), ("sint", 4), ("uint", 4), ("sint", 8), ("uint", 8), ("float", 4), ("float", 8)]
+# types of these are for an extension
+HALVES = {("sint", 2): "i16", ("uint", 2): "u16", ("float", 2): "f16"}
+SCALARS = {BOOL: "bool", I32: "i32", U32: "u32", I64: "i64", U64: "u64", F32: "f32", F64: "f64", **HALVES}
+INTEGERS = [("scalar", s) for s in (I32, U32, I64, U64)]
+DIMENSIONS = ["1d", "2d", "3d", "cube"]
+LOAD, STORE, ATOMIC = 1, 2, 4
+
+FUNCTION = ("function", 0)
+# the space of images and samplers, which has no word
+HANDLE = ("", 0)
+SPACES = [
+    FUNCTION, ("private", 0), ("workgroup", 0), ("uniform", 0), ("storage", LOAD), HANDLE, ("immediate", 0),
+    ("task_payload", 0), ("ray_payload", 0), ("incoming_ray_payload", 0)]
+SPACE_WORDS = [word for word, _ in SPACES]
+
+
+def spelled(ty):
+    """A type's text, or none where it has no form."""
+    kind = ty[0]
+    if kind == "scalar":
+        return SCALARS.get(ty[1])
+    if kind == "vector":
+        return with_word("vec{}<{}>", ty[1], SCALARS.get(ty[2]))
+    if kind == "matrix":
+        return with_word("mat{}x{}<{}>", ty[1], ty[2], SCALARS.get(ty[3]))
+    if kind == "array":
+        length = f", {ty[2]}" if ty[2] else ""
+        return with_word("array<{}{}>", spelled(ty[1]), length)
+    if kind == "pointer":
+        return spelled_pointer(spelled(ty[1]), ty[2])
+    if kind == "value pointer":
+        return spelled_pointer(spelled(pointed_at(ty)), ty[3]) if ty[3] != HANDLE else None
+    if kind == "image":
+        return spelled_image(ty)
+    if kind == "sampler":
+        return "sampler_comparison" if ty[1] else "sampler"
+    if kind == "atomic":
+        return with_word("atomic<{}>", SCALARS.get(ty[1]))
+    return "ray_query<vertex_return>" if ty[1] else "ray_query"
+
+
+def with_word(form, *parts):
+    """The form with its parts, or none where one of them has none."""
+    return None if None in parts else form.format(*parts)
+
+
+def spelled_pointer(base, space):
+    word, access = space
+    if word != "storage":
+        return with_word("ptr<{}, {}>", word, base)
+    mode = ", atomic" if access & ATOMIC else ", read_write" if access & STORE else ""
+    return with_word("ptr<storage, {}{}>", base, mode)
+
+
+def spelled_image(ty):
+    dimension = DIMENSIONS[ty[1]] + ("_array" if ty[2] else "")
+    kind, *rest = ty[3]
+    if kind == "external":
+        return "texture_external"
+    if kind == "storage":
+        access = rest[1]
+        mode = "write"
+        if access & ATOMIC:
+            mode = "atomic"
+        elif access & LOAD:
+            mode = "read_write" if access & STORE else "read"
+        return f"texture_storage_{dimension}<{FORMATS[rest[0]]},{mode}>"
+    multi = "multisampled_" if rest[-1] else ""
+    if kind == "depth":
+        return f"texture_depth_{multi}{dimension}"
+    return with_word("texture_{}{}<{}>", multi, dimension, SCALARS.get((rest[0], 4)))
+
+
+def alike(left, right):
+    """Types of one spelling are alike; one without a form is a type of its own."""
+    return identity(left) == identity(right)
+
+
+def identity(ty):
+    return spelled(ty) or ty
+
+
+def points(ty):
+    return ty[0] in ("pointer", "value pointer")
+
+
+def pointed_at(ty):
+    if ty[0] == "pointer":
+        return ty[1]
+    return ("vector", ty[1], ty[2]) if ty[1] else ("scalar", ty[2])
+
+
+def held(ty):
+    """What is loaded from a place of this type and stored there: of an atomic its scalar."""
+    return ("scalar", ty[1]) if ty[0] == "atomic" else ty
+
+
+def scalar_of(ty):
+    """The scalar of a scalar, a vector or a matrix; none of another type."""
+    return ty[-1] if ty[0] in ("scalar", "vector", "matrix") else None
+
+
+def waits(ty):
+    """Whether a type has no form, needs an extension, or is of a kind that is not written so far."""
+    return spelled(ty) is None or scalar_of(ty) in HALVES or ty[0] == "atomic"
+
+
+def with_scalar(ty, scalar):
+    return (*ty[:-1], scalar)
+
+
+def value_part(ty):
+    """A component, a column or an element."""
+    if ty[0] == "vector":
+        return ("scalar", ty[2])
+    if ty[0] == "matrix":
+        return ("vector", ty[2], ty[3])
+    return ty[1] if ty[0] == "array" else None
+
+
+def part_of(ty):
+    """The type of a part, or of a pointer to a part; none of what has no parts."""
+    if not points(ty):
+        return value_part(ty)
+    part = value_part(pointed_at(ty))
+    return part and pointer_to(part, space_of(ty))
+
+
+def space_of(pointer):
+    return pointer[-1]
+
+
+def pointer_to(ty, space):
+    return ("pointer", ty, space)
+
+
+def count_of_parts(ty):
+    """How many parts there are; none where no number is told."""
+    whole = pointed_at(ty) if points(ty) else ty
+    return whole[2] or None if whole[0] == "array" else whole[1]
+
+
+def bases_of(ty):
+    """The types that a type is made of, which stand in its module in front of it."""
+    return [ty[1]] if ty[0] in ("array", "pointer") else []
+
+
+def has_pointer_to_handle(ty):
+    return (ty[0] == "pointer" and ty[2] == HANDLE) or any(has_pointer_to_handle(base) for base in bases_of(ty))
+
+
+# ---- the builder's numbers
+def scalar_numbers(scalar):
+    return [SCALAR_KINDS.index(scalar[0]), scalar[1]]
+
+
+def space_numbers(space):
+    return [SPACE_WORDS.index(space[0]), space[1]]
+
+
+def type_numbers(ty, handle_of):
+    """The numbers of a type, in which `handle_of` gives that of another one."""
+    kind, *rest = ty
+    if kind in ("scalar", "vector", "matrix"):
+        *sizes, scalar = rest
+        return [len(sizes), *sizes, *scalar_numbers(scalar)]
+    if kind == "array":
+        return [3, handle_of(rest[0]), *rest[1:]]
+    if kind == "pointer":
+        return [4, handle_of(rest[0]), *space_numbers(rest[1])]
+    if kind == "value pointer":
+        return [5, rest[0], *scalar_numbers(rest[1]), *space_numbers(rest[2])]
+    if kind == "image":
+        return [6, rest[0], int(rest[1]), *class_numbers(rest[2])]
+    if kind == "atomic":
+        return [9, *scalar_numbers(rest[0])]
+    return [7 if kind == "sampler" else 8, int(rest[0])]
+
+
+def class_numbers(image_class):
+    kind, *rest = image_class
+    if kind == "sampled":
+        return [0, SCALAR_KINDS.index(rest[0]), int(rest[1])]
+    if kind == "depth":
+        return [1, int(rest[0]), 0]
+    return [2, *rest] if kind == "storage" else [3, 0, 0]

@@ -1,0 +1,276 @@
+"""Scope, texts, and the constructs for which a module is refused."""
+
+from modules import EVENTS, IMAGES, LEAVES, PARTS, READS
+from naming import names_of
+from operators import (
+    conversion_word, literal_text, numbers_around, offset_of, wanted_scalar, word_of)
+from spelling import part_of, points, scalar_of, spelled, waits
+from words import MATH, RELATIONAL
+
+NOT_YET_WRITTEN = "not yet written"
+OUT_OF_SCOPE = "operand out of scope"
+# what an offset may be made of
+CONSTANTS = ("literal", "zero", "compose", "splat")
+
+
+class Refused(Exception):
+    """An operand is out of scope, or an `Emit` is refused."""
+
+
+# ---- uses
+def uses_of(f):
+    """How many operand places hold each expression; a first value of a local is none."""
+    uses = [0] * len(f.expressions)
+    for e in f.expressions:
+        for h in e.operands:
+            uses[h] += 1
+    for s in f.body:
+        for h in s[1:] if s[0] != "emit" else []:
+            if h is not None:
+                uses[h] += 1
+    return uses
+
+
+def binds(f, h, uses):
+    """Whether a `let` binds the expression where it is emitted."""
+    e = f.expressions[h]
+    if h in f.labels or e.kind in IMAGES:
+        return True
+    # a part is written wherever it is used
+    return e.kind not in PARTS and uses[h] >= (1 if e.kind in READS else 2)
+
+
+def constants_of(f):
+    """Whether each expression is a tree of operators over literals and zero values."""
+    constants = []
+    for e in f.expressions:
+        is_operator = e.kind not in (*LEAVES, *EVENTS)
+        constants.append(e.kind in ("literal", "zero") or (is_operator and all(constants[h] for h in e.operands)))
+    return constants
+
+
+# ---- what stands in a module for which it is refused
+def refusal(name):
+    return f"refused: {name}\n"
+
+
+def answers_of(module, explicit):
+    """Whether the module is written, and its text; or all that may be told of it, since which of the constructs that
+    stand in it is told is open. Functions in front of the first one that is refused stand in front of the refusal."""
+    answers = set()
+    if not is_of_part(module):
+        answers.add(refusal(NOT_YET_WRITTEN))
+    names, namer = names_of(module)
+    text = ""
+    for f, own in zip(module.functions, names):
+        standing = {formless(f, h) for h in written_of(f)} - {None}
+        try:
+            own_text = Writer(f, own, namer, explicit).write()
+        except Refused:
+            standing.add(OUT_OF_SCOPE)
+        if standing:
+            return False, answers | {text + refusal(name) for name in standing}
+        text += own_text
+    return not answers, answers or {text}
+
+
+def is_of_part(module):
+    """No type waits, first values are literals, and each part is one of what has parts."""
+    expressions = [(f, e) for f in module.functions for e in f.expressions]
+    inits = [f.expressions[init] for f in module.functions for _, _, init in f.locals if init is not None]
+    return (
+        not any(map(waits, module.types + [e.type for _, e in expressions]))
+        and all(e.kind == "literal" for e in inits)
+        and all(e.kind not in PARTS or part_of(f.type_of(e.operands[0])) is not None for f, e in expressions))
+
+
+def written_of(f):
+    """The operands of statements, what is bound, first values, and the operands of all these."""
+    uses = uses_of(f)
+    written = {init for _, _, init in f.locals if init is not None}
+    for s in f.body:
+        if s[0] == "emit":
+            written |= {h for h in range(s[1], s[2] + 1) if binds(f, h, uses)}
+        else:
+            written |= {h for h in s[1:] if h is not None}
+    for h in reversed(range(len(f.expressions))):
+        if h in written:
+            written.update(f.expressions[h].operands)
+    return written
+
+
+def formless(f, h):
+    """How an expression without a form is named."""
+    e = f.expressions[h]
+    if e.kind == "literal" and literal_text(*e.what).startswith(" "):
+        return "float literal"
+    if e.kind == "math" and word_of(f, e) is None:
+        return "Unsupported math function: " + MATH[e.what[0]][0]
+    if e.kind == "relational" and word_of(f, e) is None:
+        return "Unsupported relational function: " + RELATIONAL[e.what[0]]
+    if e.kind == "conversion":
+        return formless_conversion(f.type_of(e.operands[0]), e.what)
+    if e.kind == "sample":
+        return formless_sampling(f, e)
+    if e.kind == "image load" and e.what[1] and e.what[2]:
+        return "image load with sample and level"
+    return None
+
+
+def formless_conversion(ty, what):
+    if scalar_of(ty) is None:
+        return "conversion of this type"
+    if conversion_word(ty, what) is not None:
+        return None
+    kind, width = wanted_scalar(ty, what)
+    named = {"abstract": "AbstractInt"}.get(kind, kind.capitalize())
+    return f"Unsupported scalar type: Scalar {{ kind: {named}, width: {width} }}"
+
+
+def formless_sampling(f, e):
+    how = e.what[0]
+    if how.gather is not None:
+        if how.level not in ("auto", "zero") or how.clamp:
+            return "sampling form"
+    elif how.clamp and (how.level != "zero" or how.depth):
+        return "sampling form"
+    offset = offset_of(e)
+    return None if offset is None or is_constant_text(f, offset) else "operator in a constant"
+
+
+def is_constant_text(f, h):
+    e = f.expressions[h]
+    return e.kind in CONSTANTS and all(is_constant_text(f, k) for k in e.operands)
+
+
+# ---- the text of a function
+class Writer:
+    def __init__(self, f, names, namer, explicit):
+        self.f, self.names, self.namer, self.explicit = f, names, namer, explicit
+        self.uses = uses_of(f)
+        self.constants = constants_of(f)
+        # where an emitted expression stands: a `let`'s name, written where it is used, or never
+        self.bound, self.inline, self.never = {}, set(), set()
+
+    def is_usable(self, h):
+        if self.f.expressions[h].kind in LEAVES or self.constants[h]:
+            return True
+        return h in self.bound or h in self.inline
+
+    def emit(self, h, lines):
+        e = self.f.expressions[h]
+        if e.kind in LEAVES or h in self.bound or h in self.inline or h in self.never:
+            raise Refused
+        is_ready = all(map(self.is_usable, e.operands))
+        if binds(self.f, h, self.uses):
+            if not is_ready:
+                raise Refused
+            text = self.value(h)
+            name = self.namer.name(self.f.labels[h]) if h in self.f.labels else f"_e{h}"
+            told = f": {spelled(e.type)}" if self.explicit else ""
+            lines.append(f"    let {name}{told} = {text};")
+            self.bound[h] = name
+        elif is_ready and e.kind not in READS:
+            self.inline.add(h)
+        else:
+            self.never.add(h)
+
+    def use(self, h):
+        if not self.is_usable(h):
+            raise Refused
+        return h
+
+    def is_reference(self, h):
+        """A local, or a part through a pointer, that has no name of its own."""
+        e = self.f.expressions[h]
+        if h in self.bound:
+            return False
+        return e.kind == "local" or (e.kind in PARTS and points(self.f.type_of(e.operands[0])))
+
+    def value(self, h):
+        """An operand where a value is wanted."""
+        if h in self.bound:
+            return self.bound[h]
+        return f"(&{self.plain(h)})" if self.is_reference(h) else self.plain(h)
+
+    def reference(self, h):
+        """An operand where a place is wanted."""
+        return self.plain(h) if self.is_reference(h) else f"(*{self.value(h)})"
+
+    def operand(self, h):
+        return self.value(self.use(h))
+
+    def base(self, h):
+        """What a part or a swizzle is taken of, in parentheses where it begins with a sign."""
+        is_signed = self.f.expressions[h].kind == "unary" and h not in self.bound
+        return f"({self.operand(h)})" if is_signed else self.operand(h)
+
+    def plain(self, h):
+        e = self.f.expressions[h]
+        if e.kind == "literal":
+            return literal_text(*e.what)
+        if e.kind == "argument":
+            return self.names.arguments[e.what[0]]
+        if e.kind == "local":
+            return self.names.locals[e.what[0]]
+        if e.kind == "load":
+            return self.reference(self.use(e.operands[0]))
+        if e.kind in PARTS:
+            return self.part(h)
+        word = word_of(self.f, e)
+        if e.kind == "unary":
+            return f"{word}({self.operand(e.operands[0])})"
+        if e.kind == "binary":
+            left, right = map(self.operand, e.operands)
+            return f"({left} {word} {right})"
+        if e.kind == "swizzle":
+            return self.base(e.operands[0]) + word
+        return f"{word}({', '.join(self.called(e))})"
+
+    def part(self, h):
+        e = self.f.expressions[h]
+        base = e.operands[0]
+        text = self.reference(self.use(base)) if self.is_reference(h) else self.base(base)
+        return text + (f"[{self.operand(e.operands[1])}]" if e.kind == "access" else word_of(self.f, e))
+
+    def called(self, e):
+        if e.kind != "sample":
+            return list(map(self.operand, e.operands))
+        component, level = numbers_around(self.f, e)
+        offset = offset_of(e)
+        if offset is None:
+            return component + list(map(self.operand, e.operands)) + level
+        texts = component + list(map(self.operand, e.operands[:-1])) + level
+        # an offset that has no text is told elsewhere
+        return texts + ([self.constant(offset)] if is_constant_text(self.f, offset) else [])
+
+    def constant(self, h):
+        """A constant, written out whether it has a name or not."""
+        e = self.f.expressions[h]
+        if e.kind == "literal":
+            return literal_text(*e.what)
+        return f"{word_of(self.f, e)}({', '.join(map(self.constant, e.operands))})"
+
+    def write(self):
+        f = self.f
+        head = ", ".join(f"{x}: {spelled(ty)}" for x, (_, ty) in zip(self.names.arguments, f.arguments))
+        arrow = f" -> {spelled(f.result)}" if f.result is not None else ""
+        lines = [f"fn {self.names.function}({head}){arrow} {{"]
+        for x, (_, ty, init) in zip(self.names.locals, f.locals):
+            first = f" = {self.operand(init)}" if init is not None else ""
+            lines.append(f"    var {x}: {spelled(ty)}{first};")
+        if f.locals:
+            lines.append("")
+        for s in f.body:
+            self.statement(s, lines)
+        return "\n".join(lines) + "\n}\n\n"
+
+    def statement(self, s, lines):
+        if s[0] == "emit":
+            for h in range(s[1], s[2] + 1):
+                self.emit(h, lines)
+        elif s[0] == "store":
+            place = self.reference(self.use(s[1]))
+            lines.append(f"    {place} = {self.operand(s[2])};")
+        else:
+            lines.append("    return;" if s[1] is None else f"    return {self.operand(s[1])};")
