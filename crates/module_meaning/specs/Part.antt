@@ -1,8 +1,8 @@
 -- What is written so far of the modules. Others are refused as not yet written.
 --
 -- Throughout, m is a module and info what is known of it, f a function, es are its expressions, e
--- is one, k is what is known of one, h is a handle, l a local, a an argument, r a result, s a
--- statement, t a type, and b the rest of a block.
+-- is one, k is what is known of one, h is a handle, a an argument, r a result, s a statement, t a
+-- type, and b the rest of a block.
 use Rattle.std.specs.Prelude.{ℕ, Bool, true, false, ◌&&◌, ◌||◌, not, List, length, ◌==◌, Option, Some}
 use Rattle.std.specs.Prelude.{slice_get}
 use Rattle.std.specs.List.{list_all}
@@ -23,7 +23,6 @@ use Rattle.naga_ir.specs.declared.expression.Expression.TheVariants.{ImageQuery}
 use Rattle.naga_ir.specs.declared.expression.Literal.{Literal as LiteralValue}
 use Rattle.naga_ir.specs.declared.expression.Literal.TheVariants as literal
 use Rattle.naga_ir.specs.declared.module.Function.{Function}
-use Rattle.naga_ir.specs.declared.module.LocalVariable.{LocalVariable as Local}
 use Rattle.naga_ir.specs.declared.module.Module.{Module}
 use Rattle.naga_ir.specs.declared.types.Scalar.{Scalar}
 use Rattle.naga_ir.specs.declared.types.ScalarKind.{ScalarKind}
@@ -185,15 +184,6 @@ types_allow types es _ = true
 abbrev pub types_allow_all : List Type_ → Function → List ExpressionInfo → Bool
 types_allow_all types f es = list_all (types_allow types es) f.expressions
 
--- a literal, where there is an expression
-abbrev pub is_literal : Option Expression → Bool
-is_literal (Some (Literal value)) = true
-is_literal _ = false
-
--- a local's first value is a literal, if it has one
-abbrev pub local_is_written : List Expression → Local → Bool
-local_is_written es l = option_map_or (λ h. is_literal (slice_get es h)) l.init true
-
 abbrev pub statement_is_written : StatementTree → Bool
 statement_is_written (simple (emit first last)) = true
 statement_is_written (simple (store pointer value)) = true
@@ -210,11 +200,10 @@ is_unbound f =
     list_all (λ a. is_none a.binding) f.arguments.items &&
     option_map_or (λ r. is_none r.binding) f.result true
 
--- a function of such locals, expressions and statements
+-- a function of such expressions and statements
 abbrev pub function_is_written : Function → Bool
 function_is_written f =
-    is_unbound f && (list_all expression_is_of_part f.expressions &&
-    (list_all (local_is_written f.expressions) f.local_variables && block_is_written f.body))
+    is_unbound f && (list_all expression_is_of_part f.expressions && block_is_written f.body)
 
 -- ---- modules
 -- each type that is known of an expression of a function has a form, so far

@@ -10,8 +10,8 @@ ghost use Rattle.module_meaning.specs.InfoSizes.{all_paired};
 ghost use Rattle.module_meaning.specs.AlikeTypes.{has_form};
 ghost use Rattle.module_meaning.specs.Part.{block_is_written, declares_functions};
 ghost use Rattle.module_meaning.specs.Part.{expression_is_of_part, literal_is_of_part};
-ghost use Rattle.module_meaning.specs.Part.{function_is_written, is_literal, is_unbound};
-ghost use Rattle.module_meaning.specs.Part.{is_extended, is_written_so_far, local_is_written};
+ghost use Rattle.module_meaning.specs.Part.{function_is_written, is_unbound};
+ghost use Rattle.module_meaning.specs.Part.{is_extended, is_written_so_far};
 ghost use Rattle.module_meaning.specs.Part.{known_types_have_forms, needs_nothing};
 ghost use Rattle.module_meaning.specs.Part.{statement_is_written, type_is_of_part, types_allow};
 ghost use Rattle.module_meaning.specs.Part.{types_allow_all, types_have_forms};
@@ -20,15 +20,14 @@ use crate::alike::is_spelled;
 use crate::parts::{inner_at, inner_of};
 use naga_info::{ExpressionInfo, FunctionInfo, ModuleInfo, TypeResolution};
 use naga_ir::{
-    Arena, Block, Expression, Function, FunctionArgument, Handle, Literal, LocalVariable, Module,
+    Arena, Block, Expression, Function, FunctionArgument, Handle, Literal, Module,
     Place, Scalar, ScalarKind, Statement, Type_, TypeInner, UniqueArena,
 };
 
 /// Whether the module is of the part that is written so far: it declares nothing but functions and
 /// types that need no extension, no declaration and are no atomics; the types have forms, and so has
 /// what is known of the functions' expressions. The functions'
-/// arguments and results are bound to nothing, their locals have a literal as first value or
-/// none; their expressions are arguments, locals, literals of all types but 16 bits, zero values,
+/// arguments and results are bound to nothing; their expressions are arguments, locals, literals of all types but 16 bits, zero values,
 /// values of a type composed of others, loads, operators with a sign, choices, vectors of one value,
 /// swizzles, parts at an index, conversions, derivatives, operations on images, lengths of arrays,
 /// products of cooperative matrices, and calls of functions of mathematics and of relations; and
@@ -155,7 +154,6 @@ fn function_is_written(function: &Function) -> bool
 {
     is_unbound(function)
         && expressions_are_written(&function.expressions)
-        && locals_are_written(&function.expressions, &function.local_variables)
         && block_is_written(&function.body)
 }
 
@@ -305,39 +303,6 @@ fn literal_is_of_part(literal: Literal) -> bool
     match literal {
         Literal::I16(_) | Literal::U16(_) => false,
         _ => true,
-    }
-}
-
-fn locals_are_written(expressions: &Arena<Expression>, locals: &Arena<LocalVariable>) -> bool
-    ensures { result ≡ list_all (local_is_written expressions.now) locals.now }
-{
-    for (_, local) in locals.iter() {
-        if !local_is_written(expressions, local) {
-            return false;
-        }
-    }
-    true
-}
-
-/// Whether a local's first value is a literal, if it has one.
-fn local_is_written(expressions: &Arena<Expression>, local: &LocalVariable) -> bool
-    ensures { result ≡ local_is_written expressions.now local.now }
-{
-    match local.init {
-        Some(value) => is_literal(expressions, value),
-        None => true,
-    }
-}
-
-fn is_literal(expressions: &Arena<Expression>, handle: Handle<Expression>) -> bool
-    ensures { result ≡ is_literal (slice_get expressions.now handle) }
-{
-    if handle.index() >= expressions.len() {
-        return false;
-    }
-    match &expressions[handle] {
-        Expression::Literal(_) => true,
-        _ => false,
     }
 }
 

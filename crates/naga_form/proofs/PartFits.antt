@@ -79,7 +79,7 @@ use Rattle.naga_form.proofs.WellFormed.{any_shape}
 use Rattle.naga_form.proofs.FunctionsFit.{IsLeft}
 use Rattle.naga_form.proofs.Regular.{AreWorded, IsWorded}
 use Rattle.module_meaning.specs.Writable.{only_empty_fall, only_empty_fall_in}
-use Rattle.module_meaning.specs.Part.{function_is_written, block_is_written, statement_is_written, type_is_of_part, is_unbound, expression_is_of_part, local_is_written, types_allow, types_allow_all}
+use Rattle.module_meaning.specs.Part.{function_is_written, block_is_written, statement_is_written, type_is_of_part, is_unbound, expression_is_of_part, types_allow, types_allow_all}
 use Rattle.module_meaning.specs.ExpressionShapes.{part_shape}
 use Rattle.module_meaning.specs.Conversions.{conversion_target}
 use Rattle.module_meaning.specs.ExpressionOperators.{type_known}
@@ -119,9 +119,8 @@ pub record FunctionParts (f : ir_function.Function) : Type 0 where
 pub function_parts : (f : ir_function.Function) → IsTrue (function_is_written f) → FunctionParts f
 function_parts f written =
     let two = and_parts (is_unbound f) _ written in
-    let three = and_parts (list_all expression_is_of_part f.expressions) _ two.1 in
-    let four = and_parts (list_all (local_is_written f.expressions) f.local_variables) (block_is_written f.body) three.1 in
-    record { expressions = three.0; body = four.1 }
+    let three = and_parts (list_all expression_is_of_part f.expressions) (block_is_written f.body) two.1 in
+    record { expressions = three.0; body = three.1 }
 
 -- no constant is named
 pub no_constant_named : (f : ir_function.Function) → IsTrue (function_is_written f) → (h c : ℕ) → slice_get f.expressions h ≡ Some (expression.Constant c) → ⊥
