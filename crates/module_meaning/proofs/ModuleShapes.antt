@@ -6,11 +6,12 @@
 use Rattle.std.proofs.Common.{◌≡◌, ℕ, ◌==◌, true, false, List, [], ◌∷◌, ◌++◌}
 use Rattle.std.proofs.Common.{length, map, reverse, Option, Some, None, refl, ap, ◌∙◌}
 use Rattle.std.proofs.Common.{slice_get}
-use Rattle.std.specs.Prelude.{IsTrue}
+use Rattle.std.specs.Prelude.{IsTrue, if◌then◌else◌}
 use Rattle.std.specs.List.{list_all, filter, zip}
-use Rattle.std.specs.Option.{option_map, option_map_or, option_and_then, is_some}
+use Rattle.std.specs.Option.{option_map, option_map_or, option_and_then, is_none, is_some}
 use Rattle.std.proofs.lemmas.Bool.{and_parts, eqb-true}
 use Rattle.std.proofs.lemmas.List.{append-nil, nil_from_length}
+use Rattle.naga_ir.specs.declared.module.Constant.{Constant}
 use Rattle.naga_ir.specs.declared.module.Function as ir_function
 use Rattle.naga_ir.specs.declared.module.Module as ir_module
 use Rattle.naga_ir.specs.declared.types.Type_.{Type_}
@@ -56,6 +57,20 @@ points_plainly a values h = no_atomic_behind a.types values (type_known a h)
 nothing_there : {X : Type 0} (xs : List X) → (length xs == 0) ≡ true → xs ≡ []
 nothing_there xs is = nil_from_length xs (eqb-true (length xs) 0 is)
 
+-- none of these has a name
+none_named : (cs : List Constant) → list_all (λ c. is_none c.name) cs ≡ true →
+    filter (λ c. is_some c.name) cs ≡ []
+none_named [] is = refl
+none_named (c ∷ cs) is =
+    let parts = and_parts (is_none c.name) (list_all (λ c. is_none c.name) cs) is in
+    by c.name parts.0 (none_named cs parts.1)
+  where
+    by : {X : Type 0} (name : Option X) → is_none name ≡ true → filter (λ c. is_some c.name) cs ≡ [] →
+        (if is_some name then c ∷ filter (λ c. is_some c.name) cs else filter (λ c. is_some c.name) cs) ≡
+        []
+    by None none rest = rest
+    by (Some name) none rest = absurd cc
+
 -- functions one by one are those side by side with what is known of them
 shapes_paired : (m : ir_module.Module) (info : ModuleInfo) (fs : List ir_function.Function)
     (ess : List (List ExpressionInfo)) →
@@ -81,11 +96,11 @@ pub declares_functions_alone : (m : ir_module.Module) (info : ModuleInfo) →
     IsTrue (is_written_so_far m info) → module_shape m info ≡ functions_alone m info
 declares_functions_alone m info written =
     let is = written_so_far_parts m info written
-    in let constants = and_parts (length m.constants == 0) _ is.0
+    in let constants = and_parts (list_all (λ c. is_none c.name) m.constants) _ is.0
+    in let named = none_named m.constants constants.0
     in let overrides = and_parts (length m.overrides == 0) _ constants.1
     in let globals = and_parts (length m.global_variables == 0) _ overrides.1
-    in let others = and_parts (length m.global_expressions == 0) _ globals.1
-    in let entry_points = nothing_there m.entry_points.items others.1
+    in let entry_points = nothing_there m.entry_points.items globals.1
     in let functions =
     ap (map (λ p. function_shape m info p.0 p.1))
     ((λ i. zip m.functions info.functions.items ++
@@ -94,12 +109,10 @@ declares_functions_alone m info written =
     ∙ shapes_paired m info m.functions info.functions.items
     in λ i. record {
       constant_types =
-          map (λ c. declared_type m c.ty)
-          (filter (λ c. is_some c.name) (nothing_there m.constants constants.0 i)) ++
+          map (λ c. declared_type m c.ty) (named i) ++
           map (λ o. declared_type m o.ty) (nothing_there m.overrides overrides.0 i);
       initialisers =
-          map (initialiser m info)
-          (filter (λ c. is_some c.name) (nothing_there m.constants constants.0 i));
+          map (initialiser m info) (named i);
       global_types =
           map (λ g. type_of_values m (variable_type g.space g.ty))
           (nothing_there m.global_variables globals.0 i);

@@ -15,14 +15,13 @@ use Rattle.module_meaning.specs.Part.{known_types_have_forms, types_have_forms}
 use Rattle.module_meaning.specs.Part.{expression_has_form, expression_is_written}
 use Rattle.module_meaning.specs.Sampling.{own_offset_is_written}
 use Rattle.naga_ir.specs.declared.expression.Expression.{Expression}
-use Rattle.naga_ir.specs.declared.types.Type_.{Type_}
 
 -- what has a form is written, and so is its offset
-pub has_form_parts : (types : List Type_) (known : List ExpressionInfo) (es : List Expression)
-    (e : Expression) → expression_has_form types known es e ≡ true →
-    (expression_is_written types known e ≡ true) × (own_offset_is_written es e ≡ true)
-has_form_parts types known es e has =
-    and_parts (expression_is_written types known e) (own_offset_is_written es e) has
+pub has_form_parts : (m : Module) (known : List ExpressionInfo) (es : List Expression)
+    (e : Expression) → expression_has_form m known es e ≡ true →
+    (expression_is_written m known e ≡ true) × (own_offset_is_written es e ≡ true)
+has_form_parts m known es e has =
+    and_parts (expression_is_written m known e) (own_offset_is_written es e) has
 
 -- all that a module's being written so far says
 pub written_so_far_parts : (m : Module) (info : ModuleInfo) → IsTrue (is_written_so_far m info)

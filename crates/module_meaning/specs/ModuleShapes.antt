@@ -15,18 +15,14 @@ use Rattle.naga_ir.specs.declared.module.Module as ir_module
 use Rattle.naga_info.specs.declared.info.ModuleInfo.{ModuleInfo}
 use Rattle.naga_info.specs.declared.info.TypeResolution.{TypeResolution}
 use Rattle.module_meaning.specs.AgreeingOperators.{Group, groups_of}
-use Rattle.module_meaning.specs.ExpressionShapes.{Declared, constant_tree, part_selector}
+use Rattle.module_meaning.specs.ExpressionShapes.{Declared, part_selector}
 use Rattle.module_meaning.specs.ExpressionTypes.{variable_type}
 use Rattle.module_meaning.specs.FunctionShapes.{function_shape}
-use Rattle.module_meaning.specs.Surroundings.{declared, global_types_known}
+use Rattle.module_meaning.specs.Surroundings.{declared, global_tree}
 use Rattle.module_meaning.specs.Types.{declared_type, type_of_values, word_of_values}
 use Rattle.shader_runs.specs.Program.{ConstantTree, Fixed, Module}
 use Rattle.shader_runs.specs.Value.{PartTypes, PointerType, Truth, Step, At, Field, step_of}
 use Rattle.shader_runs.specs.Value.{same_bytes, same_integer, same_type}
-
--- what a module declares, for its own expressions
-abbrev pub declared_globally : ir_module.Module → ModuleInfo → Declared
-declared_globally m info = declared m info (global_types_known info)
 
 -- ---- constants
 -- those with a name, in their order
@@ -36,8 +32,7 @@ named_constants m = filter (λ c. is_some c.name) m.constants
 -- what a constant is computed from; one without a tree, for which no text is written, is `false`
 abbrev pub initialiser : ir_module.Module → ModuleInfo → ir_constant.Constant → ConstantTree
 initialiser m info c =
-    unwrap_or (constant_tree (declared_globally m info) m.global_expressions c.init)
-    (Fixed (Truth false))
+    unwrap_or (global_tree m info c.init) (Fixed (Truth false))
 
 -- ---- parts
 -- Are both one step?

@@ -3,14 +3,15 @@
 -- Throughout, m is a module and info what is known of it, f a function, es are its expressions, e
 -- is one, k is what is known of one, h is a handle, a an argument, r a result, s a statement, t a
 -- type, and b the rest of a block.
-use Rattle.std.specs.Prelude.{ℕ, Bool, true, false, ◌&&◌, ◌||◌, not, List, length, ◌==◌, Option, Some}
-use Rattle.std.specs.Prelude.{slice_get}
+use Rattle.std.specs.Prelude.{ℕ, zero, suc, Bool, true, false, ◌&&◌, ◌||◌, not, List, length, ◌==◌}
+use Rattle.std.specs.Prelude.{Option, slice_get}
 use Rattle.std.specs.List.{list_all}
 use Rattle.std.specs.Option.{option_map_or, is_none, is_some}
 use Rattle.naga_ir.specs.StatementTree.{emit, store, return, StatementTree, simple, BlockTree}
 use Rattle.naga_ir.specs.StatementTree.{no_statements, statement}
 use Rattle.naga_ir.specs.declared.expression.Expression.{Expression}
-use Rattle.naga_ir.specs.declared.expression.Expression.TheVariants.{Literal, FunctionArgument}
+use Rattle.naga_ir.specs.declared.expression.Expression.TheVariants.{Literal, Constant}
+use Rattle.naga_ir.specs.declared.expression.Expression.TheVariants.{FunctionArgument}
 use Rattle.naga_ir.specs.declared.expression.Expression.TheVariants.{ZeroValue, Compose}
 use Rattle.naga_ir.specs.declared.expression.Expression.TheVariants.{LocalVariable, Load, Unary}
 use Rattle.naga_ir.specs.declared.expression.Expression.TheVariants.{Binary, Select, Math}
@@ -43,11 +44,11 @@ use Rattle.module_meaning.specs.Ranges.{all_placed}
 use Rattle.module_meaning.specs.Sampling.{own_offset_is_written, sampling_is_written}
 use Rattle.wgsl_words.specs.Words.{math_word}
 
--- nothing is declared but types and functions
+-- nothing is declared but types and functions: no constant has a name
 abbrev pub declares_functions : Module → Bool
 declares_functions m =
-    length m.constants == 0 && (length m.overrides == 0 && (length m.global_variables == 0 &&
-    (length m.global_expressions == 0 && length m.entry_points.items == 0)))
+    list_all (λ c. is_none c.name) m.constants && (length m.overrides == 0 &&
+    (length m.global_variables == 0 && length m.entry_points.items == 0))
 
 -- ---- types
 -- for an integer or a float of 16 bits a module enables an extension
@@ -100,45 +101,77 @@ abbrev pub converts : List Type_ → ScalarKind → (convert : Option ℕ) → T
 converts types kind convert it =
     option_map_or (λ new. has_form types (Value new)) (conversion_target it kind convert) false
 
+-- ---- constants
+-- the initialiser of a constant, by what is said of the module's own expressions
+abbrev pub initialiser_passes : Module → (own : ℕ → Bool) → (handle : ℕ) → Bool
+initialiser_passes m own h = option_map_or (λ c. own c.init) (slice_get m.constants h) false
+
+-- One of the module's own expressions is written, over which of those in front of it are: a literal,
+-- a constant, a zero value, a value of a type from its parts, or a vector of one value.
+abbrev pub global_is_written_over : Module → (own : ℕ → Bool) → Expression → Bool
+global_is_written_over m own (Literal value) = is_written_literal value
+global_is_written_over m own (Constant handle) = initialiser_passes m own handle
+global_is_written_over m own (ZeroValue ty) = has_form m.types (Handle ty)
+global_is_written_over m own (Compose ty components) =
+    has_form m.types (Handle ty) && list_all own components.items
+global_is_written_over m own (Splat size value) = own value
+global_is_written_over m own _ = false
+
+-- the same of a handle, at most so many levels deep
+abbrev pub global_is_written_within : (levels : ℕ) → Module → ℕ → Bool
+global_is_written_within zero m h = false
+global_is_written_within (suc levels) m h =
+    option_map_or (global_is_written_over m (global_is_written_within levels m))
+    (slice_get m.global_expressions h) false
+
+-- its operands, and the initialisers of the constants that it names, stand before it
+abbrev pub global_is_written : Module → ℕ → Bool
+global_is_written m h = global_is_written_within (suc h) m h
+
+abbrev pub constant_is_written : Module → ℕ → Bool
+constant_is_written m h = initialiser_passes m (global_is_written m) h
+
+-- ---- expressions
 -- A literal of `bool` or of an integer type, the zero value of a type, a value of a type from its
 -- parts, a part at an index, an argument, a local, a load, an operator with a sign, the choice of
 -- one of two values, a vector of one value, components of a vector, a conversion, a derivative, an
 -- operation on an image that has a form, the length of an array, a product of cooperative matrices,
--- or a function of mathematics or a relation that has a word. A type that it spells has a form.
-abbrev pub expression_is_written : List Type_ → List ExpressionInfo → Expression → Bool
-expression_is_written types es (Literal value) = is_written_literal value
-expression_is_written types es (ZeroValue ty) = has_form types (Handle ty)
-expression_is_written types es (Compose ty components) = has_form types (Handle ty)
-expression_is_written types es (Access base index) = true
-expression_is_written types es (AccessIndex base index) = true
-expression_is_written types es (FunctionArgument number) = true
-expression_is_written types es (LocalVariable handle) = true
-expression_is_written types es (Load pointer) = true
-expression_is_written types es (Unary op expr) = true
-expression_is_written types es (Binary op left right) = true
-expression_is_written types es (Select condition accept reject) = true
-expression_is_written types es (Splat size value) = true
-expression_is_written types es (Swizzle size vector pattern) = true
-expression_is_written types es (As expr kind convert) =
-    known_passes types es (converts types kind convert) expr
-expression_is_written types es (Derivative axis ctrl expr) = true
-expression_is_written types es
+-- or a function of mathematics or a relation that has a word. A type that it spells has a form. A
+-- constant without a name is written as its initialiser is.
+abbrev pub expression_is_written : Module → List ExpressionInfo → Expression → Bool
+expression_is_written m es (Literal value) = is_written_literal value
+expression_is_written m es (ZeroValue ty) = has_form m.types (Handle ty)
+expression_is_written m es (Compose ty components) = has_form m.types (Handle ty)
+expression_is_written m es (Access base index) = true
+expression_is_written m es (AccessIndex base index) = true
+expression_is_written m es (Constant handle) = constant_is_written m handle
+expression_is_written m es (FunctionArgument number) = true
+expression_is_written m es (LocalVariable handle) = true
+expression_is_written m es (Load pointer) = true
+expression_is_written m es (Unary op expr) = true
+expression_is_written m es (Binary op left right) = true
+expression_is_written m es (Select condition accept reject) = true
+expression_is_written m es (Splat size value) = true
+expression_is_written m es (Swizzle size vector pattern) = true
+expression_is_written m es (As expr kind convert) =
+    known_passes m.types es (converts m.types kind convert) expr
+expression_is_written m es (Derivative axis ctrl expr) = true
+expression_is_written m es
     (ImageSample image sampler gather coordinate array_index offset level depth_ref clamp) =
     sampling_is_written gather level (is_some depth_ref) clamp
-expression_is_written types es (ImageLoad image coordinate array_index sample level) =
+expression_is_written m es (ImageLoad image coordinate array_index sample level) =
     is_none sample || is_none level
-expression_is_written types es (ImageQuery image query) = true
-expression_is_written types es (ArrayLength array) = true
-expression_is_written types es (CooperativeMultiplyAdd a b c) = true
-expression_is_written types es (Math fun arg arg1 arg2 arg3) = is_some (math_word fun)
-expression_is_written types es (Relational fun argument) = is_some (relational_word fun)
-expression_is_written types es _ = false
+expression_is_written m es (ImageQuery image query) = true
+expression_is_written m es (ArrayLength array) = true
+expression_is_written m es (CooperativeMultiplyAdd a b c) = true
+expression_is_written m es (Math fun arg arg1 arg2 arg3) = is_some (math_word fun)
+expression_is_written m es (Relational fun argument) = is_some (relational_word fun)
+expression_is_written m es _ = false
 
 -- it is written, and so is the offset of a sampling, as a constant of these expressions
-abbrev pub expression_has_form : List Type_ → List ExpressionInfo → List Expression → Expression →
-    Bool
-expression_has_form types known es e =
-    expression_is_written types known e && own_offset_is_written es e
+abbrev pub expression_has_form : Module → List ExpressionInfo → List Expression → Expression → Bool
+expression_has_form m known es e =
+    expression_is_written m known e && own_offset_is_written es e
 
 -- What has no form is refused by name where it is written, and let be where it is not: a float, an
 -- abstract literal, a function of mathematics or a relation without a word, an operation on an image
@@ -155,6 +188,7 @@ expression_is_of_part (ZeroValue ty) = true
 expression_is_of_part (Compose ty components) = true
 expression_is_of_part (Access base index) = true
 expression_is_of_part (AccessIndex base index) = true
+expression_is_of_part (Constant handle) = true
 expression_is_of_part (FunctionArgument number) = true
 expression_is_of_part (LocalVariable handle) = true
 expression_is_of_part (Load pointer) = true

@@ -1,13 +1,13 @@
 -- What an accepted module may hold that no text is ever written for, and of which the laws about the
--- runs of all accepted modules ask that there is none: a constant that applies an operator other
--- than a composition or a splat, and a case with statements that falls through.
+-- runs of all accepted modules ask that there is none: a constant with a name that applies an
+-- operator other than a composition or a splat, and a case with statements that falls through.
 --
 -- Throughout, m is a module, es are its own expressions, e is one of them and h a handle of one, s
 -- is a statement, b the rest of a block and cs the further cases.
 use Rattle.std.specs.Prelude.{◌≡◌, ℕ, zero, suc, Bool, true, false, ◌&&◌, ◌||◌, not, List}
 use Rattle.std.specs.Prelude.{slice_get}
 use Rattle.std.specs.List.{list_all}
-use Rattle.std.specs.Option.{option_map_or}
+use Rattle.std.specs.Option.{is_none, option_map_or}
 use Rattle.naga_ir.specs.StatementTree.{BlockTree, no_statements, statement, CaseTrees, no_cases}
 use Rattle.naga_ir.specs.StatementTree.{case, StatementTree, simple, block, branch, switch, loop}
 use Rattle.naga_ir.specs.declared.expression.Expression.{Expression}
@@ -36,9 +36,10 @@ written_out_within (suc levels) es h =
 abbrev pub is_written_out : List Expression → ℕ → Bool
 is_written_out es h = written_out_within (suc h) es h
 
--- the initialiser of each constant is
+-- the initialiser of each constant with a name is
 abbrev pub AreWrittenOut : Module → Type 0
-AreWrittenOut m = list_all (λ c. is_written_out m.global_expressions c.init) m.constants ≡ true
+AreWrittenOut m =
+    list_all (λ c. is_none c.name || is_written_out m.global_expressions c.init) m.constants ≡ true
 
 -- ---- cases
 abbrev pub is_empty : BlockTree → Bool

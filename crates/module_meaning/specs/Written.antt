@@ -109,7 +109,7 @@ pub data IsSpelledIn (explicit : Bool) (m : Module) (info : ModuleInfo) (f : Fun
 abbrev pub ExpressionsHaveForms : Module → ModuleInfo → Function → List ExpressionInfo → Type 0
 ExpressionsHaveForms m info f known =
     (h : ℕ) (e : Expression) → slice_get f.expressions h ≡ Some e → IsWrittenIn m info f known h →
-    IsTrue (expression_has_form m.types known f.expressions e)
+    IsTrue (expression_has_form m known f.expressions e)
 
 -- and so has each type that is spelled beside them.
 pub record WrittenHaveForms (explicit : Bool) (m : Module) (info : ModuleInfo) (f : Function)

@@ -4,7 +4,7 @@ use Rattle.module_meaning.specs.Names.{TypesAreTold}
 use Rattle.std.proofs.Common.{◌≡◌, ℕ, Bool, true, false, List, [], ◌∷◌, refl, sym, ap, ◌∙◌, subst}
 use Rattle.std.proofs.Common.{Option, Some, None, map, drop, if◌then◌else◌}
 use Rattle.std.specs.Prelude.{IsTrue, unwrap_or}
-use Rattle.std.specs.Option.{option_map_or, is_some}
+use Rattle.std.specs.Option.{option_map, option_map_or, is_some}
 use Rattle.std.proofs.lemmas.Bool.{true≢false}
 use Rattle.std.proofs.lemmas.Option.{same_Some}
 use Rattle.naga_ir.specs.Operands.{expression_operands}
@@ -13,6 +13,7 @@ use Rattle.naga_ir.specs.declared.expression.Expression.TheVariants as expressio
 use Rattle.naga_ir.specs.declared.expression.ImageQuery.{ImageQuery}
 use Rattle.naga_ir.specs.declared.expression.ImageQuery.TheVariants as query
 use Rattle.naga_ir.specs.declared.expression.SwizzleComponent.{SwizzleComponent}
+use Rattle.naga_ir.specs.declared.module.Constant.{Constant}
 use Rattle.naga_ir.specs.declared.module.Function.{Function}
 use Rattle.naga_ir.specs.declared.module.Module.{Module}
 use Rattle.naga_ir.specs.declared.types.CooperativeRole.{CooperativeRole}
@@ -30,7 +31,7 @@ use Rattle.module_meaning.specs.AgreeingOperators.{Group, operator_key}
 use Rattle.module_meaning.specs.AlikeTypes.{has_form}
 use Rattle.module_meaning.specs.ExpressionOperators.{applied_operator, constructor, matrix_load, points_to_atomic, sample_operator, query_operator}
 use Rattle.module_meaning.specs.ExpressionShapes.{part_selector, letter}
-use Rattle.module_meaning.specs.ExpressionTypes.{wanted_type, LikeThis}
+use Rattle.module_meaning.specs.ExpressionTypes.{wanted_type, LikeThis, only}
 use Rattle.module_meaning.specs.OperatorTable.{Operator, AtomicLoad, CooperativeLoad, MatrixLoad, WithoutForm, ValueOf, Construct, Level, run_word, one_word, asks}
 use Rattle.module_meaning.specs.Types.{word_of_values}
 use Rattle.module_meaning.specs.TypeIdentity.{identity, identity_code, word_of_unspelled_type, vector_number}
@@ -40,7 +41,7 @@ use Rattle.naga_form.proofs.AgreeingExpressions.{are, own_type, operands_are, ow
 use Rattle.naga_form.proofs.AgreeingUses.{IsApplied, value_at, results_agree}
 use Rattle.naga_form.proofs.OperatorKeys.{IsFormed, IsKeyed, Negated, Keyed, KeyIn, keyed, sound, spells, form_spelled}
 use Rattle.naga_form.proofs.SameValues.{IsFit, numbers_by_words}
-use Rattle.naga_form.proofs.Signatures.{IsCalled, by_operator, by_zero, by_index, by_part, by_letters, IsOfExpression, around_group, declared_for}
+use Rattle.naga_form.proofs.Signatures.{IsCalled, by_operator, by_zero, by_constant, by_index, by_part, by_letters, IsOfExpression, around_group, declared_for}
 use Rattle.naga_form.proofs.TypedWords.{no_blank, share_a_word}
 
 module _ (m : Module) (info : ModuleInfo) (accepted : IsTrue (is_accepted m info)) (told : TypesAreTold m) where
@@ -109,9 +110,16 @@ module _ (m : Module) (info : ModuleInfo) (accepted : IsTrue (is_accepted m info
   zeroed : (g : Group) (e : Expression) (ty : ℕ) → e ≡ expression.ZeroValue ty → Call g e (Spelled (run_word (constructor (around_group m info g) (Handle ty) 0)))
   zeroed g e ty is = Zeroed ty (λ f. ap (wanted_type m f g.known) is) (ap expression_operands is) refl
 
+  -- a constant that counts as the zero value of its type
+  constant_zeroed : (g : Group) (e : Expression) (c : ℕ) (k : Constant) → e ≡ expression.Constant c → slice_get m.constants c ≡ Some k →
+      Call g e (Spelled (run_word (constructor (around_group m info g) (Handle k.ty) 0)))
+  constant_zeroed g e c k is there =
+      Zeroed k.ty (λ f. ap (wanted_type m f g.known) is ∙ ap (λ o. only (option_map (λ c. Handle c.ty) o)) there) (ap expression_operands is) refl
+
   pub call : (g : Group) (e : Expression) (w : Word) → IsCalled m info g e w → Call g e w
   call g e _ (by_operator o a silent) = applied g e o a silent
   call g e _ (by_zero ty is) = zeroed g e ty is
+  call g e _ (by_constant c k is there) = constant_zeroed g e c k is there
   call g e _ (by_index base index is) = Indexed base index is refl
   call g e _ (by_part base index s is selected) = Selected base index s is selected refl
   call g e _ (by_letters size vector pattern is) = Lettered size vector pattern is refl

@@ -1,28 +1,43 @@
 -- Constants that are written out: their forms are read as their trees, and are of the grammar.
 --
--- Throughout, d is what stands around expressions es, t are the names that types are spelled with,
--- W says which handles are written, and c is a tree of constants.
-use Rattle.std.proofs.Common.{◌≡◌, ℕ, zero, suc, Bool, true, false, List, [], ◌∷◌, Option, Some, None}
-use Rattle.std.proofs.Common.{refl, sym, ap, ◌∙◌, subst, length, map}
-use Rattle.std.specs.Prelude.{slice_get}
+-- Throughout, outer are the module's names, m is a module, es is what is known of a function's
+-- expressions or these themselves, t are the names that types are spelled with, W says which handles
+-- are written, h is a handle, e an expression, k a constant, and c a tree of constants or the handle
+-- of one.
+use Rattle.std.proofs.Common.{◌≡◌, ℕ, zero, suc, ◌<◌, Bool, true, false, List, [], ◌∷◌, Option}
+use Rattle.std.proofs.Common.{Some, None, refl, sym, ap, ◌∙◌, subst, length, map}
+use Rattle.std.specs.Prelude.{slice_get, if◌then◌else◌, unwrap_or}
 use Rattle.std.specs.List.{AllByRecursion, list_all}
-use Rattle.std.specs.Option.{is_some, option_and_then, option_map, option_map_or}
+use Rattle.std.specs.Option.{is_none, is_some, option_and_then, option_map, option_map_or}
 use Rattle.std.proofs.lemmas.Bool.{and_parts}
+use Rattle.std.proofs.lemmas.Option.{slice_get_within}
+use Rattle.module_meaning.proofs.Lists.{list_all_at}
+use Rattle.module_meaning.specs.AlikeTypes.{has_form}
 use Rattle.module_meaning.specs.ExpressionOperators.{Surroundings, constructor}
 use Rattle.module_meaning.specs.ExpressionShapes.{Declared, built, tree_over, tree_then, tree_within}
 use Rattle.module_meaning.specs.ExpressionShapes.{trees, trees_of}
 use Rattle.module_meaning.specs.Literals.{literal_value}
 use Rattle.module_meaning.specs.OperatorTable.{Operator, Splat, run_word}
-use Rattle.module_meaning.specs.Part.{expression_is_written}
+use Rattle.module_meaning.specs.Part.{constant_is_written, expression_is_written}
+use Rattle.module_meaning.specs.Part.{global_is_written, global_is_written_over}
+use Rattle.module_meaning.specs.Part.{global_is_written_within, initialiser_passes}
+use Rattle.module_meaning.specs.Part.{is_written_literal}
+use Rattle.module_meaning.specs.Surroundings.{constant_number, constant_over, declared, declared_over}
+use Rattle.module_meaning.specs.Surroundings.{global_tree, global_tree_within, global_types_known}
+use Rattle.module_meaning.specs.Surroundings.{surroundings, types_known, written_constant}
+use Rattle.module_meaning.specs.Surroundings.{zero_of_type}
 use Rattle.naga_info.specs.declared.info.ExpressionInfo.{ExpressionInfo}
-use Rattle.naga_ir.specs.declared.types.Type_.{Type_}
+use Rattle.naga_info.specs.declared.info.ModuleInfo.{ModuleInfo}
 use Rattle.module_meaning.specs.Writable.{written_out_over, written_out_within}
+use Rattle.naga_form.proofs.WrittenHandles.{all_map}
 use Rattle.naga_form.proofs.Literals.{literal_read}
 use Rattle.naga_form.proofs.Operators.{IsCalled, Spells, SpellsTypes, called_applied}
 use Rattle.naga_form.proofs.Operators.{constructor_called, constructor_spelled}
 use Rattle.naga_form.proofs.Operators.{HasFormAt, splat_called, typed_notation}
 use Rattle.naga_form.specs.ConstantForms.{built_form, constant_form_over, constant_form_within}
-use Rattle.naga_form.specs.ConstantForms.{no_constant_form}
+use Rattle.naga_form.specs.ConstantForms.{global_form, global_form_within, initialiser_form}
+use Rattle.naga_form.specs.ConstantForms.{no_constant_form, written_constant_form}
+use Rattle.naga_form.specs.Literals.{literal_form}
 use Rattle.naga_form.specs.Operators.{applied_form, notation}
 use Rattle.naga_form.specs.TypeTrees.{type_tree}
 use Rattle.naga_info.specs.declared.info.TypeResolution.{TypeResolution}
@@ -30,167 +45,412 @@ use Rattle.naga_info.specs.declared.info.TypeResolution.TheVariants.{Handle}
 use Rattle.naga_ir.specs.Operands.{expression_operands}
 use Rattle.naga_ir.specs.declared.expression.Expression as ir
 use Rattle.naga_ir.specs.declared.expression.Expression.TheVariants as expression
+use Rattle.naga_ir.specs.declared.module.Constant as ir_constant
+use Rattle.naga_ir.specs.declared.module.Module.{Module}
+use Rattle.naga_names.proofs.Refusal.{element}
 use Rattle.naga_words.specs.Contexts.{Names as TypeNames}
 use Rattle.shader_runs.specs.Form.{constant_form, constant_forms}
-use Rattle.shader_runs.specs.Program.{ConstantTree, Constructed, Fixed}
+use Rattle.shader_runs.specs.Program.{ConstantTree, Constructed, Fixed, NamedConstant}
 use Rattle.shader_runs.specs.Scope.{ModuleNames}
 use Rattle.shader_runs.specs.Text.{Apply, LiteralOf, more, no_more}
 use Rattle.text_meaning.specs.Abstraction.{arguments_read, expression_read}
 use Rattle.wgsl_text.proofs.Building.{called_words}
-use Rattle.wgsl_text.specs.Expressions.{Expression, IsExpression, operands}
+use Rattle.wgsl_text.specs.Expressions.{Constant, Expression, IsExpression, operands}
 use Rattle.wgsl_text.specs.Functions.{Each}
 use Rattle.wgsl_text.specs.Types.{Named}
 
+-- there is a tree, and the form is read as it
+abbrev pub IsReadAs : ModuleNames → Option ConstantTree → Expression → Type 0
+IsReadAs outer tree form =
+    (c : ConstantTree) × (tree ≡ Some c) × (expression_read form ≡ constant_form outer c)
+
 -- ---- what is read
-module _ (outer : ModuleNames) (d : Declared) (t : TypeNames) (spells : SpellsTypes d.around t)
-    (W : ℕ → Type 0) (types : List Type_) (infos : List ExpressionInfo) where
+module _ (outer : ModuleNames) (m : Module) (constants : ℕ → Option ConstantTree)
+    (known other : ℕ → Option TypeResolution) (t : TypeNames)
+    (spells : SpellsTypes (surroundings m other) t) where
+  abbrev d : Declared
+  d = declared_over m constants known
+
+  abbrev a : Surroundings
+  a = surroundings m other
+
   -- what is built is read as it is built, where the type of its handle is known
-  built_read : (h : ℕ) → is_some (d.around.known h) ≡ true → (op : Operator)
+  built_read : (h : ℕ) → is_some (known h) ≡ true → (op : Operator)
       (cs : List ConstantTree) (e : Expression) →
       expression_read e ≡ Apply (run_word op) (constant_forms outer (trees cs)) →
       (c : ConstantTree) × (built d h op cs ≡ Some c) × (expression_read e ≡ constant_form outer c)
-  built_read h known op cs e read = by (d.around.known h) known
+  built_read h is op cs e read = by (known h) is
     where
       by : (o : Option TypeResolution) → is_some o ≡ true →
           (c : ConstantTree)
           × (option_map (λ r. Constructed (run_word op) (d.value_type r) (trees cs)) o ≡ Some c)
           × (expression_read e ≡ constant_form outer c)
-      by (Some r) known = (Constructed (run_word op) (d.value_type r) (trees cs), refl, read)
-      by None known = absurd cc
+      by (Some r) is = (Constructed (run_word op) (d.value_type r) (trees cs), refl, read)
+      by None is = absurd cc
 
-  module _ (tree_of : ℕ → Option ConstantTree) (part : ℕ → Expression) (may : ℕ → Bool) where
+  module _ (tree_of : ℕ → Option ConstantTree) (part constant : ℕ → Expression) where
     -- the handle has a tree, and its form is read as that
     abbrev ReadsOut : ℕ → Type 0
-    ReadsOut x =
-        (c : ConstantTree) × (tree_of x ≡ Some c) × (expression_read (part x) ≡ constant_form outer c)
+    ReadsOut x = IsReadAs outer (tree_of x) (part x)
 
-    module _ (each : (x : ℕ) → W x → may x ≡ true → ReadsOut x) where
-      parts_read : (xs : List ℕ) → AllByRecursion W xs → list_all may xs ≡ true →
-          (cs : List ConstantTree)
-          × (trees_of tree_of xs ≡ Some cs)
-          × (arguments_read (operands (map part xs)) ≡ constant_forms outer (trees cs))
-      parts_read [] w is = ([], refl, refl)
-      parts_read (x ∷ xs) w is =
-          let both = and_parts (may x) (list_all may xs) is in
-          let one = each x w.0 both.0 in
-          let others = parts_read xs w.1 both.1 in (
-            one.0 ∷ others.0,
-            λ i. tree_then (one.1 i) (others.1 i),
-            λ i. more (one.2 i) (others.2 i),
-          )
+    -- what is asked of an expression that is written out
+    abbrev OutOf : ir.Expression → Type 0
+    OutOf (expression.Literal value) = is_written_literal value ≡ true
+    OutOf (expression.Constant handle) = IsReadAs outer (constants handle) (constant handle)
+    OutOf (expression.ZeroValue ty) = Unit {0}
+    OutOf (expression.Compose ty components) = AllByRecursion ReadsOut components.items
+    OutOf (expression.Splat size value) = ReadsOut value
+    OutOf e = ⊥
 
-      over_read : (h : ℕ) → is_some (d.around.known h) ≡ true → (e : ir.Expression) →
-          AllByRecursion W (expression_operands e) → expression_is_written types infos e ≡ true →
-          written_out_over may e ≡ true →
-          (c : ConstantTree)
-          × (tree_over d tree_of h e ≡ Some c)
-          × (expression_read (constant_form_over d.around t part e) ≡ constant_form outer c)
-      over_read h known (expression.Literal value) w written is =
-          (Fixed (literal_value value), refl, ap LiteralOf (literal_read value written))
-      over_read h known (expression.ZeroValue ty) w written is =
-          let op = constructor d.around (Handle ty) 0 in
-          built_read h known op [] (built_form d.around t ty 0 [])
-          (called_applied op (constructor_called d.around (Handle ty) 0) (type_tree t ty)
-          (constructor_spelled d.around (Handle ty) 0 (type_tree t ty) (spells (Handle ty))) [])
-      over_read h known (expression.Compose ty components) w written is =
-          let count = length components.items in
-          let op = constructor d.around (Handle ty) count in
-          let ps = parts_read components.items w is in
-          let b = built_read h known op ps.0
-          (built_form d.around t ty count (map part components.items))
-          (called_applied op (constructor_called d.around (Handle ty) count) (type_tree t ty)
-          (constructor_spelled d.around (Handle ty) count (type_tree t ty) (spells (Handle ty)))
-          (map part components.items)
-          ∙ ap (Apply (run_word op)) ps.2) in
-          (b.0, ap (option_and_then (built d h op)) ps.1 ∙ b.1, b.2)
-      over_read h known (expression.Splat size value) w written is =
-          let one = each value w.0 is in
-          let b = built_read h known (Splat size) (one.0 ∷ [])
-          (applied_form (notation None (Splat size)) (part value ∷ []))
-          (called_applied (Splat size) (λ type. called_by_word size type) None tt (part value ∷ [])
-          ∙ ap (λ e. Apply (run_word (Splat size)) (more e no_more)) one.2) in
-          (b.0, ap (option_and_then (λ c. built d h (Splat size) (c ∷ []))) one.1 ∙ b.1, b.2)
-        where
-          called_by_word : (size : _) → IsCalled (Splat size)
-          called_by_word size type = refl
-      over_read h known _ w written is = absurd cc
+    parts_read : (xs : List ℕ) → AllByRecursion ReadsOut xs →
+        (cs : List ConstantTree)
+        × (trees_of tree_of xs ≡ Some cs)
+        × (arguments_read (operands (map part xs)) ≡ constant_forms outer (trees cs))
+    parts_read [] all = ([], refl, refl)
+    parts_read (x ∷ xs) all =
+        let one = all.0 in
+        let others = parts_read xs all.1 in (
+          one.0 ∷ others.0,
+          λ i. tree_then (one.1 i) (others.1 i),
+          λ i. more (one.2 i) (others.2 i),
+        )
 
-  module _ (es : List ir.Expression)
-      (known : (h : ℕ) (e : ir.Expression) → slice_get es h ≡ Some e →
-      is_some (d.around.known h) ≡ true)
-      (closed : (h : ℕ) (e : ir.Expression) → slice_get es h ≡ Some e → W h →
-      AllByRecursion W (expression_operands e))
-      (written : (h : ℕ) (e : ir.Expression) → slice_get es h ≡ Some e → W h →
-      expression_is_written types infos e ≡ true) where
-    -- what may be written out, and is written, has a tree and is read as it
-    pub read_out : (levels h : ℕ) → W h → written_out_within levels es h ≡ true →
-        (c : ConstantTree)
-        × (tree_within levels d es h ≡ Some c)
-        × (expression_read (constant_form_within levels d.around t es h) ≡ constant_form outer c)
-    read_out zero h w is = absurd cc
-    read_out (suc levels) h w is = by (slice_get es h) refl is (read_out levels)
+    over_read : (h : ℕ) → is_some (known h) ≡ true → (e : ir.Expression) → OutOf e →
+        IsReadAs outer (tree_over d tree_of h e) (constant_form_over a t constant part e)
+    over_read h is (expression.Literal value) out =
+        (Fixed (literal_value value), refl, ap LiteralOf (literal_read value out))
+    over_read h is (expression.Constant handle) out = out
+    over_read h is (expression.ZeroValue ty) out =
+        let op = constructor a (Handle ty) 0 in
+        built_read h is op [] (built_form a t ty 0 [])
+        (called_applied op (constructor_called a (Handle ty) 0) (type_tree t ty)
+        (constructor_spelled a (Handle ty) 0 (type_tree t ty) (spells (Handle ty))) [])
+    over_read h is (expression.Compose ty components) out =
+        let count = length components.items in
+        let op = constructor a (Handle ty) count in
+        let ps = parts_read components.items out in
+        let b = built_read h is op ps.0 (built_form a t ty count (map part components.items))
+        (called_applied op (constructor_called a (Handle ty) count) (type_tree t ty)
+        (constructor_spelled a (Handle ty) count (type_tree t ty) (spells (Handle ty)))
+        (map part components.items)
+        ∙ ap (Apply (run_word op)) ps.2) in
+        (b.0, ap (option_and_then (built d h op)) ps.1 ∙ b.1, b.2)
+    over_read h is (expression.Splat size value) out =
+        let b = built_read h is (Splat size) (out.0 ∷ [])
+        (applied_form (notation None (Splat size)) (part value ∷ []))
+        (called_applied (Splat size) (λ type. called_by_word size type) None tt (part value ∷ [])
+        ∙ ap (λ e. Apply (run_word (Splat size)) (more e no_more)) out.2) in
+        (b.0, ap (option_and_then (λ c. built d h (Splat size) (c ∷ []))) out.1 ∙ b.1, b.2)
       where
-        by : (o : Option ir.Expression) → slice_get es h ≡ o →
-            option_map_or (written_out_over (written_out_within levels es)) o false ≡ true →
-            ((x : ℕ) → W x → written_out_within levels es x ≡ true →
-            ReadsOut (tree_within levels d es) (constant_form_within levels d.around t es)
-            (written_out_within levels es) x) →
-            (c : ConstantTree)
-            × (option_and_then (tree_over d (tree_within levels d es) h) o ≡ Some c)
-            × (expression_read
-            (option_map_or (constant_form_over d.around t (constant_form_within levels d.around t es)) o
-            no_constant_form) ≡
-            constant_form outer c)
-        by None at is each = absurd cc
-        by (Some e) at is each =
-            over_read (tree_within levels d es) (constant_form_within levels d.around t es)
-            (written_out_within levels es) each h (known h e at) e (closed h e at w)
-            (written h e at w) is
+        called_by_word : (size : _) → IsCalled (Splat size)
+        called_by_word size type = refl
+    over_read h is _ out = absurd out
+
+-- ---- of a function
+module _ (outer : ModuleNames) (m : Module) (info : ModuleInfo) (es : List ExpressionInfo)
+    (t : TypeNames) (spells : SpellsTypes (surroundings m (types_known es)) t)
+    (constants : (c : ℕ) → constant_is_written m c ≡ true →
+    IsReadAs outer (written_constant m info c) (written_constant_form m t c))
+    (W : ℕ → Type 0) (all : List ir.Expression)
+    (known : (h : ℕ) (e : ir.Expression) → slice_get all h ≡ Some e →
+    is_some (types_known es h) ≡ true)
+    (closed : (h : ℕ) (e : ir.Expression) → slice_get all h ≡ Some e → W h →
+    AllByRecursion W (expression_operands e))
+    (written : (h : ℕ) (e : ir.Expression) → slice_get all h ≡ Some e → W h →
+    expression_is_written m es e ≡ true) where
+  abbrev own : Declared
+  own = declared m info (types_known es)
+
+  abbrev out_form : (levels : ℕ) → ℕ → Expression
+  out_form levels = constant_form_within levels own.around t (written_constant_form m t) all
+
+  -- what may be written out, and is written, has a tree and is read as it
+  pub read_out : (levels h : ℕ) → W h → written_out_within levels all h ≡ true →
+      IsReadAs outer (tree_within levels own all h) (out_form levels h)
+  read_out zero h w is = absurd cc
+  read_out (suc levels) h w is = by (slice_get all h) refl is (read_out levels)
+    where
+      tree_of : ℕ → Option ConstantTree
+      tree_of = tree_within levels own all
+
+      may : ℕ → Bool
+      may = written_out_within levels all
+
+      each_of : ((x : ℕ) → W x → may x ≡ true → IsReadAs outer (tree_of x) (out_form levels x)) →
+          (xs : List ℕ) → AllByRecursion W xs → list_all may xs ≡ true →
+          AllByRecursion (λ x. IsReadAs outer (tree_of x) (out_form levels x)) xs
+      each_of each [] w is = tt
+      each_of each (x ∷ xs) w is =
+          let both = and_parts (may x) (list_all may xs) is in
+          (each x w.0 both.0, each_of each xs w.1 both.1)
+
+      out_of : ((x : ℕ) → W x → may x ≡ true → IsReadAs outer (tree_of x) (out_form levels x)) →
+          (e : ir.Expression) → AllByRecursion W (expression_operands e) →
+          expression_is_written m es e ≡ true → written_out_over may e ≡ true →
+          OutOf outer m (written_constant m info) (types_known es) (types_known es) t spells tree_of
+          (out_form levels) (written_constant_form m t) e
+      out_of each (expression.Literal value) w written is = written
+      out_of each (expression.Constant handle) w written is = constants handle written
+      out_of each (expression.Override handle) w written is = absurd cc
+      out_of each (expression.ZeroValue ty) w written is = tt
+      out_of each (expression.Compose ty components) w written is =
+          each_of each components.items w is
+      out_of each (expression.Splat size value) w written is = each value w.0 is
+      out_of each _ w written is = absurd cc
+
+      by : (o : Option ir.Expression) → slice_get all h ≡ o →
+          option_map_or (written_out_over may) o false ≡ true →
+          ((x : ℕ) → W x → may x ≡ true → IsReadAs outer (tree_of x) (out_form levels x)) →
+          IsReadAs outer (option_and_then (tree_over own tree_of h) o)
+          (option_map_or
+          (constant_form_over own.around t (written_constant_form m t) (out_form levels)) o
+          no_constant_form)
+      by None at is each = absurd cc
+      by (Some e) at is each =
+          over_read outer m (written_constant m info) (types_known es) (types_known es) t spells
+          tree_of (out_form levels) (written_constant_form m t) h (known h e at) e
+          (out_of each e (closed h e at w) (written h e at w) is)
+
+-- ---- of a module
+module _ (outer : ModuleNames) (m : Module) (info : ModuleInfo) (t : TypeNames)
+    (spells : SpellsTypes (surroundings m (λ h. None)) t)
+    (unnamed : list_all (λ c. is_none c.name) m.constants ≡ true)
+    (size : length m.global_expressions ≡ length info.const_expression_types.items) where
+  -- a constant, over what is said of the module's own expressions
+  constant_read : (own : ℕ → Bool) (tree_of : ℕ → Option ConstantTree) (part : ℕ → Expression) →
+      ((x : ℕ) → own x ≡ true → IsReadAs outer (tree_of x) (part x)) → (c : ℕ) →
+      initialiser_passes m own c ≡ true →
+      IsReadAs outer (constant_over m tree_of c) (initialiser_form m part c)
+  constant_read own tree_of part each c is = by (slice_get m.constants c) refl is
+    where
+      named : (k : ir_constant.Constant) → is_none k.name ≡ true → own k.init ≡ true →
+          IsReadAs outer
+          (Some
+          (if is_some k.name then NamedConstant (constant_number m c)
+          else unwrap_or (tree_of k.init) (zero_of_type m k.ty)))
+          (part k.init)
+      named k none is = by k.name none (each k.init is)
+        where
+          by : {X : Type 0} (name : Option X) → is_none name ≡ true →
+              IsReadAs outer (tree_of k.init) (part k.init) →
+              IsReadAs outer
+              (Some
+              (if is_some name then NamedConstant (constant_number m c)
+              else unwrap_or (tree_of k.init) (zero_of_type m k.ty)))
+              (part k.init)
+          by None none one = (one.0, ap (λ o. Some (unwrap_or o (zero_of_type m k.ty))) one.1, one.2)
+          by (Some name) none one = absurd cc
+
+      by : (o : Option ir_constant.Constant) → slice_get m.constants c ≡ o →
+          option_map_or (λ c. own c.init) o false ≡ true →
+          IsReadAs outer
+          (option_map
+          (λ k. if is_some k.name then NamedConstant (constant_number m c)
+          else unwrap_or (tree_of k.init) (zero_of_type m k.ty)) o)
+          (option_map_or (λ c. part c.init) o no_constant_form)
+      by None at is = absurd cc
+      by (Some k) at is =
+          named k (list_all_at (λ c. is_none c.name) m.constants c k unnamed at) is
+
+  global_read : (levels h : ℕ) → global_is_written_within levels m h ≡ true →
+      IsReadAs outer (global_tree_within levels m info h) (global_form_within levels m t h)
+  global_read zero h is = absurd cc
+  global_read (suc levels) h is = by (slice_get m.global_expressions h) refl is (global_read levels)
+    where
+      own : ℕ → Bool
+      own = global_is_written_within levels m
+
+      tree_of : ℕ → Option ConstantTree
+      tree_of = global_tree_within levels m info
+
+      part : ℕ → Expression
+      part = global_form_within levels m t
+
+      all_read : ((x : ℕ) → own x ≡ true → IsReadAs outer (tree_of x) (part x)) → (xs : List ℕ) →
+          list_all own xs ≡ true → AllByRecursion (λ x. IsReadAs outer (tree_of x) (part x)) xs
+      all_read each [] is = tt
+      all_read each (x ∷ xs) is =
+          let both = and_parts (own x) (list_all own xs) is in
+          (each x both.0, all_read each xs both.1)
+
+      out_of : ((x : ℕ) → own x ≡ true → IsReadAs outer (tree_of x) (part x)) →
+          (e : ir.Expression) → global_is_written_over m own e ≡ true →
+          OutOf outer m (constant_over m tree_of) (global_types_known info) (λ h. None) t spells
+          tree_of part (initialiser_form m part) e
+      out_of each (expression.Literal value) is = is
+      out_of each (expression.Constant handle) is =
+          constant_read own tree_of part each handle is
+      out_of each (expression.ZeroValue ty) is = tt
+      out_of each (expression.Compose ty components) is =
+          all_read each components.items
+          (and_parts (has_form m.types (Handle ty)) (list_all own components.items) is).1
+      out_of each (expression.Splat n value) is = each value is
+      out_of each _ is = absurd cc
+
+      known : (e : ir.Expression) → slice_get m.global_expressions h ≡ Some e →
+          is_some (global_types_known info h) ≡ true
+      known e at =
+          let lt = slice_get_within m.global_expressions h e at in
+          ap is_some
+          (element info.const_expression_types.items h (subst (λ n. h < n) size lt)).1
+
+      by : (o : Option ir.Expression) → slice_get m.global_expressions h ≡ o →
+          option_map_or (global_is_written_over m own) o false ≡ true →
+          ((x : ℕ) → own x ≡ true → IsReadAs outer (tree_of x) (part x)) →
+          IsReadAs outer
+          (option_and_then
+          (tree_over (declared_over m (constant_over m tree_of) (global_types_known info)) tree_of h) o)
+          (option_map_or
+          (constant_form_over (surroundings m (λ x. None)) t (initialiser_form m part) part) o
+          no_constant_form)
+      by None at is each = absurd cc
+      by (Some e) at is each =
+          over_read outer m (constant_over m tree_of) (global_types_known info) (λ h. None) t spells
+          tree_of part (initialiser_form m part) h (known e at) e (out_of each e is)
+
+  -- a constant that is written is read as its tree
+  pub constants_read : (c : ℕ) → constant_is_written m c ≡ true →
+      IsReadAs outer (written_constant m info c) (written_constant_form m t c)
+  constants_read c is =
+      constant_read (global_is_written m) (global_tree m info) (global_form m t)
+      (λ x is. global_read (suc x) x is) c is
 
 -- ---- what is of the grammar
-module _ (a : Surroundings) (t : TypeNames) (es : List ir.Expression) (W : ℕ → Type 0)
+module _ (a : Surroundings) (t : TypeNames) (constant part : ℕ → Expression) where
+  -- what is asked of an expression that is written out
+  abbrev IsOutOf : ir.Expression → Type 0
+  IsOutOf (expression.Literal value) = IsExpression (Constant (literal_form value))
+  IsOutOf (expression.Constant handle) = IsExpression (constant handle)
+  IsOutOf (expression.ZeroValue ty) = HasFormAt t ty
+  IsOutOf (expression.Compose ty components) =
+      HasFormAt t ty × AllByRecursion (λ x. IsExpression (part x)) components.items
+  IsOutOf (expression.Splat size value) = IsExpression (part value)
+  IsOutOf e = Unit {0}
+
+  parts_are : (xs : List ℕ) → AllByRecursion (λ x. IsExpression (part x)) xs →
+      Each IsExpression (map part xs)
+  parts_are [] all = tt
+  parts_are (x ∷ xs) all = (all.0, parts_are xs all.1)
+
+  built_is : (ty components : ℕ) → HasFormAt t ty → (parts : List Expression) →
+      Each IsExpression parts → IsExpression (built_form a t ty components parts)
+  built_is ty components form parts are =
+      subst (λ n. IsExpression (applied_form n parts))
+      (sym
+      (typed_notation _ (constructor_called a (Handle ty) components) (type_tree t ty) form.0
+      form.1))
+      (called_words.expression form.0 parts (called_words.type form.0 form.2) are)
+
+  over_is : (e : ir.Expression) → IsOutOf e → IsExpression (constant_form_over a t constant part e)
+  over_is (expression.Literal value) is = is
+  over_is (expression.Constant handle) is = is
+  over_is (expression.ZeroValue ty) is = built_is ty 0 is [] tt
+  over_is (expression.Compose ty components) is =
+      built_is ty (length components.items) is.0 (map part components.items)
+      (parts_are components.items is.1)
+  over_is (expression.Splat size value) is =
+      called_words.expression (Named (run_word (Splat size))) (part value ∷ []) (splat_called size)
+      (is, tt)
+  over_is _ is = tt
+
+-- of a function
+module _ (a : Surroundings) (t : TypeNames) (constant : ℕ → Expression) (es : List ir.Expression)
+    (W : ℕ → Type 0)
     (closed : (h : ℕ) (e : ir.Expression) → slice_get es h ≡ Some e → W h →
     AllByRecursion W (expression_operands e))
     (literals : (h : ℕ) (value : _) → slice_get es h ≡ Some (expression.Literal value) → W h →
-    IsExpression (constant_form_over a t (λ x. no_constant_form) (expression.Literal value)))
+    IsExpression (Constant (literal_form value)))
+    (constants : (h c : ℕ) → slice_get es h ≡ Some (expression.Constant c) → W h →
+    IsExpression (constant c))
     (zeros : (h ty : ℕ) → slice_get es h ≡ Some (expression.ZeroValue ty) → W h → HasFormAt t ty)
     (composed : (h ty : ℕ) (parts : _) → slice_get es h ≡ Some (expression.Compose ty parts) → W h →
     HasFormAt t ty) where
-  module _ (part : ℕ → Expression) (each : (x : ℕ) → W x → IsExpression (part x)) where
-    parts_are : (xs : List ℕ) → AllByRecursion W xs → Each IsExpression (map part xs)
-    parts_are [] w = tt
-    parts_are (x ∷ xs) w = (each x w.0, parts_are xs w.1)
-
-    built_is : (ty components : ℕ) → HasFormAt t ty → (parts : List Expression) →
-        Each IsExpression parts → IsExpression (built_form a t ty components parts)
-    built_is ty components form parts are =
-        subst (λ n. IsExpression (applied_form n parts))
-        (sym
-        (typed_notation _ (constructor_called a (Handle ty) components) (type_tree t ty) form.0
-        form.1))
-        (called_words.expression form.0 parts (called_words.type form.0 form.2) are)
-
-    over_is : (h : ℕ) (e : ir.Expression) → slice_get es h ≡ Some e → W h →
-        IsExpression (constant_form_over a t part e)
-    over_is h (expression.Literal value) at w = literals h value at w
-    over_is h (expression.ZeroValue ty) at w = built_is ty 0 (zeros h ty at w) [] tt
-    over_is h (expression.Compose ty components) at w =
-        built_is ty (length components.items) (composed h ty components at w)
-        (map part components.items)
-        (parts_are components.items (closed h (expression.Compose ty components) at w))
-    over_is h (expression.Splat size value) at w =
-        called_words.expression (Named (run_word (Splat size))) (part value ∷ []) (splat_called size)
-        (each value (closed h (expression.Splat size value) at w).0, tt)
-    over_is h _ at w = tt
-
-  pub form_out_is : (levels h : ℕ) → W h → IsExpression (constant_form_within levels a t es h)
+  pub form_out_is : (levels h : ℕ) → W h →
+      IsExpression (constant_form_within levels a t constant es h)
   form_out_is zero h w = tt
   form_out_is (suc levels) h w = by (slice_get es h) refl (form_out_is levels)
     where
+      part : ℕ → Expression
+      part = constant_form_within levels a t constant es
+
+      out_of : ((x : ℕ) → W x → IsExpression (part x)) → (e : ir.Expression) →
+          slice_get es h ≡ Some e → IsOutOf a t constant part e
+      out_of each (expression.Literal value) at = literals h value at w
+      out_of each (expression.Constant handle) at = constants h handle at w
+      out_of each (expression.ZeroValue ty) at = zeros h ty at w
+      out_of each (expression.Compose ty parts) at = (
+        composed h ty parts at w,
+        all_map each parts.items (closed h (expression.Compose ty parts) at w),
+      )
+      out_of each (expression.Splat size value) at =
+          each value (closed h (expression.Splat size value) at w).0
+      out_of each _ at = tt
+
       by : (o : Option ir.Expression) → slice_get es h ≡ o →
-          ((x : ℕ) → W x → IsExpression (constant_form_within levels a t es x)) →
-          IsExpression
-          (option_map_or (constant_form_over a t (constant_form_within levels a t es)) o
-          no_constant_form)
+          ((x : ℕ) → W x → IsExpression (part x)) →
+          IsExpression (option_map_or (constant_form_over a t constant part) o no_constant_form)
       by None at each = tt
-      by (Some e) at each = over_is (constant_form_within levels a t es) each h e at w
+      by (Some e) at each = over_is a t constant part e (out_of each e at)
+
+-- of a module
+module _ (m : Module) (t : TypeNames)
+    (literals : (h : ℕ) (value : _) → slice_get m.global_expressions h ≡ Some (expression.Literal value) →
+    is_written_literal value ≡ true → IsExpression (Constant (literal_form value)))
+    (formed : (ty : ℕ) → has_form m.types (Handle ty) ≡ true → HasFormAt t ty) where
+  initialiser_is : (own : ℕ → Bool) (part : ℕ → Expression) →
+      ((x : ℕ) → own x ≡ true → IsExpression (part x)) → (c : ℕ) →
+      initialiser_passes m own c ≡ true → IsExpression (initialiser_form m part c)
+  initialiser_is own part each c is = by (slice_get m.constants c) is
+    where
+      by : (o : Option ir_constant.Constant) → option_map_or (λ c. own c.init) o false ≡ true →
+          IsExpression (option_map_or (λ c. part c.init) o no_constant_form)
+      by None is = absurd cc
+      by (Some k) is = each k.init is
+
+  global_is : (levels h : ℕ) → global_is_written_within levels m h ≡ true →
+      IsExpression (global_form_within levels m t h)
+  global_is zero h is = tt
+  global_is (suc levels) h is = by (slice_get m.global_expressions h) refl is (global_is levels)
+    where
+      own : ℕ → Bool
+      own = global_is_written_within levels m
+
+      part : ℕ → Expression
+      part = global_form_within levels m t
+
+      all_are : ((x : ℕ) → own x ≡ true → IsExpression (part x)) → (xs : List ℕ) →
+          list_all own xs ≡ true → AllByRecursion (λ x. IsExpression (part x)) xs
+      all_are each [] is = tt
+      all_are each (x ∷ xs) is =
+          let both = and_parts (own x) (list_all own xs) is in
+          (each x both.0, all_are each xs both.1)
+
+      out_of : ((x : ℕ) → own x ≡ true → IsExpression (part x)) → (e : ir.Expression) →
+          slice_get m.global_expressions h ≡ Some e → global_is_written_over m own e ≡ true →
+          IsOutOf (surroundings m (λ x. None)) t (initialiser_form m part) part e
+      out_of each (expression.Literal value) at is = literals h value at is
+      out_of each (expression.Constant handle) at is = initialiser_is own part each handle is
+      out_of each (expression.ZeroValue ty) at is = formed ty is
+      out_of each (expression.Compose ty parts) at is =
+          let both = and_parts (has_form m.types (Handle ty)) (list_all own parts.items) is in
+          (formed ty both.0, all_are each parts.items both.1)
+      out_of each (expression.Splat size value) at is = each value is
+      out_of each _ at is = tt
+
+      by : (o : Option ir.Expression) → slice_get m.global_expressions h ≡ o →
+          option_map_or (global_is_written_over m own) o false ≡ true →
+          ((x : ℕ) → own x ≡ true → IsExpression (part x)) →
+          IsExpression
+          (option_map_or
+          (constant_form_over (surroundings m (λ x. None)) t (initialiser_form m part) part) o
+          no_constant_form)
+      by None at is each = tt
+      by (Some e) at is each =
+          over_is (surroundings m (λ x. None)) t (initialiser_form m part) part e
+          (out_of each e at is)
+
+  -- a constant that is written
+  pub constant_is : (c : ℕ) → constant_is_written m c ≡ true →
+      IsExpression (written_constant_form m t c)
+  constant_is c is =
+      initialiser_is (global_is_written m) (global_form m t) (λ x is. global_is (suc x) x is) c is

@@ -7,7 +7,7 @@ use Rattle.std.proofs.Common.{◌≡◌, ℕ, zero, suc, Bool, true, false, List
 use Rattle.std.proofs.Common.{Option, Some, None, slice_get, if◌then◌else◌}
 use Rattle.std.specs.List.{filter}
 use Rattle.std.specs.Prelude.{IsTrue, unwrap_or}
-use Rattle.std.proofs.lemmas.Option.{slice_get-map}
+use Rattle.std.proofs.lemmas.Option.{same_Some, slice_get-map}
 use Rattle.naga_ir.specs.declared.module.Constant.{Constant}
 use Rattle.naga_ir.specs.declared.module.Function.{Function}
 use Rattle.naga_ir.specs.declared.module.Module.{Module}
@@ -21,7 +21,8 @@ use Rattle.shader_runs.specs.Value.{Truth, type_at}
 use Rattle.module_meaning.specs.Accepted.{is_accepted}
 use Rattle.module_meaning.specs.AgreeingOperators.{Group}
 use Rattle.module_meaning.specs.ExpressionShapes.{constant_tree}
-use Rattle.module_meaning.specs.ModuleShapes.{module_shape, named_constants, initialiser, declared_globally}
+use Rattle.module_meaning.specs.ModuleShapes.{module_shape, named_constants, initialiser}
+use Rattle.module_meaning.specs.Surroundings.{global_tree}
 use Rattle.module_meaning.specs.Types.{type_of_values}
 use Rattle.naga_form.proofs.AcceptedGroups.{IsSoundGroup}
 use Rattle.naga_form.proofs.AgreeingUses.{value_at}
@@ -29,19 +30,25 @@ use Rattle.naga_form.proofs.ConstantTrees.{IsTreeOf, trees_are, initialiser_is}
 use Rattle.naga_form.proofs.NamedConstants.{is_named, place_typed}
 use Rattle.naga_form.proofs.Signatures.{declared_for, IsOfExpression}
 
--- a named constant is one of all
-pub named_stands : (cs : List Constant) (i : ℕ) (c : Constant) → slice_get (filter is_named cs) i ≡ Some c → (h : ℕ) × (slice_get cs h ≡ Some c)
+-- a named constant is one of all, and has a name
+abbrev IsNamedOf : List Constant → Constant → Type 0
+IsNamedOf cs c = (h : ℕ) × (slice_get cs h ≡ Some c) × (is_named c ≡ true)
+
+pub named_stands : (cs : List Constant) (i : ℕ) (c : Constant) → slice_get (filter is_named cs) i ≡ Some c → IsNamedOf cs c
 named_stands [] i c here = absurd cc
-named_stands (d ∷ cs) i c here = by (named_stands cs) (is_named d) here
+named_stands (d ∷ cs) i c here = by (named_stands cs) (is_named d) refl here
   where
-    by : ((i : ℕ) (c : Constant) → slice_get (filter is_named cs) i ≡ Some c → (h : ℕ) × (slice_get cs h ≡ Some c)) →
-        (b : Bool) → slice_get (if b then d ∷ filter is_named cs else filter is_named cs) i ≡ Some c → (h : ℕ) × (slice_get (d ∷ cs) h ≡ Some c)
-    by rest false here = let k = rest i c here in (suc k.0, k.1)
-    by rest true here = at i here
+    further : IsNamedOf cs c → IsNamedOf (d ∷ cs) c
+    further k = (suc k.0, k.1, k.2)
+
+    by : ((i : ℕ) (c : Constant) → slice_get (filter is_named cs) i ≡ Some c → IsNamedOf cs c) →
+        (b : Bool) → is_named d ≡ b → slice_get (if b then d ∷ filter is_named cs else filter is_named cs) i ≡ Some c → IsNamedOf (d ∷ cs) c
+    by rest false named here = further (rest i c here)
+    by rest true named here = at i here
       where
-        at : (i : ℕ) → slice_get (d ∷ filter is_named cs) i ≡ Some c → (h : ℕ) × (slice_get (d ∷ cs) h ≡ Some c)
-        at zero here = (0, here)
-        at (suc i) here = let k = rest i c here in (suc k.0, k.1)
+        at : (i : ℕ) → slice_get (d ∷ filter is_named cs) i ≡ Some c → IsNamedOf (d ∷ cs) c
+        at zero here = (0, here, subst (λ x. is_named x ≡ true) (same_Some d c here) named)
+        at (suc i) here = further (rest i c here)
 
 module _ (m : Module) (info : ModuleInfo) (accepted : IsTrue (is_accepted m info)) (told : TypesAreTold m) where
   -- ---- trees of a sound group
@@ -75,9 +82,9 @@ module _ (m : Module) (info : ModuleInfo) (accepted : IsTrue (is_accepted m info
   -- what holds of each tree of the constant's type and of `false` holds of the initialiser
   initialiser_by : (P : ConstantTree → Type 0) → P (Fixed (Truth false)) → (h : ℕ) (c : Constant) → slice_get m.constants h ≡ Some c →
       ((t : ConstantTree) → IsTreeOf m info (type_of_values m (Handle c.ty)) t → P t) → P (initialiser m info c)
-  initialiser_by P none h c at some = by (constant_tree (declared_globally m info) m.global_expressions c.init) refl
+  initialiser_by P none h c at some = by (global_tree m info c.init) refl
     where
-      by : (o : Option ConstantTree) → constant_tree (declared_globally m info) m.global_expressions c.init ≡ o → P (unwrap_or o (Fixed (Truth false)))
+      by : (o : Option ConstantTree) → global_tree m info c.init ≡ o → P (unwrap_or o (Fixed (Truth false)))
       by None found = none
       by (Some t) found = some t (initialiser_is m info accepted told h c at t found)
 
@@ -97,7 +104,7 @@ module _ (m : Module) (info : ModuleInfo) (accepted : IsTrue (is_accepted m info
   -- each named constant is computed from a tree
   abbrev pub HaveTrees : Type 0
   HaveTrees = (i : ℕ) (c : Constant) → slice_get (named_constants m) i ≡ Some c →
-      (t : ConstantTree) × (constant_tree (declared_globally m info) m.global_expressions c.init ≡ Some t)
+      (t : ConstantTree) × (global_tree m info c.init ≡ Some t)
 
   -- then its initialiser has its type
   pub initialiser_typed : HaveTrees → (i : ℕ) (e : ConstantTree) → slice_get (module_shape m info).initialisers i ≡ Some e →

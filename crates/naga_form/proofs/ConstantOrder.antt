@@ -4,7 +4,7 @@ use Rattle.module_meaning.specs.Names.{TypesAreTold}
 use Rattle.std.proofs.Common.{◌≡◌, ℕ, zero, suc, ◌<◌, ◌≤◌, Bool, true, false, List, [], ◌∷◌, refl, sym, ap, ◌∙◌, length, subst}
 use Rattle.std.proofs.Common.{Option, Some, None, slice_get, arith, nat_lt, if◌then◌else◌}
 use Rattle.std.specs.Prelude.{IsTrue, unwrap_or}
-use Rattle.std.specs.Option.{option_map_or, option_and_then, is_some}
+use Rattle.std.specs.Option.{option_map, option_map_or, is_some}
 use Rattle.std.proofs.lemmas.Bool.{and_parts, ltb-true}
 use Rattle.std.proofs.lemmas.List.{length-map}
 use Rattle.std.proofs.lemmas.Option.{same_Some}
@@ -21,12 +21,14 @@ use Rattle.shader_runs.specs.Premises.{EachLeaf, EachLeafOf}
 use Rattle.shader_runs.specs.Value.{Value, Truth}
 use Rattle.module_meaning.specs.Accepted.{is_accepted}
 use Rattle.module_meaning.specs.ExpressionOperators.{constructor}
-use Rattle.module_meaning.specs.ExpressionShapes.{Declared, trees, tree_then, trees_of, built, tree_over, tree_within, constant_tree}
-use Rattle.module_meaning.specs.ModuleShapes.{module_shape, named_constants, initialiser, declared_globally}
+use Rattle.module_meaning.specs.ExpressionShapes.{Declared, trees, tree_then, trees_of, built, tree_over}
+use Rattle.module_meaning.specs.ModuleShapes.{module_shape, named_constants, initialiser}
 use Rattle.module_meaning.specs.OperatorTable.{Operator, Splat, run_word}
 use Rattle.module_meaning.specs.Ranges.{all_below}
-use Rattle.module_meaning.specs.Surroundings.{declared_over, constant_within, written_constant, constant_number, override_number, global_types_known, named_count}
+use Rattle.module_meaning.specs.Surroundings.{constant_over, declared_over, global_tree, global_tree_within, constant_number, override_number}
+use Rattle.module_meaning.specs.Surroundings.{global_types_known, named_count, zero_of_type}
 use Rattle.naga_form.proofs.ConstantInitialisers.{initialiser_of}
+use Rattle.naga_form.proofs.ConstantTrees.{standing_tree}
 use Rattle.naga_form.proofs.NamedConstants.{named_at, count_is, types_count, types_of_constants}
 use Rattle.naga_form.proofs.WrittenOut.{Own, own_is, constant_named, initialiser_stands_before}
 
@@ -116,28 +118,36 @@ module _ (m : Module) (info : ModuleInfo) where
           built_before h h (Splat size) (parts.0 ∷ []) (below v (ltb-true v h low.0) parts.0 parts.1, tt) t parts.2
       over_before tree_of h _ at below t found = absurd cc
 
-      within_before : (levels h : ℕ) (t : ConstantTree) → tree_within levels inside m.global_expressions h ≡ Some t → EachLeaf AnyValue (Before h) t
-      within_before zero h t found = absurd cc
-      within_before (suc levels) h t found =
-          let parts = then_some (tree_over inside (tree_within levels inside m.global_expressions) h) (slice_get m.global_expressions h) t found in
-          over_before (tree_within levels inside m.global_expressions) h parts.0 parts.1
-          (λ k lt u is. before_more k h (omega (arith, lt)) u (within_before levels k u is)) t parts.2
-
     named_before : (h : ℕ) (c : Constant) → slice_get m.constants h ≡ Some c → is_some c.name ≡ true → Before (suc c.init) (constant_number m h)
     named_before h c at named lt =
         let rank : constant_rank (constant_number m h) ≡ c.init = ap (λ o. option_map_or (λ c. c.init) o 0) (named_at m.constants h c at named) in
         omega (arith, rank)
 
-    constants_before : (levels : ℕ) → AreBefore (constant_within levels m info)
-    constants_before zero h c at t found = absurd cc
-    constants_before (suc levels) h c at t found =
-        by (λ t is. before_more c.init (suc c.init) (omega arith) t (within_before (constant_within levels m info) (constants_before levels) (suc c.init) c.init t is)) (is_some c.name) refl
-        (sym (ap (option_and_then (λ c. if is_some c.name then Some (NamedConstant (constant_number m h)) else constant_tree (declared_over m (constant_within levels m info) (global_types_known info)) m.global_expressions c.init)) at) ∙ found)
+    -- each of the module's own expressions names none behind it
+    abbrev GlobalsBefore : (ℕ → Option ConstantTree) → Type 0
+    GlobalsBefore global = (h : ℕ) (t : ConstantTree) → global h ≡ Some t → EachLeaf AnyValue (Before h) t
+
+    constants_before : (global : ℕ → Option ConstantTree) → GlobalsBefore global → AreBefore (constant_over m global)
+    constants_before global are h c at t found =
+        subst (EachLeaf AnyValue (Before (suc c.init)))
+        (same_Some (standing_tree m info accepted told global h c) t (sym (ap (option_map (standing_tree m info accepted told global h)) at) ∙ found))
+        (by (is_some c.name) refl)
       where
-        by : ((t : ConstantTree) → constant_tree (declared_over m (constant_within levels m info) (global_types_known info)) m.global_expressions c.init ≡ Some t → EachLeaf AnyValue (Before (suc c.init)) t) →
-            (b : Bool) → is_some c.name ≡ b → (if b then Some (NamedConstant (constant_number m h)) else constant_tree (declared_over m (constant_within levels m info) (global_types_known info)) m.global_expressions c.init) ≡ Some t → EachLeaf AnyValue (Before (suc c.init)) t
-        by unnamed true named is = subst (EachLeaf AnyValue (Before (suc c.init))) (same_Some (NamedConstant (constant_number m h)) t is) (named_before h c at named)
-        by unnamed false named is = unnamed t is
+        or_zero : (o : Option ConstantTree) → global c.init ≡ o → EachLeaf AnyValue (Before (suc c.init)) (unwrap_or o (zero_of_type m c.ty))
+        or_zero None is = tt
+        or_zero (Some t) is = before_more c.init (suc c.init) (omega arith) t (are c.init t is)
+
+        by : (b : Bool) → is_some c.name ≡ b → EachLeaf AnyValue (Before (suc c.init)) (if b then NamedConstant (constant_number m h) else unwrap_or (global c.init) (zero_of_type m c.ty))
+        by true named = named_before h c at named
+        by false named = or_zero (global c.init) refl
+
+    globals_before : (levels : ℕ) → GlobalsBefore (global_tree_within levels m info)
+    globals_before zero h t found = absurd cc
+    globals_before (suc levels) h t found =
+        let global = global_tree_within levels m info in
+        let parts = then_some (tree_over (declared_over m (constant_over m global) (global_types_known info)) global h) (slice_get m.global_expressions h) t found in
+        over_before (constant_over m global) (constants_before global (globals_before levels)) global h parts.0 parts.1
+        (λ k lt u is. before_more k h (omega (arith, lt)) u (globals_before levels k u is)) t parts.2
 
     -- an initialiser names constants of smaller ranks alone
     pub initialiser_before : (i : ℕ) (e : ConstantTree) → slice_get shape.initialisers i ≡ Some e →
@@ -145,8 +155,8 @@ module _ (m : Module) (info : ModuleInfo) where
     initialiser_before i e at =
         let k = initialiser_of m info accepted told i e at in
         let rank : constant_rank i ≡ k.constant.init = ap (λ o. option_map_or (λ c. c.init) o 0) k.named in
-        subst (λ n. EachLeaf AnyValue (Before n) e) (sym rank) (subst (EachLeaf AnyValue (Before k.constant.init)) k.is (by k.constant (constant_tree (declared_globally m info) m.global_expressions k.constant.init) refl))
+        subst (λ n. EachLeaf AnyValue (Before n) e) (sym rank) (subst (EachLeaf AnyValue (Before k.constant.init)) k.is (by k.constant (global_tree m info k.constant.init) refl))
       where
-        by : (c : Constant) (o : Option ConstantTree) → constant_tree (declared_globally m info) m.global_expressions c.init ≡ o → EachLeaf AnyValue (Before c.init) (unwrap_or o (Fixed (Truth false)))
+        by : (c : Constant) (o : Option ConstantTree) → global_tree m info c.init ≡ o → EachLeaf AnyValue (Before c.init) (unwrap_or o (Fixed (Truth false)))
         by c None found = tt
-        by c (Some t) found = within_before (written_constant m info) (constants_before (length m.global_expressions)) (suc c.init) c.init t found
+        by c (Some t) found = globals_before (suc c.init) c.init t found

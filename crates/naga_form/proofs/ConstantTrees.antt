@@ -1,14 +1,15 @@
 -- Constant trees of an accepted module: each has the type that is known of its expression, its
--- operators are those of expressions of sound groups, and what it names is there.
+-- operators are those of expressions of sound groups, and what it names is there. A constant that
+-- counts as a zero value is such a tree wherever an expression names it.
 use Rattle.naga_form.proofs.AgreeingUses.{value_is}
 use Rattle.module_meaning.specs.Names.{TypesAreTold}
 use Rattle.shader_runs.proofs.Typing.{no_signature}
-use Rattle.naga_form.proofs.Signatures.{either_signature}
+use Rattle.naga_form.proofs.Signatures.{either_signature, only_signature}
 use Rattle.std.proofs.Common.{◌≡◌, ℕ, zero, suc, Bool, true, false, List, [], ◌∷◌, refl, sym, ap, ◌∙◌, length, subst}
 use Rattle.std.proofs.Common.{Option, Some, None, slice_get, map, ◌&&◌, if◌then◌else◌}
 use Rattle.std.specs.List.{list_all}
-use Rattle.std.specs.Prelude.{IsTrue}
-use Rattle.std.specs.Option.{option_map_or, option_and_then, is_some}
+use Rattle.std.specs.Prelude.{IsTrue, unwrap_or}
+use Rattle.std.specs.Option.{option_map, option_map_or, option_and_then, is_some}
 use Rattle.std.proofs.lemmas.Bool.{and_parts}
 use Rattle.std.proofs.lemmas.Option.{same_Some}
 use Rattle.std.proofs.lemmas.Slice.Eq.{bytes_eq-Decides}
@@ -38,11 +39,12 @@ use Rattle.module_meaning.specs.ExpressionTypes as types
 use Rattle.module_meaning.specs.InfoSizes.{all_paired}
 use Rattle.module_meaning.specs.Initialisers.{initialisers_fit, constant_is_sound, override_is_sound, global_is_sound}
 use Rattle.module_meaning.specs.Literals.{literal_value}
-use Rattle.module_meaning.specs.ModuleShapes.{module_shape, declared_globally}
+use Rattle.module_meaning.specs.ModuleShapes.{module_shape}
 use Rattle.module_meaning.specs.OperatorTable.{Operator, run_word, Splat}
 use Rattle.module_meaning.specs.Ranges.{module_ranges_fit}
 use Rattle.module_meaning.specs.Soundness.{module_is_sound, function_is_sound, entry_point_is_sound, declarations_are_sound, expressions_are_sound}
-use Rattle.module_meaning.specs.Surroundings.{declared_over, constant_within, written_constant, constant_number, override_number, global_types_known}
+use Rattle.module_meaning.specs.Surroundings.{declared_over, constant_over, global_tree, global_tree_within, written_constant}
+use Rattle.module_meaning.specs.Surroundings.{constant_number, override_number, global_types_known, zero_of_type}
 use Rattle.module_meaning.specs.Types.{type_of_values}
 use Rattle.module_meaning.proofs.ExpressionShapes.{constructor_asks}
 use Rattle.module_meaning.proofs.Lists.{list_all_at}
@@ -51,7 +53,7 @@ use Rattle.naga_form.proofs.AgreeingUses.{value_at}
 use Rattle.naga_form.proofs.LiteralTypes.{literal_typed, literal_is_none}
 use Rattle.naga_form.proofs.NamedConstants.{named_typed, named_within, override_typed, override_within}
 use Rattle.naga_form.proofs.SameValues.{IsFit, values_by_numbers}
-use Rattle.naga_form.proofs.Signatures.{around_group, declared_for, IsCalled, by_operator, by_zero, IsOfExpression}
+use Rattle.naga_form.proofs.Signatures.{around_group, declared_for, IsCalled, by_constant, by_operator, by_zero, IsOfExpression}
 
 -- ---- trees
 module _ (m : Module) (info : ModuleInfo) where
@@ -96,9 +98,14 @@ module _ (m : Module) (info : ModuleInfo) where
   wanted_there None r is = absurd cc
   wanted_there (Some s) r is = (s, refl, is)
 
-  -- each constant has a tree of its type, where it has one
+  -- what stands for a constant of this type: a tree, or the zero value
+  pub data StandsFor (ty : ℕ) (t : ConstantTree) : Type 0 where
+    OfTree : IsTreeOf (type_of_values m (Handle ty)) t → StandsFor ty t
+    OfZero : zero_of_type m ty ≡ t → StandsFor ty t
+
+  -- so it is of each constant, where something stands for it
   abbrev pub ConstantsAre : (ℕ → Option ConstantTree) → Type 0
-  ConstantsAre tree_of = (h : ℕ) (c : Constant) → slice_get m.constants h ≡ Some c → (t : ConstantTree) → tree_of h ≡ Some t → IsTreeOf (type_of_values m (Handle c.ty)) t
+  ConstantsAre tree_of = (h : ℕ) (c : Constant) → slice_get m.constants h ≡ Some c → (t : ConstantTree) → tree_of h ≡ Some t → StandsFor c.ty t
 
   retyped : (k l : ValueType) (t : ConstantTree) → k ≡ l → IsTreeOf k t → IsTreeOf l t
   retyped k l t e is = record { type = is.type ∙ e; spelled = is.spelled; range = is.range }
@@ -129,14 +136,39 @@ module _ (m : Module) (info : ModuleInfo) where
             range = literal_is_none v;
           }
 
+      -- the zero value that stands for a constant that an expression names
+      zero_is : (h c : ℕ) → slice_get g.expressions h ≡ Some (expression.Constant c) → (k : Constant) → slice_get m.constants c ≡ Some k →
+          type_of_values m (Handle k.ty) ≡ value h → IsTreeOf (value h) (zero_of_type m k.ty)
+      zero_is h c at k there like = record { type = like; spelled = spelled; range = tt }
+        where
+          spelled : (x : Signature) → IsOneOf x (constant_signatures shape (zero_of_type m k.ty)) → IsOfExpression m info x
+          spelled x one =
+              subst (IsOfExpression m info)
+              (sym (only_signature x (record { word = Spelled (run_word (constructor (around_group m info g) (Handle k.ty) 0)); operands = []; result = type_of_values m (Handle k.ty) }) one))
+              (record {
+                function = f;
+                group = g;
+                sound = is;
+                handle = h;
+                expression = expression.Constant c;
+                there = at;
+                called = by_constant c k refl there;
+                operands = refl;
+                result = like;
+              })
+
       constant_is : (h c : ℕ) → slice_get g.expressions h ≡ Some (expression.Constant c) → (t : ConstantTree) → written c ≡ Some t → IsTreeOf (value h) t
       constant_is h c at t found =
           let own = own_known m info f g is h (expression.Constant c) at in
           let there = wanted_there (types.constant_type m c) own.0 (is.typed h (expression.Constant c) own.0 at own.1) in
           let item = map_some (λ c. Handle c.ty) (slice_get m.constants c) there.0 there.1 in
           let same : are_alike m.types own.0 (Handle item.0.ty) ≡ true = ap (are_alike m.types own.0) item.2 ∙ there.2 in
-          retyped (type_of_values m (Handle item.0.ty)) (value h) t (like_wanted h (expression.Constant c) at own.0 own.1 (Handle item.0.ty) tt same)
-          (constants c item.0 item.1 t found)
+          let like = like_wanted h (expression.Constant c) at own.0 own.1 (Handle item.0.ty) tt same in
+          by item.0 item.1 like (constants c item.0 item.1 t found)
+        where
+          by : (k : Constant) → slice_get m.constants c ≡ Some k → type_of_values m (Handle k.ty) ≡ value h → StandsFor k.ty t → IsTreeOf (value h) t
+          by k there like (OfTree is) = retyped (type_of_values m (Handle k.ty)) (value h) t like is
+          by k there like (OfZero is) = subst (IsTreeOf (value h)) is (zero_is h c at k there like)
 
       override_is : (h o : ℕ) → slice_get g.expressions h ≡ Some (expression.Override o) → IsTreeOf (value h) (NamedConstant (override_number m o))
       override_is h o at =
@@ -236,42 +268,49 @@ module _ (m : Module) (info : ModuleInfo) where
             value_is m info own c.init r there ∙ alike r (Handle c.ty) ((declarations_are m info accepted).fits c.init r there) tt same
 
     -- a constant by its name, or by its initialiser
-    abbrev around_own : (ℕ → Option ConstantTree) → Declared
-    around_own written = declared_over m written (global_types_known info)
+    abbrev pub standing_tree : (ℕ → Option ConstantTree) → ℕ → Constant → ConstantTree
+    standing_tree global h c = if is_some c.name then NamedConstant (constant_number m h) else unwrap_or (global c.init) (zero_of_type m c.ty)
 
-    abbrev written_over : (ℕ → Option ConstantTree) → ℕ → Constant → Option ConstantTree
-    written_over written h c = if is_some c.name then Some (NamedConstant (constant_number m h)) else constant_tree (around_own written) m.global_expressions c.init
+    -- each of the module's own expressions has a tree of its type, where it has one
+    abbrev GlobalsAre : (ℕ → Option ConstantTree) → Type 0
+    GlobalsAre global = (h : ℕ) (t : ConstantTree) → global h ≡ Some t → IsTreeOf (value_at m info own h) t
 
-    written_is : (written : ℕ → Option ConstantTree) → ConstantsAre written → (h : ℕ) (c : Constant) → slice_get m.constants h ≡ Some c → (t : ConstantTree) → written_over written h c ≡ Some t → IsTreeOf (type_of_values m (Handle c.ty)) t
-    written_is written are h c at t found = by (is_some c.name) refl found
+    constants_over : (global : ℕ → Option ConstantTree) → GlobalsAre global → ConstantsAre (constant_over m global)
+    constants_over global are h c at t found =
+        subst (StandsFor c.ty) (same_Some (standing_tree global h c) t (sym (ap (option_map (standing_tree global h)) at) ∙ found)) (by (is_some c.name) refl)
       where
-        by : (b : Bool) → is_some c.name ≡ b → (if b then Some (NamedConstant (constant_number m h)) else constant_tree (around_own written) m.global_expressions c.init) ≡ Some t → IsTreeOf (type_of_values m (Handle c.ty)) t
-        by true named found = subst (IsTreeOf (type_of_values m (Handle c.ty))) (same_Some (NamedConstant (constant_number m h)) t found) (record {
+        unnamed : (o : Option ConstantTree) → global c.init ≡ o → StandsFor c.ty (unwrap_or o (zero_of_type m c.ty))
+        unnamed None found = OfZero refl
+        unnamed (Some t) found = OfTree (retyped (value_at m info own c.init) (type_of_values m (Handle c.ty)) t (initialiser_known h c at) (are c.init t found))
+
+        by : (b : Bool) → is_some c.name ≡ b → StandsFor c.ty (if b then NamedConstant (constant_number m h) else unwrap_or (global c.init) (zero_of_type m c.ty))
+        by true named = OfTree (record {
           type = named_typed m info h c at named;
           spelled = λ x one. absurd (no_signature x one);
           range = named_within m info h c at named;
         })
-        by false named found =
-            retyped (value_at m info own c.init) (type_of_values m (Handle c.ty)) t (initialiser_known h c at)
-            (within_is None (own_group m info accepted) (declarations_are m info accepted) written are (suc c.init) c.init t found)
+        by false named = unnamed (global c.init) refl
 
-    -- each constant, as it is written within so many levels
-    constants_within : (levels : ℕ) → ConstantsAre (constant_within levels m info)
-    constants_within zero h c at t found = absurd cc
-    constants_within (suc levels) h c at t found =
-        written_is (constant_within levels m info) (constants_within levels) h c at t (sym (ap (option_and_then (written_over (constant_within levels m info) h)) at) ∙ found)
+    globals_within : (levels : ℕ) → GlobalsAre (global_tree_within levels m info)
+    globals_within zero h t found = absurd cc
+    globals_within (suc levels) h t found =
+        let global = global_tree_within levels m info in
+        let parts = then_some (tree_over (declared_over m (constant_over m global) (global_types_known info)) global h) (slice_get m.global_expressions h) t found in
+        tree_over_is None (own_group m info accepted) (declarations_are m info accepted) (constant_over m global) (constants_over global (globals_within levels)) global (globals_within levels) h parts.0 parts.1 t parts.2
 
     -- ---- what is said of constant trees
+    globals_are : GlobalsAre (global_tree m info)
+    globals_are h t found = globals_within (suc h) h t found
+
     -- a constant as it is written
-    pub constants_are : (h : ℕ) (c : Constant) → slice_get m.constants h ≡ Some c → (t : ConstantTree) → written_constant m info h ≡ Some t → IsTreeOf (type_of_values m (Handle c.ty)) t
-    constants_are = constants_within (length m.global_expressions)
+    constants_are : ConstantsAre (written_constant m info)
+    constants_are = constants_over (global_tree m info) globals_are
 
     -- a tree of a sound group
     pub trees_are : (f : Option Function) (g : Group) → IsSoundGroup m info f g → (h : ℕ) (t : ConstantTree) → constant_tree (declared_for m info g) g.expressions h ≡ Some t → IsTreeOf (value_at m info g.known h) t
     trees_are f g is h t found = within_is f g is (written_constant m info) constants_are (suc h) h t found
 
-    -- the initialiser of a named constant, if it has a tree
-    pub initialiser_is : (h : ℕ) (c : Constant) → slice_get m.constants h ≡ Some c → (t : ConstantTree) → constant_tree (declared_globally m info) m.global_expressions c.init ≡ Some t → IsTreeOf (type_of_values m (Handle c.ty)) t
+    -- the initialiser of a constant, if it has a tree
+    pub initialiser_is : (h : ℕ) (c : Constant) → slice_get m.constants h ≡ Some c → (t : ConstantTree) → global_tree m info c.init ≡ Some t → IsTreeOf (type_of_values m (Handle c.ty)) t
     initialiser_is h c at t found =
-        retyped (value_at m info own c.init) (type_of_values m (Handle c.ty)) t (initialiser_known h c at)
-        (trees_are None (own_group m info accepted) (declarations_are m info accepted) c.init t found)
+        retyped (value_at m info own c.init) (type_of_values m (Handle c.ty)) t (initialiser_known h c at) (globals_are c.init t found)

@@ -1,6 +1,6 @@
 -- What is asked of a program's constants holds of the program of shapes of an accepted module whose
--- constants' initialisers are written out, where words and names stand apart; and so does what is
--- asked of the constants in its functions.
+-- named constants' initialisers are written out, where words and names stand apart; and so does what
+-- is asked of the constants in its functions, of any accepted module.
 use Rattle.module_meaning.specs.Writable.{AreWrittenOut}
 use Rattle.module_meaning.specs.Names.{TypesAreTold}
 use Rattle.std.proofs.Common.{◌≡◌, ℕ, ◌<◌, List, Some, slice_get, length}
@@ -40,14 +40,14 @@ constants_fit m info accepted told out n words distinct = record {
 
 -- the constants in each function have their types
 pub constants_are_typed : (m : Module) (info : ModuleInfo) → IsTrue (is_accepted m info) →
-    TypesAreTold m → AreWrittenOut m → (f : Function) (es : List ExpressionInfo) →
+    TypesAreTold m → (f : Function) (es : List ExpressionInfo) →
     IsSoundGroup m info (Some f) (function_group f es) → ConstantsAreTyped m info f es
-constants_are_typed m info accepted told out f es group =
+constants_are_typed m info accepted told f es group =
     let g = function_group f es in
     record {
       types = tree_typed m info accepted told (Some f) g group;
       ranges = tree_in_range m info accepted told (Some f) g group;
       written = λ h c at.
           let named = constant_named m info accepted told (Some f) g group h c at in
-          constant_has_tree m info accepted told out c named.0 named.1;
+          constant_has_tree m info accepted told c named.0 named.1;
     }

@@ -3,7 +3,7 @@
 -- its types and that it is never stuck, holds whatever the names of a text are.
 --
 -- Acceptance takes modules for which no text is written and which are left out here: those with a
--- constant whose initialiser is an operation, or with a case that does something and falls through.
+-- named constant whose initialiser is an operation, or with a case that does something and falls through.
 use Rattle.module_meaning.specs.Writable.{AreWrittenOut, OnlyEmptyFall, only_empty_fall}
 use Rattle.module_meaning.specs.Names.{TypesAreTold}
 use Rattle.std.proofs.Common.{◌≡◌, ℕ, true, List, [], ◌∷◌, length, Some}
@@ -125,7 +125,7 @@ module _ (m : ir_module.Module) (info : ModuleInfo) (accepted : IsTrue (is_accep
     functions_fit =
         all_fit_freely m info accepted told
         (λ k f es at.
-        constants_are_typed m info accepted told written f es
+        constants_are_typed m info accepted told f es
         (group_at m info accepted k f es at))
         (only_at falls) names namings (free_functions free_request program.functions) true
         (λ k f es at. refl)

@@ -26,12 +26,13 @@ use Rattle.module_meaning.specs.ExpressionShapes.{applied_shape, applied_or, par
 use Rattle.module_meaning.specs.ExpressionShapes.{written_zero, shape_of, asking}
 use Rattle.module_meaning.specs.FunctionShapes.{function_shape, shapes_from}
 use Rattle.module_meaning.specs.Literals.{literal_value}
-use Rattle.module_meaning.specs.ModuleShapes.{declared_globally, initialiser}
+use Rattle.module_meaning.specs.ModuleShapes.{initialiser}
 use Rattle.module_meaning.specs.OperatorTable.{Operator, Splat, WithoutForm, PartAt, run_word, asks}
 use Rattle.module_meaning.specs.OperatorTable.{TypeIsSound}
 use Rattle.module_meaning.specs.Shapes.{operator_shape}
 use Rattle.module_meaning.specs.Surroundings.{declared, declared_over, global_types_known, types_known}
-use Rattle.module_meaning.specs.Surroundings.{constant_within, written_constant, constant_number}
+use Rattle.module_meaning.specs.Surroundings.{constant_over, global_tree, global_tree_within, written_constant, constant_number}
+use Rattle.module_meaning.specs.Surroundings.{surroundings, zero_of_type}
 use Rattle.module_meaning.proofs.ExpressionShapes.{constructor_asks}
 use Rattle.module_meaning.proofs.Shapes.{operator_any}
 use Rattle.shader_runs.specs.Program as shapes
@@ -95,19 +96,33 @@ module _ (m : Module) (info : ModuleInfo) (are : TypesAreCounted m) (P : List �
     tree_words : (es : List ir.Expression) (h : ℕ) (t : ConstantTree) → constant_tree around es h ≡ Some t → EachWord P t
     tree_words es h t e = within_words (suc h) es h t e
 
-  constant_words_within : (levels c : ℕ) (t : ConstantTree) → constant_within levels m info c ≡ Some t → EachWord P t
-  constant_words_within zero c t e = absurd (cc)
-  constant_words_within (suc levels) c t e =
-      let x = then_some _ (slice_get m.constants c) t e in
-      by (constant_words_within levels) x.0 (is_some x.0.name) x.2
+  -- what is there or is the zero value of a type
+  or_zero_words : (ty : ℕ) (o : Option ConstantTree) → ((t : ConstantTree) → o ≡ Some t → EachWord P t) → EachWord P (unwrap_or o (zero_of_type m ty))
+  or_zero_words ty None all = (each (constructor (surroundings m (λ h. None)) (Handle ty) 0) (constructor_is_sound m are (λ h. None) ty 0) (constructor_asks (surroundings m (λ h. None)) (Handle ty) 0), tt)
+  or_zero_words ty (Some t) all = all t refl
+
+  -- of each tree of the module's own expressions
+  abbrev GlobalWords : (ℕ → Option ConstantTree) → Type 0
+  GlobalWords global = (h : ℕ) (t : ConstantTree) → global h ≡ Some t → EachWord P t
+
+  constant_words_over : (global : ℕ → Option ConstantTree) → GlobalWords global → (c : ℕ) (t : ConstantTree) → constant_over m global c ≡ Some t → EachWord P t
+  constant_words_over global all c t e =
+      let x = map_some _ (slice_get m.constants c) t e in subst (EachWord P) x.2 (by x.0 (is_some x.0.name))
     where
-      by : ((c : ℕ) (t : ConstantTree) → constant_within levels m info c ≡ Some t → EachWord P t) → (x : ir_constant.Constant) (b : Bool) → (if b then Some (NamedConstant (constant_number m c)) else constant_tree (declared_over m (constant_within levels m info) (global_types_known info)) m.global_expressions x.init) ≡ Some t → EachWord P t
-      by inside x true e = subst (EachWord P) (same_Some (NamedConstant (constant_number m c)) t e) tt
-      by inside x false e = tree_words (constant_within levels m info) inside (global_types_known info) m.global_expressions x.init t e
+      by : (x : ir_constant.Constant) (b : Bool) → EachWord P (if b then NamedConstant (constant_number m c) else unwrap_or (global x.init) (zero_of_type m x.ty))
+      by x true = tt
+      by x false = or_zero_words x.ty (global x.init) (all x.init)
+
+  global_words : (levels : ℕ) → GlobalWords (global_tree_within levels m info)
+  global_words zero h t e = absurd (cc)
+  global_words (suc levels) h t e =
+      let global = global_tree_within levels m info in
+      let x = then_some (tree_over (declared_over m (constant_over m global) (global_types_known info)) global h) (slice_get m.global_expressions h) t e in
+      over_words (constant_over m global) (constant_words_over global (global_words levels)) (global_types_known info) global (global_words levels) h x.0 t x.2
 
   -- of each constant, as it is written
   pub constant_words : (c : ℕ) (t : ConstantTree) → written_constant m info c ≡ Some t → EachWord P t
-  constant_words c t e = constant_words_within (length m.global_expressions) c t e
+  constant_words c t e = constant_words_over (global_tree m info) (λ h t is. global_words (suc h) h t is) c t e
 
   -- of each tree among expressions, whatever is known of them
   pub written_words : (known : ℕ → Option TypeResolution) (es : List ir.Expression) (h : ℕ) (t : ConstantTree) → constant_tree (declared m info known) es h ≡ Some t → EachWord P t
@@ -119,7 +134,7 @@ module _ (m : Module) (info : ModuleInfo) (are : TypesAreCounted m) (P : List �
   or_false_words (Some t) all = all t refl
 
   pub initialiser_words : (c : ir_constant.Constant) → EachWord P (initialiser m info c)
-  initialiser_words c = or_false_words (constant_tree (declared_globally m info) m.global_expressions c.init) (written_words (global_types_known info) m.global_expressions c.init)
+  initialiser_words c = or_false_words (global_tree m info c.init) (global_words (suc c.init) c.init)
 
   -- a value of a type without parts
   zero_words : (known : ℕ → Option TypeResolution) (h ty : ℕ) (t : ConstantTree) → built (declared m info known) h (constructor (declared m info known).around (Handle ty) 0) [] ≡ Some t → EachWord P t

@@ -10,6 +10,7 @@ use Rattle.naga_ir.specs.Operands.{expression_operands}
 use Rattle.naga_ir.specs.declared.expression.Expression.{Expression}
 use Rattle.naga_ir.specs.declared.expression.Expression.TheVariants as expression
 use Rattle.naga_ir.specs.declared.expression.SwizzleComponent.{SwizzleComponent}
+use Rattle.naga_ir.specs.declared.module.Constant.{Constant}
 use Rattle.naga_ir.specs.declared.module.Function.{Function}
 use Rattle.naga_ir.specs.declared.module.Module.{Module}
 use Rattle.naga_ir.specs.declared.types.VectorSize.{VectorSize}
@@ -54,6 +55,9 @@ module _ (m : Module) (info : ModuleInfo) where
         IsCalled g e (Spelled (run_word o))
     by_zero : (ty : ℕ) → e ≡ expression.ZeroValue ty →
         IsCalled g e (Spelled (run_word (constructor (around_group g) (Handle ty) 0)))
+    by_constant : (c : ℕ) (k : Constant) → e ≡ expression.Constant c →
+        slice_get m.constants c ≡ Some k →
+        IsCalled g e (Spelled (run_word (constructor (around_group g) (Handle k.ty) 0)))
     by_index : (base index : ℕ) → e ≡ expression.Access base index → IsCalled g e IndexWord
     by_part : (base index : ℕ) (s : Selector) → e ≡ expression.AccessIndex base index →
         part_selector (declared_for g) base index ≡ Some s → IsCalled g e (PartWord s)

@@ -1,13 +1,14 @@
--- Where the initialiser of each constant is written out, as a literal, another constant, an
--- override, a zero value, a composition or a splat of such, each constant of an accepted module has
--- a tree. Acceptance doesn't ask that it is: a negation of a literal is not.
+-- Each constant of an accepted module has a tree. Where the initialisers of those with a name are
+-- written out, as a literal, another constant, an override, a zero value, a composition or a splat
+-- of such, these have trees too. Acceptance doesn't ask that they are: a negation of a literal is
+-- not.
 use Rattle.module_meaning.specs.Writable.{AreWrittenOut, is_written_out, written_out_within, written_out_over}
 use Rattle.module_meaning.specs.Names.{TypesAreTold}
-use Rattle.std.proofs.Common.{◌≡◌, ℕ, zero, suc, ◌<◌, ◌≤◌, ◌+◌, Bool, true, false, List, [], ◌∷◌, refl, sym, ap, ◌∙◌, length}
-use Rattle.std.proofs.Common.{Option, Some, None, slice_get, arith, nat_lt, ◌&&◌, if◌then◌else◌}
+use Rattle.std.proofs.Common.{◌≡◌, ℕ, zero, suc, ◌<◌, ◌+◌, Bool, true, false, List, [], ◌∷◌, refl, sym, ap, ◌∙◌, length}
+use Rattle.std.proofs.Common.{Option, Some, None, slice_get, arith, nat_lt, ◌&&◌}
 use Rattle.std.specs.List.{list_all}
-use Rattle.std.specs.Prelude.{IsTrue}
-use Rattle.std.specs.Option.{option_map, option_map_or, option_and_then, is_some}
+use Rattle.std.specs.Prelude.{IsTrue, ◌||◌}
+use Rattle.std.specs.Option.{option_map, option_map_or, option_and_then, is_none, is_some}
 use Rattle.std.proofs.lemmas.Bool.{and_parts, ltb-true}
 use Rattle.naga_ir.specs.declared.expression.Expression.{Expression}
 use Rattle.naga_ir.specs.declared.expression.Expression.TheVariants as expression
@@ -17,22 +18,22 @@ use Rattle.naga_ir.specs.declared.module.Module.{Module}
 use Rattle.naga_info.specs.declared.info.ModuleInfo.{ModuleInfo}
 use Rattle.naga_info.specs.declared.info.TypeResolution.TheVariants.{Handle}
 use Rattle.naga_info.proofs.Options.{map_some}
-use Rattle.shader_runs.specs.Program.{ConstantTree, NamedConstant, Constructed}
+use Rattle.shader_runs.specs.Program.{ConstantTree, Constructed}
 use Rattle.module_meaning.specs.Accepted.{is_accepted}
 use Rattle.module_meaning.specs.AgreeingOperators.{Group, module_operators_agree}
 use Rattle.module_meaning.specs.ExpressionOperators.{constructor}
-use Rattle.module_meaning.specs.ExpressionShapes.{Declared, trees, tree_then, trees_of, built, tree_over, tree_within, constant_tree}
+use Rattle.module_meaning.specs.ExpressionShapes.{Declared, trees, tree_then, trees_of, built, tree_over}
 use Rattle.module_meaning.specs.ExpressionTypes as types
 use Rattle.module_meaning.specs.InfoSizes.{sizes_fit, type_is_fit, all_known}
 use Rattle.module_meaning.specs.OperatorTable.{Operator, Splat}
 use Rattle.module_meaning.specs.Ranges.{module_ranges_fit, module_in_range, declarations_in_range, types_in_range, special_types_fit, constant_in_range, override_in_range, global_in_range, global_expression_in_range, expression_in_range, initialiser_before, all_placed, all_below, resolution_fits, is_below, function_in_range, entry_point_in_range}
 use Rattle.module_meaning.specs.Soundness.{module_is_sound}
-use Rattle.module_meaning.specs.Surroundings.{declared_over, constant_within, written_constant, constant_number, global_types_known}
+use Rattle.module_meaning.specs.Surroundings.{constant_over, declared_over, global_tree, global_tree_within, global_types_known, written_constant}
 use Rattle.module_meaning.proofs.Lists.{list_all_at}
 use Rattle.module_meaning.proofs.Lists.{placed_at}
 use Rattle.naga_form.proofs.AcceptedGroups.{IsSoundGroup, own_known, own_group, declarations_are}
 use Rattle.naga_form.proofs.ConstantInitialisers.{HaveTrees, named_stands}
-use Rattle.naga_form.proofs.ConstantTrees.{wanted_there}
+use Rattle.naga_form.proofs.ConstantTrees.{wanted_there, standing_tree}
 use Rattle.naga_form.proofs.Signatures.{around_group}
 
 abbrev HasTree : Option ConstantTree → Type 0
@@ -54,19 +55,15 @@ module _ (m : Module) (info : ModuleInfo) where
     abbrev inside : Declared
     inside = declared_over m written (λ h. slice_get g.known h)
 
-    -- each constant that the expressions up to this handle name has a tree
-    abbrev HaveNamed : ℕ → Type 0
-    HaveNamed h = (k c : ℕ) → k ≤ h → slice_get g.expressions k ≡ Some (expression.Constant c) → HasTree (written c)
-
     built_there : (h : ℕ) (e : Expression) → slice_get g.expressions h ≡ Some e → (o : Operator) (ts : List ConstantTree) → HasTree (built inside h o ts)
     built_there h e at o ts =
         let own = own_known m info f g is h e at in
         (_, ap (option_map (λ r. Constructed _ (inside.value_type r) (trees ts))) own.1)
 
     over_there : (tree_of : ℕ → Option ConstantTree) (is_written : ℕ → Bool) (h : ℕ) (e : Expression) → slice_get g.expressions h ≡ Some e →
-        ((k : ℕ) → k < h → is_written k ≡ true → HasTree (tree_of k)) → HaveNamed h → written_out_over is_written e ≡ true → HasTree (tree_over inside tree_of h e)
+        ((k : ℕ) → k < h → is_written k ≡ true → HasTree (tree_of k)) → ((c : ℕ) → e ≡ expression.Constant c → HasTree (written c)) → written_out_over is_written e ≡ true → HasTree (tree_over inside tree_of h e)
     over_there tree_of is_written h (expression.Literal v) at have named out = (_, refl)
-    over_there tree_of is_written h (expression.Constant c) at have named out = named h c (omega arith) at
+    over_there tree_of is_written h (expression.Constant c) at have named out = named c refl
     over_there tree_of is_written h (expression.Override o) at have named out = (_, refl)
     over_there tree_of is_written h (expression.ZeroValue ty) at have named out = built_there h (expression.ZeroValue ty) at (constructor (around_group m info g) (Handle ty) 0) []
     over_there tree_of is_written h (expression.Compose ty components) at have named out =
@@ -80,16 +77,6 @@ module _ (m : Module) (info : ModuleInfo) where
         let t = built_there h (expression.Splat size v) at (Splat size) (one.0 ∷ []) in
         (t.0, ap (option_and_then (λ t. built inside h (Splat size) (t ∷ []))) one.1 ∙ t.1)
     over_there tree_of is_written h _ at have named out = absurd cc
-
-    tree_there : (levels h : ℕ) → HaveNamed h → written_out_within levels g.expressions h ≡ true → HasTree (tree_within levels inside g.expressions h)
-    tree_there zero h named out = absurd cc
-    tree_there (suc levels) h named out = by (slice_get g.expressions h) refl out (λ k lt. tree_there levels k (λ j c le. named j c (omega (arith, lt, le))))
-      where
-        by : (o : Option Expression) → slice_get g.expressions h ≡ o → option_map_or (written_out_over (written_out_within levels g.expressions)) o false ≡ true →
-            ((k : ℕ) → k < h → written_out_within levels g.expressions k ≡ true → HasTree (tree_within levels inside g.expressions k)) →
-            HasTree (option_and_then (tree_over inside (tree_within levels inside g.expressions) h) o)
-        by None at out have = absurd cc
-        by (Some e) at out have = over_there (tree_within levels inside g.expressions) (written_out_within levels g.expressions) h e at have named out
 
   module _ (accepted : IsTrue (is_accepted m info)) (told : TypesAreTold m) where
     -- ---- the module's own expressions stand behind the initialisers that they name
@@ -137,38 +124,36 @@ module _ (m : Module) (info : ModuleInfo) where
         ltb-true k.init h (sym (ap (λ o. is_below h (option_map (λ k. k.init) o)) there) ∙ before)
 
     -- ---- constants
-    module _ (out : AreWrittenOut m) where
-      -- the tree of an initialiser, where each constant with an earlier initialiser has one
-      initialiser_there : (written : ℕ → Option ConstantTree) → (h : ℕ) (c : Constant) → slice_get m.constants h ≡ Some c →
-          ((k : ℕ) (d : Constant) → slice_get m.constants k ≡ Some d → d.init < c.init → HasTree (written k)) →
-          HasTree (constant_tree (declared_over m written (global_types_known info)) m.global_expressions c.init)
-      initialiser_there written h c at have =
-          tree_there None Own own_is written (suc c.init) c.init
-          (λ k d le here.
-          let item = constant_named None Own own_is k d here in
-          let lt = initialiser_stands_before k d here item.0 item.1 in
-          have d item.0 item.1 (omega (arith, le, lt)))
-          (list_all_at (λ c. is_written_out m.global_expressions c.init) m.constants h c out at)
+    -- a tree stands for each constant
+    constant_stands : (global : ℕ → Option ConstantTree) (h : ℕ) (c : Constant) → slice_get m.constants h ≡ Some c → HasTree (constant_over m global h)
+    constant_stands global h c at = (_, ap (option_map (standing_tree m info accepted told global h)) at)
 
-      constants_there : (levels : ℕ) (h : ℕ) (c : Constant) → slice_get m.constants h ≡ Some c → c.init < levels → HasTree (constant_within levels m info h)
-      constants_there zero h c at lt = absurd (omega (arith, lt))
-      constants_there (suc levels) h c at lt =
-          let one = by (is_some c.name) (initialiser_there (constant_within levels m info) h c at (λ k d there le. constants_there levels k d there (omega (arith, lt, le)))) in
-          (one.0, ap (option_and_then (λ c. if is_some c.name then Some (NamedConstant (constant_number m h)) else constant_tree (declared_over m (constant_within levels m info) (global_types_known info)) m.global_expressions c.init)) at ∙ one.1)
-        where
-          by : (b : Bool) → HasTree (constant_tree (declared_over m (constant_within levels m info) (global_types_known info)) m.global_expressions c.init) →
-              HasTree (if b then Some (NamedConstant (constant_number m h)) else constant_tree (declared_over m (constant_within levels m info) (global_types_known info)) m.global_expressions c.init)
-          by true there = (_, refl)
-          by false there = there
+    pub constant_has_tree : (h : ℕ) (c : Constant) → slice_get m.constants h ≡ Some c → HasTree (written_constant m info h)
+    constant_has_tree = constant_stands (global_tree m info)
 
-      -- each constant has a tree
-      pub constant_has_tree : (h : ℕ) (c : Constant) → slice_get m.constants h ≡ Some c → (t : ConstantTree) × (written_constant m info h ≡ Some t)
-      constant_has_tree h c at =
-          let own = and_parts (nat_lt c.ty (length m.types)) (nat_lt c.init (length m.global_expressions)) (list_all_at (constant_in_range (length m.types) (length m.global_expressions)) m.constants h c own_parts.0 at) in
-          constants_there (length m.global_expressions) h c at (ltb-true c.init (length m.global_expressions) own.1)
+    -- what is written out has a tree, among the module's own expressions
+    global_there : (levels h : ℕ) → written_out_within levels m.global_expressions h ≡ true → HasTree (global_tree_within levels m info h)
+    global_there zero h out = absurd cc
+    global_there (suc levels) h out = by (slice_get m.global_expressions h) refl out (global_there levels)
+      where
+        global : ℕ → Option ConstantTree
+        global = global_tree_within levels m info
 
-      -- so each initialiser of a named one has
-      pub have_trees : HaveTrees m info accepted told
-      have_trees i c named =
-          let k = named_stands m.constants i c named in
-          initialiser_there (written_constant m info) k.0 c k.1 (λ j d there lt. constant_has_tree j d there)
+        by : (o : Option Expression) → slice_get m.global_expressions h ≡ o → option_map_or (written_out_over (written_out_within levels m.global_expressions)) o false ≡ true →
+            ((k : ℕ) → written_out_within levels m.global_expressions k ≡ true → HasTree (global k)) →
+            HasTree (option_and_then (tree_over (declared_over m (constant_over m global) (global_types_known info)) global h) o)
+        by None at out have = absurd cc
+        by (Some e) at out have =
+            over_there None Own own_is (constant_over m global) global (written_out_within levels m.global_expressions) h e at (λ k lt. have k)
+            (λ c same. let item = constant_named None Own own_is h c (at ∙ ap Some same) in constant_stands global c item.0 item.1) out
+
+    -- so each initialiser of a named one has
+    pub have_trees : AreWrittenOut m → HaveTrees m info accepted told
+    have_trees out i c named =
+        let k = named_stands m.constants i c named in
+        global_there (suc c.init) c.init
+        (by c.name k.2 (list_all_at (λ c. is_none c.name || is_written_out m.global_expressions c.init) m.constants k.0 c out k.1))
+      where
+        by : {X : Type 0} (name : Option X) → is_some name ≡ true → (is_none name || is_written_out m.global_expressions c.init) ≡ true → is_written_out m.global_expressions c.init ≡ true
+        by (Some name) named is = is
+        by None named is = absurd cc

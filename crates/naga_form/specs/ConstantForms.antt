@@ -1,17 +1,20 @@
 -- How a constant is written out where no name stands for it: over the forms of its parts.
 --
 -- Throughout, a is what stands around expressions es, t are the names that types are spelled with,
--- e is an expression, and h a handle.
+-- constant gives the form of a constant without a name, e is an expression, h a handle, and m a
+-- module.
 use Rattle.std.specs.Prelude.{ℕ, zero, suc, false, List, [], ◌∷◌, length, map, slice_get, None}
 use Rattle.std.specs.Option.{option_map_or}
 use Rattle.module_meaning.specs.ExpressionOperators.{Surroundings, constructor}
 use Rattle.module_meaning.specs.OperatorTable.{Splat}
+use Rattle.module_meaning.specs.Surroundings.{surroundings}
 use Rattle.naga_form.specs.Literals.{literal_form}
 use Rattle.naga_form.specs.Operators.{applied_form, notation}
 use Rattle.naga_form.specs.TypeTrees.{type_tree}
 use Rattle.naga_info.specs.declared.info.TypeResolution.TheVariants.{Handle}
 use Rattle.naga_ir.specs.declared.expression.Expression as ir
 use Rattle.naga_ir.specs.declared.expression.Expression.TheVariants as expression
+use Rattle.naga_ir.specs.declared.module.Module.{Module}
 use Rattle.naga_words.specs.Contexts.{Names as TypeNames}
 use Rattle.wgsl_text.specs.Expressions.{Expression, Constant}
 use Rattle.wgsl_text.specs.Literals.{Truth}
@@ -23,29 +26,57 @@ built_form a t ty components parts =
     applied_form (notation (type_tree t ty) (constructor a (Handle ty) components)) parts
 
 -- What is no constant has no form here. Constants and overrides under names stand in no module that
--- is written so far.
+-- is written so far; a constant without one is written as its initialiser is.
 abbrev pub no_constant_form : Expression
 no_constant_form = Constant (Truth false)
 
 -- an expression, over the forms of its parts
-abbrev pub constant_form_over : Surroundings → TypeNames → (ℕ → Expression) → ir.Expression →
-    Expression
-constant_form_over a t part (expression.Literal value) = Constant (literal_form value)
-constant_form_over a t part (expression.ZeroValue ty) = built_form a t ty 0 []
-constant_form_over a t part (expression.Compose ty components) =
+abbrev pub constant_form_over : Surroundings → TypeNames → (constant part : ℕ → Expression) →
+    ir.Expression → Expression
+constant_form_over a t constant part (expression.Literal value) = Constant (literal_form value)
+constant_form_over a t constant part (expression.Constant handle) = constant handle
+constant_form_over a t constant part (expression.ZeroValue ty) = built_form a t ty 0 []
+constant_form_over a t constant part (expression.Compose ty components) =
     built_form a t ty (length components.items) (map part components.items)
-constant_form_over a t part (expression.Splat size value) =
+constant_form_over a t constant part (expression.Splat size value) =
     applied_form (notation None (Splat size)) (part value ∷ [])
-constant_form_over a t part _ = no_constant_form
+constant_form_over a t constant part _ = no_constant_form
 
 -- the form of a handle, at most so many levels deep
-abbrev pub constant_form_within : (levels : ℕ) → Surroundings → TypeNames → List ir.Expression →
-    ℕ → Expression
-constant_form_within zero a t es h = no_constant_form
-constant_form_within (suc levels) a t es h =
-    option_map_or (constant_form_over a t (constant_form_within levels a t es)) (slice_get es h)
-    no_constant_form
+abbrev pub constant_form_within : (levels : ℕ) → Surroundings → TypeNames →
+    (constant : ℕ → Expression) → List ir.Expression → ℕ → Expression
+constant_form_within zero a t constant es h = no_constant_form
+constant_form_within (suc levels) a t constant es h =
+    option_map_or
+    (constant_form_over a t constant (constant_form_within levels a t constant es))
+    (slice_get es h) no_constant_form
 
 -- the same of one whose operands stand before it
-abbrev pub written_out : Surroundings → TypeNames → List ir.Expression → ℕ → Expression
-written_out a t es h = constant_form_within (suc h) a t es h
+abbrev pub written_out : Surroundings → TypeNames → (constant : ℕ → Expression) →
+    List ir.Expression → ℕ → Expression
+written_out a t constant es h = constant_form_within (suc h) a t constant es h
+
+-- ---- a module's own
+-- a constant is written as its initialiser is
+abbrev pub initialiser_form : Module → (own : ℕ → Expression) → ℕ → Expression
+initialiser_form m own h =
+    option_map_or (λ c. own c.init) (slice_get m.constants h) no_constant_form
+
+-- one of the module's own expressions, at most so many levels deep, where the initialiser of a
+-- constant is one level below what names it
+abbrev pub global_form_within : (levels : ℕ) → Module → TypeNames → ℕ → Expression
+global_form_within zero m t h = no_constant_form
+global_form_within (suc levels) m t h =
+    let own = global_form_within levels m t in
+    option_map_or
+    (constant_form_over (surroundings m (λ x. None)) t (initialiser_form m own) own)
+    (slice_get m.global_expressions h) no_constant_form
+
+-- the same of one before which its operands and the initialisers of the constants that it names
+-- stand
+abbrev pub global_form : Module → TypeNames → ℕ → Expression
+global_form m t h = global_form_within (suc h) m t h
+
+-- a constant of the module
+abbrev pub written_constant_form : Module → TypeNames → ℕ → Expression
+written_constant_form m t h = initialiser_form m (global_form m t) h

@@ -35,7 +35,7 @@ use Rattle.naga_info.specs.declared.info.ModuleInfo.{ModuleInfo}
 use Rattle.naga_ir.specs.Operands.{expression_operands}
 use Rattle.naga_ir.specs.declared.module.Function as ir_function
 use Rattle.naga_ir.specs.declared.module.Module.{Module}
-use Rattle.naga_form.specs.ConstantForms.{written_out}
+use Rattle.naga_form.specs.ConstantForms.{written_constant_form, written_out}
 use Rattle.naga_form.specs.Images.{sampling_form, zero_is_written}
 use Rattle.naga_form.specs.Operators.{notation, applied_form}
 
@@ -110,11 +110,14 @@ abbrev pub selected_part : Selector → Expression → Expression
 selected_part (MemberNamed word) base = Member base word
 selected_part (ElementAt index) base = IndexAt base index
 
--- a function's expressions, what stands around them, and the names that types are spelled with
+-- a function's expressions, what stands around them, the names that types are spelled with, and the
+-- constants of the module
 pub record Source : Type 0 where
   pub expressions : List ir.Expression
   pub declared : Declared
   pub type_names : TypeNames
+  -- the form of a constant without a name
+  pub constant : ℕ → Expression
 
 -- those of a function of a module, with what is known of them
 abbrev pub function_source :
@@ -124,6 +127,7 @@ function_source m info f es =
       expressions = f.expressions;
       declared = declared m info (types_known es);
       type_names = type_names m;
+      constant = written_constant_form m (type_names m);
     }
 
 -- The operands of a sampling that are written by their handles: all but the offset.
@@ -139,7 +143,7 @@ sampling_operands e = expression_operands e
 -- the form of a constant that is written out
 abbrev pub constant_form : Source → ℕ → Expression
 constant_form source h =
-    written_out source.declared.around source.type_names source.expressions h
+    written_out source.declared.around source.type_names source.constant source.expressions h
 
 -- a sampling by an operator, with this offset
 abbrev pub sampled_plain : Source → (ℕ → PlainForm) → (at_zero : Bool) → List ℕ →
@@ -153,6 +157,7 @@ sampled_plain source operand at_zero hs offset None = no_form
 -- an expression that isn't named, over its operands' forms
 abbrev pub own_plain : Naming → Source → (ℕ → PlainForm) → ir.Expression → PlainForm
 own_plain n source operand (expression.Literal value) = ValueForm (Constant (literal_form value))
+own_plain n source operand (expression.Constant handle) = ValueForm (source.constant handle)
 own_plain n source operand (expression.ZeroValue ty) =
     applied_plain no_form (type_tree source.type_names ty) operand []
     (Some (constructor source.declared.around (Handle ty) 0))
