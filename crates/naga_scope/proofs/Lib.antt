@@ -6,7 +6,6 @@ pub mod Holding
 pub mod Marking
 pub mod Offsets
 pub mod FirstValues
-pub mod Forming
 pub mod Planned
 pub mod Sweeping
 pub mod WrittenConstants

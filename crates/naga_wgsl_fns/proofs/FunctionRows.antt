@@ -98,13 +98,13 @@ one_is_known m info accepted g f es here known =
     let both = zip_at m.functions info.functions.items g f es here known in
     (accepted_at m info accepted g f es (in_left (zip m.functions info.functions.items) (entry_points_known m info) g (f, es) both)).size
 
-pub can_write : (t : FunctionText) → IsTrue (is_accepted t.shader.now t.module_info.now) → IsTrue (is_written_so_far t.shader.now t.module_info.now) → HasNamesOf t.shader.now (names_in t.names.now) → slice_get t.shader.now.functions t.handle ≡ Some t.function.now → slice_get t.module_info.now.functions.items t.handle ≡ Some t.info.now → ExpressionsHaveForms t.shader.now t.module_info.now t.function.now t.info.now →
+pub can_write : (t : FunctionText) → IsTrue (is_accepted t.shader.now t.module_info.now) → IsTrue (is_written_so_far t.shader.now) → HasNamesOf t.shader.now (names_in t.names.now) → slice_get t.shader.now.functions t.handle ≡ Some t.function.now → slice_get t.module_info.now.functions.items t.handle ≡ Some t.info.now → ExpressionsHaveForms t.shader.now t.module_info.now t.function.now t.info.now →
     ((number : ℕ) → option_map_or string_bytes (slice_get t.given.now number) [] ≡ given_name t.shader.now t.handle number) → length (given_labels t.function.now) < 2 ^ 64 → CanWrite t
 can_write t accepted written named here known formed given room =
     let m = t.shader.now in
     let info = t.module_info.now in
     let f = t.function.now in
-    let part = written_so_far_parts m info written in
+    let part = written_so_far_parts m written in
     record {
       named = named;
       accepted = accepted;

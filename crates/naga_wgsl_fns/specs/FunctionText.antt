@@ -83,7 +83,7 @@ AreInText f handles = AllByRecursion (IsInText f) handles
 pub record CanWrite (f : FunctionText) : Type 0 where
   pub named : HasNamesOf f.shader.now (names_in f.names.now)
   pub accepted : IsTrue (is_accepted f.shader.now f.module_info.now)
-  pub of_part : IsTrue (is_written_so_far f.shader.now f.module_info.now)
+  pub of_part : IsTrue (is_written_so_far f.shader.now)
   pub function : slice_get f.shader.now.functions f.handle ≡ Some f.function.now
   pub infos : slice_get f.module_info.now.functions.items f.handle ≡ Some f.info.now
   pub values : IsTrue (list_all type_is_of_part f.shader.now.types)

@@ -67,7 +67,7 @@ for_want m info (Memory e) before after is = tt
 for_want m info _ before after is = absurd is
 
 -- and so is what is not written so far
-pub for_part : (m : Module) (info : ModuleInfo) (error : Error) (before after : ℕ) → IsNotYetWritten error → is_written_so_far m info ≡ false → IsRefusal m info before after error
+pub for_part : (m : Module) (info : ModuleInfo) (error : Error) (before after : ℕ) → IsNotYetWritten error → is_written_so_far m ≡ false → IsRefusal m info before after error
 for_part m info (Unimplemented message) before after is part = inl (is, part)
 for_part m info (Memory e) before after is part = tt
 for_part m info _ before after is part = absurd is
@@ -88,7 +88,7 @@ function_tells_of_module m _ (inl told) = absurd told
 
 -- a text that was appended
 module _ (m : Module) (info : ModuleInfo) (flags : WriterFlags)
-    (accepted : IsTrue (is_accepted m info)) (written : IsTrue (is_written_so_far m info))
+    (accepted : IsTrue (is_accepted m info)) (written : IsTrue (is_written_so_far m))
     (names : NameMap) (has : HasAllNames m names) where
   -- a plan of each function
   abbrev AllPlanned : Type 0

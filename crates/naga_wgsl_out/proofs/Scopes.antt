@@ -87,7 +87,7 @@ each_from [] at = tt
 each_from (f ∷ fs) at = (at 0 (omega arith), each_from fs (λ i lt. at (suc i) (omega (arith, lt))))
 
 -- where the rules hold in a module, they hold in each function
-pub scope_holds_in : (m : Module) (info : ModuleInfo) → IsTrue (is_written_so_far m info) →
+pub scope_holds_in : (m : Module) (info : ModuleInfo) → IsTrue (is_written_so_far m) →
     ScopesHold m info → (i : ℕ) → ScopeHoldsIn m info i
 scope_holds_in m info written rules i =
     let own = function_shapes m info m.functions info.functions.items in
@@ -130,7 +130,7 @@ shapes_below m info i lt = by m.functions info.functions.items i lt
         let rest = by fs ess i (omega (arith, lt)) in omega (arith, rest)
 
 -- where each function has a plan, the rules of scope hold in the module
-pub all_planned_hold : (m : Module) (info : ModuleInfo) → IsTrue (is_written_so_far m info) →
+pub all_planned_hold : (m : Module) (info : ModuleInfo) → IsTrue (is_written_so_far m) →
     ((i : ℕ) → i < length m.functions → HasPlan m info i) → ScopesHold m info
 all_planned_hold m info written planned =
     let own = function_shapes m info m.functions info.functions.items in
@@ -210,7 +210,7 @@ module _ (m : Module) (info : ModuleInfo) (i : ℕ) where
   fault_told items error tells (inr (inl formless)) = formless_told m info i error formless tells
   fault_told items error tells (inr (inr full)) = inr (inr (full.0, items))
 
-  pub fault_refuses : (before after : ℕ) → IsTrue (is_written_so_far m info) → (error : Error) →
+  pub fault_refuses : (before after : ℕ) → IsTrue (is_written_so_far m) → (error : Error) →
       TellsOfModule error → IsFault m info i error → IsRefusal m info before after error
   fault_refuses before after written (FmtError e) tells fault = absurd tells
   fault_refuses before after written (Memory e) tells fault = absurd tells
@@ -262,7 +262,7 @@ names_no_sink types known es (ImageLoad image coordinate array_index sample leve
 names_no_sink types known es _ reason named = named
 
 module _ (m : Module) (info : ModuleInfo) (accepted : IsTrue (is_accepted m info))
-    (written : IsTrue (is_written_so_far m info)) (i : ℕ) (f : ir_function.Function)
+    (written : IsTrue (is_written_so_far m)) (i : ℕ) (f : ir_function.Function)
     (stands : slice_get m.functions i ≡ Some f) where
   counted : length m.functions ≡ length info.functions.items
   counted = functions_counted m info accepted
@@ -275,7 +275,7 @@ module _ (m : Module) (info : ModuleInfo) (accepted : IsTrue (is_accepted m info
 
   pub function_written : IsTrue (function_is_written f)
   function_written =
-      list_all_at function_is_written m.functions i f (functions_are_written m info written) stands
+      list_all_at function_is_written m.functions i f (functions_are_written m written) stands
 
   -- where the check of the function fails, the rules don't hold in it
   out_of_scope : (namer : Names) → IsRefusalToPlanOf m info i namer OutOfScope →

@@ -182,7 +182,7 @@ IsRefusal m info before now (Custom message) =
     IsToldOf m (string_bytes message)
     ⊎ (IsOutOfScope m info (string_bytes message) ⊎ HasFormless m info (Custom message))
 IsRefusal m info before now (Unimplemented message) =
-    ((string_bytes message ≡ codes "not yet written") × IsFalse (is_written_so_far m info))
+    ((string_bytes message ≡ codes "not yet written") × IsFalse (is_written_so_far m))
     ⊎ HasFormless m info (Unimplemented message)
 IsRefusal m info before now error = HasFormless m info error
 
@@ -255,7 +255,7 @@ TellsPlanError types f known (plan_error.Memory e) told = told ≡ Memory e
 
 -- no reason stands in the module
 pub record IsWritable (m : Module) (info : ModuleInfo) : Type 0 where
-  pub written : IsTrue (is_written_so_far m info)
+  pub written : IsTrue (is_written_so_far m)
   pub in_scope : ScopesHold m info
   pub formed : OfEachFunction m info (ExpressionsHaveForms m info)
   pub told : NamerIsFull m → ⊥

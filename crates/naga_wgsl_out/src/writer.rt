@@ -145,7 +145,7 @@ impl<W: TextSink> Writer<W> {
             W.failures self.new.sink ≡ W.failures self.old.sink) }
         ensures flags { self.new.flags ≡ self.old.flags }
     {
-        if !is_written_so_far(module, info) {
+        if !is_written_so_far(module) {
             return Err(not_yet_written(self.alloc));
         }
         let (names, mut namer) = names_of(self.alloc, module)?;
@@ -174,7 +174,7 @@ fn write_functions<W: TextSink>(
     out: &mut W,
 ) -> Result<(), Error>
     requires accepted { IsTrue (is_accepted «module».now info.now) }
-    requires written { IsTrue (is_written_so_far «module».now info.now) }
+    requires written { IsTrue (is_written_so_far «module».now) }
     requires names { HasNamesOf «module».now (names_in names.now) }
     requires namer { HasNamedBefore «module».now 0 namer.old }
     ensures { WritesFunctions «module».now info.now flags result (W.text out.old)
@@ -197,7 +197,7 @@ fn plan_of(
     namer: &mut Namer,
 ) -> Result<Plan, Error>
     requires accepted { IsTrue (is_accepted «module».now info.now) }
-    requires written { IsTrue (is_written_so_far «module».now info.now) }
+    requires written { IsTrue (is_written_so_far «module».now) }
     requires handle { handle < length «module».now.functions }
     requires namer { HasNamedBefore «module».now handle namer.old }
     ensures ok { IfOk result (IsNamedPlan «module».now info.now handle namer.new) }
@@ -249,7 +249,7 @@ fn write_function_line<W: TextSink>(
     out: &mut W,
 ) -> Result<(), Error>
     requires accepted { IsTrue (is_accepted «module».now info.now) }
-    requires written { IsTrue (is_written_so_far «module».now info.now) }
+    requires written { IsTrue (is_written_so_far «module».now) }
     requires handle { handle < length «module».now.functions }
     requires names { HasNamesOf «module».now (names_in names.now) }
     requires planned { IsPlanOf «module».now info.now handle plan }

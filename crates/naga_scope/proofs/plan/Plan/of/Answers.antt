@@ -33,8 +33,8 @@ of_function-requires c =
     record {
       ordered = operands_stand_before m is.callees f is.ranges;
       written = list_all_at function_is_written m.functions g f
-          (functions_are_written m info c.requires.written) c.index.ensures;
-      formed = (written_so_far_parts m info c.requires.written).4;
+          (functions_are_written m c.requires.written) c.index.ensures;
+      formed = (written_so_far_parts m c.requires.written).4;
       known = λ h k at. fits_in_range (length m.overrides) m.types k.ty
           (known_is_fit m info c.requires.accepted g c.index-2.result.now c.index-2.ensures h k at);
     }
