@@ -5,7 +5,7 @@
 -- Throughout, types are a module's types, f tells what the type at a handle lacks, h is a handle, it
 -- a type by itself, s a scalar and r a type of an expression.
 use Rattle.std.specs.Prelude.{ℕ, zero, suc, List, Option, Some, None, if◌then◌else◌, slice_get}
-use Rattle.std.specs.Option.{is_some, option_and_then}
+use Rattle.std.specs.Option.{is_some, option_and_then, option_map_or}
 use Rattle.naga_ir.specs.declared.image.ImageClass.{ImageClass}
 use Rattle.naga_ir.specs.declared.image.ImageClass.TheVariants as class
 use Rattle.naga_ir.specs.declared.types.Scalar.{Scalar}
@@ -25,19 +25,27 @@ abbrev pub image_lacks : ImageClass → Option Scalar
 image_lacks (class.Sampled kind multi) = wordless (record { kind = kind; width = 4 })
 image_lacks _ = None
 
+-- the type that a pointer or an array is over
+abbrev pub over : TypeInner → Option ℕ
+over (inner.Pointer base space) = Some base
+over (inner.Array base size stride) = Some base
+over (inner.BindingArray base size) = Some base
+over _ = None
+
+-- what a type lacks that is over none
+abbrev pub own_lacks : TypeInner → Option Scalar
+own_lacks (inner.Scalar s) = wordless s
+own_lacks (inner.Vector size s) = wordless s
+own_lacks (inner.Matrix columns rows s) = wordless s
+own_lacks (inner.CooperativeMatrix columns rows s role) = wordless s
+own_lacks (inner.Atomic s) = wordless s
+own_lacks (inner.ValuePointer size s space) = wordless s
+own_lacks (inner.Image dim arrayed class) = image_lacks class
+own_lacks _ = None
+
 -- what a type by itself lacks, with what the types that it is over lack
 abbrev pub inner_lacks_by : (ℕ → Option Scalar) → TypeInner → Option Scalar
-inner_lacks_by f (inner.Scalar s) = wordless s
-inner_lacks_by f (inner.Vector size s) = wordless s
-inner_lacks_by f (inner.Matrix columns rows s) = wordless s
-inner_lacks_by f (inner.CooperativeMatrix columns rows s role) = wordless s
-inner_lacks_by f (inner.Atomic s) = wordless s
-inner_lacks_by f (inner.ValuePointer size s space) = wordless s
-inner_lacks_by f (inner.Pointer base space) = f base
-inner_lacks_by f (inner.Array base size stride) = f base
-inner_lacks_by f (inner.BindingArray base size) = f base
-inner_lacks_by f (inner.Image dim arrayed class) = image_lacks class
-inner_lacks_by f _ = None
+inner_lacks_by f it = option_map_or f (over it) (own_lacks it)
 
 -- the type at a handle, at most so many levels deep
 abbrev pub lacks_within : (levels : ℕ) → List Type_ → (handle : ℕ) → Option Scalar
