@@ -117,8 +117,20 @@ def scalar_of(ty):
 
 
 def waits(ty):
-    """Whether a type has no form, needs an extension, or is of a kind that is not written so far."""
-    return spelled(ty) is None or scalar_of(ty) in HALVES or ty[0] == "atomic"
+    """Whether a type needs an extension, or is of a kind that is not written so far."""
+    return scalar_of(ty) in HALVES or ty[0] == "atomic"
+
+
+def lacking_scalar(ty):
+    """The scalar without a word that a type is over, if it is over one."""
+    if ty[0] in ("array", "pointer"):
+        return lacking_scalar(ty[1])
+    scalar = scalar_of(ty)
+    if ty[0] == "value pointer":
+        scalar = ty[2]
+    if ty[0] == "image" and ty[3][0] == "sampled":
+        scalar = (ty[3][1], 4)
+    return None if scalar in SCALARS else scalar
 
 
 def with_scalar(ty, scalar):

@@ -4,7 +4,7 @@ from modules import EVENTS, IMAGES, LEAVES, PARTS, READS
 from naming import names_of
 from operators import (
     conversion_word, literal_text, numbers_around, offset_of, wanted_scalar, word_of)
-from spelling import part_of, points, scalar_of, spelled, waits
+from spelling import lacking_scalar, part_of, points, scalar_of, spelled, waits
 from words import MATH, RELATIONAL
 
 NOT_YET_WRITTEN = "not yet written"
@@ -37,7 +37,12 @@ def binds(f, h, uses):
     if h in f.labels or e.kind in IMAGES:
         return True
     # a part is written wherever it is used
-    return e.kind not in PARTS and uses[h] >= (1 if e.kind in READS else 2)
+    return (e.kind not in PARTS or is_partless(f, e)) and uses[h] >= (1 if e.kind in READS else 2)
+
+
+def is_partless(f, e):
+    """Whether the expression is a part of what has no parts."""
+    return e.kind in PARTS and part_of(f.type_of(e.operands[0])) is None
 
 
 def constants_of(f):
@@ -63,7 +68,8 @@ def answers_of(module, explicit):
     names, namer = names_of(module)
     text = ""
     for f, own in zip(module.functions, names):
-        standing = {formless(f, h) for h in written_of(f)} - {None}
+        standing = {formless(f, h) for h in written_of(f)} | set(map(formless_type, spelled_by(f, explicit)))
+        standing.discard(None)
         try:
             own_text = Writer(f, own, namer, explicit).write()
         except Refused:
@@ -75,13 +81,12 @@ def answers_of(module, explicit):
 
 
 def is_of_part(module):
-    """No type waits, first values are literals, and each part is one of what has parts."""
-    expressions = [(f, e) for f in module.functions for e in f.expressions]
+    """No type waits, and first values are literals."""
+    expressions = [e for f in module.functions for e in f.expressions]
     inits = [f.expressions[init] for f in module.functions for _, _, init in f.locals if init is not None]
     return (
-        not any(map(waits, module.types + [e.type for _, e in expressions]))
-        and all(e.kind == "literal" for e in inits)
-        and all(e.kind not in PARTS or part_of(f.type_of(e.operands[0])) is not None for f, e in expressions))
+        not any(map(waits, module.types + [e.type for e in expressions]))
+        and all(e.kind == "literal" for e in inits))
 
 
 def written_of(f):
@@ -99,6 +104,29 @@ def written_of(f):
     return written
 
 
+def spelled_by(f, explicit):
+    """The types of arguments, the result and locals, and those that `let`s tell."""
+    uses = uses_of(f)
+    emitted = [h for s in f.body if s[0] == "emit" for h in range(s[1], s[2] + 1)]
+    told = [f.type_of(h) for h in emitted if explicit and binds(f, h, uses)]
+    declared = [ty for _, ty in f.arguments] + [ty for _, ty, _ in f.locals]
+    return declared + [f.result] * (f.result is not None) + told
+
+
+def formless_type(ty):
+    """How a type without a form is named."""
+    if spelled(ty) is not None:
+        return None
+    scalar = lacking_scalar(ty)
+    return "type without a WGSL form" if scalar is None else formless_scalar(scalar)
+
+
+def formless_scalar(scalar):
+    kind, width = scalar
+    named = {"abstract": "AbstractInt"}.get(kind, kind.capitalize())
+    return f"Unsupported scalar type: Scalar {{ kind: {named}, width: {width} }}"
+
+
 def formless(f, h):
     """How an expression without a form is named."""
     e = f.expressions[h]
@@ -108,6 +136,10 @@ def formless(f, h):
         return "Unsupported math function: " + MATH[e.what[0]][0]
     if e.kind == "relational" and word_of(f, e) is None:
         return "Unsupported relational function: " + RELATIONAL[e.what[0]]
+    if e.kind in ("zero", "compose"):
+        return formless_type(e.type)
+    if is_partless(f, e):
+        return "cannot index"
     if e.kind == "conversion":
         return formless_conversion(f.type_of(e.operands[0]), e.what)
     if e.kind == "sample":
@@ -122,9 +154,7 @@ def formless_conversion(ty, what):
         return "conversion of this type"
     if conversion_word(ty, what) is not None:
         return None
-    kind, width = wanted_scalar(ty, what)
-    named = {"abstract": "AbstractInt"}.get(kind, kind.capitalize())
-    return f"Unsupported scalar type: Scalar {{ kind: {named}, width: {width} }}"
+    return formless_scalar(wanted_scalar(ty, what))
 
 
 def formless_sampling(f, e):
@@ -231,6 +261,9 @@ class Writer:
         e = self.f.expressions[h]
         base = e.operands[0]
         text = self.reference(self.use(base)) if self.is_reference(h) else self.base(base)
+        # one of what has no parts is told elsewhere
+        if is_partless(self.f, e):
+            return text
         return text + (f"[{self.operand(e.operands[1])}]" if e.kind == "access" else word_of(self.f, e))
 
     def called(self, e):

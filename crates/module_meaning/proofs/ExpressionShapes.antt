@@ -203,7 +203,8 @@ there d w (inner.ValuePointer None s space) index = refl
 there d w (inner.Vector size s) index = refl
 there d w _ index = refl
 
-there_if : (d : Declared) (w : Option ℕ) (index : ℕ) (o : Option TypeInner) →
+-- a type that is known has a part where it has parts
+pub there_if : (d : Declared) (w : Option ℕ) (index : ℕ) (o : Option TypeInner) →
     is_some (option_and_then (λ it. selector d w it index) o) ≡
     option_map_or (has_parts d.around.types) o false
 there_if d w index None = refl

@@ -93,9 +93,9 @@ functions_alone m info =
 
 -- as a module of the part does
 pub declares_functions_alone : (m : ir_module.Module) (info : ModuleInfo) →
-    IsTrue (is_written_so_far m info) → module_shape m info ≡ functions_alone m info
+    IsTrue (is_written_so_far m) → module_shape m info ≡ functions_alone m info
 declares_functions_alone m info written =
-    let is = written_so_far_parts m info written
+    let is = written_so_far_parts m written
     in let constants = and_parts (list_all (λ c. is_none c.name) m.constants) _ is.0
     in let named = none_named m.constants constants.0
     in let overrides = and_parts (length m.overrides == 0) _ constants.1

@@ -12,6 +12,7 @@ pub mod GivenLabels
 pub mod InfoSizes
 pub mod Initialisers
 pub mod Interface
+pub mod LackingScalars
 pub mod Literals
 pub mod Meanings
 pub mod ModuleShapes

@@ -1,8 +1,7 @@
 -- What is written so far of the modules. Others are refused as not yet written.
 --
--- Throughout, m is a module and info what is known of it, f a function, es are its expressions, e
--- is one, k is what is known of one, h is a handle, a an argument, r a result, s a statement, t a
--- type, and b the rest of a block.
+-- Throughout, m is a module, f a function, es are its expressions, e is one, k is what is known of
+-- one, h is a handle, a an argument, r a result, s a statement, t a type, and b the rest of a block.
 use Rattle.std.specs.Prelude.{ℕ, zero, suc, Bool, true, false, ◌&&◌, ◌||◌, not, List, length, ◌==◌}
 use Rattle.std.specs.Prelude.{Option, slice_get}
 use Rattle.std.specs.List.{list_all}
@@ -33,14 +32,11 @@ use Rattle.naga_ir.specs.declared.types.TypeInner.{TypeInner}
 use Rattle.naga_ir.specs.declared.types.TypeInner.TheVariants as inner
 use Rattle.naga_info.specs.Resolution.{inner_of}
 use Rattle.naga_info.specs.declared.info.ExpressionInfo.{ExpressionInfo}
-use Rattle.naga_info.specs.declared.info.ModuleInfo.{ModuleInfo}
 use Rattle.naga_info.specs.declared.info.TypeResolution.TheVariants.{Handle, Value}
 use Rattle.module_meaning.specs.AlikeTypes.{has_form}
 use Rattle.module_meaning.specs.Conversions.{conversion_target}
 use Rattle.module_meaning.specs.ExpressionOperators.{has_parts}
-use Rattle.module_meaning.specs.InfoSizes.{all_paired}
 use Rattle.module_meaning.specs.OperatorTable.{relational_word}
-use Rattle.module_meaning.specs.Ranges.{all_placed}
 use Rattle.module_meaning.specs.Sampling.{own_offset_is_written, sampling_is_written}
 use Rattle.wgsl_words.specs.Words.{math_word}
 
@@ -75,10 +71,6 @@ needs_nothing _ = true
 
 abbrev pub type_is_of_part : Type_ → Bool
 type_is_of_part t = needs_nothing t.inner
-
--- each type of a module has a form, so far
-abbrev pub types_have_forms : List Type_ → Bool
-types_have_forms types = all_placed (λ h t. has_form types (Handle h)) types
 
 -- ---- functions
 -- the literal is of `bool` or of one of these integer types
@@ -136,15 +128,16 @@ constant_is_written m h = initialiser_passes m (global_is_written m) h
 -- parts, a part at an index, an argument, a local, a load, an operator with a sign, the choice of
 -- one of two values, a vector of one value, components of a vector, a conversion, a derivative, an
 -- operation on an image that has a form, the length of an array, a product of cooperative matrices,
--- or a function of mathematics or a relation that has a word. A type that it spells has a form. A
--- constant without a name is written as its initialiser is.
+-- or a function of mathematics or a relation that has a word. A type that it spells has a form, and a
+-- known index is that of what has parts. A constant without a name is written as its initialiser is.
 abbrev pub expression_is_written : Module → List ExpressionInfo → Expression → Bool
 expression_is_written m es (Literal value) = is_written_literal value
+expression_is_written m es (Constant handle) = constant_is_written m handle
 expression_is_written m es (ZeroValue ty) = has_form m.types (Handle ty)
 expression_is_written m es (Compose ty components) = has_form m.types (Handle ty)
 expression_is_written m es (Access base index) = true
-expression_is_written m es (AccessIndex base index) = true
-expression_is_written m es (Constant handle) = constant_is_written m handle
+expression_is_written m es (AccessIndex base index) =
+    known_passes m.types es (has_parts m.types) base
 expression_is_written m es (FunctionArgument number) = true
 expression_is_written m es (LocalVariable handle) = true
 expression_is_written m es (Load pointer) = true
@@ -175,7 +168,7 @@ expression_has_form m known es e =
 
 -- What has no form is refused by name where it is written, and let be where it is not: a float, an
 -- abstract literal, a function of mathematics or a relation without a word, an operation on an image
--- without a form, and what spells a type without a form.
+-- without a form, what spells a type without a form, and a part at an index of what has no parts.
 abbrev pub literal_is_of_part : LiteralValue → Bool
 literal_is_of_part (literal.I16 value) = false
 literal_is_of_part (literal.U16 value) = false
@@ -209,14 +202,6 @@ expression_is_of_part (ArrayLength array) = true
 expression_is_of_part (CooperativeMultiplyAdd a b c) = true
 expression_is_of_part _ = false
 
--- The types of its operands let an expression be written: a known index is that of what has parts.
-abbrev pub types_allow : List Type_ → List ExpressionInfo → Expression → Bool
-types_allow types es (AccessIndex base index) = known_passes types es (has_parts types) base
-types_allow types es _ = true
-
--- so they do in a function
-abbrev pub types_allow_all : List Type_ → Function → List ExpressionInfo → Bool
-types_allow_all types f es = list_all (types_allow types es) f.expressions
 
 abbrev pub statement_is_written : StatementTree → Bool
 statement_is_written (simple (emit first last)) = true
@@ -240,15 +225,9 @@ function_is_written f =
     is_unbound f && (list_all expression_is_of_part f.expressions && block_is_written f.body)
 
 -- ---- modules
--- each type that is known of an expression of a function has a form, so far
-abbrev pub known_types_have_forms : List Type_ → ModuleInfo → Bool
-known_types_have_forms types info =
-    list_all (list_all (λ k. has_form types k.ty)) info.functions.items
-
--- Such types and such functions, of whose expressions such types are known, and the types of whose
--- operands let their expressions be written.
-unfoldable pub is_written_so_far : Module → ModuleInfo → Bool
-is_written_so_far m info =
-    declares_functions m && (list_all type_is_of_part m.types && (types_have_forms m.types &&
-    (list_all function_is_written m.functions && (known_types_have_forms m.types info &&
-    all_paired (types_allow_all m.types) m.functions info.functions.items))))
+-- Such types and such functions. A type without a form is refused by name where it is written, and
+-- let be where it is not.
+unfoldable pub is_written_so_far : Module → Bool
+is_written_so_far m =
+    declares_functions m &&
+    (list_all type_is_of_part m.types && list_all function_is_written m.functions)

@@ -358,7 +358,7 @@ pub(crate) fn has_form(types: &UniqueArena<Type_>, ty: &GivenType) -> bool
 }
 
 /// Whether WGSL spells an expression's type.
-pub(crate) fn is_spelled(types: &UniqueArena<Type_>, ty: &TypeResolution) -> bool
+pub fn is_spelled(types: &UniqueArena<Type_>, ty: &TypeResolution) -> bool
     ensures { result ≡ has_form types.now ty.now }
 {
     top_has_form(types, resolution_top(types, ty))

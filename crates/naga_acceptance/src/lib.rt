@@ -24,6 +24,7 @@ mod uses;
 mod walk;
 
 pub use acceptance::{accepts, unaccepted};
+pub use alike::is_spelled;
 pub use counts::count;
 pub use faults::{Fault, Item, Part, Unaccepted};
 pub use part::is_written_so_far;

@@ -1,57 +1,56 @@
 //! The part of the modules that is written so far.
 
-ghost use Rattle.std.specs.Prelude.{◌≡◌, false, slice_get};
+ghost use Rattle.std.specs.Prelude.{◌≡◌, slice_get};
 ghost use Rattle.std.specs.List.{list_all};
-ghost use Rattle.std.specs.Option.{is_none, option_map_or};
+ghost use Rattle.std.specs.Option.{is_none};
 ghost use Rattle.naga_ir.specs.StatementViews.{tree_of};
-ghost use Rattle.naga_info.specs.Resolution.{inner_of};
-ghost use Rattle.module_meaning.specs.ExpressionOperators.{has_parts, is_composite};
-ghost use Rattle.module_meaning.specs.InfoSizes.{all_paired};
-ghost use Rattle.module_meaning.specs.AlikeTypes.{has_form};
 ghost use Rattle.module_meaning.specs.Part.{block_is_written, declares_functions};
 ghost use Rattle.module_meaning.specs.Part.{expression_is_of_part, literal_is_of_part};
 ghost use Rattle.module_meaning.specs.Part.{function_is_written, is_unbound};
 ghost use Rattle.module_meaning.specs.Part.{is_extended, is_written_so_far};
-ghost use Rattle.module_meaning.specs.Part.{known_types_have_forms, needs_nothing};
-ghost use Rattle.module_meaning.specs.Part.{statement_is_written, type_is_of_part, types_allow};
-ghost use Rattle.module_meaning.specs.Part.{types_allow_all, types_have_forms};
+ghost use Rattle.module_meaning.specs.Part.{needs_nothing, statement_is_written, type_is_of_part};
 
-use crate::alike::is_spelled;
-use crate::parts::{inner_at, inner_of};
-use naga_info::{ExpressionInfo, FunctionInfo, ModuleInfo, TypeResolution};
 use naga_ir::{
-    Arena, Block, Expression, Function, FunctionArgument, Handle, Literal, Module,
-    Place, Scalar, ScalarKind, Statement, Type_, TypeInner, UniqueArena,
+    Arena, Block, Constant, Expression, Function, FunctionArgument, Literal, Module, Scalar,
+    ScalarKind, Statement, Type_, TypeInner, UniqueArena,
 };
 
 /// Whether the module is of the part that is written so far: it declares nothing but functions and
-/// types that need no extension, no declaration and are no atomics; the types have forms, and so has
-/// what is known of the functions' expressions. The functions'
-/// arguments and results are bound to nothing; their expressions are arguments, locals, literals of all types but 16 bits, zero values,
+/// types that need no extension, no declaration and are no atomics, and its constants have no names;
+/// the functions' arguments and results are bound to nothing; their expressions are arguments,
+/// locals, constants, literals of all types but 16 bits, zero values,
 /// values of a type composed of others, loads, operators with a sign, choices, vectors of one value,
 /// swizzles, parts at an index, conversions, derivatives, operations on images, lengths of arrays,
 /// products of cooperative matrices, and calls of functions of mathematics and of relations; and
-/// their statements are `Emit`s, `Store`s and `Return`s. A known index is that of what has parts.
+/// their statements are `Emit`s, `Store`s and `Return`s. Types without a form may stand in it.
 #[tactic(auto, unfolding(module_meaning::specs::Part::is_written_so_far))]
-pub fn is_written_so_far(module: &Module, info: &ModuleInfo) -> bool
-    ensures { result ≡ is_written_so_far «module».now info.now }
+pub fn is_written_so_far(module: &Module) -> bool
+    ensures { result ≡ is_written_so_far «module».now }
 {
     declares_functions(module)
         && types_are_of_part(&module.types)
-        && types_have_forms(&module.types)
         && functions_are_written(&module.functions)
-        && known_types_have_forms(&module.types, info)
-        && types_allow_functions(&module.types, &module.functions, info.functions.as_slice())
 }
 
 fn declares_functions(module: &Module) -> bool
     ensures { result ≡ declares_functions «module».now }
 {
-    module.constants.is_empty()
+    are_unnamed(&module.constants)
         && module.overrides.is_empty()
         && module.global_variables.is_empty()
-        && module.global_expressions.is_empty()
         && module.entry_points.is_empty()
+}
+
+/// Whether no constant has a name.
+fn are_unnamed(constants: &Arena<Constant>) -> bool
+    ensures { result ≡ list_all (λ c. is_none c.name) constants.now }
+{
+    for (_, constant) in constants.iter() {
+        if constant.name.is_some() {
+            return false;
+        }
+    }
+    true
 }
 
 /// Whether a module enables an extension for the scalar: an integer or a float of 16 bits.
@@ -95,47 +94,6 @@ fn types_are_of_part(types: &UniqueArena<Type_>) -> bool
         }
     }
     true
-}
-
-/// Whether each type of the module has a form.
-fn types_have_forms(types: &UniqueArena<Type_>) -> bool
-    ensures { result ≡ types_have_forms types.now }
-{
-    for (handle, _) in types.iter() {
-        if !is_spelled(types, &TypeResolution::Handle(handle)) {
-            return false;
-        }
-    }
-    true
-}
-
-fn expression_types_have_forms(types: &UniqueArena<Type_>, infos: &[ExpressionInfo]) -> bool
-    ensures { result ≡ list_all (λ k. has_form types.now k.ty) infos.now }
-{
-    for info in infos {
-        if !is_spelled(types, &info.ty) {
-            return false;
-        }
-    }
-    true
-}
-
-fn function_types_have_forms(types: &UniqueArena<Type_>, infos: &[FunctionInfo]) -> bool
-    ensures { result ≡ list_all (list_all (λ k. has_form types.now k.ty)) infos.now }
-{
-    for info in infos {
-        if !expression_types_have_forms(types, info.expressions.as_slice()) {
-            return false;
-        }
-    }
-    true
-}
-
-/// Whether each type that is known of an expression of a function has a form.
-fn known_types_have_forms(types: &UniqueArena<Type_>, info: &ModuleInfo) -> bool
-    ensures { result ≡ known_types_have_forms types.now info.now }
-{
-    function_types_have_forms(types, info.functions.as_slice())
 }
 
 fn functions_are_written(functions: &Arena<Function>) -> bool
@@ -190,6 +148,7 @@ fn expression_is_of_part(expression: &Expression) -> bool
 {
     match expression {
         Expression::ZeroValue(_)
+        | Expression::Constant(_)
         | Expression::Compose { .. }
         | Expression::Access { .. }
         | Expression::AccessIndex { .. }
@@ -211,88 +170,6 @@ fn expression_is_of_part(expression: &Expression) -> bool
         | Expression::ArrayLength(_)
         | Expression::CooperativeMultiplyAdd { .. } => true,
         Expression::Literal(literal) => literal_is_of_part(*literal),
-        _ => false,
-    }
-}
-
-/// Whether the types of operands let the expressions of each function be written, where all of
-/// these are known.
-fn types_allow_functions(
-    types: &UniqueArena<Type_>,
-    functions: &Arena<Function>,
-    infos: &[FunctionInfo],
-) -> bool
-    ensures { result ≡ all_paired (types_allow_all types.now) functions.now infos.now }
-{
-    if functions.len() != infos.len() {
-        return false;
-    }
-    for (index, info) in infos.iter().enumerate() {
-        let handle = Place::from_index(index);
-        if !types_allow_all(types, &functions[handle], info) {
-            return false;
-        }
-    }
-    true
-}
-
-fn types_allow_all(types: &UniqueArena<Type_>, function: &Function, info: &FunctionInfo) -> bool
-    ensures { result ≡ types_allow_all types.now function.now info.now }
-{
-    for (_, expression) in function.expressions.iter() {
-        if !types_allow(types, info, expression) {
-            return false;
-        }
-    }
-    true
-}
-
-/// Whether the types of its operands let an expression be written: a known index is that of what
-/// has parts.
-fn types_allow(types: &UniqueArena<Type_>, info: &FunctionInfo, expression: &Expression) -> bool
-    ensures { result ≡ types_allow types.now info.now expression.now }
-{
-    match expression {
-        Expression::AccessIndex { base, .. } => match info.expressions.get(base.index()) {
-            Some(known) => resolution_has_parts(types, &known.ty),
-            None => false,
-        },
-        _ => true,
-    }
-}
-
-fn resolution_has_parts(types: &UniqueArena<Type_>, ty: &TypeResolution) -> bool
-    ensures { result ≡ option_map_or (has_parts types.now) (inner_of ty.now types.now) false }
-{
-    match inner_of(types, ty) {
-        Some(inner) => has_parts(types, inner),
-        None => false,
-    }
-}
-
-/// Whether a type, or what it points to, is made of parts.
-fn has_parts(types: &UniqueArena<Type_>, inner: &TypeInner) -> bool
-    ensures { result ≡ has_parts types.now inner.now }
-{
-    match inner {
-        TypeInner::Pointer { base, .. } => match inner_at(types, *base) {
-            Some(inner) => is_composite(inner),
-            None => false,
-        },
-        TypeInner::ValuePointer { size, .. } => size.is_some(),
-        _ => is_composite(inner),
-    }
-}
-
-fn is_composite(inner: &TypeInner) -> bool
-    ensures { result ≡ is_composite inner.now }
-{
-    match inner {
-        TypeInner::Vector { .. }
-        | TypeInner::Matrix { .. }
-        | TypeInner::Array { .. }
-        | TypeInner::BindingArray { .. }
-        | TypeInner::Struct { .. } => true,
         _ => false,
     }
 }

@@ -1,8 +1,10 @@
 //! What types are made of, and the types of parts, without memory.
 
-ghost use Rattle.std.specs.Prelude.{◌≡◌, slice_get};
-ghost use Rattle.std.specs.Option.{is_some, option_copied, option_map};
+ghost use Rattle.std.specs.Prelude.{◌≡◌, false, slice_get};
+ghost use Rattle.std.specs.Option.{is_some, option_copied, option_map, option_map_or};
 ghost use Rattle.naga_acceptance.specs.KnownTypes.{given, known_types};
+ghost use Rattle.module_meaning.specs.ExpressionOperators.{has_parts, is_composite};
+ghost use Rattle.module_meaning.specs.Part.{known_passes};
 ghost use Rattle.module_meaning.specs.TypeIdentity.{vector_number};
 ghost use Rattle.module_meaning.specs.TypeParts.{component_pointer, element_count};
 ghost use Rattle.module_meaning.specs.TypeParts.{has_computed_parts, inner_at, is_part_number};
@@ -122,6 +124,57 @@ pub(crate) fn known_inner<'a>(
     match known_type(known, handle) {
         Some(ty) => inner_of(types, ty),
         None => None,
+    }
+}
+
+/// Whether the type that is known of the expression with this handle, or what it points to, is made
+/// of parts.
+pub fn known_has_parts(
+    types: &UniqueArena<Type_>,
+    known: &[ExpressionInfo],
+    handle: Handle<Expression>,
+) -> bool
+    ensures { result ≡ known_passes types.now known.now (has_parts types.now) handle }
+{
+    match known.get(handle.index()) {
+        Some(info) => resolution_has_parts(types, &info.ty),
+        None => false,
+    }
+}
+
+fn resolution_has_parts(types: &UniqueArena<Type_>, ty: &TypeResolution) -> bool
+    ensures { result ≡ option_map_or (has_parts types.now) (inner_of ty.now types.now) false }
+{
+    match inner_of(types, ty) {
+        Some(inner) => has_parts(types, inner),
+        None => false,
+    }
+}
+
+/// Whether a type, or what it points to, is made of parts.
+fn has_parts(types: &UniqueArena<Type_>, inner: &TypeInner) -> bool
+    ensures { result ≡ has_parts types.now inner.now }
+{
+    match inner {
+        TypeInner::Pointer { base, .. } => match inner_at(types, *base) {
+            Some(inner) => is_composite(inner),
+            None => false,
+        },
+        TypeInner::ValuePointer { size, .. } => size.is_some(),
+        _ => is_composite(inner),
+    }
+}
+
+fn is_composite(inner: &TypeInner) -> bool
+    ensures { result ≡ is_composite inner.now }
+{
+    match inner {
+        TypeInner::Vector { .. }
+        | TypeInner::Matrix { .. }
+        | TypeInner::Array { .. }
+        | TypeInner::BindingArray { .. }
+        | TypeInner::Struct { .. } => true,
+        _ => false,
     }
 }
 

@@ -7,6 +7,7 @@ use Rattle.std.specs.List.{list_all}
 use Rattle.std.proofs.lemmas.Option.{same_Some, slice_get-map}
 use Rattle.naga_ir.specs.declared.expression.SwizzleComponent.TheVariants as component
 use Rattle.naga_ir.specs.declared.types.Type_.{Type_}
+use Rattle.module_meaning.proofs.ExpressionShapes.{there_if}
 use Rattle.module_meaning.specs.AlikeTypes.{has_form}
 use Rattle.module_meaning.specs.Part.{converts, expression_is_written, known_passes}
 use Rattle.module_meaning.specs.Part.{type_is_of_part}
@@ -17,7 +18,7 @@ use Rattle.wgsl_text.specs.Types.{TypeSpecifier}
 use Rattle.wgsl_text.specs.Literals.{IsPlainNumber}
 use Rattle.wgsl_text.specs.Words.{IsWord}
 use Rattle.naga_form.proofs.Letters.{letter_is_a_word}
-use Rattle.std.specs.Option.{option_and_then, option_map, option_map_or}
+use Rattle.std.specs.Option.{is_some, option_and_then, option_map, option_map_or}
 use Rattle.naga_info.specs.Resolution.{inner_of, handle_of}
 use Rattle.naga_info.specs.declared.info.ExpressionInfo.{ExpressionInfo}
 use Rattle.naga_info.specs.declared.info.ModuleInfo.{ModuleInfo}
@@ -34,7 +35,6 @@ use Rattle.naga_ir.specs.declared.types.TypeInner.TheVariants as inner
 use Rattle.module_meaning.specs.ExpressionOperators.{has_parts, is_composite, type_with}
 use Rattle.module_meaning.specs.ExpressionShapes.{Declared, component_letters, own_selector}
 use Rattle.module_meaning.specs.ExpressionShapes.{part_selector, selector}
-use Rattle.module_meaning.specs.Part.{types_allow}
 use Rattle.module_meaning.specs.Surroundings.{declared, types_known}
 use Rattle.shader_runs.specs.Value.{Selector, MemberNamed, ElementAt}
 
@@ -137,7 +137,7 @@ abbrev pub KnownBase : Module → List ExpressionInfo → ℕ → Type 0
 KnownBase m es base = KnownOperand m es (has_parts m.types) base
 
 pub known_base : (m : Module) (es : List ExpressionInfo) (base index : ℕ) →
-    types_allow m.types es (AccessIndex base index) ≡ true → KnownBase m es base
+    expression_is_written m.types es (AccessIndex base index) ≡ true → KnownBase m es base
 known_base m es base index may = known_operand m es (has_parts m.types) base may
 
 -- what a conversion that is written takes, and what it gives, which has a form
@@ -202,8 +202,28 @@ module _ (m : Module) (info : ModuleInfo) (es : List ExpressionInfo) where
       (slice_get-map (λ k. k.ty) es base ∙ ap (option_map (λ k. k.ty)) b.there)
       ∙ ap (option_and_then (λ it. selector d (handle_of b.known.ty) it index)) b.is
 
+  -- there is a part just where the base is known to have parts
+  pub part_there : (base index : ℕ) →
+      is_some (part_selector d base index) ≡ known_passes m.types es (has_parts m.types) base
+  part_there base index =
+      ap
+      (λ o. is_some (option_and_then
+      (λ r. option_and_then (λ it. selector d (handle_of r) it index) (inner_of r m.types)) o))
+      (slice_get-map (λ k. k.ty) es base)
+      ∙ by (slice_get es base)
+    where
+      by : (o : Option ExpressionInfo) →
+          is_some
+          (option_and_then
+          (λ r. option_and_then (λ it. selector d (handle_of r) it index) (inner_of r m.types))
+          (option_map (λ k. k.ty) o)) ≡
+          option_map_or (λ k. option_map_or (has_parts m.types) (inner_of k.ty m.types) false) o
+          false
+      by None = refl
+      by (Some k) = there_if d (handle_of k.ty) index (inner_of k.ty m.types)
+
   -- its index selects a part
-  pub selected : (base index : ℕ) → types_allow m.types es (AccessIndex base index) ≡ true →
+  pub selected : (base index : ℕ) → expression_is_written m.types es (AccessIndex base index) ≡ true →
       (x : Selector) × (part_selector d base index ≡ Some x)
   selected base index may =
       let b = known_base m es base index may in
@@ -211,7 +231,7 @@ module _ (m : Module) (info : ModuleInfo) (es : List ExpressionInfo) where
       (x.0, selector_is base index b ∙ x.1)
 
   -- by a word or a number of the grammar, where no type is a struct
-  pub selected_well : (base index : ℕ) → types_allow m.types es (AccessIndex base index) ≡ true →
+  pub selected_well : (base index : ℕ) → expression_is_written m.types es (AccessIndex base index) ≡ true →
       list_all type_is_of_part m.types ≡ true →
       ((h : ℕ) (k : ExpressionInfo) → slice_get es h ≡ Some k → IsFit m k.ty) → index < 2 ^ 32 →
       (x : Selector) → part_selector d base index ≡ Some x → IsWellSelected x

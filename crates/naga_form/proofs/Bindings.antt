@@ -167,8 +167,8 @@ functions_tell explicit names m info g (f ∷ fs) (es ∷ ess) written =
     ∙ (λ i. map (λ b. told_spells explicit t es b.handle i) (function_bindings n)) in
     λ i. line i ∷ functions_tell explicit names m info (g + 1) fs ess parts.1 i
 
-pub binds_as : (m : Module) (info : ModuleInfo) (explicit : Bool) → IsTrue (is_accepted m info) → IsTrue (is_written_so_far m info) → AllWrittenHaveForms explicit m info → BindsAs m info explicit (written_program m info explicit)
+pub binds_as : (m : Module) (info : ModuleInfo) (explicit : Bool) → IsTrue (is_accepted m info) → IsTrue (is_written_so_far m) → AllWrittenHaveForms explicit m info → BindsAs m info explicit (written_program m info explicit)
 binds_as m info explicit accepted written have =
     let names = ap text_lets (reads_as_shapes m info explicit accepted written have) ∙ binds_as_meant (module_shape m info) (outer_names (module_names m)) (namings (module_names m) m info) in
-    let annotations = functions_tell explicit (module_names m) m info 0 m.functions info.functions.items (functions_are_written m info written) in
+    let annotations = functions_tell explicit (module_names m) m info 0 m.functions info.functions.items (functions_are_written m written) in
     λ i. record { names = names i; annotations = annotations i }

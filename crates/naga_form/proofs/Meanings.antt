@@ -124,14 +124,14 @@ steady_calls env w m (f ∷ fs) all j n g vs t =
     ∙ ap (λ o. cond (nat_eq g (length fs)) o (run_call env w m n fs g vs t)) (own_steady env w m f fs g vs t all.0 (run_call env w m n fs) j n)
 
 -- ---- a module of the part
-module _ (m : Module) (info : ModuleInfo) (written : IsTrue (is_written_so_far m info)) where
+module _ (m : Module) (info : ModuleInfo) (written : IsTrue (is_written_so_far m)) where
   abbrev shape : shapes.Module
   shape = module_shape m info
 
   all_written : AllAreWritten shape.functions
   all_written =
       subst (λ (p : shapes.Module). AllAreWritten p.functions) (sym (declares_functions_alone m info written))
-      (all_are_written m info (written_so_far_parts m info written).1 m.functions info.functions.items (functions_are_written m info written) [] tt)
+      (all_are_written m info (written_so_far_parts m written).1 m.functions info.functions.items (functions_are_written m written) [] tt)
 
   pub has_world : HasTypedWorld m info
   has_world settings fit meaning typed =

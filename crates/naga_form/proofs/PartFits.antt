@@ -17,7 +17,7 @@ use Rattle.module_meaning.specs.ExpressionOperators.{cast, cast_to, constructor}
 use Rattle.module_meaning.specs.ExpressionShapes.{Declared, shape_of, applied_shape, constant_shape}
 use Rattle.module_meaning.specs.OperatorTable.{BinarySign, UnarySign, Choice, Mathematical}
 use Rattle.module_meaning.specs.OperatorTable.{Relation, Splat, run_word, Operator, Construct}
-use Rattle.module_meaning.specs.OperatorTable.{WithoutForm, ValueOf, Cast, Derivative, with_type}
+use Rattle.module_meaning.specs.OperatorTable.{WithoutForm, ValueOf, Cast, PartAt, Derivative, with_type}
 use Rattle.module_meaning.specs.Ranges.{function_in_range, names_in_range}
 use Rattle.module_meaning.specs.Types.{type_names}
 use Rattle.naga_info.specs.declared.info.TypeResolution.{TypeResolution}
@@ -79,11 +79,11 @@ use Rattle.naga_form.proofs.WellFormed.{any_shape}
 use Rattle.naga_form.proofs.FunctionsFit.{IsLeft}
 use Rattle.naga_form.proofs.Regular.{AreWorded, IsWorded}
 use Rattle.module_meaning.specs.Writable.{only_empty_fall, only_empty_fall_in}
-use Rattle.module_meaning.specs.Part.{function_is_written, block_is_written, statement_is_written, type_is_of_part, is_unbound, expression_is_of_part, types_allow, types_allow_all}
-use Rattle.module_meaning.specs.ExpressionShapes.{part_shape}
+use Rattle.module_meaning.specs.Part.{function_is_written, block_is_written, statement_is_written, type_is_of_part, is_unbound, expression_is_of_part}
+use Rattle.module_meaning.specs.ExpressionShapes.{part_selector, part_shape}
 use Rattle.module_meaning.specs.Conversions.{conversion_target}
 use Rattle.module_meaning.specs.ExpressionOperators.{type_known}
-use Rattle.naga_form.proofs.AllowedParts.{selected, target_fit}
+use Rattle.naga_form.proofs.AllowedParts.{target_fit}
 use Rattle.naga_form.specs.TypeTrees.{resolution_tree}
 use Rattle.naga_ir.specs.declared.types.ScalarKind.{ScalarKind}
 use Rattle.naga_ir.specs.declared.types.TypeInner.{TypeInner}
@@ -107,6 +107,7 @@ use Rattle.std.proofs.Common.{◌++◌}
 use Rattle.std.specs.Option.{is_some, option_to_list}
 use Rattle.std.specs.Prelude.{if◌then◌else◌}
 use Rattle.module_meaning.proofs.Lists.{list_all_at}
+use Rattle.shader_runs.specs.Value.{Selector}
 use Rattle.std.proofs.lemmas.Bool.{and_from}
 use Rattle.std.specs.List.{list_all}
 
@@ -161,7 +162,7 @@ none_listed : (i : ℕ) (ts : List ValueType) → ts ≡ [] → i < length ts �
 none_listed i ts e lt = let none : i < 0 = subst (λ ts. i < length ts) e lt in omega (arith, none)
 
 -- ---- one function
-module _ (m : Module) (info : ModuleInfo) (values : IsTrue (list_all type_is_of_part m.types)) (are : TypesAreCounted m) (g : ℕ) (f : ir_function.Function) (found : slice_get m.functions g ≡ Some f) (es : List ExpressionInfo) (callees : ℕ) (ranges : function_in_range m callees f ≡ true) (written : IsTrue (function_is_written f)) (allowed : IsTrue (types_allow_all m.types f es)) (p : shapes.Module) (constants : p.constant_types ≡ []) (globals : p.global_types ≡ []) (counted : length p.functions ≡ length m.functions) where
+module _ (m : Module) (info : ModuleInfo) (values : IsTrue (list_all type_is_of_part m.types)) (are : TypesAreCounted m) (g : ℕ) (f : ir_function.Function) (found : slice_get m.functions g ≡ Some f) (es : List ExpressionInfo) (callees : ℕ) (ranges : function_in_range m callees f ≡ true) (written : IsTrue (function_is_written f)) (p : shapes.Module) (constants : p.constant_types ≡ []) (globals : p.global_types ≡ []) (counted : length p.functions ≡ length m.functions) where
   abbrev own : Naming
   own = function_naming (module_names m) m info g f es
 
@@ -409,10 +410,9 @@ module _ (m : Module) (info : ModuleInfo) (values : IsTrue (list_all type_is_of_
   level_words _ unwritten cs all = all
 
   words : (h : ℕ) (e : ir.Expression) → expression_is_of_part e ≡ true →
-      types_allow m.types es e ≡ true →
       names_in_range m callees (length f.arguments.items) (length f.local_variables) e ≡ true →
       WordFits p own (Some (shape_of d f.expressions h e))
-  words h (expression.ZeroValue ty) is may range =
+  words h (expression.ZeroValue ty) is range =
       made_words 0 ty
       (λ op. WordFits p own
       (Some
@@ -421,20 +421,20 @@ module _ (m : Module) (info : ModuleInfo) (values : IsTrue (list_all type_is_of_
       (d.around.known h)))))
       (λ word operates. zero_words word operates (d.around.known h))
       (λ operates. zero_words (run_word (unmade 0 ty)) operates (d.around.known h))
-  words h (expression.Compose ty components) is may range =
+  words h (expression.Compose ty components) is range =
       made_words (length components.items) ty
       (λ op. WordFits p own (Some (applied_shape op components.items)))
       (λ word operates. operates) (λ operates. operates)
-  words h (expression.As operand kind convert) is may range =
+  words h (expression.As operand kind convert) is range =
       converted_words (option_map_or (λ it. keeps_bits it convert) (type_known d.around operand) false)
       kind convert operand (type_known d.around operand)
       (option_and_then (λ it. conversion_target it kind convert) (type_known d.around operand))
       (target_is_fit kind convert (type_known d.around operand))
-  words h (expression.Derivative axis how expr) is may range =
+  words h (expression.Derivative axis how expr) is range =
       (asks_by (run_word (Derivative axis how)) (derivative_free axis how), tt)
   words h
       (expression.ImageSample
-      image sampler gather coordinate array_index offset level depth_ref clamp) is may range =
+      image sampler gather coordinate array_index offset level depth_ref clamp) is range =
       let of_depths = option_map_or is_depth_image (type_known d.around image) false in
       let op =
       sample_operator of_depths gather (level_of level) (is_some depth_ref) clamp
@@ -444,45 +444,46 @@ module _ (m : Module) (info : ModuleInfo) (values : IsTrue (list_all type_is_of_
             (is_some array_index) (is_some offset)),
         level_words level (is_some gather || (is_some depth_ref || clamp)) _ (offset_words offset),
       )
-  words h (expression.ImageLoad image coordinate array_index sample level) is may range =
+  words h (expression.ImageLoad image coordinate array_index sample level) is range =
       let op = Texel (is_some array_index) (texel_of (is_some sample) (is_some level)) in
       (asks_by (run_word op) (texel_free (is_some array_index) (is_some sample) (is_some level)), tt)
-  words h (expression.ImageQuery image query) is may range =
+  words h (expression.ImageQuery image query) is range =
       query_words (query_operator query) (query_asks query) (query_free query)
       (image ∷ query_operands query)
-  words h (expression.ArrayLength array) is may range =
+  words h (expression.ArrayLength array) is range =
       operates (run_word ArrayLength) length_free
-  words h (expression.CooperativeMultiplyAdd x y z) is may range =
+  words h (expression.CooperativeMultiplyAdd x y z) is range =
       operates (run_word CooperativeMultiplyAdd) product_free
-  words h (expression.Access base index) is may range = tt
-  words h (expression.AccessIndex base index) is may range =
-      let x = selected m info es base index may in
-      subst (λ o. WordFits p own (Some (part_shape base index o))) (sym x.1) tt
-  words h (expression.FunctionArgument number) is may range = tt
-  words h (expression.LocalVariable handle) is may range = tt
-  words h (expression.Swizzle size vector pattern) is may range = tt
-  words h (expression.Load pointer) is may range =
+  words h (expression.Access base index) is range = tt
+  words h (expression.AccessIndex base index) is range = by (part_selector d base index)
+    where
+      by : (o : Option Selector) → WordFits p own (Some (part_shape base index o))
+      by (Some x) = tt
+      by None = operates (run_word (WithoutForm (PartAt index))) (formless_free (PartAt index))
+  words h (expression.FunctionArgument number) is range = tt
+  words h (expression.LocalVariable handle) is range = tt
+  words h (expression.Swizzle size vector pattern) is range = tt
+  words h (expression.Load pointer) is range =
       subst (λ s. WordFits p own (Some s))
       (sym (plain_load d f.expressions h pointer (points_plainly d.around values pointer))) tt
-  words h (expression.Literal value) is may range = tt
-  words h (expression.Unary op expr) is may range = operates (run_word (UnarySign op)) (unary_free op)
-  words h (expression.Binary op left right) is may range =
+  words h (expression.Literal value) is range = tt
+  words h (expression.Unary op expr) is range = operates (run_word (UnarySign op)) (unary_free op)
+  words h (expression.Binary op left right) is range =
       operator_any (λ s. WordFits p own (Some s)) (BinarySign op) (left ∷ right ∷ [])
       (λ j l r. tt) (operates (run_word (BinarySign op)) (binary_free op))
-  words h (expression.Select condition accept reject) is may range = operates (run_word Choice) choice_free
-  words h (expression.Splat size value) is may range = operates (run_word (Splat size)) (splat_free size)
-  words h (expression.Math fun arg arg1 arg2 arg3) is may range =
+  words h (expression.Select condition accept reject) is range = operates (run_word Choice) choice_free
+  words h (expression.Splat size value) is range = operates (run_word (Splat size)) (splat_free size)
+  words h (expression.Math fun arg arg1 arg2 arg3) is range =
       operates (run_word (Mathematical fun)) (math_free fun)
-  words h (expression.Relational fun argument) is may range =
+  words h (expression.Relational fun argument) is range =
       operates (run_word (Relation fun)) (relation_free fun)
-  words h _ is may range = absurd cc
+  words h _ is range = absurd cc
 
   words_at : (h : ℕ) (e : ir.Expression) → slice_get f.expressions h ≡ Some e →
       WordFits p own (Some (shape_of d f.expressions h e))
   words_at h e at =
       words h e
       (list_all_at expression_is_of_part f.expressions h e (function_parts f written).expressions at)
-      (list_all_at (types_allow m.types es) f.expressions h e allowed at)
       (names_are_in_range m callees f ranges h e at)
 
   -- ---- statements

@@ -1,5 +1,5 @@
--- The types of an accepted module of the part: they have forms, their parts stand before them, and they
--- name no struct and no override.
+-- The types of an accepted module of the part: their parts stand before them, and they name no struct
+-- and no override.
 use Rattle.std.proofs.Common.{◌≡◌, ℕ, zero, suc, ◌<◌, ◌≤◌, ◌+◌, Bool, true, List, length, Option}
 use Rattle.std.proofs.Common.{Some, None, refl, sym, ap, subst, ◌∙◌, slice_get, arith}
 use Rattle.std.specs.Prelude.{IsTrue, nat_lt, ◌==◌}
@@ -93,88 +93,18 @@ module _ (m : Module) (info : ModuleInfo) (accepted : IsTrue (is_accepted m info
           let two = and_parts (parts_before (length m.types) it) (numbers_in_range (length m.overrides) it) one.1 in
           (and_parts (length_within (length m.overrides) it) _ two.1).0
 
-  module _ (of_part : IsTrue (is_written_so_far m info)) where
+  module _ (of_part : IsTrue (is_written_so_far m)) where
     pub part_types : TypesAreCounted m
-    part_types = types_are_counted m info accepted (written_are_told m info of_part).types
+    part_types = types_are_counted m info accepted (written_are_told m of_part).types
 
     pub no_overrides : length m.overrides ≡ 0
     no_overrides =
-        let one = and_parts (length m.constants == 0) _ (written_so_far_parts m info of_part).0 in
+        let one = and_parts (length m.constants == 0) _ (written_so_far_parts m of_part).0 in
         let two = and_parts (length m.overrides == 0) _ one.1 in
         eqb-true (length m.overrides) 0 two.0
 
     pub nameless : AreNameless m.types
     nameless = record {
-      structs = no_struct m.types (written_so_far_parts m info of_part).1;
+      structs = no_struct m.types (written_so_far_parts m of_part).1;
       lengths = λ h t at. subst (λ n. length_within n t.inner ≡ true) no_overrides (part_types.within h t at);
     }
-
-    -- each type has a form
-    pub type_formed : (ty : ℕ) → ty < length m.types → has_form m.types (Handle ty) ≡ true
-    type_formed ty lt =
-        let t = element m.types ty lt in
-        let here : 0 + ty ≡ ty = omega arith in
-        sym (ap (λ n. has_form m.types (Handle n)) here)
-        ∙ placed_at (λ h (t : Type_). has_form m.types (Handle h)) 0 m.types ty t.0
-        (written_so_far_parts m info of_part).4 t.1
-
-    -- and each that is known of an expression
-    pub known_formed : (g : ℕ) (es : List ExpressionInfo) → slice_get info.functions.items g ≡ Some es →
-        (h : ℕ) (k : ExpressionInfo) → slice_get es h ≡ Some k → has_form m.types k.ty ≡ true
-    known_formed g es here h k at =
-        list_all_at (λ k. has_form m.types k.ty) es h k
-        (list_all_at (list_all (λ k. has_form m.types k.ty)) info.functions.items g es
-        (written_so_far_parts m info of_part).5 here)
-        at
-
-    -- so has each type that a function's text spells
-    module _ (g : ℕ) (f : Function) (found : slice_get m.functions g ≡ Some f) (es : List ExpressionInfo)
-        (here : slice_get info.functions.items g ≡ Some es) (explicit : Bool) (callees : ℕ)
-        (ranges : function_in_range m callees f ≡ true) where
-      signature : (list_all (λ a. nat_lt a.ty (length m.types)) f.arguments.items ≡ true)
-          × (is_below (length m.types) (option_map (λ r. r.ty) f.result) ≡ true)
-      signature =
-          let fits = and_parts (signature_fits (length m.types) f) _ ranges in
-          let types = and_parts (signature_types_fit (length m.types) f) (signature_fits_32_bits f) fits.0 in
-          and_parts (list_all (λ a. nat_lt a.ty (length m.types)) f.arguments.items)
-          (is_below (length m.types) (option_map (λ r. r.ty) f.result)) types.0
-
-      pub argument_formed : (n : ℕ) (a : FunctionArgument) → slice_get f.arguments.items n ≡ Some a →
-          has_form m.types (Handle a.ty) ≡ true
-      argument_formed n a at =
-          type_formed a.ty
-          (ltb-true a.ty (length m.types)
-          (list_all_at (λ a. nat_lt a.ty (length m.types)) f.arguments.items n a signature.0 at))
-
-      pub result_formed : (r : FunctionResult) → f.result ≡ Some r →
-          has_form m.types (Handle r.ty) ≡ true
-      result_formed r is =
-          type_formed r.ty
-          (ltb-true r.ty (length m.types)
-          (ap (λ o. is_below (length m.types) (option_map (λ r. r.ty) o)) (sym is) ∙ signature.1))
-
-      pub local_formed : (l : ℕ) (v : LocalVariable) → slice_get f.local_variables l ≡ Some v →
-          has_form m.types (Handle v.ty) ≡ true
-      local_formed l v at =
-          type_formed v.ty
-          (ltb-true v.ty (length m.types)
-          (and_parts (nat_lt v.ty (length m.types)) (is_below (length f.expressions) v.init)
-          (list_all_at (local_in_range (length m.types) (length f.expressions)) f.local_variables l v
-          (locals_are_in_range m callees f ranges) at)).0)
-
-      spelled : (r : TypeResolution) → IsSpelledIn explicit m info f es r → has_form m.types r ≡ true
-      spelled _ (OfArgument n a at) = argument_formed n a at
-      spelled _ (OfResult r is) = result_formed r is
-      spelled _ (OfLocal l v at) = local_formed l v at
-      spelled _ (OfLet h k tells among bound at) = known_formed g es here h k at
-
-    -- where each written expression has a form, so has all that is written
-    pub all_have_forms : (explicit : Bool) → OfEachFunction m info (ExpressionsHaveForms m info) →
-        AllWrittenHaveForms explicit m info
-    all_have_forms explicit have g f es found here =
-        let known = function_there m info accepted g f found in
-        let is = accepted_at m info accepted g f known.0 known.1 in
-        record {
-          expressions = have g f es found here;
-          types = spelled g f found es here explicit is.callees is.ranges;
-        }

@@ -2,7 +2,6 @@
 use Rattle.module_meaning.specs.Accepted.{is_accepted}
 use Rattle.module_meaning.specs.Numbers.{signature_fits_32_bits}
 use Rattle.module_meaning.specs.Part.{block_is_written, statement_is_written, function_is_written, expression_is_written, is_written_so_far}
-use Rattle.module_meaning.specs.Part.{types_allow, types_allow_all}
 use Rattle.module_meaning.specs.ExpressionShapes.{part_selector}
 use Rattle.module_meaning.specs.OperatorTable.{WithoutForm, PartAt}
 use Rattle.naga_form.proofs.AllowedParts.{IsWellSelected, selected, selected_well}
@@ -286,13 +285,7 @@ statements_fit (statement st b) is =
 abbrev ArePlain : (operand : ℕ → PlainForm) → List ℕ → Type 0
 ArePlain operand hs = AllByRecursion (λ x. IsPlainForm (operand x)) hs
 
--- the types of operands let these handles be written
-abbrev AreAllowed : (W : ℕ → Type 0) → Module → List ExpressionInfo → ir_function.Function → Type 0
-AreAllowed W m es f =
-    (h : ℕ) (e : ir.Expression) → slice_get f.expressions h ≡ Some e → W h →
-    types_allow m.types es e ≡ true
-
-module _ (m : Module) (info : ModuleInfo) (g : ℕ) (f : ir_function.Function) (found : slice_get m.functions g ≡ Some f) (es : List ExpressionInfo) (callees : ℕ) (ranges : function_in_range m callees f ≡ true) (W : ℕ → Type 0) (closed : AreClosed W (binds (function_shape m info f es)) f) (written : AreWritten W m f es) (allowed : AreAllowed W m es f) (are : TypesAreCounted m) (fits : (h : ℕ) (k : ExpressionInfo) → slice_get es h ≡ Some k → IsFit m k.ty) (values : list_all type_is_of_part m.types ≡ true) (explicit : Bool) (spelled : (r : TypeResolution) → IsSpelledIn explicit m info f es r → type_has_form m.types r ≡ true) (few : length f.expressions ≤ 2 ^ 64) where
+module _ (m : Module) (info : ModuleInfo) (g : ℕ) (f : ir_function.Function) (found : slice_get m.functions g ≡ Some f) (es : List ExpressionInfo) (callees : ℕ) (ranges : function_in_range m callees f ≡ true) (W : ℕ → Type 0) (closed : AreClosed W (binds (function_shape m info f es)) f) (written : AreWritten W m f es) (are : TypesAreCounted m) (fits : (h : ℕ) (k : ExpressionInfo) → slice_get es h ≡ Some k → IsFit m k.ty) (values : list_all type_is_of_part m.types ≡ true) (explicit : Bool) (spelled : (r : TypeResolution) → IsSpelledIn explicit m info f es r → type_has_form m.types r ≡ true) (few : length f.expressions ≤ 2 ^ 64) where
   abbrev own : Naming
   own = function_naming (module_names m) m info g f es
 
@@ -379,24 +372,24 @@ module _ (m : Module) (info : ModuleInfo) (g : ℕ) (f : ir_function.Function) (
           (suc x) x w
   offset_is h _ at w = tt
 
-  own_is : (operand : ℕ → PlainForm) → (h : ℕ) (e : ir.Expression) → slice_get f.expressions h ≡ Some e → (expression_is_written m.types es e ≡ true) × OffsetIs e → types_allow m.types es e ≡ true → ArePlain operand (expression_operands e) → IsPlainForm (own_plain own source operand e)
-  own_is operand h (expression.Literal v) at is may all =
+  own_is : (operand : ℕ → PlainForm) → (h : ℕ) (e : ir.Expression) → slice_get f.expressions h ≡ Some e → (expression_is_written m.types es e ≡ true) × OffsetIs e → ArePlain operand (expression_operands e) → IsPlainForm (own_plain own source operand e)
+  own_is operand h (expression.Literal v) at is all =
       literal_is v is.0
       (names_are_in_range m callees f ranges h (expression.Literal v) at)
-  own_is operand h (expression.FunctionArgument n) at is may all =
+  own_is operand h (expression.FunctionArgument n) at is all =
       let a = element f.arguments.items n (ltb-true n (length f.arguments.items) (names_are_in_range m callees f ranges h (expression.FunctionArgument n) at)) in
       item_is_identifier m (argument_item m g n a.0) (argument_there m g f n a.0 found a.1)
-  own_is operand h (expression.LocalVariable v) at is may all =
+  own_is operand h (expression.LocalVariable v) at is all =
       let l = element f.local_variables v (ltb-true v (length f.local_variables) (names_are_in_range m callees f ranges h (expression.LocalVariable v) at)) in
       (item_is_identifier m (local_item g v l.0) (local_stands wgsl_names m g f v l.0 found l.1), refl)
-  own_is operand h (expression.ZeroValue ty) at is may all =
+  own_is operand h (expression.ZeroValue ty) at is all =
       let form = type_at ty is.0 in
       applied_is operand (notation (type_tree (type_names m) ty) (constructor d.around (Handle ty) 0)) [] tt
       (constructor_notated d.around (Handle ty) 0 [] (type_tree (type_names m) ty) form.0 form.1 form.2)
-  own_is operand h (expression.Access base index) at is may all =
+  own_is operand h (expression.Access base index) at is all =
       part_is (points d.around base) (λ e. Index e (as_value (operand index))) (operand base) all.0
       (λ e is. (is, value_is_one (operand index) all.1.0)) (λ e is. is)
-  own_is operand h (expression.AccessIndex base index) at is may all = by (selected m info es base index may)
+  own_is operand h (expression.AccessIndex base index) at is all = by (selected m info es base index is.0)
     where
       by : (x : Selector) × (part_selector d base index ≡ Some x) →
           IsPlainForm (own_plain own source operand (expression.AccessIndex base index))
@@ -408,17 +401,17 @@ module _ (m : Module) (info : ModuleInfo) (g : ℕ) (f : ir_function.Function) (
           (λ x. part_plain (points d.around base) (selected_part x) (operand base)) o
           (applied_plain no_form None operand (base ∷ []) (Some (WithoutForm (PartAt index))))))
           (sym s.1)
-          (selected_is (points d.around base) s.0 (selected_well m info es base index may values fits lt s.0 s.1) (operand base) all.0)
-  own_is operand h (expression.Swizzle size v pattern) at is may all =
+          (selected_is (points d.around base) s.0 (selected_well m info es base index is.0 values fits lt s.0 s.1) (operand base) all.0)
+  own_is operand h (expression.Swizzle size v pattern) at is all =
       let whole =
       names_are_in_range m callees f ranges h (expression.Swizzle size v pattern) at in
       (value_is_one (operand v) all.0, letters_are_a_word size pattern (eqb-true (length pattern) 4 whole))
-  own_is operand h (expression.Load q) at is may all =
+  own_is operand h (expression.Load q) at is all =
       application_is (ValueForm (as_reference (operand q))) (reference_is_one (operand q) all.0).0
       operand None (q ∷ []) all (load_operator d.around q) (load_notated d.around q)
   own_is operand h
       (expression.ImageSample
-      image sampler gather coordinate array_index offset level depth_ref clamp) at is may all =
+      image sampler gather coordinate array_index offset level depth_ref clamp) at is all =
       let behind = option_to_list array_index ++ option_to_list depth_ref ++ level_operands level ++ [] in
       sampling_is (as_value (operand image)) (value_forms operand (sampler ∷ coordinate ∷ behind))
       (map (constant_form source) (option_to_list offset))
@@ -429,7 +422,7 @@ module _ (m : Module) (info : ModuleInfo) (g : ℕ) (f : ir_function.Function) (
       (constants_are (option_to_list offset) is.1) gather level (is_some depth_ref) clamp
       (is_some array_index) (is_some offset)
       (option_map_or is_depth_image (type_known d.around image) false) is.0
-  own_is operand h e at is may all =
+  own_is operand h e at is all =
       application_is no_form tt operand (operator_type d.around (type_names m) e) (expression_operands e) all
       (applied_operator d.around e)
       (notated d.around (type_names m) m.types es e
@@ -439,7 +432,7 @@ module _ (m : Module) (info : ModuleInfo) (g : ℕ) (f : ir_function.Function) (
   own_if_is operand all h w None at = tt
   own_if_is operand all h w (Some e) at =
       own_is operand h e at
-      ((has_form_parts m.types es f.expressions e (written h e at w)).0, offset_is h e at w) (allowed h e at w)
+      ((has_form_parts m.types es f.expressions e (written h e at w)).0, offset_is h e at w)
       (all_map all (expression_operands e) (closed.operands h e at w))
 
   standing_is : (s : Standing) (p : PlainForm) → ((x : List ℕ) → s ≡ Named x → IsIdentifier x) → IsPlainForm p → IsPlainForm (standing_plain s p)
@@ -710,46 +703,44 @@ module _ (m : Module) (info : ModuleInfo) (g : ℕ) (f : ir_function.Function) (
         body = lines_are (told_type explicit (type_names m) es) (told_is m are explicit es fits) 0 f.body fit (at_start own.function) start_is all_labels closed.body;
       }
 
-module _ (explicit : Bool) (m : Module) (info : ModuleInfo) (accepted : IsTrue (is_accepted m info)) (of_part : IsTrue (is_written_so_far m info)) where
+module _ (explicit : Bool) (m : Module) (info : ModuleInfo) (accepted : IsTrue (is_accepted m info)) (of_part : IsTrue (is_written_so_far m)) where
   are : TypesAreCounted m
-  are = types_are_counted m info accepted (written_are_told m info of_part).types
+  are = types_are_counted m info accepted (written_are_told m of_part).types
 
-  one_is : (g : ℕ) (f : ir_function.Function) (found : slice_get m.functions g ≡ Some f) (es : List ExpressionInfo) → slice_get info.functions.items g ≡ Some es → (callees : ℕ) → function_in_range m callees f ≡ true → IsTrue (function_is_written f) → WrittenHaveForms explicit m info f es → IsTrue (types_allow_all m.types f es) → length f.expressions ≤ 2 ^ 64 → IsFunction (function_form explicit (module_names m) m info g f es)
-  one_is g f found es here callees ranges written have may few =
+  one_is : (g : ℕ) (f : ir_function.Function) (found : slice_get m.functions g ≡ Some f) (es : List ExpressionInfo) → slice_get info.functions.items g ≡ Some es → (callees : ℕ) → function_in_range m callees f ≡ true → IsTrue (function_is_written f) → WrittenHaveForms explicit m info f es → length f.expressions ≤ 2 ^ 64 → IsFunction (function_form explicit (module_names m) m info g f es)
+  one_is g f found es here callees ranges written have few =
       let parts = function_parts f written in
       function_is m info g f found es callees ranges (IsWrittenIn m info f es)
       (written_are_closed m info f es) have.expressions
-      (λ h e at w. list_all_at (types_allow m.types es) f.expressions h e may at)
-      are (known_fits m info accepted g es here) (written_so_far_parts m info of_part).1 explicit
+      are (known_fits m info accepted g es here) (written_so_far_parts m of_part).1 explicit
       have.types few (statements_fit f.body parts.body)
 
   functions_are : (g : ℕ) (fs : List ir_function.Function) (ess : List (List ExpressionInfo)) → ((i : ℕ) (f : ir_function.Function) → slice_get fs i ≡ Some f → slice_get m.functions (g + i) ≡ Some f) → ((i : ℕ) (es : List ExpressionInfo) → slice_get ess i ≡ Some es → slice_get info.functions.items (g + i) ≡ Some es) → IsTrue (list_all function_is_written fs) → ((i : ℕ) (f : ir_function.Function) (es : List ExpressionInfo) → slice_get fs i ≡ Some f → slice_get ess i ≡ Some es → WrittenHaveForms explicit m info f es) →
-      IsTrue (list_all (λ p. types_allow_all m.types p.0 p.1) (zip fs ess)) → IsTrue (list_all (λ f. nat_le (length f.expressions) (2 ^ 64)) fs) → Each IsFunction (functions_form explicit (module_names m) m info g fs ess)
-  functions_are g [] [] there known written have allowed few = tt
-  functions_are g [] (es ∷ ess) there known written have allowed few = tt
-  functions_are g (f ∷ fs) [] there known written have allowed few = tt
-  functions_are g (f ∷ fs) (es ∷ ess) there known written have allowed few =
+      IsTrue (list_all (λ f. nat_le (length f.expressions) (2 ^ 64)) fs) → Each IsFunction (functions_form explicit (module_names m) m info g fs ess)
+  functions_are g [] [] there known written have few = tt
+  functions_are g [] (es ∷ ess) there known written have few = tt
+  functions_are g (f ∷ fs) [] there known written have few = tt
+  functions_are g (f ∷ fs) (es ∷ ess) there known written have few =
       let here : g + 0 ≡ g = omega arith in
       let found = subst (λ h. slice_get m.functions h ≡ Some f) here (there 0 f refl) in
       let own = subst (λ h. slice_get info.functions.items h ≡ Some es) here (known 0 es refl) in
       let at = known_function m info accepted g f found in
       let is = accepted_at m info accepted g f at.0 at.1 in
       let all = and_parts (function_is_written f) (list_all function_is_written fs) written in
-      let may = and_parts (types_allow_all m.types f es) (list_all (λ p. types_allow_all m.types p.0 p.1) (zip fs ess)) allowed in
       let counted = and_parts (nat_le (length f.expressions) (2 ^ 64)) (list_all (λ f. nat_le (length f.expressions) (2 ^ 64)) fs) few in (
-        one_is g f found es own is.callees is.ranges all.0 (have 0 f es refl refl) may.0 (leb-true (length f.expressions) (2 ^ 64) counted.0),
-        functions_are (g + 1) fs ess (further m.functions g f fs there) (further info.functions.items g es ess known) all.1 (λ i f es here known. have (suc i) f es here known) may.1 counted.1,
+        one_is g f found es own is.callees is.ranges all.0 (have 0 f es refl refl) (leb-true (length f.expressions) (2 ^ 64) counted.0),
+        functions_are (g + 1) fs ess (further m.functions g f fs there) (further info.functions.items g es ess known) all.1 (λ i f es here known. have (suc i) f es here known) counted.1,
       )
 
-pub is_program : (m : Module) (info : ModuleInfo) (explicit : Bool) → IsTrue (is_accepted m info) → IsTrue (is_written_so_far m info) → AllWrittenHaveForms explicit m info → IsTrue (handles_are_counted m) → IsProgram (written_program m info explicit)
+pub is_program : (m : Module) (info : ModuleInfo) (explicit : Bool) → IsTrue (is_accepted m info) → IsTrue (is_written_so_far m) → AllWrittenHaveForms explicit m info → IsTrue (handles_are_counted m) → IsProgram (written_program m info explicit)
 is_program m info explicit accepted written have few =
-    let parts = written_so_far_parts m info written in
+    let parts = written_so_far_parts m written in
     record {
       enables = tt;
       structs = tt;
       constants = tt;
       overrides = tt;
       globals = tt;
-      functions = functions_are explicit m info accepted written 0 m.functions info.functions.items (from_start m.functions) (from_start info.functions.items) parts.2 (λ i f es here known. have i f es here known) (and_parts (length m.functions == length info.functions.items) _ parts.3).1 few;
+      functions = functions_are explicit m info accepted written 0 m.functions info.functions.items (from_start m.functions) (from_start info.functions.items) parts.2 (λ i f es here known. have i f es here known) few;
       entry_points = tt;
     }

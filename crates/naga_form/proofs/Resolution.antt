@@ -94,7 +94,7 @@ module _ (m : Module) (info : ModuleInfo) (accepted : IsTrue (is_accepted m info
       let is = accepted_at m info accepted g f known.0 known.1 in
       leaves_stand (g + 1) fs ess (further m.functions g f fs there) (function_naming (module_names m) m info g f es ∷ behind) (leaves_are_own m info is.callees f is.ranges es, all)
 
-pub resolves : (m : Module) (info : ModuleInfo) (explicit : Bool) → IsTrue (is_accepted m info) → IsTrue (is_written_so_far m info) → AllWrittenHaveForms explicit m info → ScopesHold m info → NamesAreCounted m → ResolvesAs m info (written_program m info explicit)
+pub resolves : (m : Module) (info : ModuleInfo) (explicit : Bool) → IsTrue (is_accepted m info) → IsTrue (is_written_so_far m) → AllWrittenHaveForms explicit m info → ScopesHold m info → NamesAreCounted m → ResolvesAs m info (written_program m info explicit)
 resolves m info explicit accepted written have scope counted =
     let names = module_names m in
     ap text_targets (reads_as_shapes m info explicit accepted written have)

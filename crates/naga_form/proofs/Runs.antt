@@ -58,7 +58,7 @@ use Rattle.naga_form.proofs.ConstantTrees.{trees_are}
 use Rattle.naga_form.proofs.Leaves.{ConstantsAreTyped}
 use Rattle.module_meaning.specs.Accepted.{is_accepted}
 use Rattle.module_meaning.specs.AgreeingOperators.{function_group}
-use Rattle.module_meaning.specs.Part.{function_is_written, types_allow_all}
+use Rattle.module_meaning.specs.Part.{function_is_written}
 use Rattle.std.specs.List.{zip}
 use Rattle.module_meaning.proofs.Lists.{list_all_at}
 use Rattle.naga_ir.specs.declared.module.EntryPoint.{EntryPoint}
@@ -97,10 +97,10 @@ all_reversed test [] behind all = refl
 all_reversed test (x ∷ xs) behind all = and_from (test x) (list_all test xs) (and_left (test x) (list_all test behind) (behind_all test xs (x ∷ behind) all)) (all_reversed test xs (x ∷ behind) all)
 
 -- the square: what is written of the module is read as its functions are written
-pub program_reads : (m : Module) (info : ModuleInfo) (explicit : Bool) → IsTrue (is_accepted m info) → IsTrue (is_written_so_far m info) → AllWrittenHaveForms explicit m info → program_read (written_program m info explicit) ≡ form_module (functions_alone m info) (outer_names (module_names m)) (namings (module_names m) m info)
+pub program_reads : (m : Module) (info : ModuleInfo) (explicit : Bool) → IsTrue (is_accepted m info) → IsTrue (is_written_so_far m) → AllWrittenHaveForms explicit m info → program_read (written_program m info explicit) ≡ form_module (functions_alone m info) (outer_names (module_names m)) (namings (module_names m) m info)
 program_reads m info explicit accepted written have =
     let listed = namings_from (module_names m) m 0 (function_shapes m info m.functions info.functions.items) in
-    let each = functions_read explicit m info (written_so_far_parts m info written).1 0 m.functions info.functions.items (functions_are_written m info written) (λ i f es here known. have i f es here known) sized in
+    let each = functions_read explicit m info (written_so_far_parts m written).1 0 m.functions info.functions.items (functions_are_written m written) (λ i f es here known. have i f es here known) sized in
     λ i. record {
       constants = [];
       overrides = [];
@@ -112,14 +112,14 @@ program_reads m info explicit accepted written have =
     sized i f es here known = eqb-true (length f.expressions) (length es) (paired_at function_size_fits m.functions info.functions.items (functions_paired m info accepted) i f es here known)
 
 -- and so as its program of shapes is
-pub reads_as_shapes : (m : Module) (info : ModuleInfo) (explicit : Bool) → IsTrue (is_accepted m info) → IsTrue (is_written_so_far m info) → AllWrittenHaveForms explicit m info → program_read (written_program m info explicit) ≡ form_module (module_shape m info) (outer_names (module_names m)) (namings (module_names m) m info)
+pub reads_as_shapes : (m : Module) (info : ModuleInfo) (explicit : Bool) → IsTrue (is_accepted m info) → IsTrue (is_written_so_far m) → AllWrittenHaveForms explicit m info → program_read (written_program m info explicit) ≡ form_module (module_shape m info) (outer_names (module_names m)) (namings (module_names m) m info)
 reads_as_shapes m info explicit accepted written have =
     program_reads m info explicit accepted written have
     ∙ ap (λ p. form_module p (outer_names (module_names m)) (namings (module_names m) m info)) (sym (declares_functions_alone m info written))
 
 -- ---- what the law of runs asks
 -- A module that is accepted and of the part: all is said by acceptance but what the part shows.
-module _ (m : Module) (info : ModuleInfo) (accepted : IsTrue (is_accepted m info)) (written : IsTrue (is_written_so_far m info)) where
+module _ (m : Module) (info : ModuleInfo) (accepted : IsTrue (is_accepted m info)) (written : IsTrue (is_written_so_far m)) where
   abbrev p : shapes.Module
   p = module_shape m info
 
@@ -140,7 +140,7 @@ module _ (m : Module) (info : ModuleInfo) (accepted : IsTrue (is_accepted m info
 
   no_entry_points : m.entry_points.items ≡ []
   no_entry_points =
-      let one = and_parts (length m.constants == 0) _ (written_so_far_parts m info written).0 in
+      let one = and_parts (length m.constants == 0) _ (written_so_far_parts m written).0 in
       let two = and_parts (length m.overrides == 0) _ one.1 in
       let three = and_parts (length m.global_variables == 0) _ two.1 in
       let four = and_parts (length m.global_expressions == 0) (length m.entry_points.items == 0) three.1 in
@@ -155,15 +155,12 @@ module _ (m : Module) (info : ModuleInfo) (accepted : IsTrue (is_accepted m info
       none (x ∷ xs) j e is at = absurd cc
 
       by : Numbered m info accepted k f es → IsTrue (function_is_written f)
-      by (AsFunction here known) = list_all_at function_is_written m.functions k f (functions_are_written m info written) here
+      by (AsFunction here known) = list_all_at function_is_written m.functions k f (functions_are_written m written) here
       by (AsEntryPoint j e number here known of) = absurd (none m.entry_points.items j e no_entry_points here)
-
-  all_allowed : IsTrue (list_all (λ p. types_allow_all m.types p.0 p.1) (zip m.functions info.functions.items))
-  all_allowed = (and_parts (length m.functions == length info.functions.items) _ (written_so_far_parts m info written).3).1
 
   -- no struct and no override is named
   told : TypesAreTold m
-  told = (written_are_told m info written).types
+  told = (written_are_told m written).types
 
   module _ (scope : IsTrue (scope_holds m info)) (counted : NamesAreCounted m) where
     constants_typed : (k : ℕ) (f : ir_function.Function) (es : List ExpressionInfo) → slice_get (functions_known m info) k ≡ Some (f, es) → ConstantsAreTyped m info f es
@@ -176,21 +173,20 @@ module _ (m : Module) (info : ModuleInfo) (accepted : IsTrue (is_accepted m info
         }
 
     -- nothing is left of each function, behind those before it
-    all_left : (g : ℕ) (fs : List ir_function.Function) (ess : List (List ExpressionInfo)) → ((i : ℕ) (f : ir_function.Function) → slice_get fs i ≡ Some f → slice_get m.functions (g + i) ≡ Some f) → IsTrue (list_all function_is_written fs) → IsTrue (list_all (λ p. types_allow_all m.types p.0 p.1) (zip fs ess)) → IsTrue (list_all fits_function (namings_from (module_names m) m g (function_shapes m info fs ess))) →
+    all_left : (g : ℕ) (fs : List ir_function.Function) (ess : List (List ExpressionInfo)) → ((i : ℕ) (f : ir_function.Function) → slice_get fs i ≡ Some f → slice_get m.functions (g + i) ≡ Some f) → IsTrue (list_all function_is_written fs) → IsTrue (list_all fits_function (namings_from (module_names m) m g (function_shapes m info fs ess))) →
         (behind : List Naming) → length behind ≡ g → AllBehind (IsLeft p (outer_names (module_names m))) behind → AllBehind (IsLeft p (outer_names (module_names m))) (reverse_aux (namings_from (module_names m) m g (function_shapes m info fs ess)) behind)
-    all_left g [] ess there is allowed scoped behind at so_far = so_far
-    all_left g (f ∷ fs) [] there is allowed scoped behind at so_far = so_far
-    all_left g (f ∷ fs) (es ∷ ess) there is allowed scoped behind at so_far =
+    all_left g [] ess there is scoped behind at so_far = so_far
+    all_left g (f ∷ fs) [] there is scoped behind at so_far = so_far
+    all_left g (f ∷ fs) (es ∷ ess) there is scoped behind at so_far =
         let here : g + 0 ≡ g = omega arith in
         let found = subst (λ h. slice_get m.functions h ≡ Some f) here (there 0 f refl) in
         let own = function_naming (module_names m) m info g f es in
         let all = and_parts (function_is_written f) (list_all function_is_written fs) is in
-        let may = and_parts (types_allow_all m.types f es) (list_all (λ p. types_allow_all m.types p.0 p.1) (zip fs ess)) allowed in
         let scopes = and_parts (fits_function own) (list_all fits_function (namings_from (module_names m) m (g + 1) (function_shapes m info fs ess))) scoped in
         let at_function = function_there_known m info accepted g f found in
         let fits = accepted_at m info accepted g f at_function.0 at_function.1 in
-        let this = is_left m info (written_so_far_parts m info written).1 (types_are_counted m info accepted told) g f found es fits.callees fits.ranges all.0 may.0 p no_constant_types no_global_types all_counted (functions_of behind) (length-functions_of behind ∙ at) counted scopes.0 in
-        all_left (g + 1) fs ess (further m.functions g f fs there) all.1 may.1 scopes.1 (own ∷ behind) (ap suc at ∙ sym (add-one g)) (this, so_far)
+        let this = is_left m info (written_so_far_parts m written).1 (types_are_counted m info accepted told) g f found es fits.callees fits.ranges all.0 p no_constant_types no_global_types all_counted (functions_of behind) (length-functions_of behind ∙ at) counted scopes.0 in
+        all_left (g + 1) fs ess (further m.functions g f fs there) all.1 scopes.1 (own ∷ behind) (ap suc at ∙ sym (add-one g)) (this, so_far)
 
     no_constants : ConstantsFit (functions_alone m info) (outer_names (module_names m))
     no_constants = record {
@@ -216,7 +212,7 @@ module _ (m : Module) (info : ModuleInfo) (accepted : IsTrue (is_accepted m info
           };
           constants = subst (λ p. ConstantsFit p (outer_names (module_names m))) (sym same) no_constants;
           all = all_fit m info accepted told constants_typed (λ k f es at. no_case_falls f (written_at k f es at)) (outer_names (module_names m)) (namings (module_names m) m info) (same_functions m info accepted written)
-              (all_left 0 m.functions info.functions.items (from_start m.functions) (functions_are_written m info written) all_allowed (all_reversed fits_function listed [] scope) [] refl tt);
+              (all_left 0 m.functions info.functions.items (from_start m.functions) (functions_are_written m written) (all_reversed fits_function listed [] scope) [] refl tt);
         }
 
     runs : (explicit : Bool) → AllWrittenHaveForms explicit m info → RunsAs m info (written_program m info explicit)
@@ -224,6 +220,6 @@ module _ (m : Module) (info : ModuleInfo) (accepted : IsTrue (is_accepted m info
         ap (λ (text : TextModule). follow_module text settings world meaning is_request turns (function_name (module_names m) g) arguments past) (reads_as_shapes m info explicit accepted written have)
         ∙ runs_alike (module_shape m info) (outer_names (module_names m)) (namings (module_names m) m info) module_fits settings fit meaning typed g f found arguments typed_arguments world turns past keeps
 
-pub runs_as : (m : Module) (info : ModuleInfo) (explicit : Bool) → IsTrue (is_accepted m info) → IsTrue (is_written_so_far m info) → AllWrittenHaveForms explicit m info → ScopesHold m info → NamesAreCounted m → RunsAs m info (written_program m info explicit)
+pub runs_as : (m : Module) (info : ModuleInfo) (explicit : Bool) → IsTrue (is_accepted m info) → IsTrue (is_written_so_far m) → AllWrittenHaveForms explicit m info → ScopesHold m info → NamesAreCounted m → RunsAs m info (written_program m info explicit)
 runs_as m info explicit accepted written have scope counted =
     runs m info accepted written ((scopes_are_checked m info accepted written).1 scope) counted explicit have

@@ -58,7 +58,7 @@ each_is_checked (n ∷ ns) all =
       λ r. and_from (fits_function n) (list_all fits_function ns) (here.1 r.0) (rest.1 r.1),
     )
 
-module _ (m : Module) (info : ModuleInfo) (accepted : IsTrue (is_accepted m info)) (written : IsTrue (is_written_so_far m info)) where
+module _ (m : Module) (info : ModuleInfo) (accepted : IsTrue (is_accepted m info)) (written : IsTrue (is_written_so_far m)) where
   -- the functions of the namings are the module's
   pub same_functions : functions_of (namings (module_names m) m info) ≡ (module_shape m info).functions
   same_functions =

@@ -73,8 +73,8 @@ module _ (m : Module) where
   no_member _ value i a at = absurd (cc)
 
   -- a module of the part has none of them
-  pub written_are_told : (info : ModuleInfo) → IsTrue (is_written_so_far m info) → ItemsAreTold m
-  written_are_told info written = record {
+  pub written_are_told : IsTrue (is_written_so_far m) → ItemsAreTold m
+  written_are_told written = record {
     types = record {
       structs = λ h k t u at there is_t is_u e. absurd (no_struct t.inner (value h t at) is_t);
       overrides = λ o p lo lp e. absurd (none o lo);
@@ -85,11 +85,11 @@ module _ (m : Module) where
     where
       value : (h : ℕ) (t : Type_) → slice_get m.types h ≡ Some t → needs_nothing t.inner ≡ true
       value h t at =
-          list_all_at type_is_of_part m.types h t (written_so_far_parts m info written).1 at
+          list_all_at type_is_of_part m.types h t (written_so_far_parts m written).1 at
 
       none : (o : ℕ) → o < length m.overrides → ⊥
       none o lt =
-          let one = and_parts (length m.constants == 0) _ (written_so_far_parts m info written).0 in
+          let one = and_parts (length m.constants == 0) _ (written_so_far_parts m written).0 in
           let two = and_parts (length m.overrides == 0) _ one.1 in
           let same = eqb-true (length m.overrides) 0 two.0 in
           omega (arith, lt, same)

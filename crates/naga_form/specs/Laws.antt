@@ -57,21 +57,21 @@ use Rattle.naga_form.specs.TypeTrees.{inner_tree, resolution_tree, type_tree}
 abbrev pub OfAccepted : (Module → ModuleInfo → Program → Type 0) → Type 0
 OfAccepted Holds =
     (m : Module) (info : ModuleInfo) (explicit : Bool) → IsTrue (is_accepted m info) →
-    IsTrue (is_written_so_far m info) → AllWrittenHaveForms explicit m info →
+    IsTrue (is_written_so_far m) → AllWrittenHaveForms explicit m info →
     Holds m info (written_program m info explicit)
 
 -- the same where the rules of scope hold, and names are counted
 abbrev pub OfAcceptedInScope : (Module → ModuleInfo → Program → Type 0) → Type 0
 OfAcceptedInScope Holds =
     (m : Module) (info : ModuleInfo) (explicit : Bool) → IsTrue (is_accepted m info) →
-    IsTrue (is_written_so_far m info) → AllWrittenHaveForms explicit m info → ScopesHold m info →
+    IsTrue (is_written_so_far m) → AllWrittenHaveForms explicit m info → ScopesHold m info →
     NamesAreCounted m → Holds m info (written_program m info explicit)
 
 -- the program is one of the grammar, so that its text has one reading
 abbrev pub IsAProgram : Type 0
 IsAProgram =
     (m : Module) (info : ModuleInfo) (explicit : Bool) → IsTrue (is_accepted m info) →
-    IsTrue (is_written_so_far m info) → AllWrittenHaveForms explicit m info →
+    IsTrue (is_written_so_far m) → AllWrittenHaveForms explicit m info →
     IsTrue (handles_are_counted m) → IsProgram (written_program m info explicit)
 
 -- it declares what the module declares, where something is known of each function
@@ -90,7 +90,7 @@ ResolvesAsMeant = OfAcceptedInScope ResolvesAs
 abbrev pub BindsAsCounted : Type 0
 BindsAsCounted =
     (m : Module) (info : ModuleInfo) (explicit : Bool) → IsTrue (is_accepted m info) →
-    IsTrue (is_written_so_far m info) → AllWrittenHaveForms explicit m info →
+    IsTrue (is_written_so_far m) → AllWrittenHaveForms explicit m info →
     BindsAs m info explicit (written_program m info explicit)
 
 -- what is written of a function that is written so far, of which what is written has a form, in a
@@ -120,7 +120,7 @@ RunsAsTheModule = OfAcceptedInScope RunsAs
 abbrev pub ScopesAreChecked : Type 0
 ScopesAreChecked =
     (m : Module) (info : ModuleInfo) → IsTrue (is_accepted m info) →
-    IsTrue (is_written_so_far m info) →
+    IsTrue (is_written_so_far m) →
     (IsTrue (scope_holds m info) ↔ ScopesHold m info)
 
 -- The operators of every accepted module, written so far or not, are typed consistently, so that some
@@ -142,13 +142,13 @@ CountedAreTold = (m : Module) → ItemsAreCounted m → ItemsAreTold m
 
 -- a module of the part that is written so far has none of them
 abbrev pub WrittenAreTold : Type 0
-WrittenAreTold = (m : Module) (info : ModuleInfo) → IsTrue (is_written_so_far m info) → ItemsAreTold m
+WrittenAreTold = (m : Module) → IsTrue (is_written_so_far m) → ItemsAreTold m
 
 -- one world answers by the right types in every run of the module
 abbrev pub HasAWorld : Type 0
 HasAWorld =
     (m : Module) (info : ModuleInfo) → IsTrue (is_accepted m info) →
-    IsTrue (is_written_so_far m info) → HasTypedWorld m info
+    IsTrue (is_written_so_far m) → HasTypedWorld m info
 
 -- what holds of every accepted module, written so far or not, where its structs and overrides are told
 -- apart by their names, it holds nothing that no text is ever written for, and the rules of scope hold

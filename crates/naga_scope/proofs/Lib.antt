@@ -6,7 +6,7 @@ pub mod Holding
 pub mod Marking
 pub mod Offsets
 pub mod FirstValues
-pub mod Forming
 pub mod Planned
+pub mod Spelled
 pub mod Sweeping
 pub mod WrittenConstants

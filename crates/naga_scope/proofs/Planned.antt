@@ -1,5 +1,5 @@
 -- What a plan of a function says of its module.
-use Rattle.std.proofs.Common.{◌≡◌, ℕ, zero, suc, List, [], ◌∷◌, None, Some, subst, sym, ◌∙◌}
+use Rattle.std.proofs.Common.{◌≡◌, ℕ, Bool, zero, suc, List, [], ◌∷◌, None, Some, subst, sym, ◌∙◌}
 use Rattle.std.proofs.lemmas.Option.{same_Some}
 use Rattle.std.specs.Prelude.{Err, IfErr, IfOk, IsTrue, Ok, Result, ◌↔◌, slice_get}
 use Rattle.naga_ir.specs.declared.module.Function as ir_function
@@ -44,11 +44,11 @@ shape_found m info (x ∷ fs) (y ∷ ess) (suc g) f es at known =
     shape_found m info fs ess g f es at known
 
 -- a plan of a function that there is
-pub plan_found : (m : Module) (info : ModuleInfo) (g : ℕ) (f : ir_function.Function)
-    (es : List ExpressionInfo) (planned : Planned) → slice_get m.functions g ≡ Some f →
-    slice_get info.functions.items g ≡ Some es → IsPlanOf m info g planned →
-    IsPlan m info f es planned
-plan_found m info g f es planned at known plan = plan f es at known
+pub plan_found : (explicit : Bool) (m : Module) (info : ModuleInfo) (g : ℕ)
+    (f : ir_function.Function) (es : List ExpressionInfo) (planned : Planned) →
+    slice_get m.functions g ≡ Some f → slice_get info.functions.items g ≡ Some es →
+    IsPlanOf explicit m info g planned → IsPlan explicit m info f es planned
+plan_found explicit m info g f es planned at known plan = plan f es at known
 
 -- what holds of a function that there is, where a call has an answer, holds of the one with its handle
 module _ {T : Type 0} (Q : ir_function.Function → List ExpressionInfo → T → Type 0) (m : Module)

@@ -14,7 +14,6 @@ use Rattle.naga_ir.specs.declared.module.Function as ir_function
 use Rattle.naga_ir.specs.declared.module.Module.{Module}
 use Rattle.naga_info.specs.declared.info.ExpressionInfo.{ExpressionInfo}
 use Rattle.naga_info.specs.declared.info.ModuleInfo.{ModuleInfo}
-use Rattle.naga_back.specs.Baking.{count_to_bind}
 use Rattle.shader_runs.specs.Program.{Expression, Load, Operator, Access, AccessIndex, Logical}
 use Rattle.shader_runs.specs.Program.{Argument, Constant, Global, Local, Request, Result, Swizzle}
 use Rattle.shader_runs.specs.Program.{operands_of}
@@ -34,14 +33,16 @@ use Rattle.module_meaning.specs.ExpressionShapes.{Declared, shape_of, applied_or
 use Rattle.module_meaning.specs.ExpressionShapes.{part_selector, part_shape}
 use Rattle.module_meaning.specs.FunctionShapes.{function_shape}
 use Rattle.module_meaning.specs.OperatorTable.{Operator as TableOperator, AtomicLoad, BinarySign}
-use Rattle.module_meaning.specs.Part.{expression_is_of_part, function_is_written, types_allow}
-use Rattle.module_meaning.specs.Part.{types_allow_all}
-use Rattle.naga_form.proofs.AllowedParts.{selected}
+use Rattle.module_meaning.specs.OperatorTable.{PartAt, WithoutForm}
+use Rattle.module_meaning.specs.ExpressionOperators.{has_parts}
+use Rattle.module_meaning.specs.Part.{expression_is_of_part, function_is_written, known_passes}
+use Rattle.naga_form.proofs.AllowedParts.{part_there}
 use Rattle.shader_runs.specs.Program.{greatest_count}
 use Rattle.module_meaning.specs.ShapeKinds.{shape_kind}
 use Rattle.module_meaning.specs.Surroundings.{declared, types_known}
 use Rattle.module_meaning.specs.Types.{declared_type}
 use Rattle.module_meaning.proofs.ExpressionShapes.{kind_shaped, shape_kinds, shape_operands}
+use Rattle.std.proofs.lemmas.Bool.{false≢true, true≢false}
 use Rattle.module_meaning.proofs.Lists.{list_all_at}
 use Rattle.module_meaning.proofs.Shapes.{operator_bound}
 use Rattle.naga_form.proofs.Fits.{given_is, mapped_length}
@@ -51,6 +52,7 @@ use Rattle.naga_form.proofs.PartFits.{function_parts}
 use Rattle.naga_form.proofs.WellFormed.{applied_any}
 use Rattle.naga_scope.specs.Standings.{kind_at, operands_at, is_pure_kind, is_constant_kind}
 use Rattle.naga_scope.specs.Standings.{is_emittable_kind, is_image_operation, usable_by}
+use Rattle.naga_scope.specs.Standings.{uses_to_bind}
 use Rattle.module_meaning.specs.ExpressionOperators.{is_depth_image, level_of, query_operator}
 use Rattle.module_meaning.specs.ExpressionOperators.{sample_operator}
 use Rattle.naga_ir.specs.Operands.{query_operands}
@@ -277,22 +279,20 @@ module _ (m : Module) (info : ModuleInfo) (f : ir_function.Function) (es : List 
     query_bound h query.NumSamples xs = refl
 
     -- what an Emit may give is bound where it has a name, and from its number of uses on, or always
-    pub emitted_binds : IsTrue (types_allow_all m.types f es) → (h : ℕ) (e : ir.Expression) →
+    pub emitted_binds : (h : ℕ) (e : ir.Expression) →
         slice_get f.expressions h ≡ Some e →
         is_emittable_kind (kind_of e) ≡ true →
-        (is_image_operation e || named_or h (nat_le (count_to_bind e) (count h))) ≡ binds shape h
-    emitted_binds allowed h e at may =
+        (is_image_operation e || named_or h (nat_le (uses_to_bind m.types es e) (count h))) ≡ binds shape h
+    emitted_binds h e at may =
         sym
         (ap (binds_as shape h) (expression_at m info f es h e at)
-        ∙ own e (written_at h e at)
-        (list_all_at (types_allow m.types es) f.expressions h e allowed at) may)
+        ∙ own e (written_at h e at) may)
       where
         own : (e : ir.Expression) → expression_is_of_part e ≡ true →
-            types_allow m.types es e ≡ true →
             is_emittable_kind (kind_of e) ≡ true →
             binds_as shape h (Some (shape_of d f.expressions h e)) ≡
-            (is_image_operation e || named_or h (nat_le (count_to_bind e) (count h)))
-        own (expression.Load pointer) is types may = by (points_to_atomic d.around pointer)
+            (is_image_operation e || named_or h (nat_le (uses_to_bind m.types es e) (count h)))
+        own (expression.Load pointer) is may = by (points_to_atomic d.around pointer)
           where
             by : (atomic : Bool) →
                 binds_as shape h
@@ -302,32 +302,40 @@ module _ (m : Module) (info : ModuleInfo) (f : ir_function.Function) (es : List 
                 named_or h (nat_le 1 (count h))
             by true = counted_from 1 h
             by false = counted_from 1 h
-        own (expression.Unary op expr) is types may = counted_from 2 h
-        own (expression.Binary op left right) is types may =
+        own (expression.Unary op expr) is may = counted_from 2 h
+        own (expression.Binary op left right) is may =
             operator_bound shape h (BinarySign op) (left ∷ right ∷ []) ∙ counted_from 2 h
-        own (expression.Compose ty components) is types may =
+        own (expression.Compose ty components) is may =
             let op = constructor d.around (Handle ty) (length components.items) in
             silent_binds h op components.items (constructor_asks d.around (Handle ty) _)
             ∙ counted_from 2 h
-        own (expression.ZeroValue ty) is types may = absurd cc
-        own (expression.Access base index) is types may = counted_from greatest_count h
-        own (expression.AccessIndex base index) is types may =
-            ap (λ o. binds_as shape h (Some (part_shape base index o)))
-            (selected m info es base index types).1
-            ∙ counted_from greatest_count h
-        own (expression.Select condition accept reject) is types may = counted_from 2 h
-        own (expression.Splat size value) is types may = counted_from 2 h
-        own (expression.Swizzle size vector pattern) is types may = counted_from 2 h
-        own (expression.Derivative axis how expr) is types may = counted_from 1 h
-        own (expression.As operand kind convert) is types may =
+        own (expression.ZeroValue ty) is may = absurd cc
+        own (expression.Access base index) is may = counted_from greatest_count h
+        own (expression.AccessIndex base index) is may =
+            by (part_selector d base index) (known_passes m.types es (has_parts m.types) base)
+            (part_there m info es base index)
+          where
+            by : (o : Option Selector) (b : Bool) → is_some o ≡ b →
+                binds_as shape h (Some (part_shape base index o)) ≡
+                named_or h (nat_le (if b then greatest_count else 2) (count h))
+            by (Some x) true there = counted_from greatest_count h
+            by None false there =
+                silent_binds h (WithoutForm (PartAt index)) (base ∷ []) refl ∙ counted_from 2 h
+            by (Some x) false there = absurd (true≢false there)
+            by None true there = absurd (false≢true there)
+        own (expression.Select condition accept reject) is may = counted_from 2 h
+        own (expression.Splat size value) is may = counted_from 2 h
+        own (expression.Swizzle size vector pattern) is may = counted_from 2 h
+        own (expression.Derivative axis how expr) is may = counted_from 1 h
+        own (expression.As operand kind convert) is may =
             let op = cast d.around kind convert (type_known d.around operand) in
             silent_binds h op (operand ∷ []) (cast_asks d.around kind convert _)
             ∙ counted_from 2 h
-        own (expression.Math fun arg arg1 arg2 arg3) is types may = counted_from 2 h
-        own (expression.Relational fun argument) is types may = counted_from 2 h
+        own (expression.Math fun arg arg1 arg2 arg3) is may = counted_from 2 h
+        own (expression.Relational fun argument) is may = counted_from 2 h
         own
             (expression.ImageSample
-            image sampler gather coordinate array_index offset level depth_ref clamp) is types may =
+            image sampler gather coordinate array_index offset level depth_ref clamp) is may =
             by gather
           where
             by : (g : Option SwizzleComponent) →
@@ -339,14 +347,14 @@ module _ (m : Module) (info : ModuleInfo) (f : ir_function.Function) (es : List 
                 (is_some array_index) (is_some offset))) ≡ true
             by None = refl
             by (Some c) = refl
-        own (expression.ImageLoad image coordinate array_index sample level) is types may = refl
-        own (expression.ImageQuery image query) is types may = query_bound h query (image ∷ query_operands query)
-        own (expression.ArrayLength array) is types may = counted_from 2 h
-        own (expression.CooperativeMultiplyAdd x y z) is types may = counted_from 2 h
-        own (expression.Literal value) is types may = absurd cc
-        own (expression.FunctionArgument number) is types may = absurd cc
-        own (expression.LocalVariable handle) is types may = absurd cc
-        own _ is types may = absurd cc
+        own (expression.ImageLoad image coordinate array_index sample level) is may = refl
+        own (expression.ImageQuery image query) is may = query_bound h query (image ∷ query_operands query)
+        own (expression.ArrayLength array) is may = counted_from 2 h
+        own (expression.CooperativeMultiplyAdd x y z) is may = counted_from 2 h
+        own (expression.Literal value) is may = absurd cc
+        own (expression.FunctionArgument number) is may = absurd cc
+        own (expression.LocalVariable handle) is may = absurd cc
+        own _ is may = absurd cc
 
     -- and nothing else is
     pub others_bind : (h : ℕ) → is_emittable_kind (kind_at f.expressions h) ≡ false →

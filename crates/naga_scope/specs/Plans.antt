@@ -1,15 +1,17 @@
 -- What is decided of a function before its text.
 --
--- Throughout, m is the module, info is what is known of its expressions, and f is the shape of a
--- function.
-use Rattle.std.specs.Prelude.{◌≡◌, ◌<◌, ◌^◌, ℕ, List, [], Option, Some, IfSome, IsSomeAnd}
+-- Throughout, m is the module, info is what is known of its expressions, f is the shape of a function,
+-- and explicit says whether `let`s tell types.
+use Rattle.std.specs.Prelude.{◌≡◌, ◌<◌, ◌^◌, ℕ, Bool, List, [], Option, Some, IfSome, IsSomeAnd}
 use Rattle.std.specs.Prelude.{IsFalse, IsTrue, get_or, length, nat_le, slice_get}
 use Rattle.naga_ir.specs.declared.module.Function as ir
 use Rattle.naga_info.specs.declared.info.ExpressionInfo.{ExpressionInfo}
 use Rattle.module_meaning.specs.Part.{expression_has_form}
-use Rattle.module_meaning.specs.Written.{ExpressionsHaveForms, IsWrittenIn}
+use Rattle.module_meaning.specs.AlikeTypes.{has_form}
+use Rattle.module_meaning.specs.Written.{IsSpelledIn, IsWrittenIn, WrittenHaveForms}
 use Rattle.naga_ir.specs.declared.module.Module.{Module}
 use Rattle.naga_info.specs.declared.info.ModuleInfo.{ModuleInfo}
+use Rattle.naga_info.specs.declared.info.TypeResolution.TheVariants.{Handle}
 use Rattle.shader_runs.specs.Program.{Function}
 use Rattle.shader_runs.specs.Scope.{at_start}
 use Rattle.shader_runs.specs.ScopeRules.{ScopeHolds}
@@ -21,6 +23,7 @@ use Rattle.naga_scope.specs.GivenNames.{IsRefusalOfLabels}
 use Rattle.naga_scope.specs.Standings.{TextPoint, handles_of}
 use Rattle.naga_scope.specs.declared.plan.PlanError.{PlanError}
 use Rattle.naga_scope.specs.declared.plan.PlanError.TheVariants.{OutOfScope, WithoutForm, Unnamed}
+use Rattle.naga_scope.specs.declared.plan.PlanError.TheVariants.{TypeWithoutForm, LetWithoutForm}
 use Rattle.naga_scope.specs.declared.plan.PlanError.TheVariants.{Memory}
 
 -- the shape of the function with this handle, if there is one
@@ -40,9 +43,9 @@ pub record Planned : Type 0 where
 
 -- A plan of a function, of whose expressions es is known: the rules of scope hold in it, and its
 -- table of one cell for each of the expressions has what is in scope at the start, where no name is
--- given yet. Each written handle has a form. Handles, and labels that front ends gave, are told
--- apart in 64 bits.
-pub record IsPlan (m : Module) (info : ModuleInfo) (f : ir.Function) (es : List ExpressionInfo)
+-- given yet. Each written handle and each type that is spelled has a form. Handles, and labels that
+-- front ends gave, are told apart in 64 bits.
+pub record IsPlan (explicit : Bool) (m : Module) (info : ModuleInfo) (f : ir.Function) (es : List ExpressionInfo)
     (plan : Planned) : Type 0 where
   pub in_scope : ScopeHolds (function_shape m info f es)
   pub starts : (given : ℕ → List ℕ) →
@@ -51,20 +54,25 @@ pub record IsPlan (m : Module) (info : ModuleInfo) (f : ir.Function) (es : List 
   pub size : length plan.scope.table ≡ length f.expressions
   pub counted : IsTrue (nat_le (length f.expressions) (2 ^ 64))
   pub room : length (given_labels f) < 2 ^ 64
-  pub formed : ExpressionsHaveForms m info f es
+  pub formed : WrittenHaveForms explicit m info f es
 
 -- why there is no plan of it, where the namer was this: the rules of scope don't hold in it, a
--- written handle has no form, a label gets no name, or memory ran out
-abbrev pub IsRefusalToPlan : Module → ModuleInfo → ir.Function → List ExpressionInfo → Names →
-    PlanError → Type 0
-IsRefusalToPlan m info f es namer OutOfScope = ScopeHolds (function_shape m info f es) → ⊥
-IsRefusalToPlan m info f es namer (WithoutForm h) =
+-- written handle has no form, a type that is spelled has none, a label gets no name, or memory ran out
+abbrev pub IsRefusalToPlan : (explicit : Bool) → Module → ModuleInfo → ir.Function →
+    List ExpressionInfo → Names → PlanError → Type 0
+IsRefusalToPlan explicit m info f es namer OutOfScope = ScopeHolds (function_shape m info f es) → ⊥
+IsRefusalToPlan explicit m info f es namer (WithoutForm h) =
     IsWrittenIn m info f es h
     × IsSomeAnd (slice_get f.expressions h) (λ e. IsFalse (expression_has_form m.types es f.expressions e))
-IsRefusalToPlan m info f es namer (Unnamed error) =
+IsRefusalToPlan explicit m info f es namer (TypeWithoutForm ty) =
+    IsSpelledIn explicit m info f es (Handle ty) × IsFalse (has_form m.types (Handle ty))
+IsRefusalToPlan explicit m info f es namer (LetWithoutForm h) =
+    IsSomeAnd (slice_get es h)
+    (λ k. IsSpelledIn explicit m info f es k.ty × IsFalse (has_form m.types k.ty))
+IsRefusalToPlan explicit m info f es namer (Unnamed error) =
     (earlier : List (List ℕ)) → HasNamed namer earlier →
     IsRefusalOfLabels namer earlier (given_labels f) error
-IsRefusalToPlan m info f es namer (Memory e) = Unit {0}
+IsRefusalToPlan explicit m info f es namer (Memory e) = Unit {0}
 
 -- what holds of the function with this handle and of what is known of its expressions, if there is one
 abbrev pub OfFunctionAt : Module → ModuleInfo → (handle : ℕ) →
@@ -74,12 +82,14 @@ OfFunctionAt m info handle Holds =
     slice_get info.functions.items handle ≡ Some es → Holds f es
 
 -- a plan of the function with this handle, and why there is none
-abbrev pub IsPlanOf : Module → ModuleInfo → (handle : ℕ) → Planned → Type 0
-IsPlanOf m info handle plan = OfFunctionAt m info handle (λ f es. IsPlan m info f es plan)
+abbrev pub IsPlanOf : (explicit : Bool) → Module → ModuleInfo → (handle : ℕ) → Planned → Type 0
+IsPlanOf explicit m info handle plan =
+    OfFunctionAt m info handle (λ f es. IsPlan explicit m info f es plan)
 
-abbrev pub IsRefusalToPlanOf : Module → ModuleInfo → (handle : ℕ) → Names → PlanError → Type 0
-IsRefusalToPlanOf m info handle namer error =
-    OfFunctionAt m info handle (λ f es. IsRefusalToPlan m info f es namer error)
+abbrev pub IsRefusalToPlanOf : (explicit : Bool) → Module → ModuleInfo → (handle : ℕ) → Names →
+    PlanError → Type 0
+IsRefusalToPlanOf explicit m info handle namer error =
+    OfFunctionAt m info handle (λ f es. IsRefusalToPlan explicit m info f es namer error)
 
 -- these are the names that front ends gave in the function with this handle
 abbrev pub AreGivenNames : Module → (handle : ℕ) → (names : List (List ℕ)) → Type 0

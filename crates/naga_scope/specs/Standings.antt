@@ -1,9 +1,9 @@
 -- Where the expressions of a function stand at a point of its text, as the code keeps it.
 --
--- Throughout, h is a handle, f a function, es are its expressions, o tells whether one is an
--- operator, and u whether its operands are usable.
+-- Throughout, h is a handle, f a function, es are its expressions or what is known of them, o tells
+-- whether one is an operator, and u whether its operands are usable.
 use Rattle.std.specs.Prelude.{ℕ, Bool, true, false, List, [], Option, Some, None, nat_lt, length}
-use Rattle.std.specs.Prelude.{slice_get, get_or, ◌||◌, IsTrue}
+use Rattle.std.specs.Prelude.{slice_get, get_or, if◌then◌else◌, ◌||◌, IsTrue}
 use Rattle.std.specs.Option.{option_map_or}
 use Rattle.naga_ir.specs.Kinds.{kind_of}
 use Rattle.naga_ir.specs.Operands.{expression_operands}
@@ -14,7 +14,12 @@ use Rattle.naga_ir.specs.declared.kind.ExpressionKind.TheVariants as kind
 use Rattle.naga_ir.specs.declared.module.Function.{Function}
 use Rattle.shader_runs.specs.Program.{Function as Shape}
 use Rattle.shader_runs.specs.Scope as runs
+use Rattle.module_meaning.specs.ExpressionOperators.{has_parts}
 use Rattle.module_meaning.specs.Names.{numbered_name}
+use Rattle.module_meaning.specs.Part.{known_passes}
+use Rattle.naga_back.specs.Baking.{count_to_bind}
+use Rattle.naga_info.specs.declared.info.ExpressionInfo.{ExpressionInfo}
+use Rattle.naga_ir.specs.declared.types.Type_.{Type_}
 use Rattle.naga_scope.specs.declared.points.BoundName.{BoundName}
 use Rattle.naga_scope.specs.declared.points.BoundName.TheVariants.{Numbered, Given}
 use Rattle.naga_scope.specs.declared.points.Standing.{Standing}
@@ -85,6 +90,15 @@ is_image_operation
 is_image_operation (expression.ImageLoad image coordinate array_index sample level) = true
 is_image_operation (expression.ImageQuery image query) = true
 is_image_operation e = false
+
+-- From how many uses on a `let` binds an expression: a part of what has no parts is an operator
+-- without a form, and bound as one.
+abbrev pub uses_to_bind : List Type_ → List ExpressionInfo → ir.Expression → ℕ
+uses_to_bind types es (expression.AccessIndex base index) =
+    if known_passes types es (has_parts types) base
+    then count_to_bind (expression.AccessIndex base index)
+    else 2
+uses_to_bind types es e = count_to_bind e
 
 -- what is in scope at the start of a function is so by these standings too
 abbrev pub KeepsStart : Shape → runs.Handles → Type 0

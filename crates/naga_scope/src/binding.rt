@@ -5,17 +5,17 @@ ghost use Rattle.std.specs.Prelude.{◌≡◌, ◌||◌, List, get_or, map, nat_
 ghost use Rattle.std.specs.Option.{is_some, option_map};
 ghost use Rattle.module_meaning.specs.FunctionShapes.{function_shape};
 ghost use Rattle.module_meaning.specs.GivenLabels.{label_of};
-ghost use Rattle.module_meaning.specs.Part.{function_is_written, types_allow_all};
-ghost use Rattle.naga_back.specs.Baking.{count_to_bind};
+ghost use Rattle.module_meaning.specs.Part.{function_is_written};
 ghost use Rattle.naga_info.specs.declared.info.ModuleInfo.{ModuleInfo};
 ghost use Rattle.naga_ir.specs.declared.module.Module.{Module};
 ghost use Rattle.shader_runs.specs.Program.{binds};
 ghost use Rattle.naga_scope.specs.Standings.{is_constant_kind, is_emittable_kind, is_pure_kind};
-ghost use Rattle.naga_scope.specs.Standings.{is_image_operation, kind_at};
+ghost use Rattle.naga_scope.specs.Standings.{is_image_operation, kind_at, uses_to_bind};
 
+use naga_acceptance::parts::known_has_parts;
 use naga_back::BakeRefCount;
 use naga_info::FunctionInfo;
-use naga_ir::{Expression, ExpressionKind, Function, Handle};
+use naga_ir::{Expression, ExpressionKind, Function, Handle, Type_, UniqueArena};
 
 /// The expression with this handle, if there is one.
 pub(crate) fn expression_at(function: &Function, handle: Handle<Expression>) -> Option<&Expression>
@@ -111,33 +111,60 @@ fn asks_an_image(expression: &Expression) -> bool
     }
 }
 
+/// From how many uses on a `let` binds an expression. A part of what has no parts is an operator.
+fn uses_to_bind(
+    types: &UniqueArena<Type_>,
+    info: &FunctionInfo,
+    expression: &Expression,
+) -> usize
+    ensures { result ≡ uses_to_bind types.now info.now expression.now }
+{
+    match expression {
+        Expression::AccessIndex { base, .. } => {
+            if known_has_parts(types, info.expressions.as_slice(), *base) {
+                expression.bake_ref_count()
+            } else {
+                2
+            }
+        }
+        _ => expression.bake_ref_count(),
+    }
+}
+
 /// Whether a front end named the expression with this handle, or it is used as often as its kind
 /// asks.
 fn is_asked_for(
+    types: &UniqueArena<Type_>,
     function: &Function,
     info: &FunctionInfo,
     handle: Handle<Expression>,
     expression: &Expression,
 ) -> bool
     ensures { result ≡ (is_some (label_of function.now handle)
-        || nat_le (count_to_bind expression.now) (get_or (map (λ e. e.ref_count) info.now) handle 0)) }
+        || nat_le (uses_to_bind types.now info.now expression.now)
+        (get_or (map (λ e. e.ref_count) info.now) handle 0)) }
 {
-    is_named(function, handle) || count_of(info, handle) >= expression.bake_ref_count()
+    is_named(function, handle) || count_of(info, handle) >= uses_to_bind(types, info, expression)
 }
 
 /// Whether a `let` binds the expression with this handle where it is emitted: an operation on an
 /// image, a `Load` or a derivative with a use, or another operator, but no part at an index, with two,
 /// and whatever a front end named. It is for functions that are written so far.
-pub fn binds(function: &Function, info: &FunctionInfo, handle: Handle<Expression>) -> bool
+pub fn binds(
+    types: &UniqueArena<Type_>,
+    function: &Function,
+    info: &FunctionInfo,
+    handle: Handle<Expression>,
+) -> bool
     requires written { IsTrue (function_is_written function.now) }
-    ensures { (m : Module) (known : ModuleInfo) →
-        IsTrue (types_allow_all m.types function.now info.now) →
+    ensures { (m : Module) (known : ModuleInfo) → m.types ≡ types.now →
         result ≡ binds (function_shape m known function.now info.now) handle }
 {
     match expression_at(function, handle) {
         Some(expression) => {
             is_emittable(expression.kind())
-                && (asks_an_image(expression) || is_asked_for(function, info, handle, expression))
+                && (asks_an_image(expression)
+                    || is_asked_for(types, function, info, handle, expression))
         }
         None => false,
     }

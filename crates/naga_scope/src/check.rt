@@ -6,7 +6,6 @@ ghost use Rattle.module_meaning.specs.GivenLabels.{given_labels, labels_in, labe
 ghost use Rattle.module_meaning.specs.Names.{given_name};
 ghost use Rattle.module_meaning.specs.Namings.{function_naming};
 ghost use Rattle.module_meaning.specs.Part.{function_is_written, statement_is_written};
-ghost use Rattle.module_meaning.specs.Part.{types_allow_all};
 ghost use Rattle.module_meaning.specs.Premises.{OperandsStandBefore};
 ghost use Rattle.module_meaning.specs.Surroundings.{declared, types_known};
 ghost use Rattle.naga_info.specs.declared.info.ExpressionInfo.{ExpressionInfo};
@@ -23,7 +22,9 @@ ghost use Rattle.naga_scope.specs.Standings.{KeepsStart, handles_of, is_earlier}
 use crate::binding::expression_at;
 use crate::points::Scope;
 use naga_info::FunctionInfo;
-use naga_ir::{Expression, Function, Handle, LocalVariable, Place, Range, Statement};
+use naga_ir::{
+    Expression, Function, Handle, LocalVariable, Place, Range, Statement, Type_, UniqueArena,
+};
 
 /// Whether the expression, if there is one, may be written at this point.
 fn is_usable_if(scope: &Scope, function: &Function, handle: Option<Handle<Expression>>) -> bool
@@ -86,23 +87,29 @@ fn first_values_hold(scope: &Scope, function: &Function) -> bool
 
 /// Goes behind an `Emit` of these handles, and says whether it is allowed. Where it is not, the
 /// scope is that of some point inside.
-fn emit_holds(scope: &mut Scope, function: &Function, info: &FunctionInfo, range: Range) -> bool
+fn emit_holds(
+    scope: &mut Scope,
+    types: &UniqueArena<Type_>,
+    function: &Function,
+    info: &FunctionInfo,
+    range: Range,
+) -> bool
     requires written { IsTrue (function_is_written function.now) }
     requires ordered { OperandsStandBefore function.now.expressions }
     requires held { (m : Module) (known : ModuleInfo) →
-        IsTrue (types_allow_all m.types function.now info.now) →
+        m.types ≡ types.now →
         KeepsStart (function_shape m known function.now info.now)
         (handles_of (given_name m 0) scope.old.table) }
     requires size { length scope.old.table ≡ length function.now.expressions }
     requires room { scope.old.given
         + length (labels_of_each function.now (from range.first (range.end - range.first))) < 2 ^ 64 }
     ensures fits { (names : NameMap) (m : Module) (known : ModuleInfo) (g : ℕ) →
-        IsTrue (types_allow_all m.types function.now info.now) →
+        m.types ≡ types.now →
         let n = function_naming names m known g function.now info.now in
         result ≡ may_emit_all n scope.old.given (from range.first (range.end - range.first))
         (handles_of (given_name m g) scope.old.table) }
     ensures after { (names : NameMap) (m : Module) (known : ModuleInfo) (g : ℕ) →
-        IsTrue (types_allow_all m.types function.now info.now) → IsTrue result →
+        m.types ≡ types.now → IsTrue result →
         let n = function_naming names m known g function.now info.now in
         handles_of (given_name m g) scope.new.table
         ≡ after_emit n scope.old.given (from range.first (range.end - range.first))
@@ -113,10 +120,10 @@ fn emit_holds(scope: &mut Scope, function: &Function, info: &FunctionInfo, range
 {
     for index in range.first..range.end {
         let handle = Place::from_index(index);
-        if !scope.may_emit(function, info, handle) {
+        if !scope.may_emit(types, function, info, handle) {
             return false;
         }
-        scope.emit(function, info, handle);
+        scope.emit(types, function, info, handle);
     }
     true
 }
@@ -125,6 +132,7 @@ fn emit_holds(scope: &mut Scope, function: &Function, info: &FunctionInfo, range
 /// scope is that of some point inside.
 fn statement_holds(
     scope: &mut Scope,
+    types: &UniqueArena<Type_>,
     function: &Function,
     info: &FunctionInfo,
     statement: &Statement,
@@ -133,20 +141,20 @@ fn statement_holds(
     requires written { IsTrue (function_is_written function.now) }
     requires ordered { OperandsStandBefore function.now.expressions }
     requires held { (m : Module) (known : ModuleInfo) →
-        IsTrue (types_allow_all m.types function.now info.now) →
+        m.types ≡ types.now →
         KeepsStart (function_shape m known function.now info.now)
         (handles_of (given_name m 0) scope.old.table) }
     requires size { length scope.old.table ≡ length function.now.expressions }
     requires room { scope.old.given
         + length (labels_in function.now (tree_of statement.now)) < 2 ^ 64 }
     ensures fits { (names : NameMap) (m : Module) (known : ModuleInfo) (g : ℕ) →
-        IsTrue (types_allow_all m.types function.now info.now) →
+        m.types ≡ types.now →
         let n = function_naming names m known g function.now info.now in
         let around = (declared m known (types_known info.now)).around in
         result ≡ fits n scope.old.given (statement_shape around (tree_of statement.now))
         (handles_of (given_name m g) scope.old.table) }
     ensures after { (names : NameMap) (m : Module) (known : ModuleInfo) (g : ℕ) →
-        IsTrue (types_allow_all m.types function.now info.now) → IsTrue result →
+        m.types ≡ types.now → IsTrue result →
         let n = function_naming names m known g function.now info.now in
         let around = (declared m known (types_known info.now)).around in
         handles_of (given_name m g) scope.new.table
@@ -157,7 +165,7 @@ fn statement_holds(
     ensures size { length scope.new.table ≡ length scope.old.table }
 {
     match statement {
-        Statement::Emit(range) => emit_holds(scope, function, info, *range),
+        Statement::Emit(range) => emit_holds(scope, types, function, info, *range),
         Statement::Store { pointer, value } => {
             scope.is_usable(function, *pointer) && scope.is_usable(function, *value)
         }
@@ -168,7 +176,12 @@ fn statement_holds(
 
 /// Whether each expression of the function is in scope where it is used, and each `Emit` is
 /// allowed. The scope is that of the function's start, and then that of some point inside.
-pub(crate) fn function_holds(scope: &mut Scope, function: &Function, info: &FunctionInfo) -> bool
+pub(crate) fn function_holds(
+    scope: &mut Scope,
+    types: &UniqueArena<Type_>,
+    function: &Function,
+    info: &FunctionInfo,
+) -> bool
     requires written { IsTrue (function_is_written function.now) }
     requires ordered { OperandsStandBefore function.now.expressions }
     requires start { (given : ℕ → List ℕ) (m : Module) (known : ModuleInfo) →
@@ -177,7 +190,7 @@ pub(crate) fn function_holds(scope: &mut Scope, function: &Function, info: &Func
     requires size { length scope.old.table ≡ length function.now.expressions }
     requires room { length (given_labels function.now) < 2 ^ 64 }
     ensures scope { (names : NameMap) (m : Module) (known : ModuleInfo) (g : ℕ) →
-        IsTrue (types_allow_all m.types function.now info.now) →
+        m.types ≡ types.now →
         result ≡ fits_function (function_naming names m known g function.now info.now) }
     ensures size { length scope.new.table ≡ length scope.old.table }
 {
@@ -185,7 +198,7 @@ pub(crate) fn function_holds(scope: &mut Scope, function: &Function, info: &Func
         return false;
     }
     for statement in function.body.as_slice() {
-        if !statement_holds(scope, function, info, statement) {
+        if !statement_holds(scope, types, function, info, statement) {
             return false;
         }
     }

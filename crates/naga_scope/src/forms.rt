@@ -5,34 +5,33 @@ ghost use Rattle.std.specs.Option.{is_some};
 ghost use Rattle.module_meaning.specs.AlikeTypes.{has_form};
 ghost use Rattle.module_meaning.specs.Conversions.{converted_scalar};
 ghost use Rattle.module_meaning.specs.Part.{converts, expression_is_written, is_written_literal};
-ghost use Rattle.module_meaning.specs.Part.{known_passes, types_have_forms};
+ghost use Rattle.module_meaning.specs.Part.{known_passes};
 ghost use Rattle.module_meaning.specs.Sampling.{sampling_is_written};
 ghost use Rattle.naga_info.specs.declared.info.TypeResolution.TheVariants.{Handle as OfHandle};
 ghost use Rattle.naga_ir.specs.declared.types.Type_.{Type_};
 ghost use Rattle.naga_scope.specs.Forms.{AreKnownIn};
 ghost use Rattle.wgsl_words.specs.Words.{scalar_word};
 
-use naga_info::FunctionInfo;
+use naga_acceptance::is_spelled;
+use naga_acceptance::parts::known_has_parts;
+use naga_info::{FunctionInfo, TypeResolution};
 use naga_ir::{
     Expression, Handle, Literal, RelationalFunction, SampleLevel, Scalar, ScalarKind,
     SwizzleComponent, Type_, TypeInner, UniqueArena,
 };
 use wgsl_words::TryToWgsl;
 
-/// Whether an expression is one that is written, where its offset, if it has one, is written out, in a
-/// module whose types all have forms.
+/// Whether an expression is one that is written, where its offset, if it has one, is written out.
 pub(crate) fn is_written(
     types: &UniqueArena<Type_>,
     info: &FunctionInfo,
     expression: &Expression,
 ) -> bool
-    requires formed { IsTrue (types_have_forms types.now) }
     requires known { AreKnownIn types.now info.now }
     ensures { result ≡ expression_is_written types.now info.now expression.now }
 {
     match expression {
         Expression::Access { .. }
-        | Expression::AccessIndex { .. }
         | Expression::FunctionArgument(_)
         | Expression::LocalVariable(_)
         | Expression::Load { .. }
@@ -52,6 +51,9 @@ pub(crate) fn is_written(
             clamp_to_edge,
             ..
         } => sampling_has_form(*gather, *level, depth_ref.is_some(), *clamp_to_edge),
+        Expression::AccessIndex { base, .. } => {
+            known_has_parts(types, info.expressions.as_slice(), *base)
+        }
         Expression::ImageLoad { sample, level, .. } => sample.is_none() || level.is_none(),
         Expression::ZeroValue(ty) => type_has_form(types, *ty),
         Expression::Compose { ty, .. } => type_has_form(types, *ty),
@@ -92,12 +94,11 @@ pub fn sampling_has_form(
     }
 }
 
-/// Whether there is a type with this handle, where each type has a form.
-fn type_has_form(types: &UniqueArena<Type_>, ty: Handle<Type_>) -> bool
-    requires formed { IsTrue (types_have_forms types.now) }
+/// Whether the type with this handle has a form.
+pub(crate) fn type_has_form(types: &UniqueArena<Type_>, ty: Handle<Type_>) -> bool
     ensures { result ≡ has_form types.now (OfHandle ty) }
 {
-    ty.index() < types.len()
+    is_spelled(types, &TypeResolution::Handle(ty))
 }
 
 fn literal_has_form(literal: Literal) -> bool

@@ -8,6 +8,7 @@ mod forms;
 mod given;
 pub mod plan;
 pub mod points;
+mod spelled;
 mod written;
 
 pub use binding::binds;

@@ -6,7 +6,6 @@ ghost use Rattle.module_meaning.specs.Accepted.{is_accepted};
 ghost use Rattle.module_meaning.specs.GivenLabels.{given_labels};
 ghost use Rattle.module_meaning.specs.Names.{labels_given};
 ghost use Rattle.module_meaning.specs.Part.{function_is_written, is_written_so_far};
-ghost use Rattle.module_meaning.specs.Part.{types_allow_all, types_have_forms};
 ghost use Rattle.module_meaning.specs.Premises.{OperandsStandBefore};
 ghost use Rattle.naga_info.specs.declared.info.ModuleInfo.{ModuleInfo};
 ghost use Rattle.naga_ir.specs.declared.module.Module.{Module};
@@ -18,6 +17,7 @@ ghost use Rattle.naga_scope.specs.declared.plan.PlanError.TheVariants.{Memory, U
 use crate::check::function_holds;
 use crate::given::given_names;
 use crate::points::Scope;
+use crate::spelled::{declared_without_form, told_without_form};
 use crate::written::written_without_form;
 use naga_info::{FunctionInfo, ModuleInfo};
 use naga_ir::{Expression, Function, Handle, Module, Type_, UniqueArena};
@@ -34,6 +34,10 @@ pub enum PlanError {
     OutOfScope,
     /// The expression with this handle is written, and has no form.
     WithoutForm(Handle<Expression>),
+    /// An argument, the result or a local is of this type, which has no form.
+    TypeWithoutForm(Handle<Type_>),
+    /// The `let` of the expression with this handle tells its type, which has no form.
+    LetWithoutForm(Handle<Expression>),
     /// A label that a front end gave gets no name.
     Unnamed(NamerError),
     /// Memory has run out.
@@ -57,8 +61,9 @@ impl From<AllocError> for PlanError {
 }
 
 /// What is decided of a function before its text: that each of its expressions is in scope where it
-/// is used and each `Emit` is allowed, that each that is written has a form, where the expressions
-/// stand at its start, and the names that front ends gave, in the order of its text.
+/// is used and each `Emit` is allowed, that each that is written and each type that is spelled has a
+/// form, where the expressions stand at its start, and the names that front ends gave, in the order of
+/// its text.
 ///
 /// Which expressions a `let` binds is not kept: [`binds`](crate::binds) tells it of each as fast as
 /// a table would.
@@ -80,9 +85,9 @@ impl Model for Plan {
 
 impl Plan {
     /// The plan of the function with this handle, for a module that is accepted with what is known
-    /// of it, and is of the part that is written so far. Where the rules of scope don't hold in the
-    /// function, a written expression has no form, a label gets no name, or there is no memory,
-    /// there is no plan.
+    /// of it, and is of the part that is written so far; `explicit` says whether `let`s tell types.
+    /// Where the rules of scope don't hold in the function, a written expression or a type that is
+    /// spelled has no form, a label gets no name, or there is no memory, there is no plan.
     ///
     /// The namer names the labels that front ends gave to what the function emits, in the order of
     /// the text. Where there is no plan, it has named some first ones of them.
@@ -95,15 +100,17 @@ impl Plan {
         module: &Module,
         info: &ModuleInfo,
         handle: Handle<Function>,
+        explicit: bool,
         namer: &mut Namer,
     ) -> Result<Plan, PlanError>
         requires accepted { IsTrue (is_accepted «module».now info.now) }
-        requires written { IsTrue (is_written_so_far «module».now info.now) }
+        requires written { IsTrue (is_written_so_far «module».now) }
         requires handle { handle < length «module».now.functions }
-        ensures ok { IfOk result (IsPlanOf «module».now info.now handle) }
+        ensures ok { IfOk result (IsPlanOf explicit «module».now info.now handle) }
         ensures named { IfOk result (λ p.
             NamesLabels namer.old [] (labels_given «module».now handle) namer.new p.given) }
-        ensures err { IfErr result (IsRefusalToPlanOf «module».now info.now handle namer.old) }
+        ensures err { IfErr result
+            (IsRefusalToPlanOf explicit «module».now info.now handle namer.old) }
         ensures begun { OnErr result
             (HasBegunLabels namer.old (labels_given «module».now handle) namer.new) }
     {
@@ -112,6 +119,7 @@ impl Plan {
             &module.types,
             &module.functions[handle],
             &info[handle],
+            explicit,
             namer,
         )
     }
@@ -121,30 +129,34 @@ impl Plan {
         types: &UniqueArena<Type_>,
         function: &Function,
         info: &FunctionInfo,
+        explicit: bool,
         namer: &mut Namer,
     ) -> Result<Plan, PlanError>
         requires ordered { OperandsStandBefore function.now.expressions }
         requires written { IsTrue (function_is_written function.now) }
-        requires formed { IsTrue (types_have_forms types.now) }
         requires known { AreKnownIn types.now info.now }
         ensures ok { (m : Module) (known : ModuleInfo) → m.types ≡ types.now →
-            IsTrue (types_allow_all m.types function.now info.now) →
-            IfOk result (IsPlan m known function.now info.now) }
+            IfOk result (IsPlan explicit m known function.now info.now) }
         ensures named { IfOk result (λ p.
             NamesLabels namer.old [] (given_labels function.now) namer.new p.given) }
         ensures err { (m : Module) (known : ModuleInfo) → m.types ≡ types.now →
-            IsTrue (types_allow_all m.types function.now info.now) →
-            IfErr result (IsRefusalToPlan m known function.now info.now namer.old) }
+            IfErr result (IsRefusalToPlan explicit m known function.now info.now namer.old) }
         ensures begun { OnErr result
             (HasBegunLabels namer.old (given_labels function.now) namer.new) }
     {
         let given = given_names(alloc, function, namer)?;
         let mut scope = Scope::start(alloc, function)?;
-        if !function_holds(&mut scope, function, info) {
+        if !function_holds(&mut scope, types, function, info) {
             return Err(PlanError::OutOfScope);
         }
         if let Some(handle) = written_without_form(alloc, types, function, info)? {
             return Err(PlanError::WithoutForm(handle));
+        }
+        if let Some(ty) = declared_without_form(types, function) {
+            return Err(PlanError::TypeWithoutForm(ty));
+        }
+        if let Some(handle) = told_without_form(types, function, info, explicit) {
+            return Err(PlanError::LetWithoutForm(handle));
         }
         scope.restart(function);
         Ok(Plan { scope, given })

@@ -7,7 +7,7 @@ ghost use Rattle.module_meaning.specs.FunctionShapes.{function_shape};
 ghost use Rattle.module_meaning.specs.GivenLabels.{label_of};
 ghost use Rattle.module_meaning.specs.Names.{given_name};
 ghost use Rattle.module_meaning.specs.Namings.{function_naming};
-ghost use Rattle.module_meaning.specs.Part.{function_is_written, types_allow_all};
+ghost use Rattle.module_meaning.specs.Part.{function_is_written};
 ghost use Rattle.module_meaning.specs.Premises.{OperandsStandBefore};
 ghost use Rattle.naga_info.specs.declared.info.ExpressionInfo.{ExpressionInfo};
 ghost use Rattle.naga_ir.specs.Operands.{expression_operands};
@@ -28,7 +28,7 @@ use crate::binding::{
     binds, expression_at, is_constant_leaf, is_emittable, is_named, is_operator, kind_at, label_of,
 };
 use naga_info::FunctionInfo;
-use naga_ir::{Expression, Function, Handle, Place};
+use naga_ir::{Expression, Function, Handle, Place, Type_, UniqueArena};
 use std::alloc::{AllocError, Global};
 use std::marker::Model;
 
@@ -285,6 +285,7 @@ impl Scope {
     /// written out as a constant is so from the start.
     pub(crate) fn may_emit(
         &self,
+        types: &UniqueArena<Type_>,
         function: &Function,
         info: &FunctionInfo,
         handle: Handle<Expression>,
@@ -292,17 +293,17 @@ impl Scope {
         requires written { IsTrue (function_is_written function.now) }
         requires ordered { OperandsStandBefore function.now.expressions }
         requires held { (m : Module) (known : ModuleInfo) →
-            IsTrue (types_allow_all m.types function.now info.now) →
+            m.types ≡ types.now →
             KeepsStart (function_shape m known function.now info.now)
             (handles_of (given_name m 0) self.now.table) }
         ensures { (given : ℕ → List ℕ) (m : Module) (known : ModuleInfo) →
-            IsTrue (types_allow_all m.types function.now info.now) →
+            m.types ≡ types.now →
             result ≡ may_emit (function_shape m known function.now info.now) handle
             (handles_of given self.now.table) }
     {
         self.standing(handle).is_new()
             && is_emittable(kind_at(function, handle))
-            && (!binds(function, info, handle) || self.has_operands(function, handle))
+            && (!binds(types, function, info, handle) || self.has_operands(function, handle))
     }
 
     /// The name under which a `let` binds the expression with this handle here.
@@ -320,13 +321,14 @@ impl Scope {
     /// at only where that depends on them.
     fn emitted(
         &self,
+        types: &UniqueArena<Type_>,
         function: &Function,
         info: &FunctionInfo,
         handle: Handle<Expression>,
     ) -> Standing
         requires written { IsTrue (function_is_written function.now) }
         ensures { (given : ℕ → List ℕ) (m : Module) (known : ModuleInfo) →
-            IsTrue (types_allow_all m.types function.now info.now) →
+            m.types ≡ types.now →
             let shape = function_shape m known function.now info.now in
             let evaluated = expression_of shape handle in
             result ≡ emitted_standing (binds shape handle) (is_pure evaluated)
@@ -335,7 +337,7 @@ impl Scope {
             (get_or self.now.table handle Standing.Absent) }
     {
         let before = self.standing(handle);
-        if binds(function, info, handle) {
+        if binds(types, function, info, handle) {
             return Standing::Named(self.next_name(function, handle));
         }
         if is_operator(kind_at(function, handle)) {
@@ -349,13 +351,19 @@ impl Scope {
     /// it, by the next name of those that front ends gave where it has such a one. An operator that
     /// no `let` binds is written where it is used, if its operands are in scope here. A `Load` that
     /// no `let` binds stays absent, since it may not be read later than here.
-    pub fn emit(&mut self, function: &Function, info: &FunctionInfo, handle: Handle<Expression>)
+    pub fn emit(
+        &mut self,
+        types: &UniqueArena<Type_>,
+        function: &Function,
+        info: &FunctionInfo,
+        handle: Handle<Expression>,
+    )
         requires written { IsTrue (function_is_written function.now) }
         requires size { length self.old.table ≡ length function.now.expressions }
         requires room { self.old.given + length (option_to_list (label_of function.now handle))
             < 2 ^ 64 }
         ensures handles { (names : NameMap) (m : Module) (known : ModuleInfo) (g : ℕ) →
-            IsTrue (types_allow_all m.types function.now info.now) →
+            m.types ≡ types.now →
             handles_of (given_name m g) self.new.table ≡
             after_one (function_naming names m known g function.now info.now) self.old.given handle
             (handles_of (given_name m g) self.old.table) }
@@ -363,7 +371,7 @@ impl Scope {
             ≡ self.old.given + length (option_to_list (label_of function.now handle)) }
         ensures size { length self.new.table ≡ length self.old.table }
     {
-        let standing = self.emitted(function, info, handle);
+        let standing = self.emitted(types, function, info, handle);
         self.given = self.given_behind(function, handle);
         self.stand(handle, standing);
     }

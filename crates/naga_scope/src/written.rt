@@ -7,8 +7,7 @@ ghost use Rattle.std.specs.Option.{option_to_list};
 ghost use Rattle.naga_ir.specs.Operands.{expression_operands};
 ghost use Rattle.module_meaning.specs.FunctionShapes.{function_shape};
 ghost use Rattle.module_meaning.specs.Part.{expression_has_form, function_is_written};
-ghost use Rattle.module_meaning.specs.Part.{statement_is_written, types_allow_all};
-ghost use Rattle.module_meaning.specs.Part.{types_have_forms};
+ghost use Rattle.module_meaning.specs.Part.{statement_is_written};
 ghost use Rattle.module_meaning.specs.Sampling.{own_offset_is_written};
 ghost use Rattle.module_meaning.specs.Writable.{written_out_over};
 ghost use Rattle.module_meaning.specs.Written.{block_roots, function_roots, statement_roots};
@@ -112,15 +111,13 @@ fn offset_has_form(constants: &[bool], expression: &Expression) -> bool
     }
 }
 
-/// Whether an expression has a form, by marks of those that may be written out as constants, in a
-/// module whose types all have one.
+/// Whether an expression has a form, by marks of those that may be written out as constants.
 fn has_form(
     constants: &[bool],
     types: &UniqueArena<Type_>,
     info: &FunctionInfo,
     expression: &Expression,
 ) -> bool
-    requires formed { IsTrue (types_have_forms types.now) }
     requires known { AreKnownIn types.now info.now }
     ensures { (es : List Expression) → MarksConstants es constants.now →
         result ≡ expression_has_form types.now info.now es expression.now }
@@ -129,24 +126,31 @@ fn has_form(
 }
 
 /// Marks what these handles of an `Emit` write: those that a `let` binds.
-fn mark_emitted(marks: &mut [bool], function: &Function, info: &FunctionInfo, range: Range)
+fn mark_emitted(
+    marks: &mut [bool],
+    types: &UniqueArena<Type_>,
+    function: &Function,
+    info: &FunctionInfo,
+    range: Range,
+)
     requires written { IsTrue (function_is_written function.now) }
     ensures size { length marks.new ≡ length marks.old }
     ensures marks { (m : Module) (known : ModuleInfo) (h : ℕ) →
-        IsTrue (types_allow_all m.types function.now info.now) →
+        m.types ≡ types.now →
         let shape = function_shape m known function.now info.now in
         is_marked marks.new h
         ≡ marked_with marks.old (filter (binds shape) (from range.first (range.end - range.first))) h }
 {
     for index in range.first..range.end {
         let handle = Place::from_index(index);
-        mark_if(marks, handle, binds(function, info, handle));
+        mark_if(marks, handle, binds(types, function, info, handle));
     }
 }
 
 /// Marks what a statement writes by itself.
 fn mark_statement(
     marks: &mut [bool],
+    types: &UniqueArena<Type_>,
     function: &Function,
     info: &FunctionInfo,
     statement: &Statement,
@@ -155,13 +159,13 @@ fn mark_statement(
     requires written { IsTrue (function_is_written function.now) }
     ensures size { length marks.new ≡ length marks.old }
     ensures marks { (m : Module) (known : ModuleInfo) (h : ℕ) →
-        IsTrue (types_allow_all m.types function.now info.now) →
+        m.types ≡ types.now →
         let shape = function_shape m known function.now info.now in
         is_marked marks.new h
         ≡ marked_with marks.old (statement_roots (binds shape) (tree_of statement.now)) h }
 {
     match statement {
-        Statement::Emit(range) => mark_emitted(marks, function, info, *range),
+        Statement::Emit(range) => mark_emitted(marks, types, function, info, *range),
         Statement::Store { pointer, value } => {
             mark(marks, *pointer);
             mark(marks, *value);
@@ -176,17 +180,22 @@ fn mark_statement(
 }
 
 /// Marks what the statements of a function write by themselves.
-fn mark_body(marks: &mut [bool], function: &Function, info: &FunctionInfo)
+fn mark_body(
+    marks: &mut [bool],
+    types: &UniqueArena<Type_>,
+    function: &Function,
+    info: &FunctionInfo,
+)
     requires written { IsTrue (function_is_written function.now) }
     ensures size { length marks.new ≡ length marks.old }
     ensures marks { (m : Module) (known : ModuleInfo) (h : ℕ) →
-        IsTrue (types_allow_all m.types function.now info.now) →
+        m.types ≡ types.now →
         let shape = function_shape m known function.now info.now in
         is_marked marks.new h
         ≡ marked_with marks.old (block_roots (binds shape) function.now.body) h }
 {
     for statement in function.body.as_slice() {
-        mark_statement(marks, function, info, statement);
+        mark_statement(marks, types, function, info, statement);
     }
 }
 
@@ -233,7 +242,6 @@ fn sweep(
     requires size { length marks.old ≡ length function.now.expressions }
     requires constants { MarksConstants function.now.expressions constants.now }
     requires ordered { OperandsStandBefore function.now.expressions }
-    requires formed { IsTrue (types_have_forms types.now) }
     requires known { AreKnownIn types.now info.now }
     ensures { (roots : List ℕ) → MarksJust roots marks.old →
         Sweeps (expression_has_form types.now info.now function.now.expressions)
@@ -267,16 +275,15 @@ fn without_form(
     requires written { IsTrue (function_is_written function.now) }
     requires marks { marks.old ≡ replicate (length function.now.expressions) false }
     requires constants { MarksConstants function.now.expressions constants.now }
-    requires formed { IsTrue (types_have_forms types.now) }
     requires known { AreKnownIn types.now info.now }
     ensures { (m : Module) (known : ModuleInfo) →
-        IsTrue (types_allow_all m.types function.now info.now) →
+        m.types ≡ types.now →
         let shape = function_shape m known function.now info.now in
         Sweeps (expression_has_form types.now info.now function.now.expressions)
         function.now.expressions (function_roots (binds shape) function.now) result }
 {
     mark_first_values(marks, function);
-    mark_body(marks, function, info);
+    mark_body(marks, types, function, info);
     sweep(marks, constants, types, function, info)
 }
 
@@ -289,10 +296,9 @@ pub(crate) fn written_without_form(
 ) -> Result<Option<Handle<Expression>>, AllocError>
     requires ordered { OperandsStandBefore function.now.expressions }
     requires written { IsTrue (function_is_written function.now) }
-    requires formed { IsTrue (types_have_forms types.now) }
     requires known { AreKnownIn types.now info.now }
     ensures { (m : Module) (known : ModuleInfo) →
-        IsTrue (types_allow_all m.types function.now info.now) →
+        m.types ≡ types.now →
         let shape = function_shape m known function.now info.now in
         IfOk result (Sweeps (expression_has_form types.now info.now function.now.expressions)
         function.now.expressions (function_roots (binds shape) function.now)) }

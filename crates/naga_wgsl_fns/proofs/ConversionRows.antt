@@ -25,7 +25,7 @@ use Rattle.naga_wgsl_fns.proofs.ExpressionRows.{own_typed}
 use Rattle.naga_wgsl_fns.specs.Expressions.{bitcast_text, callee_text, cast_text, conversion_callee}
 use Rattle.naga_wgsl_fns.specs.Expressions.{form_at}
 use Rattle.naga_wgsl_fns.specs.Expressions.{made_text, operands_at, operands_text, own_text}
-use Rattle.naga_wgsl_fns.specs.FunctionText.{CanWrite, around, expressions, type_names_of}
+use Rattle.naga_wgsl_fns.specs.FunctionText.{CanWrite, IsInText, around, expressions, type_names_of}
 use Rattle.naga_wgsl_fns.specs.Types.{resolution_text}
 use Rattle.naga_wgsl_fns.specs.declared.functions.FunctionText.{FunctionText}
 use Rattle.naga_form.specs.Expressions.{value_forms}
@@ -111,11 +111,11 @@ cast_else f bits ty is = sym (ap (λ b. if b then bitcast_text f ty else resolut
 
 -- ---- what an expression is made of that is a conversion
 pub own_conversion : (f : FunctionText) (table : List Standing) (handle : ℕ) (e : ir.Expression)
-    (operand : ℕ) (kind : ScalarKind) (convert : Option ℕ) → CanWrite f →
+    (operand : ℕ) (kind : ScalarKind) (convert : Option ℕ) → CanWrite f → IsInText f handle →
     expression_is_written f.shader.now.types f.info.now (As operand kind convert) ≡ true →
     slice_get (expressions f) handle ≡ Some e → e ≡ As operand kind convert →
     made_text f table (conversion_callee f operand kind convert) handle ≡ own_text f table handle
-own_conversion f table handle e operand kind convert can may here is =
+own_conversion f table handle e operand kind convert can within may here is =
     let c = conversion f.shader.now f.module_info.now f.info.now operand kind convert may in
     let called =
     conversion_is (around f) (type_names_of f) operand kind convert c.from c.to c.tree c.known
@@ -123,5 +123,5 @@ own_conversion f table handle e operand kind convert can may here is =
     let op = cast_called (around f) kind convert (type_known (around f) operand) in
     ap (λ o. made_text f table (unwrap_or o (NamedType [])) handle) called
     ∙ own_typed f table handle e (As operand kind convert)
-    (cast_tree (keeps_bits c.from convert) c.tree) _ can (typed_notation _ op _ _ called)
+    (cast_tree (keeps_bits c.from convert) c.tree) _ can within (typed_notation _ op _ _ called)
     here is refl

@@ -70,8 +70,8 @@ use Rattle.naga_words.specs.Output.{joined_texts}
 use Rattle.naga_wgsl_fns.specs.Literals.{literal_text}
 use Rattle.wgsl_text.specs.Reading.{expression_layout}
 use Rattle.naga_wgsl_fns.specs.declared.functions.FunctionText.{FunctionText}
-use Rattle.naga_wgsl_fns.specs.FunctionText.{CanWrite, around, expressions, handles_in, naming}
-use Rattle.naga_wgsl_fns.specs.FunctionText.{source}
+use Rattle.naga_wgsl_fns.specs.FunctionText.{CanWrite, IsInText, around, expressions, handles_in}
+use Rattle.naga_wgsl_fns.specs.FunctionText.{naming, source}
 use Rattle.naga_wgsl_fns.specs.Names.{name_of_argument, name_of_local}
 use Rattle.naga_wgsl_fns.specs.Expressions.{address_text, applied_text, called_text, form_at}
 use Rattle.naga_wgsl_fns.specs.Expressions.{next_operand_text, operands_at, operands_left}
@@ -246,9 +246,10 @@ own_at f table handle (Some e) =
 own_at f table handle None = expression_layout (as_value no_form)
 
 pub own_row : (f : FunctionText) (table : List Standing) (handle : ℕ) → CanWrite f →
+    IsInText f handle →
     own_text f table handle ≡ own_at f table handle (slice_get (expressions f) handle)
 unfolding own_text literal_text name_of_argument address_text reference_text applied_text member_text part_value_text plain_address_text plain_text
-own_row f table handle can = by (slice_get (expressions f) handle) refl
+own_row f table handle can within = by (slice_get (expressions f) handle) refl
   where
     operand : ℕ → PlainForm
     operand = plain_form (naming f) (source f) (handles_in f table)
@@ -273,7 +274,7 @@ own_row f table handle can = by (slice_get (expressions f) handle) refl
         expression_layout (as_value (own_if (naming f) (source f) operand e)) ≡
         part_value_text f table handle base
     parted e at base is =
-        let p = part_form f table can handle e at base is in
+        let p = part_form f table can handle within e at base is in
         let same = ap (own_if (naming f) (source f) operand) at in
         ap (λ q. expression_layout (as_value q)) (sym same)
         ∙ valued_part (points (around f) base) p.part (operand base) (own_form f table handle)
@@ -319,11 +320,11 @@ reference_at f table handle (Named name) e = pointed_text f table handle
 reference_at f table handle _ e = reference_by f table handle e
 
 pub reference_row : (f : FunctionText) (table : List Standing) (handle : ℕ) → CanWrite f →
-    handle < length (expressions f) →
+    IsInText f handle →
     reference_text f table handle ≡
     reference_at f table handle (get_or table handle Absent) (slice_get (expressions f) handle)
 unfolding reference_text pointed_text name_of_local part_reference_text plain_text
-reference_row f table handle can lt =
+reference_row f table handle can within =
     ap (λ form. expression_layout (as_reference form)) is ∙ by cell is
   where
     cell : Standing
@@ -342,7 +343,7 @@ reference_row f table handle can lt =
     form c = standing_plain (standing_of (given_name f.shader.now f.handle) (numbered_name handle) c) (own e)
 
     is : plain_form (naming f) (source f) (handles_in f table) handle ≡ form cell
-    is = cell_form f table handle can lt
+    is = cell_form f table handle can within.there
 
     valued : (one : Expression) (type : Option TypeSpecifier) (hs : List ℕ) (o : Option Operator) →
         as_reference (applied_plain (ValueForm one) type operand hs o) ≡
@@ -365,7 +366,7 @@ reference_row f table handle can lt =
     parted : form_at f table handle ≡ own e → (o : Option ir.Expression) → e ≡ o → (base : ℕ) → base_of o ≡ Some base →
         expression_layout (as_reference (own o)) ≡ part_reference_text f table handle base
     parted mine o at base here =
-        let p = part_form f table can handle o at base here in
+        let p = part_form f table can handle within o at base here in
         let b = points (around f) base in
         ap (λ o. expression_layout (as_reference (own o))) (sym at)
         ∙ (referred_part b p.part (operand base) (own e) (ap own at ∙ p.is)
@@ -455,12 +456,12 @@ made_row f table ty handle =
 
 -- what an expression is made of whose operator is called by a type
 pub own_typed : (f : FunctionText) (table : List Standing) (handle : ℕ) (e own : ir.Expression)
-    (t : TypeSpecifier) (n : Notation) → CanWrite f → n ≡ Called t →
+    (t : TypeSpecifier) (n : Notation) → CanWrite f → IsInText f handle → n ≡ Called t →
     slice_get (expressions f) handle ≡ Some e → e ≡ own →
     own_at f table handle (Some own) ≡ applied_text f table n (expression_operands own) →
     made_text f table t handle ≡ own_text f table handle
 unfolding made_text applied_text
-own_typed f table handle e own t n can called here is made =
+own_typed f table handle e own t n can within called here is made =
     let there = here ∙ ap Some is in
     let es : List Expression = value_forms (form_at f table) (expression_operands own) in
     ap
@@ -468,21 +469,22 @@ own_typed f table handle e own t n can called here is made =
     (Call t (arguments_of (value_forms (form_at f table) (option_map_or expression_operands o [])))))
     there
     ∙ sym (ap (λ n. expression_layout (applied_form n es)) called)
-    ∙ sym (own_row f table handle can ∙ (ap (own_at f table handle) there ∙ made))
+    ∙ sym (own_row f table handle can within ∙ (ap (own_at f table handle) there ∙ made))
 
 -- or makes a value of a type of the module
 pub own_made : (f : FunctionText) (table : List Standing) (handle ty components : ℕ)
-    (e own : ir.Expression) → CanWrite f → IsTrue (has_form f.shader.now.types (Handle ty)) →
+    (e own : ir.Expression) → CanWrite f → IsInText f handle →
+    IsTrue (has_form f.shader.now.types (Handle ty)) →
     slice_get (expressions f) handle ≡ Some e → e ≡ own →
     own_at f table handle (Some own) ≡
     applied_text f table
     (notation (type_tree (type_names_of f) ty) (constructor (around f) (Handle ty) components))
     (expression_operands own) →
     made_text f table (made_type f ty) handle ≡ own_text f table handle
-own_made f table handle ty components e own can value here is made =
+own_made f table handle ty components e own can within value here is made =
     let tree = tree_there (type_names_of f) (Handle ty) value in
     ap (λ o. made_text f table (unwrap_or o (NamedType [])) handle) tree.1
-    ∙ own_typed f table handle e own tree.0 _ can
+    ∙ own_typed f table handle e own tree.0 _ can within
     (typed_notation _ (constructor_called (around f) (Handle ty) components)
     (type_tree (type_names_of f) ty) tree.0 tree.1)
     here is made
@@ -516,18 +518,18 @@ operands_start f table handle = refl
 
 -- what is made of an operator's word that is called with the expression's operands
 pub own_called : (f : FunctionText) (table : List Standing) (handle : ℕ) (e own : ir.Expression)
-    (word its : List ℕ) → CanWrite f → slice_get (expressions f) handle ≡ Some e → e ≡ own →
-    word ≡ its →
+    (word its : List ℕ) → CanWrite f → IsInText f handle →
+    slice_get (expressions f) handle ≡ Some e → e ≡ own → word ≡ its →
     own_at f table handle (Some own) ≡
     applied_text f table (Called (NamedType its)) (expression_operands own) →
     called_text f table word handle ≡ own_text f table handle
 unfolding called_text
-own_called f table handle e own word its can here is named called =
+own_called f table handle e own word its can within here is named called =
     let there = here ∙ ap Some is in
     ap₂
     (λ w o. applied_text f table (Called (NamedType w)) (option_map_or expression_operands o []))
     named there
-    ∙ sym (own_row f table handle can ∙ (ap (own_at f table handle) there ∙ called))
+    ∙ sym (own_row f table handle can within ∙ (ap (own_at f table handle) there ∙ called))
 
 pub address_row : (f : FunctionText) (local : ℕ) → address_text f local ≡ joined_texts (codes "(&") (joined_texts (name_of_local f local) (codes ")"))
 unfolding address_text name_of_local joined_texts

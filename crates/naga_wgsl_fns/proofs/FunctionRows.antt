@@ -42,8 +42,8 @@ use Rattle.naga_names.specs.Keys.{names_in}
 use Rattle.shader_runs.specs.Scope.{Handles}
 use Rattle.module_meaning.specs.GivenLabels.{given_labels}
 use Rattle.module_meaning.specs.Names.{HasNamesOf, given_name, module_names}
-use Rattle.module_meaning.specs.Written.{ExpressionsHaveForms}
-use Rattle.module_meaning.proofs.Part.{functions_allow, written_so_far_parts}
+use Rattle.module_meaning.specs.Written.{WrittenHaveForms}
+use Rattle.module_meaning.proofs.Part.{written_so_far_parts}
 use Rattle.naga_scope.specs.Standings.{TextPoint}
 use Rattle.naga_scope.specs.declared.points.Standing.{Standing}
 use Rattle.naga_words.specs.declared.error.TypeTextError.{TypeTextError}
@@ -98,13 +98,13 @@ one_is_known m info accepted g f es here known =
     let both = zip_at m.functions info.functions.items g f es here known in
     (accepted_at m info accepted g f es (in_left (zip m.functions info.functions.items) (entry_points_known m info) g (f, es) both)).size
 
-pub can_write : (t : FunctionText) → IsTrue (is_accepted t.shader.now t.module_info.now) → IsTrue (is_written_so_far t.shader.now t.module_info.now) → HasNamesOf t.shader.now (names_in t.names.now) → slice_get t.shader.now.functions t.handle ≡ Some t.function.now → slice_get t.module_info.now.functions.items t.handle ≡ Some t.info.now → ExpressionsHaveForms t.shader.now t.module_info.now t.function.now t.info.now →
+pub can_write : (t : FunctionText) → IsTrue (is_accepted t.shader.now t.module_info.now) → IsTrue (is_written_so_far t.shader.now) → HasNamesOf t.shader.now (names_in t.names.now) → slice_get t.shader.now.functions t.handle ≡ Some t.function.now → slice_get t.module_info.now.functions.items t.handle ≡ Some t.info.now → WrittenHaveForms (tells_types t.flags) t.shader.now t.module_info.now t.function.now t.info.now →
     ((number : ℕ) → option_map_or string_bytes (slice_get t.given.now number) [] ≡ given_name t.shader.now t.handle number) → length (given_labels t.function.now) < 2 ^ 64 → CanWrite t
 can_write t accepted written named here known formed given room =
     let m = t.shader.now in
     let info = t.module_info.now in
     let f = t.function.now in
-    let part = written_so_far_parts m info written in
+    let part = written_so_far_parts m written in
     record {
       named = named;
       accepted = accepted;
@@ -115,7 +115,6 @@ can_write t accepted written named here known formed given room =
       ranges = function_names_there m info (names_are_there m info accepted) t.handle f here;
       size = one_is_known m info accepted t.handle f t.info.now here known;
       written = list_all_at function_is_written m.functions t.handle f part.2 here;
-      allowed = functions_allow m info written t.handle f t.info.now here known;
       formed = formed;
       given = given;
       room = room;

@@ -6,9 +6,8 @@ use Rattle.std.specs.Option.{option_map_or}
 use Rattle.std.proofs.lemmas.Option.{same_Some}
 use Rattle.naga_ir.specs.declared.expression.Expression as ir
 use Rattle.naga_ir.specs.declared.expression.Expression.TheVariants as expression
-use Rattle.module_meaning.proofs.Lists.{list_all_at}
 use Rattle.module_meaning.specs.OperatorTable.{WithoutForm, PartAt}
-use Rattle.module_meaning.specs.Part.{types_allow}
+use Rattle.module_meaning.specs.Part.{expression_is_written}
 use Rattle.naga_form.proofs.AllowedParts.{selected}
 use Rattle.naga_form.specs.Expressions.{PlainForm, as_value, as_reference, applied_plain, no_form}
 use Rattle.naga_form.specs.Expressions.{own_if, part_plain, points, selected_part}
@@ -16,7 +15,8 @@ use Rattle.naga_scope.specs.declared.points.Standing.{Standing}
 use Rattle.naga_wgsl_fns.specs.Expressions.{base_of, form_at, index_text, is_signed, number_text}
 use Rattle.naga_wgsl_fns.specs.Expressions.{part_end, plain_tree, selector_end, selector_text}
 use Rattle.naga_wgsl_fns.specs.Expressions.{value_text, word_text}
-use Rattle.naga_wgsl_fns.specs.FunctionText.{CanWrite, around, expressions, naming, source}
+use Rattle.naga_wgsl_fns.proofs.Wanted.{expression_formed}
+use Rattle.naga_wgsl_fns.specs.FunctionText.{CanWrite, IsInText, around, expressions, naming, source}
 use Rattle.naga_wgsl_fns.specs.declared.functions.FunctionText.{FunctionText}
 use Rattle.shader_runs.specs.Value.{Selector, MemberNamed, ElementAt}
 use Rattle.wgsl_text.proofs.Expressions.{index_text as index_row_text, index_at_text, member_text}
@@ -57,7 +57,7 @@ module _ (f : FunctionText) (table : List Standing) (can : CanWrite f) where
   }
 
   selected_form : (base index : ℕ) →
-      types_allow f.shader.now.types f.info.now (expression.AccessIndex base index) ≡ true →
+      expression_is_written f.shader.now.types f.info.now (expression.AccessIndex base index) ≡ true →
       PartForm f table (Some (expression.AccessIndex base index)) base
   unfolding selector_text
   selected_form base index may =
@@ -76,18 +76,18 @@ module _ (f : FunctionText) (table : List Standing) (can : CanWrite f) where
         unsigned = selected_unsigned x.0;
       }
 
-  pub part_form : (handle : ℕ) (e : Option ir.Expression) → slice_get (expressions f) handle ≡ e →
-      (base : ℕ) → base_of e ≡ Some base → PartForm f table e base
-  part_form handle (Some (expression.Access b index)) at base is =
+  pub part_form : (handle : ℕ) → IsInText f handle → (e : Option ir.Expression) →
+      slice_get (expressions f) handle ≡ e → (base : ℕ) → base_of e ≡ Some base →
+      PartForm f table e base
+  part_form handle within (Some (expression.Access b index)) at base is =
       subst (PartForm f table (Some (expression.Access b index))) (same_Some b base is)
       (element_form b index)
-  part_form handle (Some (expression.AccessIndex b index)) at base is =
+  part_form handle within (Some (expression.AccessIndex b index)) at base is =
       subst (PartForm f table (Some (expression.AccessIndex b index))) (same_Some b base is)
       (selected_form b index
-      (list_all_at (types_allow f.shader.now.types f.info.now) (expressions f) handle
-      (expression.AccessIndex b index) can.allowed at))
-  part_form handle (Some _) at base is = absurd cc
-  part_form handle None at base is = absurd cc
+      (expression_formed f can handle (expression.AccessIndex b index) at within))
+  part_form handle within (Some _) at base is = absurd cc
+  part_form handle within None at base is = absurd cc
 
 -- a part as a value and as a reference
 pub valued_part : (pointer : Bool) (part : tree.Expression → tree.Expression) (base p : PlainForm) →

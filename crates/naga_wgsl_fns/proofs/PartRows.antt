@@ -58,8 +58,8 @@ use Rattle.naga_scope.specs.declared.points.Standing.TheVariants as cell
 use Rattle.naga_wgsl_fns.proofs.ExpressionRows.{cell_form}
 use Rattle.naga_wgsl_fns.proofs.Wanted.{is_of_part}
 use Rattle.naga_wgsl_fns.specs.Expressions.{own_form}
-use Rattle.naga_wgsl_fns.specs.FunctionText.{CanWrite, around, expressions, handles_in, naming}
-use Rattle.naga_wgsl_fns.specs.FunctionText.{source}
+use Rattle.naga_wgsl_fns.specs.FunctionText.{CanWrite, IsInText, around, expressions, handles_in}
+use Rattle.naga_wgsl_fns.specs.FunctionText.{naming, source}
 use Rattle.shader_runs.specs.Scope.{Handles, Naming, Named as RunNamed, Standing as RunStanding}
 use Rattle.wgsl_text.specs.Literals.{Truth}
 use Rattle.wgsl_text.specs.Text.{text}
@@ -134,12 +134,12 @@ unfolding plain_address_text plain_text joined_texts
 plain_address_row f table handle = address_row_text (plain_tree (own_form f table handle))
 
 pub plain_row : (f : FunctionText) (table : List Standing) (handle base : ℕ) → CanWrite f →
-    base_of (slice_get (expressions f) handle) ≡ Some base →
+    IsInText f handle → base_of (slice_get (expressions f) handle) ≡ Some base →
     plain_text f table handle ≡
     joined_texts (part_base_text f table base) (part_end_text f table handle)
 unfolding plain_text part_base_text part_end_text joined_texts
-plain_row f table handle base can is =
-    let p = part_form f table can handle (slice_get (expressions f) handle) refl base is in
+plain_row f table handle base can within is =
+    let p = part_form f table can handle within (slice_get (expressions f) handle) refl base is in
     ap (λ q. expression_layout (plain_tree q)) p.is
     ∙ (ap expression_layout (tree_of_part (points (around f) base) p.part (form_at f table base))
     ∙ p.ends (part_base f table base))
@@ -335,11 +335,11 @@ signed_at e (cell.Named name) = false
 signed_at e _ = is_prefix e
 
 pub signed_row : (f : FunctionText) (table : List Standing) (handle : ℕ) → CanWrite f →
-    handle < length (expressions f) →
+    IsInText f handle →
     is_signed (as_value (form_at f table handle)) ≡
     signed_at (slice_get (expressions f) handle) (get_or table handle cell.Absent)
-signed_row f table handle can lt =
-    ap (λ form. is_signed (as_value form)) (cell_form f table handle can lt)
+signed_row f table handle can within =
+    ap (λ form. is_signed (as_value form)) (cell_form f table handle can within.there)
     ∙ by (get_or table handle cell.Absent)
   where
     operand : ℕ → PlainForm
@@ -358,7 +358,7 @@ signed_row f table handle can lt =
         base_of o ≡ Some base →
         is_signed (as_value (own_if (naming f) (source f) operand o)) ≡ false
     parted o at base is =
-        let p = part_form f table can handle o at base is in
+        let p = part_form f table can handle within o at base is in
         (part_unsigned (points (around f) base) p.part (operand base) _ p.unsigned p.is).0
 
     own : (o : Option ir.Expression) → slice_get (expressions f) handle ≡ o →
@@ -425,18 +425,18 @@ signed_row f table handle can lt =
 
 -- ---- what is found of a handle tells it
 module _ (f : FunctionText) (table : List Standing) (handle : ℕ) (can : CanWrite f)
-    (lt : handle < length (expressions f)) (c : Standing) (at : c ≡ get_or table handle cell.Absent) where
+    (within : IsInText f handle) (c : Standing) (at : c ≡ get_or table handle cell.Absent) where
   pub signed_named : (name : BoundName) → c ≡ cell.Named name →
       false ≡ is_signed (as_value (form_at f table handle))
   signed_named name is =
-      sym (signed_row f table handle can lt
+      sym (signed_row f table handle can within
       ∙ ap (signed_at (slice_get (expressions f) handle)) (sym at ∙ is))
 
   pub signed_unnamed : ((name : BoundName) → c ≡ cell.Named name → ⊥) → (e : ir.Expression) →
       slice_get (expressions f) handle ≡ Some e →
       is_prefix (Some e) ≡ is_signed (as_value (form_at f table handle))
   signed_unnamed not_named e here =
-      sym (signed_row f table handle can lt
+      sym (signed_row f table handle can within
       ∙ (ap (signed_at (slice_get (expressions f) handle)) (sym at)
       ∙ (by c not_named ∙ ap is_prefix here)))
     where

@@ -39,10 +39,9 @@ use Rattle.module_meaning.specs.FunctionShapes.{statement_shape}
 use Rattle.module_meaning.specs.Names.{given_name, module_names, numbered_name}
 use Rattle.module_meaning.specs.OperatorTable.{relational_word}
 use Rattle.module_meaning.specs.AlikeTypes.{has_form}
-use Rattle.module_meaning.specs.Part.{expression_is_written, is_written_literal, types_allow}
+use Rattle.module_meaning.specs.Part.{expression_is_written, is_written_literal}
 use Rattle.naga_form.proofs.AcceptedGroups.{fits_in_range, known_fits, known_is_fit}
-use Rattle.naga_form.proofs.PartTypes.{argument_formed, known_before, known_formed, local_formed}
-use Rattle.naga_form.proofs.PartTypes.{result_formed}
+use Rattle.naga_form.proofs.PartTypes.{known_before}
 use Rattle.naga_info.specs.declared.info.ModuleInfo.{ModuleInfo}
 use Rattle.naga_words.specs.Spelling.{is_struct}
 use Rattle.module_meaning.specs.ExpressionOperators.{has_parts, is_composite, type_known}
@@ -84,9 +83,10 @@ use Rattle.wgsl_text.specs.Reading.{type_layout}
 use Rattle.wgsl_words.specs.Words.{math_word}
 use Rattle.wgsl_text.specs.Types.{Named}
 use Rattle.naga_wgsl_fns.specs.declared.functions.FunctionText.{FunctionText}
-use Rattle.naga_wgsl_fns.specs.FunctionText.{CanWrite, IsInText, around, naming, tells_types}
+use Rattle.naga_wgsl_fns.specs.FunctionText.{CanWrite, IsEmitted, IsInText, around, bound, naming}
+use Rattle.naga_wgsl_fns.specs.FunctionText.{tells_types}
 use Rattle.module_meaning.specs.Part.{expression_is_of_part}
-use Rattle.module_meaning.specs.Written.{IsWrittenIn}
+use Rattle.module_meaning.specs.Written.{IsWrittenIn, OfArgument, OfLet, OfLocal, OfResult}
 use Rattle.naga_form.proofs.WrittenHandles.{all_front, all_rest, written_are_closed}
 use Rattle.std.specs.List.{AllByRecursion}
 use Rattle.std.proofs.Common.{◌∷◌}
@@ -196,13 +196,13 @@ module _ (t : FunctionText) (can : CanWrite t) where
   -- ---- types
   -- the types of arguments, of the result and of locals have forms
   pub argument_is_formed : (n : ℕ) (a : argument.FunctionArgument) → slice_get f.arguments.items n ≡ Some a → IsTrue (has_form m.types (resolution.Handle a.ty))
-  argument_is_formed n a here = argument_formed m info can.accepted can.of_part g f can.function es can.infos true g can.ranges n a here
+  argument_is_formed n a here = can.formed.types (resolution.Handle a.ty) (OfArgument n a here)
 
   pub answer_is_formed : (r : FunctionResult) → f.result ≡ Some r → IsTrue (has_form m.types (resolution.Handle r.ty))
-  answer_is_formed r is = result_formed m info can.accepted can.of_part g f can.function es can.infos true g can.ranges r is
+  answer_is_formed r is = can.formed.types (resolution.Handle r.ty) (OfResult r is)
 
   pub local_is_formed : (l : ℕ) (v : LocalVariable) → slice_get f.local_variables l ≡ Some v → IsTrue (has_form m.types (resolution.Handle v.ty))
-  local_is_formed l v here = local_formed m info can.accepted can.of_part g f can.function es can.infos true g can.ranges l v here
+  local_is_formed l v here = can.formed.types (resolution.Handle v.ty) (OfLocal l v here)
 
   -- a local's first value is one of the function's expressions
   local_is_in_range : (l : ℕ) (v : LocalVariable) → slice_get f.local_variables l ≡ Some v → IsTrue (nat_lt v.ty (length m.types)) × IsTrue (is_below (length f.expressions) v.init)
@@ -213,8 +213,11 @@ module _ (t : FunctionText) (can : CanWrite t) where
   first_within l v here = (local_is_in_range l v here).1
 
   -- ---- what is known of an expression
-  pub known_is_formed : (h : ℕ) (k : ExpressionInfo) → slice_get es h ≡ Some k → IsTrue (has_form m.types k.ty)
-  known_is_formed h k at = known_formed m info can.accepted can.of_part g es can.infos h k at
+  -- the type that a `let` tells has a form
+  pub told_is_formed : (h : ℕ) (k : ExpressionInfo) → slice_get es h ≡ Some k →
+      tells_types t.flags ≡ true → IsEmitted t h → bound t h ≡ true → IsTrue (has_form m.types k.ty)
+  told_is_formed h k at tells emitted is_bound =
+      can.formed.types k.ty (OfLet h k tells emitted is_bound at)
 
   pub known_resolution_fits : (h : ℕ) (k : ExpressionInfo) → slice_get es h ≡ Some k → IsTrue (resolution_fits (length m.overrides) (length m.types) k.ty)
   known_resolution_fits h k at = known_is_fit m info can.accepted g es can.infos h k at
@@ -248,7 +251,7 @@ module _ (t : FunctionText) (can : CanWrite t) where
   letter_of d whole _ index none parts = absurd cc
 
   pub component_is : (base index : ℕ) →
-      types_allow m.types es (expression.AccessIndex base index) ≡ true →
+      expression_is_written m.types es (expression.AccessIndex base index) ≡ true →
       (letter : Option (List ℕ)) →
       letter ≡ (if has_components t base then slice_get component_letters index else None) →
       part_selector (source t).declared base index ≡ Some (selector_of letter index)
@@ -297,7 +300,7 @@ module _ (t : FunctionText) (can : CanWrite t) where
 
   -- what a part is taken of is known
   pub base_known : (base index : ℕ) →
-      types_allow m.types es (expression.AccessIndex base index) ≡ true → base < length es
+      expression_is_written m.types es (expression.AccessIndex base index) ≡ true → base < length es
   base_known base index may =
       let b = known_base m es base index may in slice_get_within es base b.known b.there
 
@@ -305,10 +308,11 @@ module _ (t : FunctionText) (can : CanWrite t) where
   known_within_infos h lt = subst (λ n. h < n) can.size lt
 
   -- the type that a `let` tells, where it tells one
-  pub told_row : (h : ℕ) (k : ExpressionInfo) → slice_get es h ≡ Some k → tells_types t.flags ≡ true → annotation_text t k.ty ≡ told_text t h
+  pub told_row : (h : ℕ) (k : ExpressionInfo) → slice_get es h ≡ Some k → tells_types t.flags ≡ true →
+      IsTrue (has_form m.types k.ty) → annotation_text t k.ty ≡ told_text t h
   unfolding annotation_text resolution_text told_text
-  told_row h k at is =
-      let has = tree_there (type_names m) k.ty (known_is_formed h k at) in
+  told_row h k at is formed =
+      let has = tree_there (type_names m) k.ty formed in
       ap (λ o. codes ": " ++ type_layout (unwrap_or o (Named []))) has.1
       ∙ ap told_type_text (sym (ap (λ b. told_type b (type_names m) es h) is ∙ ap (option_and_then (λ e. resolution_tree (type_names m) e.ty)) at ∙ has.1))
 
@@ -322,12 +326,12 @@ module _ (t : FunctionText) (can : CanWrite t) where
 
   -- one that is written has a form
   pub expression_formed : (h : ℕ) (e : Expression) → slice_get f.expressions h ≡ Some e → IsInText t h → IsTrue (expression_is_written m.types es e)
-  expression_formed h e here is = (has_form_parts m.types es f.expressions e (can.formed h e here is.written)).0
+  expression_formed h e here is = (has_form_parts m.types es f.expressions e (can.formed.expressions h e here is.written)).0
 
   -- and so has its offset
   pub offset_has_form : (h : ℕ) (e : Expression) → slice_get f.expressions h ≡ Some e → IsInText t h →
       IsTrue (own_offset_is_written f.expressions e)
-  offset_has_form h e here is = (has_form_parts m.types es f.expressions e (can.formed h e here is.written)).1
+  offset_has_form h e here is = (has_form_parts m.types es f.expressions e (can.formed.expressions h e here is.written)).1
 
   pub literal_is_written : (h : ℕ) (e : Expression) (value : ir_literal.Literal) → slice_get f.expressions h ≡ Some e → IsInText t h → e ≡ expression.Literal value → IsTrue (is_written_literal value)
   literal_is_written h e value here within is = ap (expression_is_written m.types es) (sym is) ∙ expression_formed h e here within
@@ -383,16 +387,16 @@ module _ (t : FunctionText) (can : CanWrite t) where
       IsOperand t h base
   base_in h base is within = part_in h base (slice_get f.expressions h) refl is within
 
-  -- the types let a part that is written be written
-  pub part_allowed : (h base : ℕ) (e : Expression) (b i : ℕ) → slice_get f.expressions h ≡ Some e →
-      e ≡ expression.AccessIndex b i → base_of (slice_get f.expressions h) ≡ Some base →
-      types_allow m.types es (expression.AccessIndex base i) ≡ true
-  part_allowed h base e b i here is part =
+  -- a part at a known index that is written is one of what has parts
+  pub part_is_written : (h base : ℕ) (e : Expression) (b i : ℕ) → slice_get f.expressions h ≡ Some e →
+      IsInText t h → e ≡ expression.AccessIndex b i →
+      base_of (slice_get f.expressions h) ≡ Some base →
+      expression_is_written m.types es (expression.AccessIndex base i) ≡ true
+  part_is_written h base e b i here within is part =
       let there = here ∙ ap Some is in
       let same = same_Some b base (sym (ap base_of there) ∙ part) in
-      subst (λ b. types_allow m.types es (expression.AccessIndex b i) ≡ true) same
-      (list_all_at (types_allow m.types es) f.expressions h (expression.AccessIndex b i) can.allowed
-      there)
+      subst (λ b. expression_is_written m.types es (expression.AccessIndex b i) ≡ true) same
+      (expression_formed h (expression.AccessIndex b i) there within)
 
   -- a conversion that is written has a form
   pub conversion_formed : (h : ℕ) (e : Expression) (x : ℕ) (kind : ScalarKind)

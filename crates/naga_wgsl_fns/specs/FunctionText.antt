@@ -1,8 +1,8 @@
 -- What the text of a function is made from, as the laws see it, and what it wants of its module.
 use Rattle.module_meaning.specs.FunctionShapes.{function_shape}
-use Rattle.module_meaning.specs.Written.{ExpressionsHaveForms, IsWrittenIn}
+use Rattle.module_meaning.specs.Written.{IsWrittenIn, WrittenHaveForms, block_emits}
 use Rattle.shader_runs.specs.Program.{binds}
-use Rattle.std.specs.List.{AllByRecursion}
+use Rattle.std.specs.List.{AllByRecursion, IsAmong}
 use Rattle.std.specs.Prelude.{◌≡◌, ℕ, ◌<◌, Bool, List, Option, Some, IsTrue, slice_get, bit_and, ◌==◌}
 use Rattle.std.specs.Prelude.{length, [], ◌^◌, string_bytes}
 use Rattle.std.specs.Option.{option_map_or}
@@ -12,7 +12,6 @@ use Rattle.std.specs.List.{list_all}
 use Rattle.naga_ir.specs.declared.expression.Expression.{Expression}
 use Rattle.module_meaning.specs.Accepted.{is_accepted}
 use Rattle.module_meaning.specs.Part.{function_is_written, is_written_so_far, type_is_of_part}
-use Rattle.module_meaning.specs.Part.{types_allow_all}
 use Rattle.module_meaning.specs.Ranges.{function_in_range}
 use Rattle.naga_names.specs.Keys.{names_in}
 use Rattle.shader_runs.specs.Scope.{Handles, Naming}
@@ -76,22 +75,30 @@ bound f handle =
 abbrev pub AreInText : FunctionText → (handles : List ℕ) → Type 0
 AreInText f handles = AllByRecursion (IsInText f) handles
 
+-- an `Emit` of the function's body gives the handle
+abbrev pub IsEmitted : FunctionText → (handle : ℕ) → Type 0
+IsEmitted f handle = IsAmong (block_emits f.function.now.body) handle
+
+-- or each of these
+abbrev pub AreEmitted : FunctionText → (handles : List ℕ) → Type 0
+AreEmitted f handles = AllByRecursion (IsEmitted f) handles
+
 -- It is a function of its module, which is accepted and of the part that is written so far, and has
 -- its names. All that it names is there, if it may call the functions before it, and of each of its
--- expressions one type is known. Each expression that is written has a form. Its names that
--- front ends gave are there, in the order of the text, and told apart in 64 bits.
+-- expressions one type is known. Each expression that is written and each type that is spelled has a
+-- form. Its names that front ends gave are there, in the order of the text, and told apart in 64 bits.
 pub record CanWrite (f : FunctionText) : Type 0 where
   pub named : HasNamesOf f.shader.now (names_in f.names.now)
   pub accepted : IsTrue (is_accepted f.shader.now f.module_info.now)
-  pub of_part : IsTrue (is_written_so_far f.shader.now f.module_info.now)
+  pub of_part : IsTrue (is_written_so_far f.shader.now)
   pub function : slice_get f.shader.now.functions f.handle ≡ Some f.function.now
   pub infos : slice_get f.module_info.now.functions.items f.handle ≡ Some f.info.now
   pub values : IsTrue (list_all type_is_of_part f.shader.now.types)
   pub ranges : IsTrue (function_in_range f.shader.now f.handle f.function.now)
   pub size : length f.function.now.expressions ≡ length f.info.now
   pub written : IsTrue (function_is_written f.function.now)
-  pub formed : ExpressionsHaveForms f.shader.now f.module_info.now f.function.now f.info.now
-  pub allowed : IsTrue (types_allow_all f.shader.now.types f.function.now f.info.now)
+  pub formed : WrittenHaveForms (tells_types f.flags) f.shader.now f.module_info.now f.function.now
+      f.info.now
   pub given : (number : ℕ) → option_map_or string_bytes (slice_get f.given.now number) []
       ≡ given_name f.shader.now f.handle number
   pub room : length (given_labels f.function.now) < 2 ^ 64

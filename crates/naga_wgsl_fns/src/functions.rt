@@ -14,7 +14,7 @@ ghost use Rattle.naga_words.specs.Output.{Writes};
 ghost use Rattle.naga_words.specs.Sink.{IsBehind};
 ghost use Rattle.naga_wgsl_fns.specs.Errors.{IsWant};
 ghost use Rattle.naga_wgsl_fns.specs.FunctionText.{CanWrite};
-ghost use Rattle.naga_wgsl_fns.specs.FunctionText.{AreInText, IsInText};
+ghost use Rattle.naga_wgsl_fns.specs.FunctionText.{AreInText, IsInText, tells_types};
 ghost use Rattle.std.specs.Option.{option_to_list};
 ghost use Rattle.naga_wgsl_fns.specs.Functions.{StartsAt, answer_text, argument_text};
 ghost use Rattle.naga_wgsl_fns.specs.Functions.{arguments_text, body_text, first_text};
@@ -41,7 +41,7 @@ use std::collections::HashMap;
 /// named under the names that the plan has.
 ///
 /// The module is accepted with what is known of it, and is one of those that are written so far.
-/// The plan is that of the function.
+/// The plan is that of the function, for `let`s that tell types where the flags ask for it.
 ///
 /// Where the call gives up, because the sink failed or for want of memory, a beginning of the text
 /// stands behind what the sink held. Memory is taken where the sink takes it, and where a type is
@@ -58,10 +58,10 @@ pub fn write_function<W: TextSink>(
     out: &mut W,
 ) -> Result<(), Error>
     requires accepted { IsTrue (is_accepted «module».now info.now) }
-    requires written { IsTrue (is_written_so_far «module».now info.now) }
+    requires written { IsTrue (is_written_so_far «module».now) }
     requires handle { handle < length «module».now.functions }
     requires names { HasNamesOf «module».now (names_in names.now) }
-    requires planned { IsPlanOf «module».now info.now handle plan }
+    requires planned { IsPlanOf (tells_types flags) «module».now info.now handle plan }
     requires named { AreGivenNames «module».now handle plan.given }
     ensures text_ok { OnOk result (W.text out.new
         ≡ W.text out.old ++ text_of_function «module».now info.now flags handle) }

@@ -22,3 +22,4 @@ pub use functions::write_function;
 pub use implemented::to_wgsl_if_implemented;
 pub use literal::write_literal;
 pub use sinks::put;
+pub use types::tells_types;

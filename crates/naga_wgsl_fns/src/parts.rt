@@ -14,7 +14,7 @@ ghost use Rattle.naga_wgsl_fns.specs.Expressions.{part_value_text, plain_address
 ghost use Rattle.naga_wgsl_fns.specs.Expressions.{selector_of, selector_text, word_text};
 ghost use Rattle.naga_wgsl_fns.specs.Expressions.{has_components, is_vector_at};
 ghost use Rattle.module_meaning.specs.ExpressionOperators.{type_known};
-ghost use Rattle.module_meaning.specs.Part.{types_allow};
+ghost use Rattle.module_meaning.specs.Part.{expression_is_written};
 ghost use Rattle.naga_ir.specs.declared.expression.Expression.TheVariants.{AccessIndex};
 ghost use Rattle.naga_wgsl_fns.specs.FunctionText.{CanWrite, IsInText, around, source};
 
@@ -185,7 +185,7 @@ impl FunctionText<'_> {
         out: &mut Output<'_, W>,
     )
         requires can { CanWrite self.now }
-        requires allowed { IsTrue (types_allow self.now.shader.now.types self.now.info.now
+        requires written { IsTrue (expression_is_written self.now.shader.now.types self.now.info.now
             (AccessIndex base index)) }
         ensures { Writes W.text W.failures out.old out.new (selector_text self.now base index) }
     {
@@ -198,7 +198,7 @@ impl FunctionText<'_> {
     /// The letter of a component of a vector, or of one that is pointed at. Other parts have none.
     fn component(&self, base: Handle<Expression>, index: u32) -> Option<&'static str>
         requires can { CanWrite self.now }
-        requires allowed { IsTrue (types_allow self.now.shader.now.types self.now.info.now
+        requires written { IsTrue (expression_is_written self.now.shader.now.types self.now.info.now
             (AccessIndex base index)) }
         ensures { part_selector (source self.now).declared base index
             ≡ Some (selector_of (option_map (λ word. word.now) result) index) }

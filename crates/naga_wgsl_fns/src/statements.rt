@@ -12,8 +12,10 @@ ghost use Rattle.shader_runs.specs.Scope.{after, after_emit};
 ghost use Rattle.naga_words.specs.Output.{Writes};
 ghost use Rattle.std.specs.List.{filter};
 ghost use Rattle.std.specs.Option.{option_to_list};
-ghost use Rattle.module_meaning.specs.Written.{block_roots, statement_roots};
-ghost use Rattle.naga_wgsl_fns.specs.FunctionText.{AreInText, CanWrite, IsInText, around, bound};
+ghost use Rattle.module_meaning.specs.Written.{block_emits, block_roots, statement_emits};
+ghost use Rattle.module_meaning.specs.Written.{statement_roots};
+ghost use Rattle.naga_wgsl_fns.specs.FunctionText.{AreEmitted, AreInText, CanWrite, IsEmitted};
+ghost use Rattle.naga_wgsl_fns.specs.FunctionText.{IsInText, around, bound};
 ghost use Rattle.naga_wgsl_fns.specs.FunctionText.{handles_in, naming};
 ghost use Rattle.naga_wgsl_fns.specs.Statements.{block_text, emitted_text, let_text, lets_text};
 ghost use Rattle.naga_wgsl_fns.specs.Statements.{line_start, return_text, return_value_text};
@@ -43,6 +45,7 @@ impl FunctionText<'_> {
             (length self.now.function.now.expressions) block.now) }
         requires written { IsTrue (block_is_written block.now) }
         requires roots { AreInText self.now (block_roots (bound self.now) block.now) }
+        requires emits { AreEmitted self.now (block_emits block.now) }
         requires room { scope.old.given + length (block_labels self.now.function.now block.now)
             < 2 ^ 64 }
         ensures { Writes W.text W.failures out.old out.new
@@ -72,6 +75,7 @@ impl FunctionText<'_> {
             (length self.now.function.now.expressions) (tree_of statement.now)) }
         requires written { IsTrue (statement_is_written (tree_of statement.now)) }
         requires roots { AreInText self.now (statement_roots (bound self.now) (tree_of statement.now)) }
+        requires emits { AreEmitted self.now (statement_emits (tree_of statement.now)) }
         requires room { scope.old.given
             + length (labels_in self.now.function.now (tree_of statement.now)) < 2 ^ 64 }
         ensures lines { Writes W.text W.failures out.old out.new
@@ -109,6 +113,7 @@ impl FunctionText<'_> {
         requires range { range.end ≤ length self.now.function.now.expressions }
         requires roots { AreInText self.now
             (filter (bound self.now) (from range.first (range.end - range.first))) }
+        requires emits { AreEmitted self.now (from range.first (range.end - range.first)) }
         requires room { scope.old.given + length (labels_of_each self.now.function.now
             (from range.first (range.end - range.first))) < 2 ^ 64 }
         ensures lets { Writes W.text W.failures out.old out.new
@@ -123,7 +128,7 @@ impl FunctionText<'_> {
         for index in range.first..range.end {
             let handle = Place::from_index(index);
             self.write_emitted(alloc, level, scope, handle, out);
-            scope.emit(self.function, self.info, handle);
+            scope.emit(&self.shader.types, self.function, self.info, handle);
         }
     }
 
@@ -140,10 +145,11 @@ impl FunctionText<'_> {
         requires can { CanWrite self.now }
         requires handle { handle < length self.now.function.now.expressions }
         requires root { IsTrue (bound self.now handle) → IsInText self.now handle }
+        requires emitted { IsEmitted self.now handle }
         ensures { Writes W.text W.failures out.old out.new
             (emitted_text self.now scope.now level.0 handle) }
     {
-        if binds(self.function, self.info, handle) {
+        if binds(&self.shader.types, self.function, self.info, handle) {
             self.write_let(alloc, level, scope, handle, out);
         }
     }
@@ -159,6 +165,8 @@ impl FunctionText<'_> {
     )
         requires can { CanWrite self.now }
         requires handle { IsInText self.now handle }
+        requires emitted { IsEmitted self.now handle }
+        requires bound { IsTrue (bound self.now handle) }
         ensures { Writes W.text W.failures out.old out.new
             (let_text self.now scope.now level.0 handle) }
     {

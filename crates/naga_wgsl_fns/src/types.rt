@@ -5,7 +5,7 @@ ghost use Rattle.module_meaning.specs.AlikeTypes.{has_form};
 ghost use Rattle.module_meaning.specs.Ranges.{resolution_fits};
 ghost use Rattle.naga_info.specs.declared.info.TypeResolution.TheVariants as resolution;
 ghost use Rattle.naga_words.specs.Output.{Writes};
-ghost use Rattle.naga_wgsl_fns.specs.FunctionText.{CanWrite, tells_types};
+ghost use Rattle.naga_wgsl_fns.specs.FunctionText.{CanWrite, IsEmitted, bound, tells_types};
 ghost use Rattle.naga_wgsl_fns.specs.Types.{annotation_text, resolution_text, told_text, type_text};
 
 use crate::functions::FunctionText;
@@ -84,6 +84,8 @@ impl FunctionText<'_> {
     )
         requires can { CanWrite self.now }
         requires handle { handle < length self.now.function.now.expressions }
+        requires emitted { IsEmitted self.now handle }
+        requires bound { IsTrue (bound self.now handle) }
         ensures { Writes W.text W.failures out.old out.new (told_text self.now handle) }
     {
         if tells_types(self.flags) {
@@ -93,7 +95,7 @@ impl FunctionText<'_> {
 }
 
 /// Whether each `let` tells its type.
-fn tells_types(flags: WriterFlags) -> bool
+pub fn tells_types(flags: WriterFlags) -> bool
     ensures { result ≡ tells_types flags }
 {
     flags.contains(WriterFlags::EXPLICIT_TYPES)

@@ -12,7 +12,6 @@ use Rattle.wgsl_text.specs.Declarations.{Program}
 use Rattle.naga_form.specs.Declarations.{written_program}
 use Rattle.naga_form.proofs.Resolution.{resolves}
 use Rattle.naga_form.proofs.Interface.{has_interface}
-use Rattle.naga_form.proofs.PartTypes.{all_have_forms}
 use Rattle.naga_form.proofs.Programs.{is_program}
 use Rattle.naga_form.proofs.AcceptedFunctions.{functions_counted}
 use Rattle.naga_info.specs.declared.info.ModuleInfo.{ModuleInfo}
@@ -50,27 +49,27 @@ same_behind [] a b e = e
 same_behind (x ∷ held) a b e = same_behind held a b (ap (drop 1) e)
 
 -- a refusal
-pub refused : (m : Module) (info : ModuleInfo) (error : Error) (held now : List ℕ) (before after : ℕ) → IsRefusal m info before after error → FaithfulWriting m info (Err error) held now before after
-refused m info error held now before after is = record { refusals = is; reading = tt; interface = tt; runs = tt }
+pub refused : (explicit : Bool) (m : Module) (info : ModuleInfo) (error : Error) (held now : List ℕ) (before after : ℕ) → IsRefusal explicit m info before after error → FaithfulWriting explicit m info (Err error) held now before after
+refused explicit m info error held now before after is = record { refusals = is; reading = tt; interface = tt; runs = tt }
 
 -- names that can't be told are a reason
-pub for_names : (m : Module) (info : ModuleInfo) (error : Error) (before after : ℕ) → IsNamesRefusal m error → IsRefusal m info before after error
-for_names m info (Custom message) before after (inl full) = inl (inl (full.0, inl full.1))
-for_names m info (Custom message) before after (inr key) = inl (inr key)
-for_names m info (Memory e) before after is = tt
-for_names m info _ before after is = absurd is
+pub for_names : (explicit : Bool) (m : Module) (info : ModuleInfo) (error : Error) (before after : ℕ) → IsNamesRefusal m error → IsRefusal explicit m info before after error
+for_names explicit m info (Custom message) before after (inl full) = inl (inl (full.0, inl full.1))
+for_names explicit m info (Custom message) before after (inr key) = inl (inr key)
+for_names explicit m info (Memory e) before after is = tt
+for_names explicit m info _ before after is = absurd is
 
 -- so are a sink that failed and want of memory
-pub for_want : (m : Module) (info : ModuleInfo) (error : Error) (before after : ℕ) → IsWant before after error → IsRefusal m info before after error
-for_want m info (FmtError e) before after is = is
-for_want m info (Memory e) before after is = tt
-for_want m info _ before after is = absurd is
+pub for_want : (explicit : Bool) (m : Module) (info : ModuleInfo) (error : Error) (before after : ℕ) → IsWant before after error → IsRefusal explicit m info before after error
+for_want explicit m info (FmtError e) before after is = is
+for_want explicit m info (Memory e) before after is = tt
+for_want explicit m info _ before after is = absurd is
 
 -- and so is what is not written so far
-pub for_part : (m : Module) (info : ModuleInfo) (error : Error) (before after : ℕ) → IsNotYetWritten error → is_written_so_far m info ≡ false → IsRefusal m info before after error
-for_part m info (Unimplemented message) before after is part = inl (is, part)
-for_part m info (Memory e) before after is part = tt
-for_part m info _ before after is part = absurd is
+pub for_part : (explicit : Bool) (m : Module) (info : ModuleInfo) (error : Error) (before after : ℕ) → IsNotYetWritten error → is_written_so_far m ≡ false → IsRefusal explicit m info before after error
+for_part explicit m info (Unimplemented message) before after is part = inl (is, part)
+for_part explicit m info (Memory e) before after is part = tt
+for_part explicit m info _ before after is part = absurd is
 
 -- ---- what errors tell
 -- what comes from the sink or from memory tells of no module
@@ -88,11 +87,11 @@ function_tells_of_module m _ (inl told) = absurd told
 
 -- a text that was appended
 module _ (m : Module) (info : ModuleInfo) (flags : WriterFlags)
-    (accepted : IsTrue (is_accepted m info)) (written : IsTrue (is_written_so_far m info))
+    (accepted : IsTrue (is_accepted m info)) (written : IsTrue (is_written_so_far m))
     (names : NameMap) (has : HasAllNames m names) where
   -- a plan of each function
   abbrev AllPlanned : Type 0
-  AllPlanned = (i : ℕ) → i < length m.functions → HasPlan m info i
+  AllPlanned = (i : ℕ) → i < length m.functions → HasPlan explicit m info i
 
   abbrev explicit : Bool
   explicit = tells_types flags
@@ -103,7 +102,7 @@ module _ (m : Module) (info : ModuleInfo) (flags : WriterFlags)
   one : AllPlanned → HasOneReading Reads (written_text m info flags) program
   one planned =
       program_has_one_reading program (is_program m info explicit accepted
-      written (all_have_forms m info accepted written explicit (all_planned_formed m info planned)) (all_planned_counted m info accepted planned))
+      written (all_planned_formed explicit m info planned) (all_planned_counted explicit m info accepted planned))
 
   each : AllPlanned → (held now : List ℕ) → now ≡ held ++ written_text m info flags →
       (Q : Program → Type 0) → Q program → EachReading held now Q
@@ -114,7 +113,7 @@ module _ (m : Module) (info : ModuleInfo) (flags : WriterFlags)
 
   -- the answer of the call that wrote the functions
   pub record Concludes (r : Result Unit Error) (held now : List ℕ) (before after : ℕ) : Type 0 where
-    pub is_faithful : FaithfulWriting m info r held now before after
+    pub is_faithful : FaithfulWriting explicit m info r held now before after
     pub resolved : OnOk r (EachReading held now (ResolvesAs m info))
     pub binds : OnOk r (EachReading held now (BindsAs m info explicit))
     pub text_ok : OnOk r (now ≡ held ++ written_text m info flags)
@@ -141,16 +140,15 @@ module _ (m : Module) (info : ModuleInfo) (flags : WriterFlags)
         Concludes (Ok tt) held now before after
     wrote w =
         let appended = w.wrote.appended ∙ ap (λ t. held ++ t) same_text in
-        let rules = all_planned_hold m info written w.planned in
-        let formed = all_planned_formed m info w.planned in
-        let have = all_have_forms m info accepted written explicit formed in
+        let rules = all_planned_hold explicit m info written w.planned in
+        let have = all_planned_formed explicit m info w.planned in
         let reading = each w.planned held now appended in
         record {
           is_faithful = record {
             refusals = record {
               written = written;
               in_scope = rules;
-              formed = formed;
+              formed = have;
               told = none_told w.planned;
               keys = has.keys;
             };
@@ -178,8 +176,8 @@ module _ (m : Module) (info : ModuleInfo) (flags : WriterFlags)
     stopped : (e : Error) → StoppedWithin held before (module_lines m info flags) now after e →
         Concludes (Err e) held now before after
     stopped e s = record {
-      is_faithful = refused m info e held now before after
-          (for_want m info e before after s.reason);
+      is_faithful = refused explicit m info e held now before after
+          (for_want explicit m info e before after s.reason);
       resolved = tt;
       binds = tt;
       text_ok = tt;
@@ -194,8 +192,8 @@ module _ (m : Module) (info : ModuleInfo) (flags : WriterFlags)
     met_no_plan : (e : Error) → MetNoPlan m info flags held before now after e →
         Concludes (Err e) held now before after
     met_no_plan e s = record {
-      is_faithful = refused m info e held now before after
-          (fault_refuses m info s.before.handle before after written e s.tells s.fault);
+      is_faithful = refused explicit m info e held now before after
+          (fault_refuses explicit m info s.before.handle before after written e s.tells s.fault);
       resolved = tt;
       binds = tt;
       text_ok = tt;
@@ -206,7 +204,7 @@ module _ (m : Module) (info : ModuleInfo) (flags : WriterFlags)
         s.before.written,
       );
       untouched = λ first.
-          absurd (first.1 (fault_told m info s.before.handle has.told e s.tells s.fault));
+          absurd (first.1 (fault_told explicit m info s.before.handle has.told e s.tells s.fault));
       written_before = λ told. s.before;
       unfailed = λ tells. s.kept;
       failures_ok = tt;

@@ -105,7 +105,7 @@ writes_err {m} {info} {flags} {held} {now} {failed} {failures} (Err e) is w =
 pub record IsUpTo (m : Module) (info : ModuleInfo) (flags : WriterFlags) (n : ℕ) (held : List ℕ)
     (failed : ℕ) (namer : Names) (now : List ℕ) (failures : ℕ) : Type 0 where
   pub wrote : Wrote held failed (lines_before m info flags n) now failures
-  pub planned : (i : ℕ) → i < n → HasPlan m info i
+  pub planned : (i : ℕ) → i < n → HasPlan (tells_types flags) m info i
   pub named : HasNamedBefore m n namer
 
 pub up_to_none : (m : Module) (info : ModuleInfo) (flags : WriterFlags) (held : List ℕ)
@@ -177,13 +177,13 @@ module _ (m : Module) (info : ModuleInfo) (flags : WriterFlags) {n : ℕ} {held 
 
     -- one more
     pub up_to_more : (planned : Planned) (next : Names) {now : List ℕ} {failures : ℕ} →
-        IsNamedPlan m info handle next planned → Wrote middle among line now failures →
+        IsNamedPlan (tells_types flags) m info handle next planned → Wrote middle among line now failures →
         IsUpTo m info flags (n + 1) held failed next now failures
     up_to_more planned next {now} {failures} plan wrote = record {
       wrote = subst (λ t. Wrote held failed t now failures) one_more_line
           (wrote_then so_far.wrote wrote);
-      planned = below_more (HasPlan m info) n so_far.planned
-          (subst (HasPlan m info) is (record {
+      planned = below_more (HasPlan (tells_types flags) m info) n so_far.planned
+          (subst (HasPlan (tells_types flags) m info) is (record {
             planned = planned;
             plan = plan.plan;
             told = none_full m handle next (subst (λ k. k < length m.functions) (sym is) lt) plan.namer_is;
@@ -203,13 +203,13 @@ module _ (m : Module) (info : ModuleInfo) (flags : WriterFlags) {n : ℕ} {held 
         (stopped_then so_far.wrote (stopped_first (lines_behind m info flags (n + 1)) stopped))))
 
     -- it has no plan
-    unplanned : (error : Error) → TellsOfModule error → IsFault m info handle error →
+    unplanned : (error : Error) → TellsOfModule error → IsFault (tells_types flags) m info handle error →
         MetNoPlan m info flags held failed middle among error
     unplanned error tells fault = record {
       before = record {
         handle = n;
-        fails = fault_fails m info n error here_fault;
-        hold = λ i below. planned_holds m info i (so_far.planned i below);
+        fails = fault_fails (tells_types flags) m info n error here_fault;
+        hold = λ i below. planned_holds (tells_types flags) m info i (so_far.planned i below);
         written = so_far.wrote.appended;
       };
       tells = tells;
@@ -217,14 +217,14 @@ module _ (m : Module) (info : ModuleInfo) (flags : WriterFlags) {n : ℕ} {held 
       kept = so_far.wrote.kept;
     }
       where
-        here_fault : IsFault m info n error
-        here_fault = subst (λ h. IsFault m info h error) is fault
+        here_fault : IsFault (tells_types flags) m info n error
+        here_fault = subst (λ h. IsFault (tells_types flags) m info h error) is fault
 
     pub up_to_unplanned : (r : Result Unit Error) (error : Error) → IsErrAnd r (λ e. e ≡ error) →
-        IsPlanRefusal m info handle error → WritesFunctions m info flags r held failed middle among
+        IsPlanRefusal (tells_types flags) m info handle error → WritesFunctions m info flags r held failed middle among
     up_to_unplanned r error told refusal = writes_err r told (by error refusal)
       where
-        by : (error : Error) → IsPlanRefusal m info handle error →
+        by : (error : Error) → IsPlanRefusal (tells_types flags) m info handle error →
             StoppedWithin held failed (module_lines m info flags) middle among error
             ⊎ MetNoPlan m info flags held failed middle among error
         by (Memory e) refusal = inl (record {

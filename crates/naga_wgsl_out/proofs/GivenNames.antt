@@ -1,7 +1,7 @@
 -- What a namer that goes on with the labels of a function knows of them.
 use Rattle.std.proofs.Common.{◌≡◌, ◌+◌, ◌<◌, ◌≤◌, ◌^◌, ◌∙◌, ◌++◌, ℕ, zero, suc, List, [], ◌∷◌, Some}
 use Rattle.std.proofs.Common.{None, Option, append-nil, append_assoc, ap, arith, get_or, length, refl}
-use Rattle.std.proofs.Common.{slice_get, subst, sym, take}
+use Rattle.std.proofs.Common.{Bool, slice_get, subst, sym, take}
 use Rattle.std.specs.Option.{option_map_or}
 use Rattle.std.proofs.lemmas.List.Concat.{flat_map-append}
 use Rattle.std.proofs.lemmas.List.{take_all, take_more}
@@ -80,11 +80,12 @@ module _ (m : Module) where
           by None at = absurd (none-some (element m.functions g lt).0 (sym at ∙ (element m.functions g lt).1))
 
   -- a plan with its names
-  pub named_plan : (info : ModuleInfo) (g : ℕ) (old new : Names) (planned : Planned) →
-      g < length m.functions → HasNamedBefore m g old → IsPlanOf m info g planned →
-      NamesLabels old [] (labels_given m g) new planned.given → IsNamedPlan m info g new planned
+  pub named_plan : (explicit : Bool) (info : ModuleInfo) (g : ℕ) (old new : Names)
+      (planned : Planned) → g < length m.functions → HasNamedBefore m g old →
+      IsPlanOf explicit m info g planned → NamesLabels old [] (labels_given m g) new planned.given →
+      IsNamedPlan explicit m info g new planned
   unfolding given_name
-  named_plan info g old new planned lt before plan n = record {
+  named_plan explicit info g old new planned lt before plan n = record {
     plan = plan;
     names = names;
     namer_is = record {

@@ -9,7 +9,8 @@ use Rattle.std.proofs.lemmas.Bool.{and_from}
 use Rattle.std.proofs.lemmas.Option.{slice_get_within}
 use mathlib.Core.List.{reverse_aux}
 use Rattle.naga_ir.specs.declared.expression.Expression.{Expression}
-use Rattle.naga_ir.specs.declared.expression.Expression.TheVariants.{As, Compose, Literal, Math}
+use Rattle.naga_ir.specs.declared.expression.Expression.TheVariants.{AccessIndex, As, Compose}
+use Rattle.naga_ir.specs.declared.expression.Expression.TheVariants.{Literal, Math}
 use Rattle.naga_ir.specs.declared.expression.Expression.TheVariants.{ImageSample, ImageLoad}
 use Rattle.naga_ir.specs.declared.expression.Expression.TheVariants.{Relational, ZeroValue}
 use Rattle.naga_ir.specs.declared.expression.Literal.{Literal as LiteralValue}
@@ -26,20 +27,18 @@ use Rattle.module_meaning.specs.Part.{expression_has_form, function_is_written}
 use Rattle.module_meaning.specs.Part.{is_written_so_far}
 use Rattle.module_meaning.proofs.Lists.{list_all_at}
 use Rattle.module_meaning.proofs.Part.{functions_are_written}
-use Rattle.module_meaning.specs.Written.{ExpressionsHaveForms, OfEachFunction}
+use Rattle.module_meaning.specs.LackingScalars.{lacking_scalar}
+use Rattle.module_meaning.specs.Written.{AllWrittenHaveForms, IsSpelledIn}
 use Rattle.module_meaning.specs.Premises.{EachScopeHolds, ScopesHold, handles_are_counted}
 use Rattle.module_meaning.specs.FunctionShapes.{function_shape, function_shapes}
 use Rattle.module_meaning.proofs.ModuleShapes.{declares_functions_alone}
 use Rattle.module_meaning.specs.AlikeTypes.{has_form}
-use Rattle.module_meaning.specs.Ranges.{names_in_range}
-use Rattle.naga_form.proofs.AcceptedFunctions.{IsAccepted, accepted_at, function_there}
-use Rattle.naga_form.proofs.AcceptedFunctions.{functions_counted, names_are_in_range}
-use Rattle.naga_form.proofs.PartTypes.{type_formed}
+use Rattle.naga_form.proofs.AcceptedFunctions.{functions_counted}
+use Rattle.naga_info.specs.declared.info.TypeResolution.{TypeResolution}
 use Rattle.naga_info.specs.declared.info.TypeResolution.TheVariants.{Handle}
+use Rattle.naga_ir.specs.declared.types.Scalar.{Scalar}
 use Rattle.naga_ir.specs.declared.types.Type_.{Type_}
 use Rattle.naga_ir.specs.declared.types.TypeInner.{TypeInner}
-use Rattle.std.proofs.lemmas.Bool.{ltb-true}
-use Rattle.std.specs.Prelude.{nat_lt}
 use Rattle.naga_names.specs.Naming.{Names, label_base, labels_with_base}
 use Rattle.naga_names.specs.declared.error.NamerError.{NamerError}
 use Rattle.naga_names.specs.declared.error.NamerError.TheVariants as namer_error
@@ -49,7 +48,9 @@ use Rattle.module_meaning.specs.Names.{labels_before, labels_given}
 use Rattle.naga_scope.specs.GivenNames.{IsRefusalOfLabels}
 use Rattle.naga_scope.specs.Plans.{IsRefusalToPlanOf, ScopeHoldsIn}
 use Rattle.naga_scope.specs.declared.plan.PlanError.{PlanError}
-use Rattle.naga_scope.specs.declared.plan.PlanError.TheVariants.{OutOfScope, WithoutForm, Unnamed}
+use Rattle.naga_scope.specs.declared.plan.PlanError.TheVariants.{LetWithoutForm, OutOfScope}
+use Rattle.naga_scope.specs.declared.plan.PlanError.TheVariants.{TypeWithoutForm, Unnamed}
+use Rattle.naga_scope.specs.declared.plan.PlanError.TheVariants.{WithoutForm}
 use Rattle.naga_scope.specs.declared.plan.PlanError.TheVariants as plan_error
 use Rattle.naga_scope.proofs.Planned.{shape_found}
 use Rattle.naga_wgsl_fns.specs.declared.error.Error.{Error}
@@ -59,7 +60,8 @@ use Rattle.naga_words.specs.declared.sink.SinkError.{SinkError}
 use Rattle.naga_wgsl_fns.specs.Errors.{IsCustom}
 use Rattle.naga_wgsl_out.specs.Refusals.{GivenAreFullIn, HasNamedBefore, IsErrorOfNames, IsFault}
 use Rattle.naga_wgsl_out.specs.Refusals.{IsOfPlan, IsPlanRefusal, IsRefusal, ItemsAreFull}
-use Rattle.naga_wgsl_out.specs.Refusals.{MakesFormed, NamesConversion, NamesExpression}
+use Rattle.naga_wgsl_out.specs.Refusals.{HasFormlessIn, NamesConversion, NamesExpression}
+use Rattle.naga_wgsl_out.specs.Refusals.{NamesFormlessType, NamesLacking, NamesType}
 use Rattle.naga_wgsl_out.specs.Refusals.{NamesFormless, NamesLiteral, converted}
 use Rattle.naga_wgsl_out.specs.Refusals.{TellsOfFunction, TellsOfModule, TellsPlanError}
 use Rattle.naga_wgsl_out.specs.Writing.{HasPlan, IsWritableAt}
@@ -87,7 +89,7 @@ each_from [] at = tt
 each_from (f ∷ fs) at = (at 0 (omega arith), each_from fs (λ i lt. at (suc i) (omega (arith, lt))))
 
 -- where the rules hold in a module, they hold in each function
-pub scope_holds_in : (m : Module) (info : ModuleInfo) → IsTrue (is_written_so_far m info) →
+pub scope_holds_in : (m : Module) (info : ModuleInfo) → IsTrue (is_written_so_far m) →
     ScopesHold m info → (i : ℕ) → ScopeHoldsIn m info i
 scope_holds_in m info written rules i =
     let own = function_shapes m info m.functions info.functions.items in
@@ -107,9 +109,9 @@ of_shape m info (f ∷ fs) [] i Q each = tt
 of_shape m info (f ∷ fs) (es ∷ ess) zero Q each = each f es refl refl
 of_shape m info (f ∷ fs) (es ∷ ess) (suc i) Q each = of_shape m info fs ess i Q each
 
-pub planned_holds : (m : Module) (info : ModuleInfo) (i : ℕ) → HasPlan m info i →
-    IsWritableAt m info i
-planned_holds m info i has = record {
+pub planned_holds : (explicit : Bool) (m : Module) (info : ModuleInfo) (i : ℕ) →
+    HasPlan explicit m info i → IsWritableAt explicit m info i
+planned_holds explicit m info i has = record {
   in_scope = of_shape m info m.functions info.functions.items i ScopeHolds
       (λ f es at known. (has.plan f es at known).in_scope);
   formed = λ f es at known. (has.plan f es at known).formed;
@@ -130,14 +132,15 @@ shapes_below m info i lt = by m.functions info.functions.items i lt
         let rest = by fs ess i (omega (arith, lt)) in omega (arith, rest)
 
 -- where each function has a plan, the rules of scope hold in the module
-pub all_planned_hold : (m : Module) (info : ModuleInfo) → IsTrue (is_written_so_far m info) →
-    ((i : ℕ) → i < length m.functions → HasPlan m info i) → ScopesHold m info
-all_planned_hold m info written planned =
+pub all_planned_hold : (explicit : Bool) (m : Module) (info : ModuleInfo) →
+    IsTrue (is_written_so_far m) →
+    ((i : ℕ) → i < length m.functions → HasPlan explicit m info i) → ScopesHold m info
+all_planned_hold explicit m info written planned =
     let own = function_shapes m info m.functions info.functions.items in
     subst (λ (p : shapes.Module). EachScopeHolds p.functions)
     (sym (declares_functions_alone m info written))
     (turned own []
-    (each_from own (λ i lt. (planned_holds m info i (planned i (shapes_below m info i lt))).in_scope)) tt)
+    (each_from own (λ i lt. (planned_holds explicit m info i (planned i (shapes_below m info i lt))).in_scope)) tt)
 
 -- a test that each item passes
 all_pass : {X : Type 0} (test : X → Bool) (xs : List X) →
@@ -148,9 +151,10 @@ all_pass test (x ∷ xs) at =
     (all_pass test xs (λ i y is. at (suc i) y is))
 
 -- and its handles are counted
-pub all_planned_counted : (m : Module) (info : ModuleInfo) → IsTrue (is_accepted m info) →
-    ((i : ℕ) → i < length m.functions → HasPlan m info i) → IsTrue (handles_are_counted m)
-all_planned_counted m info accepted planned =
+pub all_planned_counted : (explicit : Bool) (m : Module) (info : ModuleInfo) →
+    IsTrue (is_accepted m info) →
+    ((i : ℕ) → i < length m.functions → HasPlan explicit m info i) → IsTrue (handles_are_counted m)
+all_planned_counted explicit m info accepted planned =
     all_pass (λ f. nat_le (length f.expressions) (2 ^ 64)) m.functions at
   where
     at : (i : ℕ) (f : ir_function.Function) → slice_get m.functions i ≡ Some f →
@@ -161,11 +165,11 @@ all_planned_counted m info accepted planned =
         let known = element info.functions.items i (omega (arith, within, counted)) in
         ((planned i within).plan f known.0 is known.1).counted
 
--- and each written handle has a form
-pub all_planned_formed : (m : Module) (info : ModuleInfo) →
-    ((i : ℕ) → i < length m.functions → HasPlan m info i) →
-    OfEachFunction m info (ExpressionsHaveForms m info)
-all_planned_formed m info planned g f known at is =
+-- and each written handle and each type that is spelled has a form
+pub all_planned_formed : (explicit : Bool) (m : Module) (info : ModuleInfo) →
+    ((i : ℕ) → i < length m.functions → HasPlan explicit m info i) →
+    AllWrittenHaveForms explicit m info
+all_planned_formed explicit m info planned g f known at is =
     ((planned g (slice_get_within m.functions g f at)).plan f known at is).formed
 
 -- ---- functions without one
@@ -187,31 +191,44 @@ module _ (m : Module) (info : ModuleInfo) (i : ℕ) (error : Error)
       by None at is = absurd is
       by (Some x) at is = (x, at, is.0, is.1)
 
-  pub formless_fails : IsWritableAt m info i → ⊥
-  formless_fails w =
-      let formed = w.formed n.function n.known n.stands n.is_known n.expression named.0 named.1 n.written in
+  expression_fails : (explicit : Bool) → IsWritableAt explicit m info i → ⊥
+  expression_fails explicit w =
+      let formed = (w.formed n.function n.known n.stands n.is_known).expressions n.expression named.0 named.1 n.written in
       let formless = named.2 in
       absurd cc
 
-  pub formless_told : TellsOfModule error → TellsOfFunction m error
-  formless_told tells =
-      inr (inl (tells, (m.types, n.known, n.function.expressions, named.0, named.3)))
+  expression_told : TellsOfModule error → TellsOfFunction m error
+  expression_told tells =
+      inr (inl (tells, inl (m.types, n.known, n.function.expressions, named.0, named.3)))
+
+-- so does a type that is spelled
+module _ (explicit : Bool) (m : Module) (info : ModuleInfo) (i : ℕ) (error : Error) where
+  pub formless_fails : HasFormlessIn explicit m info i error → IsWritableAt explicit m info i → ⊥
+  formless_fails (inl n) w = expression_fails m info i error n explicit w
+  formless_fails (inr n) w =
+      let formed = (w.formed n.function n.known n.stands n.is_known).types n.type n.spelled in
+      let formless = n.formless in
+      absurd cc
+
+  pub formless_told : HasFormlessIn explicit m info i error → TellsOfModule error → TellsOfFunction m error
+  formless_told (inl n) tells = expression_told m info i error n tells
+  formless_told (inr n) tells = inr (inl (tells, inr (m.types, n.type, n.named)))
 
 -- what a fault is
-module _ (m : Module) (info : ModuleInfo) (i : ℕ) where
-  pub fault_fails : (error : Error) → IsFault m info i error → IsWritableAt m info i → ⊥
+module _ (explicit : Bool) (m : Module) (info : ModuleInfo) (i : ℕ) where
+  pub fault_fails : (error : Error) → IsFault explicit m info i error → IsWritableAt explicit m info i → ⊥
   fault_fails error (inl scope) w = scope.1 w.in_scope
-  fault_fails error (inr (inl formless)) w = formless_fails m info i error formless w
+  fault_fails error (inr (inl formless)) w = formless_fails explicit m info i error formless w
   fault_fails error (inr (inr full)) w = w.told full.1
 
   pub fault_told : (ItemsAreFull m → ⊥) → (error : Error) → TellsOfModule error →
-      IsFault m info i error → TellsOfFunction m error
+      IsFault explicit m info i error → TellsOfFunction m error
   fault_told items error tells (inl scope) = inl scope.0
-  fault_told items error tells (inr (inl formless)) = formless_told m info i error formless tells
+  fault_told items error tells (inr (inl formless)) = formless_told explicit m info i error formless tells
   fault_told items error tells (inr (inr full)) = inr (inr (full.0, items))
 
-  pub fault_refuses : (before after : ℕ) → IsTrue (is_written_so_far m info) → (error : Error) →
-      TellsOfModule error → IsFault m info i error → IsRefusal m info before after error
+  pub fault_refuses : (before after : ℕ) → IsTrue (is_written_so_far m) → (error : Error) →
+      TellsOfModule error → IsFault explicit m info i error → IsRefusal explicit m info before after error
   fault_refuses before after written (FmtError e) tells fault = absurd tells
   fault_refuses before after written (Memory e) tells fault = absurd tells
   fault_refuses before after written (Custom message) tells (inl scope) =
@@ -229,7 +246,16 @@ module _ (m : Module) (info : ModuleInfo) (i : ℕ) where
   fault_refuses before after written _ tells (inr (inr full)) = absurd full.0
 
 -- ---- what is told of a plan's error
--- no refusal that names an expression is the sink's
+-- no refusal that names a type is the sink's
+no_type_sink : (types : List Type_) (r : TypeResolution) (reason : SinkError) →
+    NamesType types r (FmtError reason) → ⊥
+no_type_sink types r reason named = by (lacking_scalar types r) named
+  where
+    by : (o : Option Scalar) → NamesLacking o (FmtError reason) → ⊥
+    by (Some s) named = named
+    by None named = named
+
+-- nor is one that names an expression
 names_no_sink : (types : List Type_) (known : List ExpressionInfo) (es : List Expression)
     (e : Expression) (reason : SinkError) → NamesExpression types known es e (FmtError reason) → ⊥
 names_no_sink types known es (Literal value) reason named = by value named
@@ -259,10 +285,14 @@ names_no_sink types known es
     named.1
 names_no_sink types known es (ImageLoad image coordinate array_index sample level) reason named =
     named
+names_no_sink types known es (ZeroValue ty) reason named = no_type_sink types (Handle ty) reason named
+names_no_sink types known es (Compose ty components) reason named =
+    no_type_sink types (Handle ty) reason named
+names_no_sink types known es (AccessIndex base index) reason named = named
 names_no_sink types known es _ reason named = named
 
-module _ (m : Module) (info : ModuleInfo) (accepted : IsTrue (is_accepted m info))
-    (written : IsTrue (is_written_so_far m info)) (i : ℕ) (f : ir_function.Function)
+module _ (explicit : Bool) (m : Module) (info : ModuleInfo) (accepted : IsTrue (is_accepted m info))
+    (written : IsTrue (is_written_so_far m)) (i : ℕ) (f : ir_function.Function)
     (stands : slice_get m.functions i ≡ Some f) where
   counted : length m.functions ≡ length info.functions.items
   counted = functions_counted m info accepted
@@ -275,68 +305,53 @@ module _ (m : Module) (info : ModuleInfo) (accepted : IsTrue (is_accepted m info
 
   pub function_written : IsTrue (function_is_written f)
   function_written =
-      list_all_at function_is_written m.functions i f (functions_are_written m info written) stands
+      list_all_at function_is_written m.functions i f (functions_are_written m written) stands
 
   -- where the check of the function fails, the rules don't hold in it
-  out_of_scope : (namer : Names) → IsRefusalToPlanOf m info i namer OutOfScope →
+  out_of_scope : (namer : Names) → IsRefusalToPlanOf explicit m info i namer OutOfScope →
       ScopeHoldsIn m info i → ⊥
   out_of_scope namer refusal holds =
       refusal f known.0 stands known.1 (subst (λ o. IfSome o ScopeHolds)
       (shape_found m info m.functions info.functions.items i f known.0 stands known.1) holds)
 
-  -- what an expression of it makes a value of has a form
-  makes_formed : (h : ℕ) (e : Expression) → slice_get f.expressions h ≡ Some e → MakesFormed m.types e
-  makes_formed h e at = by e (names_are_in_range m is.callees f is.ranges h e at)
+  -- a handle of which something is known is in range
+  known_there : (es : List ExpressionInfo) (h : ℕ) (P : ExpressionInfo → Type 0) →
+      IsSomeAnd (slice_get es h) P → h < length es
+  known_there es h P is = by (slice_get es h) refl is
     where
-      here : slice_get info.functions.items i ≡ Some known.0
-      here = known.1
-
-      is : IsAccepted m i f (function_there m info accepted i f stands).0
-      is =
-          let there = function_there m info accepted i f stands in
-          accepted_at m info accepted i f there.0 there.1
-
-      formed : (ty : ℕ) → nat_lt ty (length m.types) ≡ true → IsTrue (has_form m.types (Handle ty))
-      formed ty lt = type_formed m info accepted written ty (ltb-true ty (length m.types) lt)
-
-      by : (e : Expression) →
-          names_in_range m is.callees (length f.arguments.items) (length f.local_variables) e ≡ true →
-          MakesFormed m.types e
-      by (ZeroValue ty) range = formed ty range
-      by (Compose ty components) range = formed ty range
-      by _ range = tt
+      by : (o : Option ExpressionInfo) → slice_get es h ≡ o → IsSomeAnd o P → h < length es
+      by None at is = absurd is
+      by (Some k) at is = slice_get_within es h k at
 
   pub is_of_plan : (es : List ExpressionInfo) → slice_get info.functions.items i ≡ Some es →
-      (namer : Names) (error : PlanError) → IsRefusalToPlanOf m info i namer error →
+      (namer : Names) (error : PlanError) → IsRefusalToPlanOf explicit m info i namer error →
       IsOfPlan m.types f es error
   is_of_plan es here namer OutOfScope refusal = tt
-  is_of_plan es here namer (WithoutForm h) refusal =
-      both (slice_get f.expressions h) refl (refusal f es stands here).1
-    where
-      both : (o : Option Expression) → slice_get f.expressions h ≡ o →
-          IsSomeAnd o (λ e. IsFalse (expression_has_form m.types es f.expressions e)) →
-          IsSomeAnd o (λ e.
-          IsFalse (expression_has_form m.types es f.expressions e) × MakesFormed m.types e)
-      both None at is = is
-      both (Some e) at is = (is, makes_formed h e at)
+  is_of_plan es here namer (WithoutForm h) refusal = (refusal f es stands here).1
+  is_of_plan es here namer (TypeWithoutForm ty) refusal = tt
+  is_of_plan es here namer (LetWithoutForm h) refusal =
+      known_there es h
+      (λ k. IsSpelledIn explicit m info f es k.ty × IsFalse (has_form m.types k.ty))
+      (refusal f es stands here)
   is_of_plan es here namer (Unnamed e) refusal = tt
   is_of_plan es here namer (plan_error.Memory e) refusal = tt
 
   for_scope : (told : Error) → IsCustom (codes "operand out of scope") told →
-      (ScopeHoldsIn m info i → ⊥) → IsPlanRefusal m info i told
+      (ScopeHoldsIn m info i → ⊥) → IsPlanRefusal explicit m info i told
   for_scope (Custom message) is fails = (tt, inl (is, fails))
   for_scope (Memory e) is fails = tt
   for_scope _ is fails = absurd is
 
-  for_form : (told : Error) → NamesFormless m info i told → IsPlanRefusal m info i told
-  for_form (FmtError reason) n =
+  for_form : (told : Error) → HasFormlessIn explicit m info i told → IsPlanRefusal explicit m info i told
+  for_form (FmtError reason) (inl n) =
       let at = named m info i (FmtError reason) n in
       absurd (names_no_sink m.types n.known n.function.expressions at.0 reason at.3)
+  for_form (FmtError reason) (inr n) = absurd (no_type_sink m.types n.type reason n.named)
   for_form (Memory e) n = tt
   for_form _ n = (tt, inr (inl n))
 
   for_full : (told : Error) → IsCustom (codes "namer is full") told → GivenAreFullIn m i →
-      IsPlanRefusal m info i told
+      IsPlanRefusal explicit m info i told
   for_full (Custom message) is full = (tt, inr (inr (is, full)))
   for_full (Memory e) is full = tt
   for_full _ is full = absurd is
@@ -358,24 +373,39 @@ module _ (m : Module) (info : ModuleInfo) (accepted : IsTrue (is_accepted m info
 
   for_names : (namer : Names) → HasNamedBefore m i namer → (error : NamerError) (told : Error) →
       IsRefusalOfLabels namer (labels_before m i) (given_labels f) error →
-      IsErrorOfNames error told → IsPlanRefusal m info i told
+      IsErrorOfNames error told → IsPlanRefusal explicit m info i told
   for_names namer before namer_error.Full told refusal is =
       for_full told is (full_is namer before refusal)
   for_names namer before namer_error.KeyFull told refusal is = absurd refusal
   for_names namer before (namer_error.Memory e) told refusal is =
-      subst (IsPlanRefusal m info i) (sym is) tt
+      subst (IsPlanRefusal explicit m info i) (sym is) tt
+
+  type_named : (es : List ExpressionInfo) → slice_get info.functions.items i ≡ Some es →
+      (told : Error) (r : TypeResolution) → IsSpelledIn explicit m info f es r →
+      IsFalse (has_form m.types r) → NamesType m.types r told →
+      NamesFormlessType explicit m info i told
+  type_named es at told r spelled formless is = record {
+    function = f;
+    known = es;
+    stands = stands;
+    is_known = at;
+    type = r;
+    spelled = spelled;
+    formless = formless;
+    named = is;
+  }
 
   pub plan_refusal : (es : List ExpressionInfo) → slice_get info.functions.items i ≡ Some es →
       (namer : Names) → HasNamedBefore m i namer → (error : PlanError) (told : Error) →
-      IsRefusalToPlanOf m info i namer error → TellsPlanError m.types f es error told →
-      IsPlanRefusal m info i told
+      IsRefusalToPlanOf explicit m info i namer error → TellsPlanError m.types f es error told →
+      IsPlanRefusal explicit m info i told
   plan_refusal es at namer before (Unnamed e) told refusal is =
       for_names namer before e told (refusal f es stands at (labels_before m i) before.labels) is
   plan_refusal es at namer before OutOfScope told refusal is =
       for_scope told is (out_of_scope namer refusal)
   plan_refusal es at namer before (WithoutForm h) told refusal is =
       let here = refusal f es stands at in
-      for_form told (record {
+      for_form told (inl (record {
         function = f;
         known = es;
         stands = stands;
@@ -383,11 +413,22 @@ module _ (m : Module) (info : ModuleInfo) (accepted : IsTrue (is_accepted m info
         expression = h;
         written = here.0;
         named = both _ _ (slice_get f.expressions h) here.1 is;
-      })
+      }))
     where
       both : (P Q : Expression → Type 0) (o : Option Expression) → IsSomeAnd o P →
           IsSomeAnd o Q → IsSomeAnd o (λ e. P e × Q e)
       both P Q None p q = absurd p
       both P Q (Some e) p q = (p, q)
+  plan_refusal es at namer before (TypeWithoutForm ty) told refusal is =
+      let here = refusal f es stands at in
+      for_form told (inr (type_named es at told (Handle ty) here.0 here.1 is))
+  plan_refusal es at namer before (LetWithoutForm h) told refusal is =
+      by (slice_get es h) (refusal f es stands at) is
+    where
+      by : (o : Option ExpressionInfo) →
+          IsSomeAnd o (λ k. IsSpelledIn explicit m info f es k.ty × IsFalse (has_form m.types k.ty)) →
+          IsSomeAnd o (λ k. NamesType m.types k.ty told) → IsPlanRefusal explicit m info i told
+      by None here is = absurd here
+      by (Some k) here is = for_form told (inr (type_named es at told k.ty here.0 here.1 is))
   plan_refusal es at namer before (plan_error.Memory e) told refusal is =
-      subst (IsPlanRefusal m info i) (sym is) tt
+      subst (IsPlanRefusal explicit m info i) (sym is) tt

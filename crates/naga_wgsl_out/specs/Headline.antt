@@ -1,7 +1,7 @@
 -- Faithful writing: what is promised of each call that writes an accepted module.
 --
--- Throughout, m is the module.
-use Rattle.std.specs.Prelude.{◌≡◌, ℕ, List, [], ◌++◌, string_bytes, Result, Ok, Err, OnOk}
+-- Throughout, m is the module, and explicit says whether `let`s tell types.
+use Rattle.std.specs.Prelude.{◌≡◌, ℕ, Bool, List, [], ◌++◌, string_bytes, Result, Ok, Err, OnOk}
 use Rattle.std.specs.declared.string.String.{String}
 use Rattle.naga_ir.specs.declared.module.Module.{Module}
 use Rattle.naga_info.specs.declared.info.ModuleInfo.{ModuleInfo}
@@ -28,11 +28,11 @@ EachReading held now Q =
 -- A call was asked to write the module, of which this is known, behind the text that its sink held;
 -- it answered, and the sink holds another text now. The sink had failed so often before, and has
 -- failed so often now.
-pub record FaithfulWriting (m : Module) (info : ModuleInfo) (answer : Result Unit Error)
-    (held now : List ℕ) (before after : ℕ) : Type 0 where
+pub record FaithfulWriting (explicit : Bool) (m : Module) (info : ModuleInfo)
+    (answer : Result Unit Error) (held now : List ℕ) (before after : ℕ) : Type 0 where
   -- It refuses only for a listed construct that stands in the module, a full counter or key, memory
   -- or the sink; and where it does not, none stands there.
-  pub refusals : RefusesOnlyFor answer m info before after
+  pub refusals : RefusesOnlyFor answer explicit m info before after
   -- Otherwise it appends a text with exactly one reading,
   pub reading : OnOk answer (AppendsOneReading held now)
   -- a program with the module's interface,

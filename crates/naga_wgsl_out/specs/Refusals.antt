@@ -1,17 +1,20 @@
 -- Why a module is refused, each reason with what it says.
 --
--- Throughout, m is the module, and e an error of memory.
-use Rattle.std.specs.Prelude.{◌≡◌, ⊤, ℕ, List, ◌⊎◌, codes, string_bytes, IsTrue, IsFalse, Result}
-use Rattle.std.specs.Prelude.{Ok, Err, IsSomeAnd, Option, Some, None, slice_get, Bool}
+-- Throughout, m is the module, e an error of memory, and explicit says whether `let`s tell types.
+use Rattle.std.specs.Prelude.{◌≡◌, ⊤, ℕ, ◌<◌, List, ◌⊎◌, codes, string_bytes, IsTrue, IsFalse, Result}
+use Rattle.std.specs.Prelude.{Ok, Err, IsSomeAnd, Option, Some, None, length, slice_get, Bool}
 use Rattle.std.specs.Option.{is_some, option_and_then}
 use Rattle.naga_ir.specs.declared.expression.Expression.{Expression}
-use Rattle.naga_ir.specs.declared.expression.Expression.TheVariants.{As, Compose, Literal, Math}
+use Rattle.naga_ir.specs.declared.expression.Expression.TheVariants.{AccessIndex, As, Compose}
+use Rattle.naga_ir.specs.declared.expression.Expression.TheVariants.{Literal, Math}
 use Rattle.naga_ir.specs.declared.expression.Expression.TheVariants.{ImageSample, ImageLoad}
 use Rattle.naga_ir.specs.declared.expression.Expression.TheVariants.{Relational, ZeroValue}
+use Rattle.naga_ir.specs.declared.types.Scalar.{Scalar}
 use Rattle.naga_ir.specs.declared.types.ScalarKind.{ScalarKind}
 use Rattle.naga_ir.specs.declared.types.Type_.{Type_}
 use Rattle.naga_ir.specs.declared.types.TypeInner.{TypeInner}
 use Rattle.naga_info.specs.Resolution.{inner_of}
+use Rattle.naga_info.specs.declared.info.TypeResolution.{TypeResolution}
 use Rattle.naga_info.specs.declared.info.TypeResolution.TheVariants.{Handle}
 use Rattle.naga_ir.specs.declared.expression.Literal.{Literal as LiteralValue}
 use Rattle.naga_ir.specs.declared.expression.Literal.TheVariants as literal
@@ -19,7 +22,8 @@ use Rattle.naga_ir.specs.declared.module.Function.{Function}
 use Rattle.naga_ir.specs.declared.module.Module.{Module}
 use Rattle.module_meaning.specs.Part.{expression_has_form, is_written_so_far}
 use Rattle.module_meaning.specs.Sampling.{offset_is_written, sampling_is_written}
-use Rattle.module_meaning.specs.Written.{ExpressionsHaveForms, IsWrittenIn, OfEachFunction}
+use Rattle.module_meaning.specs.LackingScalars.{lacking_scalar}
+use Rattle.module_meaning.specs.Written.{AllWrittenHaveForms, IsSpelledIn, IsWrittenIn}
 use Rattle.module_meaning.specs.AlikeTypes.{has_form}
 use Rattle.module_meaning.specs.Conversions.{conversion_target}
 use Rattle.naga_info.specs.declared.info.ExpressionInfo.{ExpressionInfo}
@@ -36,7 +40,9 @@ use Rattle.naga_scope.specs.GivenNames.{HasOtherUses}
 use Rattle.module_meaning.specs.Premises.{ScopesHold}
 use Rattle.naga_scope.specs.Plans.{ScopeHoldsIn}
 use Rattle.naga_scope.specs.declared.plan.PlanError.{PlanError}
-use Rattle.naga_scope.specs.declared.plan.PlanError.TheVariants.{OutOfScope, WithoutForm, Unnamed}
+use Rattle.naga_scope.specs.declared.plan.PlanError.TheVariants.{LetWithoutForm, OutOfScope}
+use Rattle.naga_scope.specs.declared.plan.PlanError.TheVariants.{TypeWithoutForm, Unnamed}
+use Rattle.naga_scope.specs.declared.plan.PlanError.TheVariants.{WithoutForm}
 use Rattle.naga_scope.specs.declared.plan.PlanError.TheVariants as plan_error
 use Rattle.naga_wgsl_fns.specs.Errors.{IsCustom, IsSinkWant, IsUnimplemented}
 use Rattle.naga_wgsl_fns.specs.declared.error.Error.{Error}
@@ -113,6 +119,14 @@ NamesScalar (Unsupported kind value) = kind.now ≡ codes "scalar type"
 NamesScalar (Memory e) = ⊤
 NamesScalar _ = ⊥
 
+-- a type without a form: a scalar of it has no word, or it has no form for another reason
+abbrev pub NamesLacking : Option Scalar → Error → Type 0
+NamesLacking (Some s) error = NamesScalar error
+NamesLacking None error = IsCustom (codes "type without a WGSL form") error
+
+abbrev pub NamesType : List Type_ → TypeResolution → Error → Type 0
+NamesType types r error = NamesLacking (lacking_scalar types r) error
+
 -- what is converted is no scalar, vector or matrix, or has other scalars then that have no word
 abbrev pub NamesConversion : (new : Option TypeInner) → Error → Type 0
 NamesConversion None error = IsUnimplemented (codes "conversion of this type") error
@@ -147,6 +161,10 @@ NamesExpression types known es
     (offset_is_written es offset) error
 NamesExpression types known es (ImageLoad image coordinate array_index sample level) error =
     IsCustom (codes "image load with sample and level") error
+NamesExpression types known es (ZeroValue ty) error = NamesType types (Handle ty) error
+NamesExpression types known es (Compose ty components) error = NamesType types (Handle ty) error
+NamesExpression types known es (AccessIndex base index) error =
+    IsCustom (codes "cannot index") error
 NamesExpression types known es _ error = ⊥
 
 -- an expression is written in the function with this handle that has no form, and is named
@@ -161,9 +179,25 @@ pub record NamesFormless (m : Module) (info : ModuleInfo) (handle : ℕ) (error 
       IsFalse (expression_has_form m.types known function.expressions e)
       × NamesExpression m.types known function.expressions e error)
 
+-- or a type without a form is spelled beside its expressions, and is named
+pub record NamesFormlessType (explicit : Bool) (m : Module) (info : ModuleInfo) (handle : ℕ)
+    (error : Error) : Type 0 where
+  pub function : Function
+  pub known : List ExpressionInfo
+  pub stands : slice_get m.functions handle ≡ Some function
+  pub is_known : slice_get info.functions.items handle ≡ Some known
+  pub type : TypeResolution
+  pub spelled : IsSpelledIn explicit m info function known type
+  pub formless : IsFalse (has_form m.types type)
+  pub named : NamesType m.types type error
+
+abbrev pub HasFormlessIn : (explicit : Bool) → Module → ModuleInfo → (handle : ℕ) → Error → Type 0
+HasFormlessIn explicit m info handle error =
+    NamesFormless m info handle error ⊎ NamesFormlessType explicit m info handle error
+
 -- so it is in some function
-abbrev pub HasFormless : Module → ModuleInfo → Error → Type 0
-HasFormless m info error = (handle : ℕ) × NamesFormless m info handle error
+abbrev pub HasFormless : (explicit : Bool) → Module → ModuleInfo → Error → Type 0
+HasFormless explicit m info error = (handle : ℕ) × HasFormlessIn explicit m info handle error
 
 -- ---- refusals
 -- the rules of scope don't hold in some function: an operand is used where it is out of scope, or
@@ -173,18 +207,18 @@ IsOutOfScope m info message = (message ≡ codes "operand out of scope") × (Sco
 
 -- Why a module is refused, of which this is known, where the sink had failed so often before and
 -- has failed so often now: the sink failed, memory ran out, the names can't be told, an operand is
--- out of scope, an expression without a form is written, or the module holds what is not written so
--- far.
-abbrev pub IsRefusal : Module → ModuleInfo → (before now : ℕ) → Error → Type 0
-IsRefusal m info before now (FmtError e) = IsSinkWant before now e
-IsRefusal m info before now (Memory e) = ⊤
-IsRefusal m info before now (Custom message) =
+-- out of scope, an expression without a form is written or a type without one spelled, or the module
+-- holds what is not written so far.
+abbrev pub IsRefusal : (explicit : Bool) → Module → ModuleInfo → (before now : ℕ) → Error → Type 0
+IsRefusal explicit m info before now (FmtError e) = IsSinkWant before now e
+IsRefusal explicit m info before now (Memory e) = ⊤
+IsRefusal explicit m info before now (Custom message) =
     IsToldOf m (string_bytes message)
-    ⊎ (IsOutOfScope m info (string_bytes message) ⊎ HasFormless m info (Custom message))
-IsRefusal m info before now (Unimplemented message) =
-    ((string_bytes message ≡ codes "not yet written") × IsFalse (is_written_so_far m info))
-    ⊎ HasFormless m info (Unimplemented message)
-IsRefusal m info before now error = HasFormless m info error
+    ⊎ (IsOutOfScope m info (string_bytes message) ⊎ HasFormless explicit m info (Custom message))
+IsRefusal explicit m info before now (Unimplemented message) =
+    ((string_bytes message ≡ codes "not yet written") × IsFalse (is_written_so_far m))
+    ⊎ HasFormless explicit m info (Unimplemented message)
+IsRefusal explicit m info before now error = HasFormless explicit m info error
 
 -- the error tells of the module, and not of memory or of the sink
 abbrev pub TellsOfModule : Error → Type 0
@@ -197,11 +231,12 @@ abbrev pub TellsOfScope : Error → Type 0
 TellsOfScope (Custom message) = string_bytes message ≡ codes "operand out of scope"
 TellsOfScope _ = ⊥
 
--- the error names some expression without a form, and is not want of memory
+-- the error names some expression or some type without a form, and is not want of memory
 abbrev pub TellsOfForm : Error → Type 0
 TellsOfForm error =
-    TellsOfModule error × ((types : List Type_) × (known : List ExpressionInfo)
+    TellsOfModule error × (((types : List Type_) × (known : List ExpressionInfo)
     × (es : List Expression) × (e : Expression) × NamesExpression types known es e error)
+    ⊎ ((types : List Type_) × (r : TypeResolution) × NamesType types r error))
 
 -- the error tells that a name can't be told
 abbrev pub TellsOfFullNamer : Error → Type 0
@@ -220,29 +255,26 @@ abbrev pub ComesBeforeText : Module → Error → Type 0
 ComesBeforeText m error = TellsOfModule error × (TellsOfFunction m error → ⊥)
 
 -- why the function with this handle has no plan: the rules of scope don't hold in it, an expression
--- without a form is written in it, or a label that a front end gave in it gets no name; or memory
--- ran out
-abbrev pub IsFault : Module → ModuleInfo → (handle : ℕ) → Error → Type 0
-IsFault m info handle error =
+-- without a form is written in it or a type without one spelled, or a label that a front end gave in
+-- it gets no name; or memory ran out
+abbrev pub IsFault : (explicit : Bool) → Module → ModuleInfo → (handle : ℕ) → Error → Type 0
+IsFault explicit m info handle error =
     (TellsOfScope error × (ScopeHoldsIn m info handle → ⊥))
-    ⊎ (NamesFormless m info handle error ⊎ (TellsOfFullNamer error × GivenAreFullIn m handle))
+    ⊎ (HasFormlessIn explicit m info handle error
+    ⊎ (TellsOfFullNamer error × GivenAreFullIn m handle))
 
-abbrev pub IsPlanRefusal : Module → ModuleInfo → (handle : ℕ) → Error → Type 0
-IsPlanRefusal m info handle (Memory e) = ⊤
-IsPlanRefusal m info handle error = TellsOfModule error × IsFault m info handle error
+abbrev pub IsPlanRefusal : (explicit : Bool) → Module → ModuleInfo → (handle : ℕ) → Error → Type 0
+IsPlanRefusal explicit m info handle (Memory e) = ⊤
+IsPlanRefusal explicit m info handle error =
+    TellsOfModule error × IsFault explicit m info handle error
 
--- a type that the expression makes a value of has a form
-abbrev pub MakesFormed : List Type_ → Expression → Type 0
-MakesFormed types (ZeroValue ty) = IsTrue (has_form types (Handle ty))
-MakesFormed types (Compose ty components) = IsTrue (has_form types (Handle ty))
-MakesFormed types _ = ⊤
-
--- the handle that an error of a plan tells of has an expression without a form, and what is told is
--- the name of that, or what else the error says
+-- the handle that an error of a plan tells of has an expression without a form, or one of which a
+-- type is known; and what is told is the name of that, or what else the error says
 abbrev pub IsOfPlan : List Type_ → Function → List ExpressionInfo → PlanError → Type 0
 IsOfPlan types f known (WithoutForm handle) =
     IsSomeAnd (slice_get f.expressions handle) (λ e.
-    IsFalse (expression_has_form types known f.expressions e) × MakesFormed types e)
+    IsFalse (expression_has_form types known f.expressions e))
+IsOfPlan types f known (LetWithoutForm handle) = handle < length known
 IsOfPlan types f known error = ⊤
 
 abbrev pub TellsPlanError : List Type_ → Function → List ExpressionInfo → PlanError → Error → Type 0
@@ -250,21 +282,25 @@ TellsPlanError types f known OutOfScope told = IsCustom (codes "operand out of s
 TellsPlanError types f known (WithoutForm handle) told =
     IsSomeAnd (slice_get f.expressions handle) (λ e.
     NamesExpression types known f.expressions e told)
+TellsPlanError types f known (TypeWithoutForm ty) told = NamesType types (Handle ty) told
+TellsPlanError types f known (LetWithoutForm handle) told =
+    IsSomeAnd (slice_get known handle) (λ k. NamesType types k.ty told)
 TellsPlanError types f known (Unnamed e) told = IsErrorOfNames e told
 TellsPlanError types f known (plan_error.Memory e) told = told ≡ Memory e
 
 -- no reason stands in the module
-pub record IsWritable (m : Module) (info : ModuleInfo) : Type 0 where
-  pub written : IsTrue (is_written_so_far m info)
+pub record IsWritable (explicit : Bool) (m : Module) (info : ModuleInfo) : Type 0 where
+  pub written : IsTrue (is_written_so_far m)
   pub in_scope : ScopesHold m info
-  pub formed : OfEachFunction m info (ExpressionsHaveForms m info)
+  pub formed : AllWrittenHaveForms explicit m info
   pub told : NamerIsFull m → ⊥
   pub keys : KeyIsOutOfRange m → ⊥
 
 -- an error has its reason, and where there is none no reason stands in the module
-abbrev pub RefusesOnlyFor : Result Unit Error → Module → ModuleInfo → (before now : ℕ) → Type 0
-RefusesOnlyFor (Ok _) m info before now = IsWritable m info
-RefusesOnlyFor (Err error) m info before now = IsRefusal m info before now error
+abbrev pub RefusesOnlyFor : Result Unit Error → (explicit : Bool) → Module → ModuleInfo →
+    (before now : ℕ) → Type 0
+RefusesOnlyFor (Ok _) explicit m info before now = IsWritable explicit m info
+RefusesOnlyFor (Err error) explicit m info before now = IsRefusal explicit m info before now error
 
 -- the map has the names of all items of the module, which can all be told
 pub record HasAllNames (m : Module) (names : NameMap) : Type 0 where

@@ -1,12 +1,13 @@
 -- What contracts see of a writer, and the text that it writes.
 --
--- Throughout, m is the module, and p a handle with its function.
-use Rattle.std.specs.Prelude.{◌≡◌, ◌+◌, ◌<◌, ◌++◌, ◌⊎◌, ℕ, List, Result, Ok, Err, codes, length, take}
+-- Throughout, m is the module, p a handle with its function, and explicit says whether `let`s tell
+-- types.
+use Rattle.std.specs.Prelude.{◌≡◌, ◌+◌, ◌<◌, ◌++◌, ◌⊎◌, ℕ, Bool, List, Result, Ok, Err, codes, length, take}
 use Rattle.std.specs.List.{enumerate_from, flat_map}
 use Rattle.naga_ir.specs.declared.module.Function.{Function}
 use Rattle.naga_ir.specs.declared.module.Module.{Module}
 use Rattle.naga_info.specs.declared.info.ModuleInfo.{ModuleInfo}
-use Rattle.module_meaning.specs.Written.{ExpressionsHaveForms}
+use Rattle.module_meaning.specs.Written.{WrittenHaveForms}
 use Rattle.naga_scope.specs.Plans.{AreGivenNames, IsPlanOf, OfFunctionAt, Planned, ScopeHoldsIn}
 use Rattle.wgsl_text.specs.Functions.{function_pieces}
 use Rattle.naga_form.specs.Functions.{function_form}
@@ -48,11 +49,11 @@ abbrev pub lines_before : Module → ModuleInfo → WriterFlags → (handle : �
 lines_before m info flags handle =
     lines_of m info flags (take handle (enumerate_from 0 m.functions))
 
--- the rules of scope hold in the function with this handle, each written handle of it has a form, and
--- the labels that front ends gave in it can all be named
-pub record IsWritableAt (m : Module) (info : ModuleInfo) (handle : ℕ) : Type 0 where
+-- the rules of scope hold in the function with this handle, each written handle of it and each type
+-- that it spells has a form, and the labels that front ends gave in it can all be named
+pub record IsWritableAt (explicit : Bool) (m : Module) (info : ModuleInfo) (handle : ℕ) : Type 0 where
   pub in_scope : ScopeHoldsIn m info handle
-  pub formed : OfFunctionAt m info handle (ExpressionsHaveForms m info)
+  pub formed : OfFunctionAt m info handle (WrittenHaveForms explicit m info)
   pub told : GivenAreFullIn m handle → ⊥
 
 -- Behind what the sink held stand the functions in front of the first one for which that does not
@@ -61,21 +62,21 @@ pub record WroteFunctionsBefore (m : Module) (info : ModuleInfo) (flags : Writer
     (held now : List ℕ) : Type 0 where
   -- that function
   pub handle : ℕ
-  pub fails : IsWritableAt m info handle → ⊥
+  pub fails : IsWritableAt (tells_types flags) m info handle → ⊥
   -- and those in front of it
-  pub hold : (i : ℕ) → i < handle → IsWritableAt m info i
+  pub hold : (i : ℕ) → i < handle → IsWritableAt (tells_types flags) m info i
   pub written : now ≡ held ++ lines_before m info flags handle
 
 -- there is a plan of the function with this handle, which has names for its labels
-pub record HasPlan (m : Module) (info : ModuleInfo) (handle : ℕ) : Type 0 where
+pub record HasPlan (explicit : Bool) (m : Module) (info : ModuleInfo) (handle : ℕ) : Type 0 where
   pub planned : Planned
-  pub plan : IsPlanOf m info handle planned
+  pub plan : IsPlanOf explicit m info handle planned
   pub told : GivenAreFullIn m handle → ⊥
 
 -- a plan with its names, behind which the namer has named the labels of the function too
-pub record IsNamedPlan (m : Module) (info : ModuleInfo) (handle : ℕ) (namer : Names)
+pub record IsNamedPlan (explicit : Bool) (m : Module) (info : ModuleInfo) (handle : ℕ) (namer : Names)
     (planned : Planned) : Type 0 where
-  pub plan : IsPlanOf m info handle planned
+  pub plan : IsPlanOf explicit m info handle planned
   pub names : AreGivenNames m handle planned.given
   pub namer_is : HasNamedBefore m (handle + 1) namer
 
@@ -84,7 +85,7 @@ pub record IsNamedPlan (m : Module) (info : ModuleInfo) (handle : ℕ) (namer : 
 pub record WroteFunctions (m : Module) (info : ModuleInfo) (flags : WriterFlags) (held : List ℕ)
     (failed : ℕ) (now : List ℕ) (failures : ℕ) : Type 0 where
   pub wrote : Wrote held failed (module_lines m info flags) now failures
-  pub planned : (i : ℕ) → i < length m.functions → HasPlan m info i
+  pub planned : (i : ℕ) → i < length m.functions → HasPlan (tells_types flags) m info i
   pub counted : NamesAreCounted m
 
 -- the first one without a plan was met, and told
@@ -92,7 +93,7 @@ pub record MetNoPlan (m : Module) (info : ModuleInfo) (flags : WriterFlags) (hel
     (failed : ℕ) (now : List ℕ) (failures : ℕ) (error : Error) : Type 0 where
   pub before : WroteFunctionsBefore m info flags held now
   pub tells : TellsOfModule error
-  pub fault : IsFault m info before.handle error
+  pub fault : IsFault (tells_types flags) m info before.handle error
   pub kept : failures ≡ failed
 
 -- what a call that writes the functions did, by its answer

@@ -1,4 +1,4 @@
-//! The refusals of expressions without a form, by name.
+//! The refusals of expressions and types without a form, by name.
 
 ghost use Rattle.std.specs.Prelude.{Bool, IsFalse, IsTrue, List, ◌&&◌};
 ghost use Rattle.module_meaning.specs.Part.{expression_has_form, expression_is_of_part};
@@ -7,11 +7,12 @@ ghost use Rattle.module_meaning.specs.Conversions.{conversion_target};
 ghost use Rattle.module_meaning.specs.Sampling.{sampling_is_written};
 ghost use Rattle.naga_ir.specs.declared.expression.Expression.{Expression};
 ghost use Rattle.naga_scope.specs.Forms.{AreKnownIn};
-ghost use Rattle.naga_wgsl_out.specs.Refusals.{MakesFormed, NamesConversion, NamesExpression};
+ghost use Rattle.naga_wgsl_out.specs.Refusals.{NamesConversion, NamesExpression};
 ghost use Rattle.naga_wgsl_out.specs.Refusals.{NamesFunction, NamesLiteral, NamesSampling};
-ghost use Rattle.naga_wgsl_out.specs.Refusals.{NamesScalar, converted};
+ghost use Rattle.naga_wgsl_out.specs.Refusals.{NamesScalar, NamesType, converted};
 
-use naga_info::FunctionInfo;
+use crate::lacking::lacking_scalar;
+use naga_info::{FunctionInfo, TypeResolution};
 use naga_ir::{
     Expression, Handle, Literal, MathFunction, SampleLevel, Scalar, ScalarKind, SwizzleComponent,
     Type_, TypeInner, UniqueArena,
@@ -32,7 +33,6 @@ pub(crate) fn without_form(
 ) -> Error
     requires part { IsTrue (expression_is_of_part expression.now) }
     requires known { AreKnownIn types.now info.now }
-    requires makes { MakesFormed types.now expression.now }
     requires formless { (es : List Expression) ×
         IsFalse (expression_has_form types.now info.now es expression.now) }
     ensures { (es : List Expression) →
@@ -56,7 +56,26 @@ pub(crate) fn without_form(
             ..
         } => sampling_without_form(alloc, *gather, *level, depth_ref.is_some(), *clamp_to_edge),
         Expression::ImageLoad { .. } => custom(alloc, "image load with sample and level"),
+        Expression::ZeroValue(ty) => type_without_form(alloc, types, &TypeResolution::Handle(*ty)),
+        Expression::Compose { ty, .. } => {
+            type_without_form(alloc, types, &TypeResolution::Handle(*ty))
+        }
+        Expression::AccessIndex { .. } => custom(alloc, "cannot index"),
         _ => unreachable!(),
+    }
+}
+
+/// What is told of a type without a form: a scalar has no word, or it has no form for another reason.
+pub(crate) fn type_without_form(
+    alloc: Global,
+    types: &UniqueArena<Type_>,
+    ty: &TypeResolution,
+) -> Error
+    ensures { NamesType types.now ty.now result }
+{
+    match lacking_scalar(types, ty) {
+        Some(scalar) => scalar_without_word(alloc, scalar),
+        None => custom(alloc, "type without a WGSL form"),
     }
 }
 

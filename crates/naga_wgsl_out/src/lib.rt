@@ -10,6 +10,7 @@ pub mod back;
 pub mod diagnostics;
 mod forms;
 pub mod info;
+mod lacking;
 pub mod to_wgsl;
 pub mod types;
 pub mod wgsl;

@@ -26,17 +26,17 @@ ghost use Rattle.naga_wgsl_out.specs.Writing.{IsNamedPlan, WritesFunctions, Writ
 ghost use Rattle.naga_wgsl_out.specs.Writing.{WroteFunctionsBefore};
 ghost use Rattle.naga_wgsl_out.specs.Writing.{written_text};
 
-use crate::forms::without_form;
+use crate::forms::{type_without_form, without_form};
 use naga_acceptance::is_written_so_far;
 use naga_back::WriterFlags;
-use naga_info::{FunctionInfo, ModuleInfo};
+use naga_info::{FunctionInfo, ModuleInfo, TypeResolution};
 use naga_ir::{Expression, Function, Handle, Module, Place, Type_, UniqueArena};
 use naga_names::by_bytes::{builtin_words, reserved_words};
 use naga_names::keyword_set::CaseInsensitiveKeywordSet;
 use naga_names::namer::{NameKey, Namer, NamerError};
 use naga_scope::{Plan, PlanError};
 use naga_wgsl_fns::error::{custom, not_yet_written};
-use naga_wgsl_fns::{Error, put, write_function};
+use naga_wgsl_fns::{Error, put, tells_types, write_function};
 use naga_words::TextSink;
 use std::alloc::Global;
 use std::collections::HashMap;
@@ -88,14 +88,19 @@ impl<W: TextSink> Writer<W> {
     ///
     /// An expression that is used where it is out of scope, and an `Emit` that is not allowed where
     /// it stands, are refused as `Custom`, `operand out of scope`. An expression without a form is
-    /// refused where it is written, and let be where it is not: a float literal as `Unimplemented`,
+    /// refused where it is written, a type without one where it is spelled, and either let be
+    /// elsewhere: a float literal as `Unimplemented`,
     /// `float literal`; a function of mathematics without a word as `Unsupported`, of the kind `math
     /// function`, with its debug text; a relation without one as `UnsupportedRelationalFunction`; a
     /// conversion of what is no scalar, vector or matrix as `Unimplemented`, `conversion of this
     /// type`, and one to scalars without a word as `Unsupported`, of the kind `scalar type`;
     /// a sampling without a form as `Unimplemented`, `sampling form`, and one with an offset that
     /// applies an operator as `Custom`, `operator in a constant`; a load of a texel of both a sample
-    /// and a level as `Custom`, `image load with sample and level`.
+    /// and a level as `Custom`, `image load with sample and level`; a part at a known index of what has
+    /// no parts as `Custom`, `cannot index`. A type is spelled by an argument, the result, a local, a
+    /// written zero value or composition, and, with `EXPLICIT_TYPES`, by a `let`: one with a scalar
+    /// without a word is refused as `Unsupported`, of the kind `scalar type`, with its debug text, and
+    /// any other without a form as `Custom`, `type without a WGSL form`.
     /// A module of which so many labels are alike that one gets no name is refused as `Custom`, `namer
     /// is full`. Where several such stand in a module, one is told. Each function is looked at before
     /// its text, and so are the labels that front ends gave in it, so the functions in front of the
@@ -105,11 +110,11 @@ impl<W: TextSink> Writer<W> {
     /// None of them is a failure of the sink.
     ///
     /// So far a module is refused as `Unimplemented`, `not yet written`, unless it declares nothing
-    /// but types and functions: types with a form that enable no extension, but structs and atomics;
+    /// but types and functions: types that enable no extension, but structs and atomics;
     /// functions whose locals have a literal as first value or none, whose expressions are
     /// arguments, locals, literals, zero values, values of a type composed of others, loads,
-    /// choices, operators with a sign, vectors of one value, swizzles, parts at an index of what has
-    /// parts, conversions, derivatives, operations on images, lengths of arrays, products of
+    /// choices, operators with a sign, vectors of one value, swizzles, parts at an index,
+    /// conversions, derivatives, operations on images, lengths of arrays, products of
     /// cooperative matrices, functions of mathematics, and relations, and
     /// whose statements are `Emit`s, `Store`s and `Return`s.
     ///
@@ -120,7 +125,8 @@ impl<W: TextSink> Writer<W> {
     /// order of the text behind those of the module's items.
     pub fn write(&mut self, module: &Module, info: &ModuleInfo) -> Result<(), Error>
         requires accepted { IsTrue (is_accepted «module».now info.now) }
-        ensures faithful { FaithfulWriting «module».now info.now result
+        ensures faithful { FaithfulWriting (tells_types self.old.flags) «module».now info.now
+            result
             (W.text self.old.sink) (W.text self.new.sink)
             (W.failures self.old.sink) (W.failures self.new.sink) }
         // Each identifier of the text stands for the item that it was written for.
@@ -145,7 +151,7 @@ impl<W: TextSink> Writer<W> {
             W.failures self.new.sink ≡ W.failures self.old.sink) }
         ensures flags { self.new.flags ≡ self.old.flags }
     {
-        if !is_written_so_far(module, info) {
+        if !is_written_so_far(module) {
             return Err(not_yet_written(self.alloc));
         }
         let (names, mut namer) = names_of(self.alloc, module)?;
@@ -162,8 +168,8 @@ impl<W: TextSink> Writer<W> {
 }
 
 /// Writes the functions of the module, an empty line behind each, up to the first in which an
-/// operand is out of scope, an expression without a form is written, or a label gets no name. The
-/// namer has named the items of the module, and goes on with what front ends named.
+/// operand is out of scope, an expression without a form is written or a type without one spelled, or
+/// a label gets no name. The namer has named the items of the module, and goes on with what front ends named.
 fn write_functions<W: TextSink>(
     alloc: Global,
     module: &Module,
@@ -174,7 +180,7 @@ fn write_functions<W: TextSink>(
     out: &mut W,
 ) -> Result<(), Error>
     requires accepted { IsTrue (is_accepted «module».now info.now) }
-    requires written { IsTrue (is_written_so_far «module».now info.now) }
+    requires written { IsTrue (is_written_so_far «module».now) }
     requires names { HasNamesOf «module».now (names_in names.now) }
     requires namer { HasNamedBefore «module».now 0 namer.old }
     ensures { WritesFunctions «module».now info.now flags result (W.text out.old)
@@ -182,7 +188,7 @@ fn write_functions<W: TextSink>(
 {
     for index in 0..module.functions.len() {
         let handle = Place::from_index(index);
-        let plan = plan_of(alloc, module, info, handle, namer)?;
+        let plan = plan_of(alloc, module, info, handle, flags, namer)?;
         write_function_line(alloc, module, info, names, flags, handle, plan, out)?;
     }
     Ok(())
@@ -194,16 +200,18 @@ fn plan_of(
     module: &Module,
     info: &ModuleInfo,
     handle: Handle<Function>,
+    flags: WriterFlags,
     namer: &mut Namer,
 ) -> Result<Plan, Error>
     requires accepted { IsTrue (is_accepted «module».now info.now) }
-    requires written { IsTrue (is_written_so_far «module».now info.now) }
+    requires written { IsTrue (is_written_so_far «module».now) }
     requires handle { handle < length «module».now.functions }
     requires namer { HasNamedBefore «module».now handle namer.old }
-    ensures ok { IfOk result (IsNamedPlan «module».now info.now handle namer.new) }
-    ensures err { IfErr result (IsPlanRefusal «module».now info.now handle) }
+    ensures ok { IfOk result
+        (IsNamedPlan (tells_types flags) «module».now info.now handle namer.new) }
+    ensures err { IfErr result (IsPlanRefusal (tells_types flags) «module».now info.now handle) }
 {
-    match Plan::of(alloc, module, info, handle, namer) {
+    match Plan::of(alloc, module, info, handle, tells_types(flags), namer) {
         Ok(plan) => Ok(plan),
         Err(error) => Err(error_of_plan(
             alloc,
@@ -233,6 +241,12 @@ fn error_of_plan(
         PlanError::WithoutForm(handle) => {
             without_form(alloc, types, info, &function.expressions[handle])
         }
+        PlanError::TypeWithoutForm(ty) => {
+            type_without_form(alloc, types, &TypeResolution::Handle(ty))
+        }
+        PlanError::LetWithoutForm(handle) => {
+            type_without_form(alloc, types, &info[handle].ty)
+        }
         PlanError::Unnamed(error) => names_error(alloc, error),
         PlanError::Memory(error) => Error::Memory(error),
     }
@@ -249,10 +263,10 @@ fn write_function_line<W: TextSink>(
     out: &mut W,
 ) -> Result<(), Error>
     requires accepted { IsTrue (is_accepted «module».now info.now) }
-    requires written { IsTrue (is_written_so_far «module».now info.now) }
+    requires written { IsTrue (is_written_so_far «module».now) }
     requires handle { handle < length «module».now.functions }
     requires names { HasNamesOf «module».now (names_in names.now) }
-    requires planned { IsPlanOf «module».now info.now handle plan }
+    requires planned { IsPlanOf (tells_types flags) «module».now info.now handle plan }
     requires named { AreGivenNames «module».now handle plan.given }
     ensures { Appends result (W.text out.old) (W.failures out.old)
         (text_of_function «module».now info.now flags handle ++ codes "\n")
@@ -335,7 +349,7 @@ pub fn write_string(
     flags: WriterFlags,
 ) -> Result<String, Error>
     requires accepted { IsTrue (is_accepted «module».now info.now) }
-    ensures faithful { FaithfulWriting «module».now info.now (answer_of result)
+    ensures faithful { FaithfulWriting (tells_types flags) «module».now info.now (answer_of result)
         [] (text_of result) 0 0 }
     ensures resolution { OnOk (answer_of result) (EachReading [] (text_of result)
         (ResolvesAs «module».now info.now)) }

@@ -143,7 +143,7 @@ fn first_holds(
     module: &Module,
     info: &ModuleInfo,
 ) -> Result<Option<bool>, AllocError> {
-    if !accepts(module, info) || !is_written_so_far(module, info) || module.functions.len() != 1 {
+    if !accepts(module, info) || !is_written_so_far(module) || module.functions.len() != 1 {
         return Ok(None);
     }
     let mut namer = Namer::default(alloc);

@@ -13,6 +13,7 @@ use std::test::Fail;
 mod converted;
 mod derived;
 mod formless;
+mod formless_types;
 mod images;
 mod indexed;
 mod made;

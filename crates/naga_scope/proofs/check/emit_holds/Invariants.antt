@@ -7,8 +7,6 @@ use Rattle.naga_names.specs.Keys.{NameMap}
 use Rattle.shader_runs.specs.Program.{from}
 use Rattle.shader_runs.specs.Scope.{may_emit_all, after_emit}
 use Rattle.module_meaning.specs.Namings.{function_naming}
-use Rattle.module_meaning.specs.Part.{types_allow_all}
-use Rattle.std.specs.Prelude.{IsTrue}
 use Rattle.module_meaning.specs.FunctionShapes.{function_shape}
 use Rattle.naga_scope.specs.Standings.{KeepsStart, handles_of}
 use Rattle.naga_scope.proofs.check.emit_holds.Given as goal
@@ -19,13 +17,13 @@ invariant-loop-index l = record {
   given : l.scope.given + length (labels_of_each l.function (from l.index (l.fn.range.end - l.index)))
       ≡ l.initial.scope.given + length (labels_of_each l.function (from l.fn.range.first (l.fn.range.end - l.fn.range.first)));
   holds : (names : NameMap) (m : Module) (known : ModuleInfo) (g : ℕ) →
-      IsTrue (types_allow_all m.types l.function l.info) →
+      m.types ≡ l.types →
       may_emit_all (function_naming names m known g l.function l.info) l.scope.given (from l.index (l.fn.range.end - l.index)) (handles_of (given_name m g) l.scope.table)
       ≡ may_emit_all (function_naming names m known g l.function l.info) l.initial.scope.given (from l.fn.range.first (l.fn.range.end - l.fn.range.first)) (handles_of (given_name m g) l.initial.scope.table);
   behind : (names : NameMap) (m : Module) (known : ModuleInfo) (g : ℕ) →
-      IsTrue (types_allow_all m.types l.function l.info) →
+      m.types ≡ l.types →
       after_emit (function_naming names m known g l.function l.info) l.scope.given (from l.index (l.fn.range.end - l.index)) (handles_of (given_name m g) l.scope.table)
       ≡ after_emit (function_naming names m known g l.function l.info) l.initial.scope.given (from l.fn.range.first (l.fn.range.end - l.fn.range.first)) (handles_of (given_name m g) l.initial.scope.table);
-  held : (m : Module) (known : ModuleInfo) → IsTrue (types_allow_all m.types l.function l.info) →
+  held : (m : Module) (known : ModuleInfo) → m.types ≡ l.types →
       KeepsStart (function_shape m known l.function l.info) (handles_of (given_name m 0) l.scope.table);
 }

@@ -11,7 +11,7 @@ use Rattle.shader_runs.specs.Program.{binds}
 use Rattle.naga_scope.proofs.written.mark_body.Goals as goal
 
 pub loop-statement-init : goal.loop-statement-init
-loop-statement-init c m known h allowed =
+loop-statement-init c m known h same_types =
     let bound = binds (function_shape m known c.args.function.now c.args.info.now) in
     ap (λ b. marked_with c.args.marks.now (block_roots bound b) h) c.as_slice-statement-items.ensures
 
@@ -23,7 +23,7 @@ mark_statement-requires-clause-line c =
     ∙ (function_parts c.args.function.now c.requires.written).body)
 
 pub loop-statement-preserved : goal.loop-statement-preserved
-loop-statement-preserved c m known h allowed =
+loop-statement-preserved c m known h same_types =
     let bound = binds (function_shape m known c.args.function.now c.args.info.now) in
     let old = c.loop-statement.marks in
     let items = c.as_slice-statement-items.result.now in
@@ -31,17 +31,17 @@ loop-statement-preserved c m known h allowed =
     let st = c.statement-item.result in
     marked_both old c.mark_statement.new.marks c.mark_statement.ensures.size h
     (statement_roots bound (tree_of st)) (block_roots bound (block_of (drop (i + 1) items)))
-    (c.mark_statement.ensures.marks m known h allowed)
+    (c.mark_statement.ensures.marks m known h same_types)
     ∙ (ap (λ hs. marked_with old hs h)
     (sym (roots_more bound i items st c.loop-statement-test.true c.statement-item.is))
-    ∙ c.loop-statement.invariant m known h allowed)
+    ∙ c.loop-statement.invariant m known h same_types)
 
 pub returns-clause-marks : goal.returns-clause-marks
-returns-clause-marks c m known h allowed =
+returns-clause-marks c m known h same_types =
     let bound = binds (function_shape m known c.args.function.now c.args.info.now) in
     let marks = c.loop-statement.marks in
     marked_none (is_marked marks h) (nat_lt h (length marks))
     ∙ (ap (λ hs. marked_with marks hs h)
     (sym (roots_end bound c.as_slice-statement-items.result.now c.loop-statement.statement-index
     c.loop-statement-test.false))
-    ∙ c.loop-statement.invariant m known h allowed)
+    ∙ c.loop-statement.invariant m known h same_types)

@@ -9,27 +9,27 @@ use Rattle.shader_runs.specs.Program.{binds, from}
 use Rattle.naga_scope.proofs.written.mark_emitted.Goals as goal
 
 pub loop-index-init : goal.loop-index-init
-loop-index-init c m known h allowed = refl
+loop-index-init c m known h same_types = refl
 
 pub loop-index-preserved : goal.loop-index-preserved
-loop-index-preserved c m known h allowed =
+loop-index-preserved c m known h same_types =
     let bound = binds (function_shape m known c.args.function.now c.args.info.now) in
     let here = c.loop-index.index in
     let end = c.args.range.end in
     let old = c.loop-index.marks in
-    let is = c.binds.ensures m known allowed ∙ ap bound c.from_index-handle.ensures in
+    let is = c.binds.ensures m known same_types ∙ ap bound c.from_index-handle.ensures in
     let new = c.mark_if.ensures.marks h
     ∙ (λ i. marked_with old (if is i then c.from_index-handle.ensures i ∷ [] else []) h) in
     marked_then old c.mark_if.new.marks c.mark_if.ensures.size h (bound here) here
     (filter bound (from (here + 1) (end - (here + 1)))) new
     ∙ (ap (λ hs. marked_with old (filter bound hs) h) (sym (range_more here end c.loop-index-test.true))
-    ∙ c.loop-index.invariant m known h allowed)
+    ∙ c.loop-index.invariant m known h same_types)
 
 pub returns-clause-marks : goal.returns-clause-marks
-returns-clause-marks c m known h allowed =
+returns-clause-marks c m known h same_types =
     let bound = binds (function_shape m known c.args.function.now c.args.info.now) in
     let marks = c.loop-index.marks in
     marked_none (is_marked marks h) (nat_lt h (length marks))
     ∙ (ap (λ hs. marked_with marks (filter bound hs) h)
     (sym (range_none c.loop-index.index c.args.range.end c.loop-index-test.false))
-    ∙ c.loop-index.invariant m known h allowed)
+    ∙ c.loop-index.invariant m known h same_types)

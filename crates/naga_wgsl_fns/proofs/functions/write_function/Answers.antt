@@ -9,12 +9,13 @@ use Rattle.naga_words.proofs.Writing.{held_part_as, held_whole_as, never_formles
 use Rattle.naga_words.proofs.Writing.{same_sink, writes_as}
 use Rattle.naga_scope.proofs.Planned.{plan_found}
 use Rattle.naga_wgsl_fns.specs.Errors.{IsWant}
+use Rattle.naga_wgsl_fns.specs.FunctionText.{tells_types}
 use Rattle.naga_wgsl_fns.proofs.FunctionRows.{can_write, names_read, reason_told, text_of_function_at}
 use Rattle.naga_wgsl_fns.proofs.functions.write_function.Goals as goal
 
 pub write_declaration-requires-clause-can : goal.write_declaration-requires-clause-can
 write_declaration-requires-clause-can g c =
-    let plan = plan_found c.args.module.now c.args.info.now c.args.handle c.index.result.now
+    let plan = plan_found (tells_types c.args.flags) c.args.module.now c.args.info.now c.args.handle c.index.result.now
     c.index-2.result.now c.args.plan c.index.ensures c.index-2.ensures c.requires.planned in
     can_write _ c.requires.accepted c.requires.written c.requires.names c.index.ensures
     c.index-2.ensures plan.formed
@@ -25,7 +26,7 @@ write_declaration-requires-clause-can g c =
 
 pub write_declaration-requires-clause-start : goal.write_declaration-requires-clause-start
 write_declaration-requires-clause-start g c =
-    let plan = plan_found c.args.module.now c.args.info.now c.args.handle c.index.result.now
+    let plan = plan_found (tells_types c.args.flags) c.args.module.now c.args.info.now c.args.handle c.index.result.now
     c.index-2.result.now c.args.plan c.index.ensures c.index-2.ensures c.requires.planned in
     let given = given_name c.args.module.now c.args.handle in
     ap (λ (p : TextPoint). handles_of given p.table) c.into_parts-scope.ensures.scope
@@ -33,13 +34,13 @@ write_declaration-requires-clause-start g c =
 
 pub write_declaration-requires-clause-given : goal.write_declaration-requires-clause-given
 write_declaration-requires-clause-given g c =
-    let plan = plan_found c.args.module.now c.args.info.now c.args.handle c.index.result.now
+    let plan = plan_found (tells_types c.args.flags) c.args.module.now c.args.info.now c.args.handle c.index.result.now
     c.index-2.result.now c.args.plan c.index.ensures c.index-2.ensures c.requires.planned in
     ap (λ (p : TextPoint). p.given) c.into_parts-scope.ensures.scope ∙ plan.no_name
 
 pub write_declaration-requires-clause-size : goal.write_declaration-requires-clause-size
 write_declaration-requires-clause-size g c =
-    let plan = plan_found c.args.module.now c.args.info.now c.args.handle c.index.result.now
+    let plan = plan_found (tells_types c.args.flags) c.args.module.now c.args.info.now c.args.handle c.index.result.now
     c.index-2.result.now c.args.plan c.index.ensures c.index-2.ensures c.requires.planned in
     ap (λ (p : TextPoint). length p.table) c.into_parts-scope.ensures.scope ∙ plan.size
 

@@ -1,6 +1,7 @@
 use Rattle.std.proofs.Common.{◌≡◌, ◌<◌, ◌∙◌, length, subst, sym}
 use Rattle.naga_form.proofs.AcceptedFunctions.{functions_counted}
 use Rattle.naga_form.proofs.AcceptedGroups.{fits_in_range, known_is_fit}
+use Rattle.naga_wgsl_fns.specs.FunctionText.{tells_types}
 use Rattle.naga_wgsl_out.proofs.Scopes.{function_written, is_of_plan, plan_refusal}
 use Rattle.naga_wgsl_out.proofs.GivenNames.{named_plan}
 use Rattle.naga_wgsl_out.proofs.writer.plan_of.Goals as goal
@@ -14,7 +15,7 @@ index-requires-in-Err c =
 
 pub error_of_plan-requires-clause-written : goal.error_of_plan-requires-clause-written
 error_of_plan-requires-clause-written c =
-    function_written c.args.«module».now c.args.info.now c.requires.accepted c.requires.written
+    function_written (tells_types c.args.flags) c.args.«module».now c.args.info.now c.requires.accepted c.requires.written
     c.args.handle c.index.result.now c.index.ensures
 
 pub error_of_plan-requires-clause-known : goal.error_of_plan-requires-clause-known
@@ -26,18 +27,18 @@ error_of_plan-requires-clause-known c =
 
 pub error_of_plan-requires-clause-formless : goal.error_of_plan-requires-clause-formless
 error_of_plan-requires-clause-formless c =
-    is_of_plan c.args.«module».now c.args.info.now c.requires.accepted c.requires.written
+    is_of_plan (tells_types c.args.flags) c.args.«module».now c.args.info.now c.requires.accepted c.requires.written
     c.args.handle c.index.result.now c.index.ensures c.index-in-Err.result.now c.index-in-Err.ensures
     _ c.in-Err.error c.in-Err.ensures.err
 
 pub returns-in-Err-clause-err : goal.returns-in-Err-clause-err
 returns-in-Err-clause-err c =
-    plan_refusal c.args.«module».now c.args.info.now c.requires.accepted c.requires.written
+    plan_refusal (tells_types c.args.flags) c.args.«module».now c.args.info.now c.requires.accepted c.requires.written
     c.args.handle c.index.result.now c.index.ensures c.index-in-Err.result.now c.index-in-Err.ensures
     _ c.requires.namer c.in-Err.error c.error_of_plan.result
     c.in-Err.ensures.err c.error_of_plan.ensures
 
 pub returns-in-Ok-clause-ok : goal.returns-in-Ok-clause-ok
 returns-in-Ok-clause-ok c =
-    named_plan c.args.«module».now c.args.info.now c.args.handle _ _ c.in-Ok.plan
+    named_plan c.args.«module».now (tells_types c.args.flags) c.args.info.now c.args.handle _ _ c.in-Ok.plan
     c.requires.handle c.requires.namer c.in-Ok.ensures.ok c.in-Ok.ensures.named

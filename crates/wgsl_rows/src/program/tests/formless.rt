@@ -30,11 +30,16 @@ const FUNCTIONS: [(MathFunction, &str); 2] = [
 const RELATIONS: [RelationalFunction; 2] = [RelationalFunction::IsNan, RelationalFunction::IsInf];
 
 /// Why the sample is refused, if it is accepted.
-fn refusal_of(alloc: Global, sample: &Sample) -> Option<Error> {
+pub(super) fn refusal_of(alloc: Global, sample: &Sample) -> Option<Error> {
+    refusal_with(alloc, sample, WriterFlags::empty())
+}
+
+/// The same with these flags.
+pub(super) fn refusal_with(alloc: Global, sample: &Sample, flags: WriterFlags) -> Option<Error> {
     if !accepts(&sample.module, &sample.info) {
         return None;
     }
-    match write_string(alloc, &sample.module, &sample.info, WriterFlags::empty()) {
+    match write_string(alloc, &sample.module, &sample.info, flags) {
         Ok(_) => None,
         Err(error) => Some(error),
     }

@@ -4,8 +4,7 @@ use Rattle.module_meaning.specs.GivenLabels.{given_labels}
 use Rattle.module_meaning.specs.Names.{labels_given}
 use Rattle.module_meaning.specs.Part.{function_is_written}
 use Rattle.module_meaning.proofs.Lists.{list_all_at}
-use Rattle.module_meaning.proofs.Part.{functions_allow, functions_are_written}
-use Rattle.module_meaning.proofs.Part.{written_so_far_parts}
+use Rattle.module_meaning.proofs.Part.{functions_are_written}
 use Rattle.naga_form.proofs.AcceptedGroups.{fits_in_range, known_is_fit}
 use Rattle.naga_form.proofs.AcceptedFunctions.{accepted_at, function_there, functions_counted}
 use Rattle.naga_form.proofs.Ordered.{operands_stand_before}
@@ -33,8 +32,7 @@ of_function-requires c =
     record {
       ordered = operands_stand_before m is.callees f is.ranges;
       written = list_all_at function_is_written m.functions g f
-          (functions_are_written m info c.requires.written) c.index.ensures;
-      formed = (written_so_far_parts m info c.requires.written).4;
+          (functions_are_written m c.requires.written) c.index.ensures;
       known = λ h k at. fits_in_range (length m.overrides) m.types k.ty
           (known_is_fit m info c.requires.accepted g c.index-2.result.now c.index-2.ensures h k at);
     }
@@ -46,14 +44,13 @@ returns c =
     let g = c.args.handle in
     let f = c.index.result.now in
     let es = c.index-2.result.now in
-    let allowed = functions_allow m info c.requires.written g f es c.index.ensures c.index-2.ensures in
     let labels : given_labels f ≡ labels_given m g = sym (ap (λ o. option_map_or given_labels o []) c.index.ensures) in
     record {
-      ok = of_the_ok (IsPlan m info) m info g f es c.index.ensures c.index-2.ensures
-          c.of_function.result (c.of_function.ensures.ok m info refl allowed);
+      ok = of_the_ok (IsPlan c.args.explicit m info) m info g f es c.index.ensures c.index-2.ensures
+          c.of_function.result (c.of_function.ensures.ok m info refl);
       named = subst (λ ls. IfOk c.of_function.result (λ p. NamesLabels c.args.namer.now [] ls c.of_function.new.namer p.given)) labels c.of_function.ensures.named;
-      err = of_the_err (λ f es. IsRefusalToPlan m info f es c.args.namer.now) m info g f es
+      err = of_the_err (λ f es. IsRefusalToPlan c.args.explicit m info f es c.args.namer.now) m info g f es
           c.index.ensures c.index-2.ensures c.of_function.result
-          (c.of_function.ensures.err m info refl allowed);
+          (c.of_function.ensures.err m info refl);
       begun = subst (λ ls. OnErr c.of_function.result (HasBegunLabels c.args.namer.now ls c.of_function.new.namer)) labels c.of_function.ensures.begun;
     }

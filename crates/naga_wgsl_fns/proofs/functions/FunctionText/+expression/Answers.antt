@@ -22,7 +22,7 @@ use Rattle.naga_wgsl_fns.proofs.PartRows.{base_pointed, base_signed, base_unpoin
 use Rattle.naga_wgsl_fns.proofs.PartRows.{element_end, plain_row, reference_pointed}
 use Rattle.naga_wgsl_fns.proofs.PartRows.{reference_unpointed, selected_end, value_pointed}
 use Rattle.naga_wgsl_fns.proofs.PartRows.{value_unpointed}
-use Rattle.naga_wgsl_fns.proofs.Wanted.{base_in, known_within_infos, no_other_part, part_allowed}
+use Rattle.naga_wgsl_fns.proofs.Wanted.{base_in, known_within_infos, no_other_part, part_is_written}
 use Rattle.naga_wgsl_fns.specs.Expressions.{operands_left, operands_text}
 use Rattle.naga_wgsl_fns.proofs.ExpressionRows.{operands_more, operands_none, operands_start}
 use Rattle.naga_wgsl_fns.proofs.ExpressionRows.{own_called, own_made}
@@ -134,7 +134,7 @@ write_own-returns-in-ZeroValue g t c =
     c.requires.handle c.in-ZeroValue.is refl in
     writes_as
     (own_made c.args.self.now c.args.scope.now.table c.args.handle _ _ c.index.result.now _
-    c.requires.can value c.index.ensures c.in-ZeroValue.is refl)
+    c.requires.can c.requires.handle value c.index.ensures c.in-ZeroValue.is refl)
     c.write_made.ensures
 
 pub write_own-returns-in-Compose : goal.write_own-returns-in-Compose
@@ -144,21 +144,21 @@ write_own-returns-in-Compose g t c =
     c.requires.handle c.in-Compose.is refl in
     writes_as
     (own_made c.args.self.now c.args.scope.now.table c.args.handle _ _ c.index.result.now _
-    c.requires.can value c.index.ensures c.in-Compose.is refl)
+    c.requires.can c.requires.handle value c.index.ensures c.in-Compose.is refl)
     c.write_made-in-Compose.ensures
 
 pub write_own-returns-in-Select : goal.write_own-returns-in-Select
 write_own-returns-in-Select g t c =
     writes_as
     (own_called c.args.self.now c.args.scope.now.table c.args.handle c.index.result.now _ _ _
-    c.requires.can c.index.ensures c.in-Select.is refl refl)
+    c.requires.can c.requires.handle c.index.ensures c.in-Select.is refl refl)
     c.write_called.ensures
 
 pub write_own-returns-in-Splat : goal.write_own-returns-in-Splat
 write_own-returns-in-Splat g t c =
     writes_as
     (own_called c.args.self.now c.args.scope.now.table c.args.handle c.index.result.now _ _ _
-    c.requires.can c.index.ensures c.in-Splat.is c.vector_str.ensures refl)
+    c.requires.can c.requires.handle c.index.ensures c.in-Splat.is c.vector_str.ensures refl)
     c.write_called-in-Splat.ensures
 
 pub write_own-math_function_str-requires : goal.write_own-math_function_str-requires
@@ -170,14 +170,14 @@ pub write_own-returns-in-Derivative : goal.write_own-returns-in-Derivative
 write_own-returns-in-Derivative g t c =
     writes_as
     (own_called c.args.self.now c.args.scope.now.table c.args.handle c.index.result.now _ _ _
-    c.requires.can c.index.ensures c.in-Derivative.is c.derivative_str.ensures refl)
+    c.requires.can c.requires.handle c.index.ensures c.in-Derivative.is c.derivative_str.ensures refl)
     c.write_called-in-Derivative.ensures
 
 pub write_own-returns-in-Math : goal.write_own-returns-in-Math
 write_own-returns-in-Math g t c =
     writes_as
     (own_called c.args.self.now c.args.scope.now.table c.args.handle c.index.result.now _ _ _
-    c.requires.can c.index.ensures c.in-Math.is c.math_function_str.ensures refl)
+    c.requires.can c.requires.handle c.index.ensures c.in-Math.is c.math_function_str.ensures refl)
     c.write_called-in-Math.ensures
 
 pub write_own-relational_function_str-requires : goal.write_own-relational_function_str-requires
@@ -189,7 +189,7 @@ pub write_own-returns-in-Relational : goal.write_own-returns-in-Relational
 write_own-returns-in-Relational g t c =
     writes_as
     (own_called c.args.self.now c.args.scope.now.table c.args.handle c.index.result.now _ _ _
-    c.requires.can c.index.ensures c.in-Relational.is c.relational_function_str.ensures refl)
+    c.requires.can c.requires.handle c.index.ensures c.in-Relational.is c.relational_function_str.ensures refl)
     c.write_called-in-Relational.ensures
 
 pub write_operands-loop-operand-init : goal.write_operands-loop-operand-init
@@ -305,6 +305,7 @@ write_part-returns g t c =
     writes_as
     (sym
     (plain_row c.args.self.now c.args.scope.now.table c.args.handle c.args.base c.requires.can
+    c.requires.handle
     c.requires.part))
     (writes_then c.write_part_base.ensures c.write_part_end.ensures)
 
@@ -330,10 +331,10 @@ write_part_end-write_index-requires g t c κs within =
     let before = index.0 in
     (omega (arith, before, c.decreases), (within, (c.requires.can, index.1)))
 
-pub write_part_end-write_selector-requires-clause-allowed : goal.write_part_end-write_selector-requires-clause-allowed
-write_part_end-write_selector-requires-clause-allowed g t c =
-    part_allowed c.args.self.now c.requires.can c.args.handle c.args.base c.index.result.now _ _
-    c.index.ensures c.in-AccessIndex.is c.requires.part
+pub write_part_end-write_selector-requires-clause-written : goal.write_part_end-write_selector-requires-clause-written
+write_part_end-write_selector-requires-clause-written g t c =
+    part_is_written c.args.self.now c.requires.can c.args.handle c.args.base c.index.result.now _ _
+    c.index.ensures c.requires.handle c.in-AccessIndex.is c.requires.part
 
 pub write_part_end-returns-in-Access : goal.write_part_end-returns-in-Access
 write_part_end-returns-in-Access g t c =
@@ -376,14 +377,14 @@ write_own-returns-in-As g t c =
     c.index.ensures c.requires.handle c.in-As.is in
     writes_as
     (own_conversion c.args.self.now c.args.scope.now.table c.args.handle c.index.result.now _ _ _
-    c.requires.can allowed c.index.ensures c.in-As.is)
+    c.requires.can c.requires.handle allowed c.index.ensures c.in-As.is)
     c.write_conversion.ensures
 
 pub write_own-returns-in-ImageLoad : goal.write_own-returns-in-ImageLoad
 write_own-returns-in-ImageLoad g t c =
     writes_as
     (own_called c.args.self.now c.args.scope.now.table c.args.handle c.index.result.now _ _ _
-    c.requires.can c.index.ensures c.in-ImageLoad.is
+    c.requires.can c.requires.handle c.index.ensures c.in-ImageLoad.is
     (texel_word c.args.self.now c.requires.can c.args.handle c.index.result.now _ _ _ _ _
     c.index.ensures c.requires.handle c.in-ImageLoad.is)
     refl)
@@ -393,7 +394,7 @@ pub write_own-returns-in-ImageQuery : goal.write_own-returns-in-ImageQuery
 write_own-returns-in-ImageQuery g t c =
     writes_as
     (own_called c.args.self.now c.args.scope.now.table c.args.handle c.index.result.now _ _ _
-    c.requires.can c.index.ensures c.in-ImageQuery.is c.image_query_str.ensures
+    c.requires.can c.requires.handle c.index.ensures c.in-ImageQuery.is c.image_query_str.ensures
     (query_called c.args.self.now c.args.scope.now.table _ _))
     c.write_called-in-ImageQuery.ensures
 
@@ -401,14 +402,14 @@ pub write_own-returns-in-ArrayLength : goal.write_own-returns-in-ArrayLength
 write_own-returns-in-ArrayLength g t c =
     writes_as
     (own_called c.args.self.now c.args.scope.now.table c.args.handle c.index.result.now _ _ _
-    c.requires.can c.index.ensures c.in-ArrayLength.is refl refl)
+    c.requires.can c.requires.handle c.index.ensures c.in-ArrayLength.is refl refl)
     c.write_called-in-ArrayLength.ensures
 
 pub write_own-returns-in-CooperativeMultiplyAdd : goal.write_own-returns-in-CooperativeMultiplyAdd
 write_own-returns-in-CooperativeMultiplyAdd g t c =
     writes_as
     (own_called c.args.self.now c.args.scope.now.table c.args.handle c.index.result.now _ _ _
-    c.requires.can c.index.ensures c.in-CooperativeMultiplyAdd.is refl refl)
+    c.requires.can c.requires.handle c.index.ensures c.in-CooperativeMultiplyAdd.is refl refl)
     c.write_called-in-CooperativeMultiplyAdd.ensures
 
 pub write_further-returns-in-Some : goal.write_further-returns-in-Some

@@ -6,9 +6,9 @@ use Rattle.module_meaning.specs.Ranges.{block_in_range}
 use Rattle.naga_ir.specs.StatementTree.{BlockTree}
 use Rattle.naga_ir.specs.StatementViews.{tree_of, block_of}
 use Rattle.naga_words.proofs.Writing.{leaves_as, leaves_more, leaves_start}
-use Rattle.module_meaning.specs.Written.{block_roots, statement_roots}
+use Rattle.module_meaning.specs.Written.{block_emits, block_roots, statement_emits, statement_roots}
 use Rattle.naga_form.proofs.WrittenHandles.{all_front, all_rest}
-use Rattle.naga_wgsl_fns.specs.FunctionText.{AreInText, IsInText, bound}
+use Rattle.naga_wgsl_fns.specs.FunctionText.{AreEmitted, AreInText, IsEmitted, IsInText, bound}
 use Rattle.naga_wgsl_fns.specs.Statements.{block_text}
 use Rattle.naga_wgsl_fns.proofs.StatementRows.{block_step, range_parts, statements_given, statements_more}
 use Rattle.naga_wgsl_fns.proofs.StatementRows.{written_parts}
@@ -25,6 +25,7 @@ loop-statement-init g c =
       in_range = subst (λ (b : BlockTree). IsTrue (block_in_range self.handle (length self.function.now.expressions) b)) items c.requires.in_range;
       written = subst (λ (b : BlockTree). IsTrue (block_is_written b)) items c.requires.written;
       roots = subst (λ (b : BlockTree). AreInText self (block_roots (bound self) b)) items c.requires.roots;
+      emits = subst (λ (b : BlockTree). AreEmitted self (block_emits b)) items c.requires.emits;
     }
 
 pub write_statement-requires-clause-size : goal.write_statement-requires-clause-size
@@ -53,6 +54,15 @@ write_statement-requires-clause-roots g c =
     let step = block_step items i c.statement-item.result c.loop-statement-test.true c.statement-item.is in
     all_front (IsInText self) (statement_roots (bound self) (tree_of c.statement-item.result)) (block_roots (bound self) (block_of (drop (i + 1) items)))
     (subst (λ (b : BlockTree). AreInText self (block_roots (bound self) b)) step c.loop-statement.invariant.roots)
+
+pub write_statement-requires-clause-emits : goal.write_statement-requires-clause-emits
+write_statement-requires-clause-emits g c =
+    let self = c.args.self.now in
+    let items = c.as_slice-statement-items.result.now in
+    let i = c.loop-statement.statement-index in
+    let step = block_step items i c.statement-item.result c.loop-statement-test.true c.statement-item.is in
+    all_front (IsEmitted self) (statement_emits (tree_of c.statement-item.result)) (block_emits (block_of (drop (i + 1) items)))
+    (subst (λ (b : BlockTree). AreEmitted self (block_emits b)) step c.loop-statement.invariant.emits)
 
 -- the labels that are left fit, and so do those of this statement
 fewer : (k total : ℕ) (here rest all : List (List ℕ)) → all ≡ here ++ rest → k + length all ≡ total → total < 2 ^ 64 → k + length here < 2 ^ 64
@@ -83,4 +93,6 @@ loop-statement-preserved g c =
       written = (written_parts (block_of (drop i items)) (block_of (drop (i + 1) items)) (tree_of c.statement-item.result) c.loop-statement.invariant.written step).1;
       roots = all_rest (IsInText self) (statement_roots (bound self) (tree_of c.statement-item.result)) (block_roots (bound self) (block_of (drop (i + 1) items)))
           (subst (λ (b : BlockTree). AreInText self (block_roots (bound self) b)) step c.loop-statement.invariant.roots);
+      emits = all_rest (IsEmitted self) (statement_emits (tree_of c.statement-item.result)) (block_emits (block_of (drop (i + 1) items)))
+          (subst (λ (b : BlockTree). AreEmitted self (block_emits b)) step c.loop-statement.invariant.emits);
     }

@@ -5,8 +5,8 @@ use Rattle.module_meaning.specs.Ranges.{block_in_range}
 use Rattle.naga_ir.specs.StatementViews.{block_of}
 use Rattle.naga_words.specs.Output.{output_view}
 use Rattle.naga_words.proofs.Writing.{Leaves}
-use Rattle.module_meaning.specs.Written.{block_roots}
-use Rattle.naga_wgsl_fns.specs.FunctionText.{AreInText, bound}
+use Rattle.module_meaning.specs.Written.{block_emits, block_roots}
+use Rattle.naga_wgsl_fns.specs.FunctionText.{AreEmitted, AreInText, bound}
 use Rattle.naga_wgsl_fns.specs.Statements.{block_text}
 use Rattle.naga_wgsl_fns.proofs.functions.FunctionText.write_block.Given as goal
 
@@ -19,4 +19,5 @@ invariant-loop-statement g l = record {
   in_range : IsTrue (block_in_range l.self.handle (length l.self.function.now.expressions) (block_of (drop l.statement-index l.statement-items)));
   written : IsTrue (block_is_written (block_of (drop l.statement-index l.statement-items)));
   roots : AreInText l.self (block_roots (bound l.self) (block_of (drop l.statement-index l.statement-items)));
+  emits : AreEmitted l.self (block_emits (block_of (drop l.statement-index l.statement-items)));
 }

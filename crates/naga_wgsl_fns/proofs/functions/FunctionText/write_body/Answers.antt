@@ -1,6 +1,8 @@
 use Rattle.std.proofs.Common.{arith}
 use Rattle.naga_form.proofs.AcceptedFunctions.{ranges_are}
+use Rattle.module_meaning.specs.Written.{block_emits}
 use Rattle.naga_form.proofs.PartFits.{function_parts}
+use Rattle.naga_form.proofs.WrittenHandles.{all_among}
 use Rattle.naga_words.proofs.Writing.{writes_as, writes_then}
 use Rattle.naga_wgsl_fns.proofs.FunctionRows.{body_row}
 use Rattle.naga_wgsl_fns.proofs.TextHandles.{body_in_text}
@@ -17,6 +19,10 @@ write_block-requires-clause-written g c =
 
 pub write_block-requires-clause-roots : goal.write_block-requires-clause-roots
 write_block-requires-clause-roots g c = body_in_text c.args.self.now c.requires.can
+
+pub write_block-requires-clause-emits : goal.write_block-requires-clause-emits
+write_block-requires-clause-emits g c =
+    all_among (block_emits c.args.self.now.function.now.body) (λ h among. among)
 
 pub returns : goal.returns
 returns g c =

@@ -8,13 +8,13 @@ use Rattle.module_meaning.specs.Names.{module_names}
 use Rattle.naga_scope.proofs.Emitting.{range_more, range_none}
 use Rattle.shader_runs.specs.Scope.{after_emit, after_one}
 use Rattle.naga_words.proofs.Writing.{leaves_more, leaves_none, leaves_start}
-use Rattle.naga_wgsl_fns.specs.FunctionText.{AreInText, IsInText, bound, handles_in, naming}
+use Rattle.naga_wgsl_fns.specs.FunctionText.{AreEmitted, AreInText, IsEmitted, IsInText, bound, handles_in, naming}
 use Rattle.naga_wgsl_fns.proofs.TextHandles.{first_in_text, others_in_text}
 use Rattle.naga_wgsl_fns.proofs.StatementRows.{after_step, given_step, lets_none, lets_step}
 use Rattle.naga_wgsl_fns.proofs.functions.FunctionText.write_emit.Goals as goal
 
 pub loop-index-init : goal.loop-index-init
-loop-index-init g c = record { leaves = leaves_start _ _; after = refl; given = refl; size = refl; roots = c.requires.roots }
+loop-index-init g c = record { leaves = leaves_start _ _; after = refl; given = refl; size = refl; roots = c.requires.roots; emits = c.requires.emits }
 
 pub emit-requires-clause-size : goal.emit-requires-clause-size
 emit-requires-clause-size g c = c.loop-index.invariant.size ∙ c.requires.size
@@ -25,6 +25,12 @@ write_emitted-requires-clause-root g c =
     subst (λ h. IsTrue (bound self h) → IsInText self h) (sym c.from_index-handle.ensures)
     (first_in_text self (bound self c.loop-index.index) c.loop-index.index (filter (bound self) (from (c.loop-index.index + 1) (c.args.range.end - (c.loop-index.index + 1))))
     (subst (λ hs. AreInText self (filter (bound self) hs)) (range_more c.loop-index.index c.args.range.end c.loop-index-test.true) c.loop-index.invariant.roots))
+
+pub write_emitted-requires-clause-emitted : goal.write_emitted-requires-clause-emitted
+write_emitted-requires-clause-emitted g c =
+    let self = c.args.self.now in
+    subst (IsEmitted self) (sym c.from_index-handle.ensures)
+    (subst (AreEmitted self) (range_more c.loop-index.index c.args.range.end c.loop-index-test.true) c.loop-index.invariant.emits).0
 
 -- the labels that are left fit, and so do those of this handle
 fewer : (k total : ℕ) (here rest all : List (List ℕ)) → all ≡ here ++ rest → k + length all ≡ total → total < 2 ^ 64 → k + length here < 2 ^ 64
@@ -44,7 +50,7 @@ pub loop-index-preserved : goal.loop-index-preserved
 loop-index-preserved g c =
     let self = c.args.self.now in
     let h = c.from_index-handle.result in
-    let one : handles_in self c.emit.new.self.table ≡ after_one (naming self) c.loop-index.scope.given h (handles_in self c.loop-index.scope.table) = c.emit.ensures.handles (module_names self.shader.now) self.shader.now self.module_info.now self.handle c.requires.can.allowed in
+    let one : handles_in self c.emit.new.self.table ≡ after_one (naming self) c.loop-index.scope.given h (handles_in self c.loop-index.scope.table) = c.emit.ensures.handles (module_names self.shader.now) self.shader.now self.module_info.now self.handle refl in
     record {
       leaves = leaves_more _ _ _ _ _ _ _ c.loop-index.invariant.leaves
           (lets_step self c.requires.can c.loop-index.scope c.emit.new.self c.args.level.0 c.loop-index.index c.args.range.end h c.loop-index-test.true c.from_index-handle.ensures one c.emit.ensures.given)
@@ -54,6 +60,7 @@ loop-index-preserved g c =
       size = c.emit.ensures.size ∙ c.loop-index.invariant.size;
       roots = others_in_text self (bound self c.loop-index.index) c.loop-index.index (filter (bound self) (from (c.loop-index.index + 1) (c.args.range.end - (c.loop-index.index + 1))))
           (subst (λ hs. AreInText self (filter (bound self) hs)) (range_more c.loop-index.index c.args.range.end c.loop-index-test.true) c.loop-index.invariant.roots);
+      emits = (subst (AreEmitted self) (range_more c.loop-index.index c.args.range.end c.loop-index-test.true) c.loop-index.invariant.emits).1;
     }
 
 pub returns-clause-lets : goal.returns-clause-lets

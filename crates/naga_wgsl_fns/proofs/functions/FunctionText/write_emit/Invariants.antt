@@ -4,7 +4,7 @@ use Rattle.shader_runs.specs.Program.{from}
 use Rattle.shader_runs.specs.Scope.{after_emit}
 use Rattle.naga_words.specs.Output.{output_view}
 use Rattle.naga_words.proofs.Writing.{Leaves}
-use Rattle.naga_wgsl_fns.specs.FunctionText.{AreInText, bound, handles_in, naming}
+use Rattle.naga_wgsl_fns.specs.FunctionText.{AreEmitted, AreInText, bound, handles_in, naming}
 use Rattle.std.specs.List.{filter}
 use Rattle.naga_wgsl_fns.specs.Statements.{lets_text}
 use Rattle.naga_wgsl_fns.proofs.functions.FunctionText.write_emit.Given as goal
@@ -17,4 +17,5 @@ invariant-loop-index g l = record {
   given : l.scope.given + length (labels_of_each l.self.function.now (from l.index (l.fn.range.end - l.index))) ≡ l.initial.scope.given + length (labels_of_each l.self.function.now (from l.fn.range.first (l.fn.range.end - l.fn.range.first)));
   size : length l.scope.table ≡ length l.initial.scope.table;
   roots : AreInText l.self (filter (bound l.self) (from l.index (l.fn.range.end - l.index)));
+  emits : AreEmitted l.self (from l.index (l.fn.range.end - l.index));
 }

@@ -1,4 +1,4 @@
-use Rattle.std.proofs.Common.{Bool, [], sym, ap, ◌∙◌}
+use Rattle.std.proofs.Common.{Bool, [], refl, sym, ap, ◌∙◌}
 use Rattle.std.specs.Prelude.{cond}
 use Rattle.naga_words.proofs.Writing.{writes_as, writes_nothing}
 use Rattle.naga_wgsl_fns.specs.Statements.{emitted_text, let_text}
@@ -8,10 +8,15 @@ pub returns-then-binds : goal.returns-then-binds
 unfolding emitted_text
 returns-then-binds g c =
     let self = c.args.self.now in
-    writes_as (ap (λ (b : Bool). cond b (let_text self c.args.scope.now c.args.level.0 c.args.handle) []) (sym c.if-binds.true ∙ c.binds.ensures self.shader.now self.module_info.now c.requires.can.allowed)) c.write_let.ensures
+    writes_as (ap (λ (b : Bool). cond b (let_text self c.args.scope.now c.args.level.0 c.args.handle) []) (sym c.if-binds.true ∙ c.binds.ensures self.shader.now self.module_info.now refl)) c.write_let.ensures
 
 pub returns-else-binds : goal.returns-else-binds
 unfolding emitted_text
 returns-else-binds g c =
     let self = c.args.self.now in
-    writes_as (ap (λ (b : Bool). cond b (let_text self c.args.scope.now c.args.level.0 c.args.handle) []) (sym c.if-binds.false ∙ c.binds.ensures self.shader.now self.module_info.now c.requires.can.allowed)) (writes_nothing _)
+    writes_as (ap (λ (b : Bool). cond b (let_text self c.args.scope.now c.args.level.0 c.args.handle) []) (sym c.if-binds.false ∙ c.binds.ensures self.shader.now self.module_info.now refl)) (writes_nothing _)
+
+pub write_let-requires-clause-bound : goal.write_let-requires-clause-bound
+write_let-requires-clause-bound g c =
+    let self = c.args.self.now in
+    sym (c.binds.ensures self.shader.now self.module_info.now refl) ∙ c.if-binds.true

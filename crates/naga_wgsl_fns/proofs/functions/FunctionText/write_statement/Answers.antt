@@ -2,8 +2,8 @@ use Rattle.std.proofs.Common.{◌+◌, ◌<◌, ◌^◌, IsTrue, length, subst}
 use Rattle.module_meaning.specs.GivenLabels.{labels_in}
 use Rattle.module_meaning.specs.Ranges.{statement_in_range}
 use Rattle.naga_ir.specs.StatementViews.{tree_of}
-use Rattle.module_meaning.specs.Written.{statement_roots}
-use Rattle.naga_wgsl_fns.specs.FunctionText.{AreInText, bound}
+use Rattle.module_meaning.specs.Written.{statement_emits, statement_roots}
+use Rattle.naga_wgsl_fns.specs.FunctionText.{AreEmitted, AreInText, bound}
 use Rattle.naga_wgsl_fns.proofs.StatementRows.{emit_within, no_other_statement}
 use Rattle.naga_wgsl_fns.proofs.functions.FunctionText.write_statement.Goals as goal
 
@@ -17,6 +17,11 @@ pub write_emit-requires-clause-roots : goal.write_emit-requires-clause-roots
 write_emit-requires-clause-roots g c =
     let self = c.args.self.now in
     subst (λ s. AreInText self (statement_roots (bound self) (tree_of s))) c.in-Emit.is c.requires.roots
+
+pub write_emit-requires-clause-emits : goal.write_emit-requires-clause-emits
+write_emit-requires-clause-emits g c =
+    let self = c.args.self.now in
+    subst (λ s. AreEmitted self (statement_emits (tree_of s))) c.in-Emit.is c.requires.emits
 
 pub write_store-requires-clause-pointer : goal.write_store-requires-clause-pointer
 write_store-requires-clause-pointer g c =

@@ -7,7 +7,7 @@ pub returns : goal.returns
 returns g c =
     let m = c.args.«module».now in
     let info = c.args.info.now in
-    let written : is_written_so_far m info ≡ true =
+    let written : is_written_so_far m ≡ true =
     sym c.is_written_so_far.ensures ∙ c.if-not-is_written_so_far.false in
     let accepted = c.requires.accepted in
     let r = c.write_functions.result in

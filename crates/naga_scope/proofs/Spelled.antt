@@ -1,0 +1,200 @@
+-- What a search for a type without a form says of the types that the text of a function spells.
+use Rattle.std.proofs.Common.{◌≡◌, ◌<◌, ◌+◌, ℕ, zero, suc, Bool, true, false, ◌&&◌, List, [], ◌∷◌, ◌++◌}
+use Rattle.std.proofs.Common.{length, map, Option, Some, None, refl, sym, ap, subst, ◌∙◌, arith}
+use Rattle.std.specs.Prelude.{IsFalse, IsSomeAnd, IsTrue, ◌⊎◌, cond, if◌then◌else◌, not, slice_get}
+use mathlib.Core.Logic.{inl, inr}
+use Rattle.std.specs.List.{IsAmong, find}
+use Rattle.std.specs.Option.{option_map, option_map_or, option_or, option_to_list}
+use Rattle.std.proofs.lemmas.Bool.{and_parts}
+use Rattle.std.proofs.lemmas.List.Folds.{find-append}
+use Rattle.module_meaning.specs.AlikeTypes.{has_form}
+use Rattle.module_meaning.specs.FunctionShapes.{function_shape}
+use Rattle.module_meaning.specs.Written.{IsSpelledIn, OfArgument, OfLet, OfLocal, OfResult}
+use Rattle.module_meaning.specs.Written.{block_emits}
+use Rattle.naga_info.specs.declared.info.ExpressionInfo.{ExpressionInfo}
+use Rattle.naga_info.specs.declared.info.ModuleInfo.{ModuleInfo}
+use Rattle.naga_info.specs.declared.info.TypeResolution.{TypeResolution}
+use Rattle.naga_info.specs.declared.info.TypeResolution.TheVariants.{Handle}
+use Rattle.naga_ir.specs.declared.module.Function.{Function}
+use Rattle.naga_ir.specs.declared.module.FunctionResult.{FunctionResult}
+use Rattle.naga_ir.specs.declared.module.Module.{Module}
+use Rattle.naga_scope.specs.Spelled.{declared_formless, declared_types, is_formless, tells_formless}
+use Rattle.naga_scope.specs.Spelled.{told_formless}
+use Rattle.shader_runs.specs.Program.{binds}
+
+-- ---- searches
+module _ {X : Type 0} (p : X → Bool) where
+  -- what finds nothing says of each
+  none_passes : (xs : List X) → find p xs ≡ None → (i : ℕ) (x : X) → slice_get xs i ≡ Some x → p x ≡ false
+  none_passes [] none i x at = absurd cc
+  none_passes (y ∷ ys) none i x at = by (p y) refl none i at
+    where
+      by : (b : Bool) → p y ≡ b → cond b (Some y) (find p ys) ≡ None → (i : ℕ) →
+          slice_get (y ∷ ys) i ≡ Some x → p x ≡ false
+      by true is none i at = absurd cc
+      by false is none zero at = let same : y ≡ x = cc in ap p (sym same) ∙ is
+      by false is none (suc i) at = none_passes ys none i x at
+
+  -- what is found is there and passes
+  found_passes : (xs : List X) (x : X) → find p xs ≡ Some x → (i : ℕ) × (slice_get xs i ≡ Some x) × (p x ≡ true)
+  found_passes [] x is = absurd cc
+  found_passes (y ∷ ys) x is = by (p y) refl is
+    where
+      by : (b : Bool) → p y ≡ b → cond b (Some y) (find p ys) ≡ Some x →
+          (i : ℕ) × (slice_get (y ∷ ys) i ≡ Some x) × (p x ≡ true)
+      by true passes is = let same : y ≡ x = cc in (0, ap Some same, ap p (sym same) ∙ passes)
+      by false passes is = let rest = found_passes ys x is in (suc rest.0, rest.1.0, rest.1.1)
+
+-- the same by what is among a list
+there_among : {X : Type 0} (xs : List X) (x : X) → IsAmong xs x → (i : ℕ) × (slice_get xs i ≡ Some x)
+there_among [] x is = absurd (omega (arith, is.1.0))
+there_among (y ∷ ys) x (zero, is) = (0, ap Some (sym is.1))
+there_among (y ∷ ys) x (suc i, is) =
+    let rest = there_among ys x (i, (omega (arith, is.0), is.1)) in (suc rest.0, rest.1)
+
+among_there : {X : Type 0} (xs : List X) (i : ℕ) (x : X) → slice_get xs i ≡ Some x → IsAmong xs x
+among_there [] i x at = absurd cc
+among_there (y ∷ ys) zero x at = let same : y ≡ x = cc in (0, (omega arith, sym same))
+among_there (y ∷ ys) (suc i) x at =
+    let rest = among_there ys i x at in (suc rest.0, (omega (arith, rest.1.0), rest.1.1))
+
+neither : {X : Type 0} (a b : Option X) → option_or a b ≡ None → (a ≡ None) × (b ≡ None)
+neither None b is = (refl, is)
+neither (Some x) b is = absurd cc
+
+either_one : {X : Type 0} (a b : Option X) (x : X) → option_or a b ≡ Some x → (a ≡ Some x) ⊎ (b ≡ Some x)
+either_one None b x is = inr is
+either_one (Some y) b x is = inl is
+
+module _ {X Y : Type 0} (g : X → Y) where
+  map_at : (xs : List X) (i : ℕ) (x : X) → slice_get xs i ≡ Some x → slice_get (map g xs) i ≡ Some (g x)
+  map_at [] i x at = absurd cc
+  map_at (y ∷ ys) zero x at = let same : y ≡ x = cc in ap (λ y. Some (g y)) same
+  map_at (y ∷ ys) (suc i) x at = map_at ys i x at
+
+  at_map : (xs : List X) (i : ℕ) (y : Y) → slice_get (map g xs) i ≡ Some y → (x : X) × (slice_get xs i ≡ Some x) × (g x ≡ y)
+  at_map [] i y at = absurd cc
+  at_map (x ∷ xs) zero y at = let same : g x ≡ y = cc in (x, refl, same)
+  at_map (x ∷ xs) (suc i) y at = at_map xs i y at
+
+turned_false : (b : Bool) → not b ≡ false → b ≡ true
+turned_false true is = refl
+turned_false false is = absurd cc
+
+turned_true : (b : Bool) → not b ≡ true → b ≡ false
+turned_true true is = absurd cc
+turned_true false is = refl
+
+-- ---- a function
+module _ (explicit : Bool) (m : Module) (info : ModuleInfo) (f : Function) (es : List ExpressionInfo) where
+  abbrev bound : ℕ → Bool
+  bound = binds (function_shape m info f es)
+
+  abbrev p : ℕ → Bool
+  p = is_formless m.types
+
+  abbrev told : ℕ → Bool
+  told = tells_formless m.types es bound
+
+  abbrev answer_types : List ℕ
+  answer_types = option_to_list (option_map (λ r. r.ty) f.result)
+
+  abbrev argument_types : List ℕ
+  argument_types = map (λ a. a.ty) f.arguments.items
+
+  abbrev local_types : List ℕ
+  local_types = map (λ l. l.ty) f.local_variables
+
+  parted : declared_formless m.types f ≡ option_or (find p argument_types) (option_or (find p answer_types) (find p local_types))
+  parted =
+      find-append p argument_types (answer_types ++ local_types)
+      ∙ ap (option_or (find p argument_types)) (find-append p answer_types local_types)
+
+  -- where neither search finds one, each type that is spelled has a form
+  pub spelled_formed : declared_formless m.types f ≡ None → told_formless explicit m.types es bound f ≡ None →
+      (r : TypeResolution) → IsSpelledIn explicit m info f es r → IsTrue (has_form m.types r)
+  spelled_formed none_declared none_told = spelled
+    where
+      one : (find p argument_types ≡ None) × (option_or (find p answer_types) (find p local_types) ≡ None)
+      one = neither _ _ (sym parted ∙ none_declared)
+
+      two : (find p answer_types ≡ None) × (find p local_types ≡ None)
+      two = neither _ _ one.1
+
+      at_answer : (o : Option FunctionResult) (r : FunctionResult) → o ≡ Some r →
+          slice_get (option_to_list (option_map (λ r. r.ty) o)) 0 ≡ Some r.ty
+      at_answer None r is = absurd cc
+      at_answer (Some q) r is = let same : q ≡ r = cc in ap (λ r. Some r.ty) same
+
+      let_formed : (b : Bool) → b ≡ true → (if b then find told (block_emits f.body) else None) ≡ None →
+          (h : ℕ) (k : ExpressionInfo) → IsAmong (block_emits f.body) h → bound h ≡ true → slice_get es h ≡ Some k →
+          has_form m.types k.ty ≡ true
+      let_formed false tells none h k among is_bound at = absurd cc
+      let_formed true tells none h k among is_bound at =
+          let place = there_among (block_emits f.body) h among in
+          let fails = none_passes told (block_emits f.body) none place.0 h place.1 in
+          turned_false (has_form m.types k.ty)
+          (sym (ap (λ b. b && option_map_or (λ k. not (has_form m.types k.ty)) (slice_get es h) false) is_bound
+          ∙ ap (λ o. option_map_or (λ k. not (has_form m.types k.ty)) o false) at)
+          ∙ fails)
+
+      spelled : (r : TypeResolution) → IsSpelledIn explicit m info f es r → IsTrue (has_form m.types r)
+      spelled _ (OfArgument n a at) =
+          turned_false (has_form m.types (Handle a.ty)) (none_passes p argument_types one.0 n a.ty (map_at (λ a. a.ty) f.arguments.items n a at))
+      spelled _ (OfResult r is) =
+          turned_false (has_form m.types (Handle r.ty)) (none_passes p answer_types two.0 0 r.ty (at_answer f.result r is))
+      spelled _ (OfLocal l v at) =
+          turned_false (has_form m.types (Handle v.ty)) (none_passes p local_types two.1 l v.ty (map_at (λ l. l.ty) f.local_variables l v at))
+      spelled _ (OfLet h k tells among is_bound at) = let_formed explicit tells none_told h k among is_bound at
+
+  -- what the first search finds is spelled, and has no form
+  pub declared_lacks : (ty : ℕ) → declared_formless m.types f ≡ Some ty → IsSpelledIn explicit m info f es (Handle ty) × IsFalse (has_form m.types (Handle ty))
+  declared_lacks ty is = by (either_one _ _ ty (sym parted ∙ is))
+    where
+      of_answer : (o : Option FunctionResult) → f.result ≡ o → (i : ℕ) →
+          slice_get (option_to_list (option_map (λ r. r.ty) o)) i ≡ Some ty → IsSpelledIn explicit m info f es (Handle ty)
+      of_answer None result i at = absurd cc
+      of_answer (Some r) result zero at =
+          let same : r.ty ≡ ty = cc in
+          subst (λ ty. IsSpelledIn explicit m info f es (Handle ty)) same (OfResult r result)
+      of_answer (Some r) result (suc i) at = absurd cc
+
+      inside : (find p answer_types ≡ Some ty) ⊎ (find p local_types ≡ Some ty) →
+          IsSpelledIn explicit m info f es (Handle ty) × IsFalse (has_form m.types (Handle ty))
+      inside (inl is) =
+          let found = found_passes p answer_types ty is in
+          (of_answer f.result refl found.0 found.1.0, turned_true (has_form m.types (Handle ty)) found.1.1)
+      inside (inr is) =
+          let found = found_passes p local_types ty is in
+          let here = at_map (λ l. l.ty) f.local_variables found.0 ty found.1.0 in
+          (subst (λ ty. IsSpelledIn explicit m info f es (Handle ty)) here.1.1 (OfLocal found.0 here.0 here.1.0),
+          turned_true (has_form m.types (Handle ty)) found.1.1)
+
+      by : (find p argument_types ≡ Some ty) ⊎ (option_or (find p answer_types) (find p local_types) ≡ Some ty) →
+          IsSpelledIn explicit m info f es (Handle ty) × IsFalse (has_form m.types (Handle ty))
+      by (inl is) =
+          let found = found_passes p argument_types ty is in
+          let here = at_map (λ a. a.ty) f.arguments.items found.0 ty found.1.0 in
+          (subst (λ ty. IsSpelledIn explicit m info f es (Handle ty)) here.1.1 (OfArgument found.0 here.0 here.1.0),
+          turned_true (has_form m.types (Handle ty)) found.1.1)
+      by (inr is) = inside (either_one _ _ ty is)
+
+  -- so it is with what the second finds
+  pub let_lacks : (h : ℕ) → told_formless explicit m.types es bound f ≡ Some h →
+      IsSomeAnd (slice_get es h) (λ k. IsSpelledIn explicit m info f es k.ty × IsFalse (has_form m.types k.ty))
+  let_lacks h is = by explicit refl is
+    where
+      known : (o : Option ExpressionInfo) → slice_get es h ≡ o → explicit ≡ true → IsAmong (block_emits f.body) h →
+          bound h ≡ true → option_map_or (λ k. not (has_form m.types k.ty)) o false ≡ true →
+          IsSomeAnd o (λ k. IsSpelledIn explicit m info f es k.ty × IsFalse (has_form m.types k.ty))
+      known None at tells among is_bound lacks = absurd cc
+      known (Some k) at tells among is_bound lacks =
+          (OfLet h k tells among is_bound at, turned_true (has_form m.types k.ty) lacks)
+
+      by : (b : Bool) → explicit ≡ b → (if b then find told (block_emits f.body) else None) ≡ Some h →
+          IsSomeAnd (slice_get es h) (λ k. IsSpelledIn explicit m info f es k.ty × IsFalse (has_form m.types k.ty))
+      by false tells is = absurd cc
+      by true tells is =
+          let found = found_passes told (block_emits f.body) h is in
+          let both = and_parts (bound h) (option_map_or (λ k. not (has_form m.types k.ty)) (slice_get es h) false) found.1.1 in
+          known (slice_get es h) refl tells (among_there (block_emits f.body) found.0 h found.1.0) both.0 both.1
