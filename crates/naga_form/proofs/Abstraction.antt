@@ -4,7 +4,7 @@ use Rattle.std.proofs.Common.{◌≡◌, ℕ, suc, Bool, true, false, List, [], 
 use Rattle.std.proofs.Common.{sym, ap, ◌∙◌, arith, zero, ◌+◌, pos, negsuc, map, Option, Some, None}
 use Rattle.std.proofs.Common.{add-one, add-zero, zero-add, ◌-◌}
 use Rattle.std.specs.Prelude.{codes, IsTrue, slice_get, unwrap_or}
-use Rattle.std.specs.Option.{option_map_or, option_map, is_some}
+use Rattle.std.specs.Option.{option_map_or, option_map, is_none, is_some}
 use Rattle.std.proofs.lemmas.Option.{slice_get_within}
 use Rattle.naga_names.proofs.Refusal.{element}
 use Rattle.naga_info.specs.declared.info.TypeResolution.{TypeResolution}
@@ -14,7 +14,7 @@ use Rattle.module_meaning.specs.ExpressionShapes.{constant_shape, swizzle_letter
 use Rattle.shader_runs.specs.Text.{PartOf}
 use Rattle.shader_runs.specs.Value.{MemberNamed}
 use Rattle.module_meaning.specs.OperatorTable.{run_word}
-use Rattle.shader_runs.specs.Program.{Constructed, no_constant}
+use Rattle.shader_runs.specs.Program.{Constructed, Fixed, no_constant}
 use Rattle.naga_form.specs.Expressions.{operator_type}
 use Rattle.naga_form.proofs.Operators.{SpellsIf, SpellsTypes, constructor_spelled, operator_spelled}
 use Rattle.naga_form.proofs.Operators.{untyped, zero_read}
@@ -26,7 +26,8 @@ use Rattle.module_meaning.specs.ExpressionOperators.{type_known}
 use Rattle.module_meaning.specs.ExpressionShapes.{constant_tree, offset_left, trees, written_zero}
 use Rattle.module_meaning.specs.Sampling.{offset_is_written}
 use Rattle.module_meaning.specs.Writable.{is_written_out}
-use Rattle.naga_form.proofs.ConstantForms.{read_out}
+use Rattle.naga_form.proofs.ConstantForms.{IsReadAs, constants_read, read_out}
+use Rattle.naga_form.specs.ConstantForms.{written_constant_form}
 use Rattle.naga_form.proofs.Images.{offset_alone, sampling_read, without_offset}
 use Rattle.naga_form.proofs.Operators.{AllReadLike}
 use Rattle.naga_form.specs.Expressions.{constant_form, value_forms}
@@ -75,6 +76,8 @@ use Rattle.module_meaning.specs.Written.{IsWrittenIn, OfLocal, WrittenHaveForms}
 use Rattle.naga_form.proofs.WrittenHandles.{all_rest}
 use Rattle.module_meaning.specs.Part.{block_is_written, expression_has_form, expression_is_written}
 use Rattle.module_meaning.specs.Part.{function_is_written, type_is_of_part, statement_is_written}
+use Rattle.module_meaning.specs.Part.{constant_is_written, declares_functions}
+use Rattle.module_meaning.specs.Surroundings.{written_constant}
 use Rattle.module_meaning.proofs.Lists.{list_all_at}
 use Rattle.naga_names.specs.Keys.{NameMap}
 use Rattle.wgsl_text.specs.Reading.{type_layout}
@@ -114,7 +117,7 @@ use Rattle.module_meaning.specs.ExpressionOperators.{applied_operator}
 use Rattle.module_meaning.specs.ExpressionShapes.{Declared, shape_of, applied_or}
 use Rattle.module_meaning.specs.FunctionShapes.{statement_shape, statements_shape, cases_shape}
 use Rattle.module_meaning.specs.FunctionShapes.{function_shape}
-use Rattle.module_meaning.specs.Namings.{function_naming}
+use Rattle.module_meaning.specs.Namings.{function_naming, outer_names}
 use Rattle.module_meaning.specs.OperatorTable.{Operator}
 use Rattle.module_meaning.specs.Shapes.{label_shape}
 use Rattle.module_meaning.specs.StatementShapes.{simple_shape}
@@ -254,7 +257,7 @@ ArePlain operand like hs = AllByRecursion (λ x. plain_read (operand x) ≡ like
 
 module _ (n : Naming) (code : Source) (spells : SpellsTypes code.declared.around code.type_names)
     (places : (h : ℕ) → is_place (handle_type n.function h) ≡ points code.declared.around h)
-    (all : List ir.Expression) (types : List Type_) (es : List ExpressionInfo) where
+    (all : List ir.Expression) (m : Module) (es : List ExpressionInfo) where
   -- an operator where one is applied, and what stands there where none is
   applied_reads : (operand : ℕ → PlainForm) (like : ℕ → Plain) (hs : List ℕ) →
       ArePlain operand like hs → (k : ValueType) (otherwise : PlainForm) →
@@ -301,29 +304,33 @@ module _ (n : Naming) (code : Source) (spells : SpellsTypes code.declared.around
 
   -- what is written out as a constant is read as that
   abbrev pub ReadsOut : ℕ → Type 0
-  ReadsOut x =
-      (c : ConstantTree)
-      × (constant_tree code.declared all x ≡ Some c)
-      × (expression_read (constant_form code x) ≡ runs.constant_form n.names.outer c)
+  ReadsOut x = IsReadAs n.names.outer (constant_tree code.declared all x) (constant_form code x)
 
-  -- so is the offset of a sampling
-  abbrev pub OffsetReads : ir.Expression → Type 0
-  OffsetReads
+  -- so is a constant of the module, and the offset of a sampling
+  abbrev pub ConstantsRead : ir.Expression → Type 0
+  ConstantsRead (expression.Constant handle) =
+      IsReadAs n.names.outer (code.declared.constant_tree handle) (code.constant handle)
+  ConstantsRead
       (expression.ImageSample
       image sampler gather coordinate array_index offset level depth_ref clamp) =
       AllByRecursion ReadsOut (option_to_list offset)
-  OffsetReads e = Unit {0}
+  ConstantsRead e = Unit {0}
 
-  -- a type is known of the handle, and its offset, if it has one, is read so
+  -- a type is known of the handle, and its constants are read so
   abbrev pub IsKnown : (h : ℕ) → ir.Expression → Type 0
-  IsKnown h e = (is_some (code.declared.around.known h) ≡ true) × OffsetReads e
+  IsKnown h e = (is_some (code.declared.around.known h) ≡ true) × ConstantsRead e
 
   own_reads : (operand : ℕ → PlainForm) (like : ℕ → Plain) (k : ValueType) (h : ℕ)
       (e : ir.Expression) → ArePlain operand like (expression_operands e) →
-      expression_is_written types es e ≡ true → IsKnown h e →
+      expression_is_written m es e ≡ true → IsKnown h e →
       plain_read (own_plain n code operand e) ≡ runs.own_form n like k (Some (shape_of code.declared all h e))
   own_reads operand like k h (expression.Literal value) same w known =
       ap (λ v. AsValue (LiteralOf v)) (literal_read value w)
+  own_reads operand like k h (expression.Constant handle) same w known =
+      ap AsValue
+      (known.1.2
+      ∙ ap (λ o. runs.constant_form n.names.outer (unwrap_or o (Fixed (Truth false))))
+      (sym known.1.1))
   own_reads operand like k h (expression.ZeroValue ty) same w known =
       zero_reads operand like k ty (code.declared.around.known h) known.0
   own_reads operand like k h (expression.Compose ty components) same w known =
@@ -447,7 +454,7 @@ module _ (n : Naming) (code : Source) (spells : SpellsTypes code.declared.around
   own_if_reads : (operand : ℕ → PlainForm) (like : ℕ → Plain) (k : ValueType) (h : ℕ) →
       (e : Option ir.Expression) →
       ((x : ir.Expression) → e ≡ Some x → ArePlain operand like (expression_operands x)) →
-      ((x : ir.Expression) → e ≡ Some x → expression_is_written types es x ≡ true) →
+      ((x : ir.Expression) → e ≡ Some x → expression_is_written m es x ≡ true) →
       ((x : ir.Expression) → e ≡ Some x → IsKnown h x) →
       plain_read (own_if n code operand e) ≡
       runs.own_form n like k (option_map (shape_of code.declared all h) e)
@@ -460,13 +467,20 @@ abbrev pub AreWritten : (W : ℕ → Type 0) → Module → ir_function.Function
     Type 0
 AreWritten W m f es =
     (h : ℕ) (e : ir.Expression) → slice_get f.expressions h ≡ Some e → W h →
-    expression_has_form m.types es f.expressions e ≡ true
+    expression_has_form m es f.expressions e ≡ true
+
+-- each constant that is written is read as its tree
+abbrev pub ConstantsAreRead : NameMap → Module → ModuleInfo → Type 0
+ConstantsAreRead names m info =
+    (c : ℕ) → constant_is_written m c ≡ true →
+    IsReadAs (outer_names names) (written_constant m info c)
+    (written_constant_form m (type_names m) c)
 
 standing_reads : (s : Standing) (p : PlainForm) (q : Plain) → plain_read p ≡ q → plain_read (standing_plain s p) ≡ runs.standing_form s q
 standing_reads (Named x) p q e = refl
 standing_reads _ p q e = e
 
-module _ (names : NameMap) (m : Module) (info : ModuleInfo) (g : ℕ) (f : ir_function.Function) (es : List ExpressionInfo) (values : IsTrue (list_all type_is_of_part m.types)) (size : length f.expressions ≡ length es) (W : ℕ → Type 0) (closed : AreClosed W (binds (function_shape m info f es)) f) (written : AreWritten W m f es) where
+module _ (names : NameMap) (m : Module) (info : ModuleInfo) (g : ℕ) (f : ir_function.Function) (es : List ExpressionInfo) (values : IsTrue (list_all type_is_of_part m.types)) (size : length f.expressions ≡ length es) (W : ℕ → Type 0) (closed : AreClosed W (binds (function_shape m info f es)) f) (written : AreWritten W m f es) (constants : ConstantsAreRead names m info) where
   abbrev own : Naming
   own = function_naming names m info g f es
 
@@ -494,19 +508,23 @@ module _ (names : NameMap) (m : Module) (info : ModuleInfo) (g : ℕ) (f : ir_fu
 
   -- a constant that is written out
   out_reads : (x : ℕ) → W x → is_written_out f.expressions x ≡ true →
-      ReadsOut own source types_spelled places_are f.expressions m.types es x
+      ReadsOut own source types_spelled places_are f.expressions m es x
   out_reads x w is =
-      read_out own.names.outer d source.type_names types_spelled W m.types es f.expressions known_at
-      closed.operands
-      (λ h e at w. (has_form_parts m.types es f.expressions e (written h e at w)).0) (suc x) x w is
+      read_out own.names.outer m info es source.type_names types_spelled constants W f.expressions
+      known_at closed.operands
+      (λ h e at w. (has_form_parts m es f.expressions e (written h e at w)).0) (suc x) x w is
 
-  offset_reads : (h : ℕ) (e : ir.Expression) → slice_get f.expressions h ≡ Some e → W h →
-      OffsetReads own source types_spelled places_are f.expressions m.types es e
-  offset_reads h
+  are_read : (h : ℕ) (e : ir.Expression) → slice_get f.expressions h ≡ Some e → W h →
+      ConstantsRead own source types_spelled places_are f.expressions m es e
+  are_read h (expression.Constant handle) at w =
+      constants handle
+      (has_form_parts m es f.expressions (expression.Constant handle)
+      (written h (expression.Constant handle) at w)).0
+  are_read h
       (expression.ImageSample
       image sampler gather coordinate array_index offset level depth_ref clamp) at w =
       by offset
-      (has_form_parts m.types es f.expressions
+      (has_form_parts m es f.expressions
       (expression.ImageSample
       image sampler gather coordinate array_index offset level depth_ref clamp)
       (written h
@@ -520,21 +538,21 @@ module _ (names : NameMap) (m : Module) (info : ModuleInfo) (g : ℕ) (f : ir_fu
     where
       by : (o : Option ℕ) → offset_is_written f.expressions o ≡ true →
           AllByRecursion W (option_to_list o) →
-          AllByRecursion (ReadsOut own source types_spelled places_are f.expressions m.types es)
+          AllByRecursion (ReadsOut own source types_spelled places_are f.expressions m es)
           (option_to_list o)
       by None is w = tt
       by (Some x) is w = (out_reads x w.0 is, tt)
-  offset_reads h _ at w = tt
+  are_read h _ at w = tt
 
   -- a handle's expression, over operands that are read so
   handle_reads : (operand : ℕ → PlainForm) (like : ℕ → Plain) →
       ((x : ℕ) → W x → plain_read (operand x) ≡ like x) → (h : ℕ) → W h →
       plain_read (own_if own source operand (slice_get f.expressions h)) ≡ runs.own_form own like (handle_type own.function h) (expression_of own.function h)
   handle_reads operand like same h w =
-      own_if_reads own source types_spelled places_are f.expressions m.types es operand like (handle_type own.function h) h (slice_get f.expressions h)
+      own_if_reads own source types_spelled places_are f.expressions m es operand like (handle_type own.function h) h (slice_get f.expressions h)
       (λ e at. all_map same (expression_operands e) (closed.operands h e at w))
-      (λ e at. (has_form_parts m.types es f.expressions e (written h e at w)).0)
-      (λ e at. (known_at h e at, offset_reads h e at w))
+      (λ e at. (has_form_parts m es f.expressions e (written h e at w)).0)
+      (λ e at. (known_at h e at, are_read h e at w))
       ∙ ap (runs.own_form own like (handle_type own.function h)) (sym (expression_is m info f es h))
 
   below_reads : (s : Handles) (k h : ℕ) → W h → plain_read (plain_below own source s k h) ≡ written_below own s k h
@@ -675,7 +693,7 @@ pointer_reads m ty t at =
     (inner_tree_row text-append (type_names m) (λ handle. true) (inner.Pointer ty space.Function)
     ∙ ap (λ o. option_map type_layout (option_map (pointer_tree (codes "function") None) o)) at))
 
-module _ (m : Module) (info : ModuleInfo) (g : ℕ) (f : ir_function.Function) (es : List ExpressionInfo) (values : IsTrue (list_all type_is_of_part m.types)) (size : length f.expressions ≡ length es) (W : ℕ → Type 0) (closed : AreClosed W (binds (function_shape m info f es)) f) (written : AreWritten W m f es) where
+module _ (m : Module) (info : ModuleInfo) (g : ℕ) (f : ir_function.Function) (es : List ExpressionInfo) (values : IsTrue (list_all type_is_of_part m.types)) (size : length f.expressions ≡ length es) (W : ℕ → Type 0) (closed : AreClosed W (binds (function_shape m info f es)) f) (written : AreWritten W m f es) (constants : ConstantsAreRead (module_names m) m info) where
   abbrev own_names : Naming
   own_names = function_naming (module_names m) m info g f es
 
@@ -687,7 +705,7 @@ module _ (m : Module) (info : ModuleInfo) (g : ℕ) (f : ir_function.Function) (
       let pointer = pointer_reads m v.ty t.0 t.1 ∙ sym (mapped_at (λ l. local_pointer m l.ty) [] f.local_variables l v here) in
       let rest = locals_read formed (l + 1) vs later in
       λ i.
-      record { name = own_names.names.local_ l; pointer = pointer i; first_value = value_if_reads (module_names m) m info g f es values size W closed written (at_start own_names.function) v.init (closed.firsts l v here) i }
+      record { name = own_names.names.local_ l; pointer = pointer i; first_value = value_if_reads (module_names m) m info g f es values size W closed written constants (at_start own_names.function) v.init (closed.firsts l v here) i }
       ∷ (rest ∙ ap (λ k. variables_from own_names k (map (λ v. v.init) vs)) (add-one l)) i
     where
       later : (k : ℕ) → slice_get vs k ≡ slice_get f.local_variables (k + (l + 1))
@@ -700,20 +718,23 @@ pub locals_have_forms : (explicit : Bool) (m : Module) (info : ModuleInfo) (f : 
 locals_have_forms explicit m info f es have l v at = tree_there (type_names m) (Handle v.ty) (have.types (Handle v.ty) (OfLocal l v at))
 
 -- whatever is written of a function is read as its shape is
-pub written_reads : (explicit : Bool) (m : Module) (info : ModuleInfo) (g : ℕ) (f : ir_function.Function) (es : List ExpressionInfo) → IsTrue (list_all type_is_of_part m.types) → have_forms f.body ≡ true → length f.expressions ≡ length es → LocalsHaveForms (type_names m) f.local_variables → (W : ℕ → Type 0) → AreClosed W (binds (function_shape m info f es)) f → AreWritten W m f es → function_read (function_form explicit (module_names m) m info g f es) ≡ form_function (function_naming (module_names m) m info g f es)
-written_reads explicit m info g f es values have size formed W closed written =
+pub written_reads : (explicit : Bool) (m : Module) (info : ModuleInfo) (g : ℕ) (f : ir_function.Function) (es : List ExpressionInfo) → IsTrue (list_all type_is_of_part m.types) → have_forms f.body ≡ true → length f.expressions ≡ length es → LocalsHaveForms (type_names m) f.local_variables → (W : ℕ → Type 0) → AreClosed W (binds (function_shape m info f es)) f → AreWritten W m f es → ConstantsAreRead (module_names m) m info → function_read (function_form explicit (module_names m) m info g f es) ≡ form_function (function_naming (module_names m) m info g f es)
+written_reads explicit m info g f es values have size formed W closed written constants =
     let names = module_names m in
-    let locals = locals_read m info g f es values size W closed written formed 0 f.local_variables (λ k. ap (slice_get f.local_variables) (sym (add-zero k))) in
+    let locals = locals_read m info g f es values size W closed written constants formed 0 f.local_variables (λ k. ap (slice_get f.local_variables) (sym (add-zero k))) in
     λ i. record {
       name = function_name names g;
       parameters = (names_counted names m.types g 0 f.arguments.items ∙ ap (names_from (argument_name names g) 0) (sym (mapped_length (λ a. declared_type m a.ty) f.arguments.items))) i;
       variables = locals i;
-      lines = lines_read names m info g f es values size W closed written (told_type explicit (type_names m) es) 0 f.body (at_start (function_shape m info f es)) have closed.body i;
+      lines = lines_read names m info g f es values size W closed written constants (told_type explicit (type_names m) es) 0 f.body (at_start (function_shape m info f es)) have closed.body i;
     }
 
-pub function_reads : (explicit : Bool) (m : Module) (info : ModuleInfo) (g : ℕ) (f : ir_function.Function) (es : List ExpressionInfo) → IsTrue (list_all type_is_of_part m.types) → IsTrue (function_is_written f) → WrittenHaveForms explicit m info f es → length f.expressions ≡ length es → function_read (function_form explicit (module_names m) m info g f es) ≡ form_function (function_naming (module_names m) m info g f es)
-function_reads explicit m info g f es values written have size =
+pub function_reads : (explicit : Bool) (m : Module) (info : ModuleInfo) (g : ℕ) (f : ir_function.Function) (es : List ExpressionInfo) → IsTrue (list_all type_is_of_part m.types) → IsTrue (declares_functions m) → length m.global_expressions ≡ length info.const_expression_types.items → IsTrue (function_is_written f) → WrittenHaveForms explicit m info f es → length f.expressions ≡ length es → function_read (function_form explicit (module_names m) m info g f es) ≡ form_function (function_naming (module_names m) m info g f es)
+function_reads explicit m info g f es values declares own_size written have size =
     let parts = function_parts f written in
+    let unnamed = (and_parts (list_all (λ c. is_none c.name) m.constants) _ declares).0 in
     written_reads explicit m info g f es values (written_have_forms f.body parts.body) size
     (locals_have_forms explicit m info f es have)
     (IsWrittenIn m info f es) (written_are_closed m info f es) have.expressions
+    (constants_read (outer_names (module_names m)) m info (type_names m)
+    (λ r. resolution_row text-append (type_names m) (λ handle. true) r) unnamed own_size)

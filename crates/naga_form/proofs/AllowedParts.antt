@@ -137,7 +137,7 @@ abbrev pub KnownBase : Module → List ExpressionInfo → ℕ → Type 0
 KnownBase m es base = KnownOperand m es (has_parts m.types) base
 
 pub known_base : (m : Module) (es : List ExpressionInfo) (base index : ℕ) →
-    expression_is_written m.types es (AccessIndex base index) ≡ true → KnownBase m es base
+    expression_is_written m es (AccessIndex base index) ≡ true → KnownBase m es base
 known_base m es base index may = known_operand m es (has_parts m.types) base may
 
 -- what a conversion that is written takes, and what it gives, which has a form
@@ -169,7 +169,7 @@ module _ (m : Module) (info : ModuleInfo) (es : List ExpressionInfo) where
       (slice_get-map (λ k. k.ty) es h ∙ ap (option_map (λ k. k.ty)) at)
 
   pub conversion : (operand : ℕ) (kind : ScalarKind) (convert : Option ℕ) →
-      expression_is_written m.types es (As operand kind convert) ≡ true →
+      expression_is_written m es (As operand kind convert) ≡ true →
       Conversion m d.around operand kind convert
   conversion operand kind convert may =
       let k = known_operand m es (converts m.types kind convert) operand may in
@@ -223,7 +223,7 @@ module _ (m : Module) (info : ModuleInfo) (es : List ExpressionInfo) where
       by (Some k) = there_if d (handle_of k.ty) index (inner_of k.ty m.types)
 
   -- its index selects a part
-  pub selected : (base index : ℕ) → expression_is_written m.types es (AccessIndex base index) ≡ true →
+  pub selected : (base index : ℕ) → expression_is_written m es (AccessIndex base index) ≡ true →
       (x : Selector) × (part_selector d base index ≡ Some x)
   selected base index may =
       let b = known_base m es base index may in
@@ -231,7 +231,7 @@ module _ (m : Module) (info : ModuleInfo) (es : List ExpressionInfo) where
       (x.0, selector_is base index b ∙ x.1)
 
   -- by a word or a number of the grammar, where no type is a struct
-  pub selected_well : (base index : ℕ) → expression_is_written m.types es (AccessIndex base index) ≡ true →
+  pub selected_well : (base index : ℕ) → expression_is_written m es (AccessIndex base index) ≡ true →
       list_all type_is_of_part m.types ≡ true →
       ((h : ℕ) (k : ExpressionInfo) → slice_get es h ≡ Some k → IsFit m k.ty) → index < 2 ^ 32 →
       (x : Selector) → part_selector d base index ≡ Some x → IsWellSelected x

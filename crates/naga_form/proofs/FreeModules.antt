@@ -44,8 +44,7 @@ use Rattle.naga_form.proofs.FreeWords.{free_request}
 use Rattle.naga_form.proofs.FunctionsFit.{AllBehind, IsFree, Tells, all_from, all_told}
 use Rattle.naga_form.proofs.FunctionsFit.{all_fit_freely, named, shape_numbered}
 use Rattle.naga_form.proofs.Ordered.{ordered}
-use Rattle.naga_form.proofs.ShapeWords.{function_words, initialiser_words}
-use Rattle.naga_form.proofs.ShapeWords.{operator_asks, operator_operates_outside}
+use Rattle.naga_form.proofs.ShapeWords.{function_words, initialiser_words_outside, operator_asks}
 use Rattle.naga_form.proofs.WellFormed.{all_well_formed}
 
 module _ (m : ir_module.Module) (info : ModuleInfo) (accepted : IsTrue (is_accepted m info)) (told : TypesAreTold m) where
@@ -116,8 +115,7 @@ module _ (m : ir_module.Module) (info : ModuleInfo) (accepted : IsTrue (is_accep
   initialiser_operates i e at =
       let found = initialiser_of m info accepted told i e at in
       subst (EachWord (OperatesOutside program names)) found.is
-      (initialiser_words m info (types_are_counted m info accepted told)
-      (OperatesOutside program names) (operator_operates_outside program) found.constant)
+      (initialiser_words_outside m info (types_are_counted m info accepted told) program found.constant)
 
   -- ---- the module
   module _ (written : AreWrittenOut m) (falls : OnlyEmptyFall m) (scopes : ScopesHold m info) where

@@ -60,6 +60,7 @@ pub mod SoundOperators
 pub mod SpelledSignatures
 pub mod TakenParts
 pub mod ToldItems
+pub mod TreeWords
 pub mod TypeIdentity
 pub mod TypeTrees
 pub mod TypedWords

@@ -43,7 +43,7 @@ use Rattle.module_meaning.specs.ExpressionShapes.{applied_shape, asking}
 use Rattle.module_meaning.specs.OperatorTable.{Operator, BinarySign, UnarySign, AtomicLoad, asks}
 use Rattle.module_meaning.specs.OperatorTable.{own_math_word, run_word}
 use Rattle.module_meaning.specs.Part.{expression_is_written}
-use Rattle.naga_ir.specs.declared.types.Type_.{Type_}
+use Rattle.naga_ir.specs.declared.module.Module.{Module}
 use Rattle.naga_info.specs.declared.info.ExpressionInfo.{ExpressionInfo}
 use Rattle.module_meaning.specs.Shapes.{operator_shape}
 use Rattle.naga_ir.specs.Operands.{expression_operands, query_operands}
@@ -470,47 +470,48 @@ HasNotation
 HasNotation e = Unit {0}
 
 -- each expression that is written and applies an operator has its operands
-pub notated : (a : Surroundings) (t : TypeNames) (types : List Type_) (es : List ExpressionInfo) →
-    (e : ir.Expression) → expression_is_written types es e ≡ true → HasNotation e → TypeIsFormed a t e →
+pub notated : (a : Surroundings) (t : TypeNames) (m : Module) (es : List ExpressionInfo) →
+    (e : ir.Expression) → expression_is_written m es e ≡ true → HasNotation e → TypeIsFormed a t e →
     IsNotated (operator_type a t e) (expression_operands e) (applied_operator a e)
-notated a t types es (expression.Unary op expr) written has formed = tt
-notated a t types es (expression.Binary op left right) written has formed = tt
-notated a t types es (expression.Select condition accept reject) written has formed = choice_called
-notated a t types es (expression.Splat size value) written has formed = splat_called size
-notated a t types es (expression.Math fun arg arg1 arg2 arg3) written has formed =
+notated a t m es (expression.Unary op expr) written has formed = tt
+notated a t m es (expression.Binary op left right) written has formed = tt
+notated a t m es (expression.Select condition accept reject) written has formed = choice_called
+notated a t m es (expression.Splat size value) written has formed = splat_called size
+notated a t m es (expression.Math fun arg arg1 arg2 arg3) written has formed =
     callee_of (run_word (Mathematical fun))
     (word_is_builtin (math_word fun) (own_math_word fun) (value_words.functions fun) written)
-notated a t types es (expression.Relational fun argument) written has formed = relation_called fun written
-notated a t types es (expression.Compose ty parts) written has formed =
+notated a t m es (expression.Relational fun argument) written has formed = relation_called fun written
+notated a t m es (expression.Compose ty parts) written has formed =
     constructor_notated a (Handle ty) (length parts.items) parts.items (type_tree t ty)
     formed.0 formed.1 formed.2
-notated a t types es (expression.As operand kind convert) written has formed =
+notated a t m es (expression.As operand kind convert) written has formed =
     subst (λ n. NotationFits n (operand ∷ []))
     (sym
     (typed_notation _ (cast_called a kind convert (type_known a operand))
     (operator_type a t (expression.As operand kind convert)) formed.0 formed.1))
     formed.2
-notated a t types es (expression.Derivative along how expr) written has formed = derivative_called along how
-notated a t types es (expression.ImageLoad image coordinate array_index sample level) written has formed =
+notated a t m es (expression.Derivative along how expr) written has formed = derivative_called along how
+notated a t m es (expression.ImageLoad image coordinate array_index sample level) written has formed =
     texel_called (is_some array_index) sample level written
-notated a t types es (expression.ImageQuery image query) written has formed =
+notated a t m es (expression.ImageQuery image query) written has formed =
     subst (λ n. NotationFits n (image ∷ query_operands query)) (sym (query_is_called query None))
     (query_called query)
-notated a t types es (expression.ArrayLength array) written has formed = length_called
-notated a t types es (expression.CooperativeMultiplyAdd x y z) written has formed = product_called
-notated a t types es
+notated a t m es (expression.ArrayLength array) written has formed = length_called
+notated a t m es (expression.CooperativeMultiplyAdd x y z) written has formed = product_called
+notated a t m es
     (expression.ImageSample
     image sampler gather coordinate array_index offset level depth_ref clamp) written has formed =
     absurd has
-notated a t types es (expression.Swizzle size vector pattern) written has formed = tt
-notated a t types es (expression.Access base index) written has formed = tt
-notated a t types es (expression.Literal value) written has formed = tt
-notated a t types es (expression.ZeroValue ty) written has formed = tt
-notated a t types es (expression.FunctionArgument number) written has formed = tt
-notated a t types es (expression.LocalVariable handle) written has formed = tt
-notated a t types es (expression.Load pointer) written has formed = load_notated a pointer
-notated a t types es (expression.AccessIndex base index) written has formed = absurd has
-notated a t types es _ written has formed = absurd cc
+notated a t m es (expression.Swizzle size vector pattern) written has formed = tt
+notated a t m es (expression.Access base index) written has formed = tt
+notated a t m es (expression.Literal value) written has formed = tt
+notated a t m es (expression.Constant handle) written has formed = tt
+notated a t m es (expression.ZeroValue ty) written has formed = tt
+notated a t m es (expression.FunctionArgument number) written has formed = tt
+notated a t m es (expression.LocalVariable handle) written has formed = tt
+notated a t m es (expression.Load pointer) written has formed = load_notated a pointer
+notated a t m es (expression.AccessIndex base index) written has formed = absurd has
+notated a t m es _ written has formed = absurd cc
 
 module _ (operand : ℕ → PlainForm) where
   abbrev pub AreExpressions : List ℕ → Type 0

@@ -33,7 +33,10 @@ use Rattle.naga_form.proofs.OperatingWords.{asks_freely, bits_free, derivative_f
 use Rattle.naga_form.proofs.OperatingWords.{formless_free, is_signed}
 use Rattle.naga_form.proofs.OperatingWords.{splat_free, math_free, relation_free}
 use Rattle.naga_form.proofs.OperatingWords.{names_no_item}
+use Rattle.naga_form.proofs.TreeWords.{constant_words, levels_words, offset_words, or_false_words}
+use Rattle.naga_form.proofs.TreeWords.{written_words}
 use Rattle.naga_form.proofs.TypeTrees.{resolution_row}
+use Rattle.naga_info.proofs.Options.{then_some}
 use Rattle.naga_form.proofs.SameValues.{IsFit, TypesAreCounted}
 use Rattle.naga_form.proofs.WrittenTypes.{free_form}
 use Rattle.module_meaning.specs.Surroundings.{declared, types_known}
@@ -122,11 +125,6 @@ function_parts f written =
     let two = and_parts (is_unbound f) _ written in
     let three = and_parts (list_all expression_is_of_part f.expressions) (block_is_written f.body) two.1 in
     record { expressions = three.0; body = three.1 }
-
--- no constant is named
-pub no_constant_named : (f : ir_function.Function) → IsTrue (function_is_written f) → (h c : ℕ) → slice_get f.expressions h ≡ Some (expression.Constant c) → ⊥
-no_constant_named f written h c at =
-    let is = list_all_at expression_is_of_part f.expressions h (expression.Constant c) (function_parts f written).expressions at in absurd cc
 
 -- no case falls through
 none_fall_in : (st : StatementTree) → statement_is_written st ≡ true → only_empty_fall_in st ≡ true
@@ -311,107 +309,40 @@ module _ (m : Module) (info : ModuleInfo) (values : IsTrue (list_all type_is_of_
       (sym is) (asks_by (run_word op) free, tt)
 
   -- ---- constants that are written out
-  abbrev WordsIf : Option ConstantTree → Type 0
-  WordsIf (Some c) = ConstantWords p own c
-  WordsIf None = Unit {0}
-
-  abbrev AllWordsIf : Option (List ConstantTree) → Type 0
-  AllWordsIf (Some cs) = ConstantsWords p own (trees cs)
-  AllWordsIf None = Unit {0}
-
-  then_words : (one : Option ConstantTree) (more : Option (List ConstantTree)) → WordsIf one →
-      AllWordsIf more → AllWordsIf (tree_then one more)
-  then_words (Some c) (Some cs) one more = (one, more)
-  then_words (Some c) None one more = tt
-  then_words None more one all = tt
-
-  each_words : (tree_of : ℕ → Option ConstantTree) → ((x : ℕ) → WordsIf (tree_of x)) →
-      (xs : List ℕ) → AllWordsIf (trees_of tree_of xs)
-  each_words tree_of each [] = tt
-  each_words tree_of each (x ∷ xs) =
-      then_words (tree_of x) (trees_of tree_of xs) (each x) (each_words tree_of each xs)
-
-  built_words : (h : ℕ) (op : Operator) (cs : List ConstantTree) → OperatesBy p own (run_word op) →
-      ConstantsWords p own (trees cs) → WordsIf (built d h op cs)
-  built_words h op cs operates all = by (d.around.known h)
-    where
-      by : (o : Option TypeResolution) →
-          WordsIf (option_map (λ r. Constructed (run_word op) (d.value_type r) (trees cs)) o)
-      by (Some r) = (operates, all)
-      by None = tt
-
-  composed_words : (h : ℕ) (op : Operator) → OperatesBy p own (run_word op) →
-      (cs : Option (List ConstantTree)) → AllWordsIf cs →
-      WordsIf (option_and_then (built d h op) cs)
-  composed_words h op operates (Some cs) all = built_words h op cs operates all
-  composed_words h op operates None all = tt
-
-  splat_words : (h : ℕ) (size : VectorSize) (c : Option ConstantTree) → WordsIf c →
-      WordsIf (option_and_then (λ c. built d h (Splat size) (c ∷ [])) c)
-  splat_words h size (Some c) word =
-      built_words h (Splat size) (c ∷ []) (operates (run_word (Splat size)) (splat_free size))
-      (word, tt)
-  splat_words h size None word = tt
-
-  made_operates : (components ty : ℕ) →
+  made_operates : (ty components : ℕ) →
       OperatesBy p own (run_word (constructor d.around (Handle ty) components))
-  made_operates components ty =
+  made_operates ty components =
       made_words components ty (λ op. OperatesBy p own (run_word op)) (λ word operates. operates)
       (λ operates. operates)
 
-  over_words : (tree_of : ℕ → Option ConstantTree) → ((x : ℕ) → WordsIf (tree_of x)) → (h : ℕ)
-      (e : ir.Expression) → expression_is_of_part e ≡ true →
-      names_in_range m callees (length f.arguments.items) (length f.local_variables) e ≡ true →
-      WordsIf (tree_over d tree_of h e)
-  over_words tree_of each h (expression.Literal value) is range = tt
-  over_words tree_of each h (expression.ZeroValue ty) is range =
-      built_words h (constructor d.around (Handle ty) 0) []
-      (made_operates 0 ty) tt
-  over_words tree_of each h (expression.Compose ty components) is range =
-      let count = length components.items in
-      composed_words h (constructor d.around (Handle ty) count)
-      (made_operates count ty)
-      (trees_of tree_of components.items) (each_words tree_of each components.items)
-  over_words tree_of each h (expression.Splat size value) is range =
-      splat_words h size (tree_of value) (each value)
-  over_words tree_of each h (expression.Constant handle) is range = absurd cc
-  over_words tree_of each h (expression.Override handle) is range = absurd cc
-  over_words tree_of each h _ is range = tt
+  splat_operates : (size : VectorSize) → OperatesBy p own (run_word (Splat size))
+  splat_operates size = operates (run_word (Splat size)) (splat_free size)
 
-  -- the words of a constant that is written out are no names
-  out_words : (levels x : ℕ) → WordsIf (tree_within levels d f.expressions x)
-  out_words zero x = tt
-  out_words (suc levels) x = by (slice_get f.expressions x) refl (out_words levels)
-    where
-      by : (o : Option ir.Expression) → slice_get f.expressions x ≡ o →
-          ((x : ℕ) → WordsIf (tree_within levels d f.expressions x)) →
-          WordsIf (option_and_then (tree_over d (tree_within levels d f.expressions) x) o)
-      by None at each = tt
-      by (Some e) at each =
-          over_words (tree_within levels d f.expressions) each x e
-          (list_all_at expression_is_of_part f.expressions x e
-          (function_parts f written).expressions at)
-          (names_are_in_range m callees f ranges x e at)
+  constant_is_worded : (handle : ℕ) → WordFits p own (Some (constant_shape (d.constant_tree handle)))
+  constant_is_worded handle =
+      or_false_words m info (OperatesBy p own) made_operates splat_operates (d.constant_tree handle)
+      (constant_words m info (OperatesBy p own) made_operates splat_operates handle)
 
-  offset_words : (offset : Option ℕ) →
+  sample_words : (l : SampleLevel) (unwritten : Bool) (offset : Option ℕ) →
       ConstantsWords p own
-      (trees (option_to_list (option_and_then (constant_tree d f.expressions) offset)))
-  offset_words None = tt
-  offset_words (Some x) = by (constant_tree d f.expressions x) (out_words (suc x) x)
-    where
-      by : (o : Option ConstantTree) → WordsIf o → ConstantsWords p own (trees (option_to_list o))
-      by (Some c) word = (word, tt)
-      by None word = tt
-
-  level_words : (l : SampleLevel) (unwritten : Bool) (cs : List ConstantTree) →
-      ConstantsWords p own (trees cs) → ConstantsWords p own (trees (written_zero l unwritten ++ cs))
-  level_words level.Zero false cs all = (tt, all)
-  level_words level.Zero true cs all = all
-  level_words _ unwritten cs all = all
+      (trees
+      (written_zero l unwritten ++
+      option_to_list (option_and_then (constant_tree d f.expressions) offset)))
+  sample_words l unwritten offset =
+      let tree_of = constant_tree d f.expressions in
+      let written = option_and_then tree_of offset in
+      levels_words m info (OperatesBy p own) made_operates splat_operates l unwritten
+      (option_to_list written)
+      (offset_words m info (OperatesBy p own) made_operates splat_operates written
+      (λ t e.
+      let x = then_some tree_of offset t e in
+      written_words m info (OperatesBy p own) made_operates splat_operates (types_known es)
+      f.expressions x.0 t x.2))
 
   words : (h : ℕ) (e : ir.Expression) → expression_is_of_part e ≡ true →
       names_in_range m callees (length f.arguments.items) (length f.local_variables) e ≡ true →
       WordFits p own (Some (shape_of d f.expressions h e))
+  words h (expression.Constant handle) is range = constant_is_worded handle
   words h (expression.ZeroValue ty) is range =
       made_words 0 ty
       (λ op. WordFits p own
@@ -442,7 +373,7 @@ module _ (m : Module) (info : ModuleInfo) (values : IsTrue (list_all type_is_of_
         asks_by (run_word op)
             (sampling_free of_depths gather (level_of level) (is_some depth_ref) clamp
             (is_some array_index) (is_some offset)),
-        level_words level (is_some gather || (is_some depth_ref || clamp)) _ (offset_words offset),
+        sample_words level (is_some gather || (is_some depth_ref || clamp)) offset,
       )
   words h (expression.ImageLoad image coordinate array_index sample level) is range =
       let op = Texel (is_some array_index) (texel_of (is_some sample) (is_some level)) in

@@ -4,7 +4,7 @@ use Rattle.std.proofs.Common.{◌≡◌, ℕ, zero, suc, ◌<◌, ◌≤◌, ◌
 use Rattle.std.proofs.Common.{Some, None, refl, sym, ap, subst, ◌∙◌, slice_get, arith}
 use Rattle.std.specs.Prelude.{IsTrue, nat_lt, ◌==◌}
 use Rattle.std.specs.List.{list_all}
-use Rattle.std.specs.Option.{option_map}
+use Rattle.std.specs.Option.{is_none, option_map}
 use Rattle.std.proofs.lemmas.Bool.{and_parts, eqb-true, ltb-true}
 use Rattle.std.proofs.lemmas.Option.{same_Some}
 use Rattle.naga_info.specs.Resolution.{inner_of}
@@ -99,7 +99,7 @@ module _ (m : Module) (info : ModuleInfo) (accepted : IsTrue (is_accepted m info
 
     pub no_overrides : length m.overrides ≡ 0
     no_overrides =
-        let one = and_parts (length m.constants == 0) _ (written_so_far_parts m of_part).0 in
+        let one = and_parts (list_all (λ c. is_none c.name) m.constants) _ (written_so_far_parts m of_part).0 in
         let two = and_parts (length m.overrides == 0) _ one.1 in
         eqb-true (length m.overrides) 0 two.0
 

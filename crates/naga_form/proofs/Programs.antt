@@ -89,7 +89,10 @@ use Rattle.std.proofs.Common.{map}
 use Rattle.std.specs.Option.{is_some}
 use Rattle.module_meaning.proofs.Part.{has_form_parts}
 use Rattle.module_meaning.specs.ExpressionOperators.{is_depth_image, type_known}
-use Rattle.naga_form.proofs.ConstantForms.{form_out_is}
+use Rattle.naga_form.proofs.ConstantForms.{constant_is, form_out_is}
+use Rattle.naga_form.proofs.WrittenOut.{global_names_in_range}
+use Rattle.naga_form.specs.ConstantForms.{written_constant_form}
+use Rattle.module_meaning.specs.Part.{constant_is_written}
 use Rattle.naga_form.proofs.Images.{offset_alone, sampling_is, without_offset}
 use Rattle.naga_form.specs.Expressions.{constant_form, value_forms}
 use Rattle.naga_ir.specs.Operands.{level_operands}
@@ -285,7 +288,7 @@ statements_fit (statement st b) is =
 abbrev ArePlain : (operand : ℕ → PlainForm) → List ℕ → Type 0
 ArePlain operand hs = AllByRecursion (λ x. IsPlainForm (operand x)) hs
 
-module _ (m : Module) (info : ModuleInfo) (g : ℕ) (f : ir_function.Function) (found : slice_get m.functions g ≡ Some f) (es : List ExpressionInfo) (callees : ℕ) (ranges : function_in_range m callees f ≡ true) (W : ℕ → Type 0) (closed : AreClosed W (binds (function_shape m info f es)) f) (written : AreWritten W m f es) (are : TypesAreCounted m) (fits : (h : ℕ) (k : ExpressionInfo) → slice_get es h ≡ Some k → IsFit m k.ty) (values : list_all type_is_of_part m.types ≡ true) (explicit : Bool) (spelled : (r : TypeResolution) → IsSpelledIn explicit m info f es r → type_has_form m.types r ≡ true) (few : length f.expressions ≤ 2 ^ 64) where
+module _ (m : Module) (info : ModuleInfo) (g : ℕ) (f : ir_function.Function) (found : slice_get m.functions g ≡ Some f) (es : List ExpressionInfo) (callees : ℕ) (ranges : function_in_range m callees f ≡ true) (W : ℕ → Type 0) (closed : AreClosed W (binds (function_shape m info f es)) f) (written : AreWritten W m f es) (are : TypesAreCounted m) (fits : (h : ℕ) (k : ExpressionInfo) → slice_get es h ≡ Some k → IsFit m k.ty) (values : list_all type_is_of_part m.types ≡ true) (explicit : Bool) (spelled : (r : TypeResolution) → IsSpelledIn explicit m info f es r → type_has_form m.types r ≡ true) (few : length f.expressions ≤ 2 ^ 64) (constants : (c : ℕ) → constant_is_written m c ≡ true → IsExpression (written_constant_form m (type_names m) c)) where
   abbrev own : Naming
   own = function_naming (module_names m) m info g f es
 
@@ -310,7 +313,7 @@ module _ (m : Module) (info : ModuleInfo) (g : ℕ) (f : ir_function.Function) (
       let t = tree_there (type_names m) (Handle ty) is in
       (t.0, t.1, tree_is m are (Handle ty) tt t.0 t.1)
 
-  type_formed : (e : ir.Expression) → expression_is_written m.types es e ≡ true →
+  type_formed : (e : ir.Expression) → expression_is_written m es e ≡ true →
       TypeIsFormed d.around (type_names m) e
   type_formed (expression.ZeroValue ty) is = type_at ty is
   type_formed (expression.Compose ty components) is = type_at ty is
@@ -355,27 +358,32 @@ module _ (m : Module) (info : ModuleInfo) (g : ℕ) (f : ir_function.Function) (
     where
       out_is : (x : ℕ) → W x → IsExpression (constant_form source x)
       out_is x w =
-          form_out_is d.around (type_names m) f.expressions W closed.operands
+          form_out_is d.around (type_names m) source.constant f.expressions W closed.operands
           (λ h value at w.
           literal_is value
-          (has_form_parts m.types es f.expressions (expression.Literal value)
+          (has_form_parts m es f.expressions (expression.Literal value)
           (written h (expression.Literal value) at w)).0
           (names_are_in_range m callees f ranges h (expression.Literal value) at))
+          (λ h c at w.
+          constants c
+          (has_form_parts m es f.expressions (expression.Constant c)
+          (written h (expression.Constant c) at w)).0)
           (λ h ty at w.
           type_at ty
-          (has_form_parts m.types es f.expressions (expression.ZeroValue ty)
+          (has_form_parts m es f.expressions (expression.ZeroValue ty)
           (written h (expression.ZeroValue ty) at w)).0)
           (λ h ty parts at w.
           type_at ty
-          (has_form_parts m.types es f.expressions (expression.Compose ty parts)
+          (has_form_parts m es f.expressions (expression.Compose ty parts)
           (written h (expression.Compose ty parts) at w)).0)
           (suc x) x w
   offset_is h _ at w = tt
 
-  own_is : (operand : ℕ → PlainForm) → (h : ℕ) (e : ir.Expression) → slice_get f.expressions h ≡ Some e → (expression_is_written m.types es e ≡ true) × OffsetIs e → ArePlain operand (expression_operands e) → IsPlainForm (own_plain own source operand e)
+  own_is : (operand : ℕ → PlainForm) → (h : ℕ) (e : ir.Expression) → slice_get f.expressions h ≡ Some e → (expression_is_written m es e ≡ true) × OffsetIs e → ArePlain operand (expression_operands e) → IsPlainForm (own_plain own source operand e)
   own_is operand h (expression.Literal v) at is all =
       literal_is v is.0
       (names_are_in_range m callees f ranges h (expression.Literal v) at)
+  own_is operand h (expression.Constant c) at is all = constants c is.0
   own_is operand h (expression.FunctionArgument n) at is all =
       let a = element f.arguments.items n (ltb-true n (length f.arguments.items) (names_are_in_range m callees f ranges h (expression.FunctionArgument n) at)) in
       item_is_identifier m (argument_item m g n a.0) (argument_there m g f n a.0 found a.1)
@@ -425,14 +433,14 @@ module _ (m : Module) (info : ModuleInfo) (g : ℕ) (f : ir_function.Function) (
   own_is operand h e at is all =
       application_is no_form tt operand (operator_type d.around (type_names m) e) (expression_operands e) all
       (applied_operator d.around e)
-      (notated d.around (type_names m) m.types es e
+      (notated d.around (type_names m) m es e
       is.0 tt (type_formed e is.0))
 
   own_if_is : (operand : ℕ → PlainForm) → ((x : ℕ) → W x → IsPlainForm (operand x)) → (h : ℕ) → W h → (o : Option ir.Expression) → slice_get f.expressions h ≡ o → IsPlainForm (own_if own source operand o)
   own_if_is operand all h w None at = tt
   own_if_is operand all h w (Some e) at =
       own_is operand h e at
-      ((has_form_parts m.types es f.expressions e (written h e at w)).0, offset_is h e at w)
+      ((has_form_parts m es f.expressions e (written h e at w)).0, offset_is h e at w)
       (all_map all (expression_operands e) (closed.operands h e at w))
 
   standing_is : (s : Standing) (p : PlainForm) → ((x : List ℕ) → s ≡ Named x → IsIdentifier x) → IsPlainForm p → IsPlainForm (standing_plain s p)
@@ -707,13 +715,21 @@ module _ (explicit : Bool) (m : Module) (info : ModuleInfo) (accepted : IsTrue (
   are : TypesAreCounted m
   are = types_are_counted m info accepted (written_are_told m of_part).types
 
+  -- each constant that is written is of the grammar
+  written_constants : (c : ℕ) → constant_is_written m c ≡ true → IsExpression (written_constant_form m (type_names m) c)
+  written_constants =
+      let told = (written_are_told m of_part).types in
+      constant_is m (type_names m)
+      (λ h value at is. literal_is value is (global_names_in_range m info accepted told h (expression.Literal value) at))
+      (λ ty is. let t = tree_there (type_names m) (Handle ty) is in (t.0, t.1, tree_is m are (Handle ty) tt t.0 t.1))
+
   one_is : (g : ℕ) (f : ir_function.Function) (found : slice_get m.functions g ≡ Some f) (es : List ExpressionInfo) → slice_get info.functions.items g ≡ Some es → (callees : ℕ) → function_in_range m callees f ≡ true → IsTrue (function_is_written f) → WrittenHaveForms explicit m info f es → length f.expressions ≤ 2 ^ 64 → IsFunction (function_form explicit (module_names m) m info g f es)
   one_is g f found es here callees ranges written have few =
       let parts = function_parts f written in
       function_is m info g f found es callees ranges (IsWrittenIn m info f es)
       (written_are_closed m info f es) have.expressions
       are (known_fits m info accepted g es here) (written_so_far_parts m of_part).1 explicit
-      have.types few (statements_fit f.body parts.body)
+      have.types few written_constants (statements_fit f.body parts.body)
 
   functions_are : (g : ℕ) (fs : List ir_function.Function) (ess : List (List ExpressionInfo)) → ((i : ℕ) (f : ir_function.Function) → slice_get fs i ≡ Some f → slice_get m.functions (g + i) ≡ Some f) → ((i : ℕ) (es : List ExpressionInfo) → slice_get ess i ≡ Some es → slice_get info.functions.items (g + i) ≡ Some es) → IsTrue (list_all function_is_written fs) → ((i : ℕ) (f : ir_function.Function) (es : List ExpressionInfo) → slice_get fs i ≡ Some f → slice_get ess i ≡ Some es → WrittenHaveForms explicit m info f es) →
       IsTrue (list_all (λ f. nat_le (length f.expressions) (2 ^ 64)) fs) → Each IsFunction (functions_form explicit (module_names m) m info g fs ess)

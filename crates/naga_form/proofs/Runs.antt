@@ -51,7 +51,8 @@ use Rattle.wgsl_text.specs.Requests.{is_request}
 use Rattle.module_meaning.specs.Faithful.{RunsAs}
 use Rattle.module_meaning.specs.Written.{AllWrittenHaveForms, WrittenHaveForms}
 use Rattle.naga_form.proofs.Facts.{further, from_start}
-use Rattle.naga_form.proofs.PartFits.{is_left, no_case_falls, no_constant_named}
+use Rattle.naga_form.proofs.PartFits.{is_left, no_case_falls}
+use Rattle.naga_form.proofs.ConstantsFit.{constants_are_typed}
 use Rattle.naga_form.proofs.FunctionsFit.{IsLeft, AllBehind, all_fit}
 use Rattle.naga_form.proofs.AcceptedFunctions.{functions_known, group_at, numbered, Numbered, functions_counted, AsFunction, AsEntryPoint}
 use Rattle.naga_form.proofs.ConstantTrees.{trees_are}
@@ -65,6 +66,9 @@ use Rattle.naga_ir.specs.declared.module.EntryPoint.{EntryPoint}
 use Rattle.std.proofs.lemmas.List.{nil_from_length}
 use Rattle.std.proofs.lemmas.Bool.{and_parts, eqb-true}
 use Rattle.std.specs.Prelude.{◌==◌}
+use Rattle.std.specs.Option.{is_none}
+use Rattle.naga_form.proofs.AcceptedGroups.{declarations_are}
+use Rattle.module_meaning.specs.Part.{declares_functions}
 use Rattle.naga_form.proofs.AcceptedGroups.{types_are_counted}
 use Rattle.naga_form.proofs.ScopeRules.{same_functions, scopes_are_checked}
 
@@ -77,15 +81,15 @@ shapes_counted m info [] ess paired = refl
 shapes_counted m info (f ∷ fs) [] paired = absurd (omega (arith, paired))
 shapes_counted m info (f ∷ fs) (es ∷ ess) paired = ap suc (shapes_counted m info fs ess (omega (arith, paired)))
 
-functions_read : (explicit : Bool) (m : Module) (info : ModuleInfo) → IsTrue (list_all type_is_of_part m.types) → (g : ℕ) (fs : List ir_function.Function) (ess : List (List ExpressionInfo)) → IsTrue (list_all function_is_written fs) → ((i : ℕ) (f : ir_function.Function) (es : List ExpressionInfo) → slice_get fs i ≡ Some f → slice_get ess i ≡ Some es → WrittenHaveForms explicit m info f es) → ((i : ℕ) (f : ir_function.Function) (es : List ExpressionInfo) → slice_get fs i ≡ Some f → slice_get ess i ≡ Some es → length f.expressions ≡ length es) →
+functions_read : (explicit : Bool) (m : Module) (info : ModuleInfo) → IsTrue (list_all type_is_of_part m.types) → IsTrue (declares_functions m) → length m.global_expressions ≡ length info.const_expression_types.items → (g : ℕ) (fs : List ir_function.Function) (ess : List (List ExpressionInfo)) → IsTrue (list_all function_is_written fs) → ((i : ℕ) (f : ir_function.Function) (es : List ExpressionInfo) → slice_get fs i ≡ Some f → slice_get ess i ≡ Some es → WrittenHaveForms explicit m info f es) → ((i : ℕ) (f : ir_function.Function) (es : List ExpressionInfo) → slice_get fs i ≡ Some f → slice_get ess i ≡ Some es → length f.expressions ≡ length es) →
     map function_read (functions_form explicit (module_names m) m info g fs ess) ≡ map form_function (namings_from (module_names m) m g (function_shapes m info fs ess))
-functions_read explicit m info values g [] [] is have sizes = refl
-functions_read explicit m info values g [] (es ∷ ess) is have sizes = refl
-functions_read explicit m info values g (f ∷ fs) [] is have sizes = refl
-functions_read explicit m info values g (f ∷ fs) (es ∷ ess) is have sizes =
+functions_read explicit m info values declares own g [] [] is have sizes = refl
+functions_read explicit m info values declares own g [] (es ∷ ess) is have sizes = refl
+functions_read explicit m info values declares own g (f ∷ fs) [] is have sizes = refl
+functions_read explicit m info values declares own g (f ∷ fs) (es ∷ ess) is have sizes =
     let all = and_parts (function_is_written f) (list_all function_is_written fs) is in
     let size = sizes 0 f es refl refl in
-    λ i. function_reads explicit m info g f es values all.0 (have 0 f es refl refl) size i ∷ functions_read explicit m info values (g + 1) fs ess all.1 (λ i f es here known. have (suc i) f es here known) (λ i f es here known. sizes (suc i) f es here known) i
+    λ i. function_reads explicit m info g f es values declares own all.0 (have 0 f es refl refl) size i ∷ functions_read explicit m info values declares own (g + 1) fs ess all.1 (λ i f es here known. have (suc i) f es here known) (λ i f es here known. sizes (suc i) f es here known) i
 
 -- what holds of all of a list that is turned round onto another holds of all of both
 behind_all : {X : Type 0} (test : X → Bool) (xs behind : List X) → IsTrue (list_all test (reverse_aux xs behind)) → IsTrue (list_all test behind)
@@ -100,7 +104,7 @@ all_reversed test (x ∷ xs) behind all = and_from (test x) (list_all test xs) (
 pub program_reads : (m : Module) (info : ModuleInfo) (explicit : Bool) → IsTrue (is_accepted m info) → IsTrue (is_written_so_far m) → AllWrittenHaveForms explicit m info → program_read (written_program m info explicit) ≡ form_module (functions_alone m info) (outer_names (module_names m)) (namings (module_names m) m info)
 program_reads m info explicit accepted written have =
     let listed = namings_from (module_names m) m 0 (function_shapes m info m.functions info.functions.items) in
-    let each = functions_read explicit m info (written_so_far_parts m written).1 0 m.functions info.functions.items (functions_are_written m written) (λ i f es here known. have i f es here known) sized in
+    let each = functions_read explicit m info (written_so_far_parts m written).1 (written_so_far_parts m written).0 (declarations_are m info accepted).size 0 m.functions info.functions.items (functions_are_written m written) (λ i f es here known. have i f es here known) sized in
     λ i. record {
       constants = [];
       overrides = [];
@@ -140,11 +144,10 @@ module _ (m : Module) (info : ModuleInfo) (accepted : IsTrue (is_accepted m info
 
   no_entry_points : m.entry_points.items ≡ []
   no_entry_points =
-      let one = and_parts (length m.constants == 0) _ (written_so_far_parts m written).0 in
+      let one = and_parts (list_all (λ c. is_none c.name) m.constants) _ (written_so_far_parts m written).0 in
       let two = and_parts (length m.overrides == 0) _ one.1 in
-      let three = and_parts (length m.global_variables == 0) _ two.1 in
-      let four = and_parts (length m.global_expressions == 0) (length m.entry_points.items == 0) three.1 in
-      nil_from_length m.entry_points.items (eqb-true (length m.entry_points.items) 0 four.1)
+      let three = and_parts (length m.global_variables == 0) (length m.entry_points.items == 0) two.1 in
+      nil_from_length m.entry_points.items (eqb-true (length m.entry_points.items) 0 three.1)
 
   -- each function that is known is written so far
   written_at : (k : ℕ) (f : ir_function.Function) (es : List ExpressionInfo) → slice_get (functions_known m info) k ≡ Some (f, es) → IsTrue (function_is_written f)
@@ -164,13 +167,7 @@ module _ (m : Module) (info : ModuleInfo) (accepted : IsTrue (is_accepted m info
 
   module _ (scope : IsTrue (scope_holds m info)) (counted : NamesAreCounted m) where
     constants_typed : (k : ℕ) (f : ir_function.Function) (es : List ExpressionInfo) → slice_get (functions_known m info) k ≡ Some (f, es) → ConstantsAreTyped m info f es
-    constants_typed k f es at =
-        let group = group_at m info accepted k f es at in
-        record {
-          types = λ h t found. (trees_are m info accepted told (Some f) (function_group f es) group h t found).type;
-          ranges = λ h t found. (trees_are m info accepted told (Some f) (function_group f es) group h t found).range;
-          written = λ h c there. absurd (no_constant_named f (written_at k f es at) h c there);
-        }
+    constants_typed k f es at = constants_are_typed m info accepted told f es (group_at m info accepted k f es at)
 
     -- nothing is left of each function, behind those before it
     all_left : (g : ℕ) (fs : List ir_function.Function) (ess : List (List ExpressionInfo)) → ((i : ℕ) (f : ir_function.Function) → slice_get fs i ≡ Some f → slice_get m.functions (g + i) ≡ Some f) → IsTrue (list_all function_is_written fs) → IsTrue (list_all fits_function (namings_from (module_names m) m g (function_shapes m info fs ess))) →

@@ -2,6 +2,7 @@
 -- there are none of them.
 use Rattle.std.proofs.Common.{◌≡◌, ℕ, ◌<◌, true, length, Some, ap, arith, slice_get}
 use Rattle.std.specs.Prelude.{IsTrue, ◌==◌}
+use Rattle.std.specs.Option.{is_none}
 use Rattle.std.proofs.lemmas.Bool.{and_parts, eqb-true}
 use Rattle.naga_info.specs.declared.info.ModuleInfo.{ModuleInfo}
 use Rattle.naga_ir.specs.declared.module.Module.{Module}
@@ -89,7 +90,7 @@ module _ (m : Module) where
 
       none : (o : ℕ) → o < length m.overrides → ⊥
       none o lt =
-          let one = and_parts (length m.constants == 0) _ (written_so_far_parts m written).0 in
+          let one = and_parts (list_all (λ c. is_none c.name) m.constants) _ (written_so_far_parts m written).0 in
           let two = and_parts (length m.overrides == 0) _ one.1 in
           let same = eqb-true (length m.overrides) 0 two.0 in
           omega (arith, lt, same)

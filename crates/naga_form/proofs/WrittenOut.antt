@@ -10,6 +10,7 @@ use Rattle.std.specs.List.{list_all}
 use Rattle.std.specs.Prelude.{IsTrue, ◌||◌}
 use Rattle.std.specs.Option.{option_map, option_map_or, option_and_then, is_none, is_some}
 use Rattle.std.proofs.lemmas.Bool.{and_parts, ltb-true}
+use Rattle.naga_ir.specs.Operands.{expression_operands}
 use Rattle.naga_ir.specs.declared.expression.Expression.{Expression}
 use Rattle.naga_ir.specs.declared.expression.Expression.TheVariants as expression
 use Rattle.naga_ir.specs.declared.module.Constant.{Constant}
@@ -26,7 +27,7 @@ use Rattle.module_meaning.specs.ExpressionShapes.{Declared, trees, tree_then, tr
 use Rattle.module_meaning.specs.ExpressionTypes as types
 use Rattle.module_meaning.specs.InfoSizes.{sizes_fit, type_is_fit, all_known}
 use Rattle.module_meaning.specs.OperatorTable.{Operator, Splat}
-use Rattle.module_meaning.specs.Ranges.{module_ranges_fit, module_in_range, declarations_in_range, types_in_range, special_types_fit, constant_in_range, override_in_range, global_in_range, global_expression_in_range, expression_in_range, initialiser_before, all_placed, all_below, resolution_fits, is_below, function_in_range, entry_point_in_range}
+use Rattle.module_meaning.specs.Ranges.{module_ranges_fit, module_in_range, declarations_in_range, types_in_range, special_types_fit, constant_in_range, override_in_range, global_in_range, global_expression_in_range, expression_in_range, initialiser_before, names_in_range, all_placed, all_below, resolution_fits, is_below, function_in_range, entry_point_in_range}
 use Rattle.module_meaning.specs.Soundness.{module_is_sound}
 use Rattle.module_meaning.specs.Surroundings.{constant_over, declared_over, global_tree, global_tree_within, global_types_known, written_constant}
 use Rattle.module_meaning.proofs.Lists.{list_all_at}
@@ -116,11 +117,21 @@ module _ (m : Module) (info : ModuleInfo) where
         let item = map_some (λ c. Handle c.ty) (slice_get m.constants c) there.0 there.1 in
         (item.0, item.1)
 
+    -- its operands and the initialisers of the constants that it names stand before one of the
+    -- module's own expressions, and what it names is there
+    global_is_in_range : (h : ℕ) (e : Expression) → slice_get m.global_expressions h ≡ Some e → global_expression_in_range m h e ≡ true
+    global_is_in_range h e at =
+        let from : 0 + h ≡ h = omega arith in
+        sym (ap (λ n. global_expression_in_range m n e) from) ∙ placed_at (global_expression_in_range m) 0 m.global_expressions h e own_parts.1 at
+
+    pub global_names_in_range : (h : ℕ) (e : Expression) → slice_get m.global_expressions h ≡ Some e → names_in_range m (length m.functions) 0 0 e ≡ true
+    global_names_in_range h e at =
+        let own = and_parts (expression_in_range m (length m.functions) 0 0 h e) (initialiser_before m h e) (global_is_in_range h e at) in
+        (and_parts (all_below h (expression_operands e)) (names_in_range m (length m.functions) 0 0 e) own.0).1
+
     pub initialiser_stands_before : (h c : ℕ) → slice_get m.global_expressions h ≡ Some (expression.Constant c) → (k : Constant) → slice_get m.constants c ≡ Some k → k.init < h
     initialiser_stands_before h c at k there =
-        let from : 0 + h ≡ h = omega arith in
-        let own : global_expression_in_range m h (expression.Constant c) ≡ true = sym (ap (λ n. global_expression_in_range m n (expression.Constant c)) from) ∙ placed_at (global_expression_in_range m) 0 m.global_expressions h (expression.Constant c) own_parts.1 at in
-        let before = (and_parts (expression_in_range m (length m.functions) 0 0 h (expression.Constant c)) (initialiser_before m h (expression.Constant c)) own).1 in
+        let before = (and_parts (expression_in_range m (length m.functions) 0 0 h (expression.Constant c)) (initialiser_before m h (expression.Constant c)) (global_is_in_range h (expression.Constant c) at)).1 in
         ltb-true k.init h (sym (ap (λ o. is_below h (option_map (λ k. k.init) o)) there) ∙ before)
 
     -- ---- constants
