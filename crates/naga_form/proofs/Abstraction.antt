@@ -12,7 +12,7 @@ use Rattle.naga_info.specs.declared.info.TypeResolution.TheVariants.{Handle}
 use Rattle.module_meaning.specs.ExpressionOperators.{constructor}
 use Rattle.module_meaning.specs.ExpressionShapes.{constant_shape, swizzle_letters}
 use Rattle.shader_runs.specs.Text.{PartOf}
-use Rattle.shader_runs.specs.Value.{MemberNamed}
+use Rattle.shader_runs.specs.Value.{MemberNamed, Truth}
 use Rattle.module_meaning.specs.OperatorTable.{run_word}
 use Rattle.shader_runs.specs.Program.{Constructed, Fixed, no_constant}
 use Rattle.naga_form.specs.Expressions.{operator_type}

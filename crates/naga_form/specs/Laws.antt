@@ -40,7 +40,8 @@ use Rattle.module_meaning.specs.Writable.{IsWritable}
 use Rattle.module_meaning.specs.Names.{ItemsAreCounted, ItemsAreTold, NamesAreCounted}
 use Rattle.module_meaning.specs.Names.{TypesAreTold, module_names}
 use Rattle.module_meaning.specs.Ranges.{resolution_fits}
-use Rattle.module_meaning.specs.Part.{function_is_written, type_is_of_part, is_written_so_far}
+use Rattle.module_meaning.specs.Part.{declares_functions, function_is_written, is_written_so_far}
+use Rattle.module_meaning.specs.Part.{type_is_of_part}
 use Rattle.module_meaning.specs.Premises.{handles_are_counted, scope_holds, ScopesHold}
 use Rattle.module_meaning.specs.Resolution.{ResolvesAs}
 use Rattle.module_meaning.specs.ModuleShapes.{module_shape}
