@@ -14,4 +14,5 @@ pub mod ShapeExamples
 pub mod ShapeKinds
 pub mod Shapes
 pub mod SideBySide
+pub mod Stepwise
 pub mod TypeIdentity

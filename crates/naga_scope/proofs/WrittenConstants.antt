@@ -1,4 +1,5 @@
--- Which expressions may be written out as constants, by one pass over them in their order.
+-- Which expressions may be written out as constants, and which of a module's own are written, by one
+-- pass over them in their order.
 use Rattle.std.proofs.Common.{◌≡◌, ℕ, zero, suc, ◌+◌, ◌<◌, ◌≤◌, ◌&&◌, Bool, true, false, List, [], ◌∷◌}
 use Rattle.std.proofs.Common.{Option, Some, None, refl, sym, ap, ap₂, ◌∙◌, arith, subst, length}
 use Rattle.std.proofs.Common.{below_more, get_or, nat_lt, slice_get, slice_set}
@@ -8,12 +9,20 @@ use Rattle.std.proofs.lemmas.Bool.{ltb-false, ltb-true}
 use Rattle.std.proofs.lemmas.Grind.{get_or-set_at}
 use Rattle.std.proofs.lemmas.List.{get_or-set_other, get_or_past, length-set}
 use Rattle.std.proofs.lemmas.Option.{slice_get_past}
+use Rattle.module_meaning.proofs.Stepwise.{by_those_before}
+use Rattle.module_meaning.specs.AlikeTypes.{has_form}
+use Rattle.module_meaning.specs.Part.{constant_is_written, global_is_written}
+use Rattle.module_meaning.specs.Part.{global_is_written_over, global_is_written_within}
+use Rattle.module_meaning.specs.Part.{initialiser_passes}
 use Rattle.module_meaning.specs.Premises.{OperandsStandBefore}
 use Rattle.module_meaning.specs.Writable.{is_written_out, written_out_over, written_out_within}
 use Rattle.naga_ir.specs.Operands.{expression_operands}
 use Rattle.naga_ir.specs.declared.expression.Expression.{Expression}
 use Rattle.naga_ir.specs.declared.expression.Expression.TheVariants as expression
-use Rattle.naga_scope.specs.Marks.{MarksConstants, is_marked}
+use Rattle.naga_info.specs.declared.info.TypeResolution.TheVariants.{Handle}
+use Rattle.naga_ir.specs.declared.module.Constant.{Constant}
+use Rattle.naga_ir.specs.declared.module.Module.{Module}
+use Rattle.naga_scope.specs.Marks.{GlobalsStandInOrder, MarksGlobals, is_marked}
 use Rattle.shader_runs.specs.Premises.{AllBelow}
 
 -- ---- tests that agree below a handle
@@ -23,72 +32,111 @@ list_same a b h [] below same = refl
 list_same a b h (x ∷ xs) below same =
     ap₂ (λ p q. p && q) (same x below.0) (list_same a b h xs below.1 same)
 
-over_same : (a b : ℕ → Bool) (h : ℕ) (e : Expression) → AllBelow h (expression_operands e) →
+out_same : (a b : ℕ → Bool) (h : ℕ) (e : Expression) → AllBelow h (expression_operands e) →
     ((x : ℕ) → x < h → a x ≡ b x) → written_out_over a e ≡ written_out_over b e
-over_same a b h (expression.Compose ty components) below same =
+out_same a b h (expression.Compose ty components) below same =
     list_same a b h components.items below same
-over_same a b h (expression.Splat size value) below same = same value below.0
-over_same a b h _ below same = refl
+out_same a b h (expression.Splat size value) below same = same value below.0
+out_same a b h _ below same = refl
 
--- a table of one mark for each expression, in which those below i are right
-pub record MarksBelow (es : List Expression) (marks : List Bool) (i : ℕ) : Type 0 where
-  pub size : length marks ≡ length es
-  pub cells : (h : ℕ) → h < i → is_marked marks h ≡ is_written_out es h
+-- ---- tables of marks
+-- a table of so many marks, in which those below i are right
+pub record MarksBelow (is : ℕ → Bool) (count : ℕ) (marks : List Bool) (i : ℕ) : Type 0 where
+  pub size : length marks ≡ count
+  pub cells : (h : ℕ) → h < i → is_marked marks h ≡ is h
 
-module _ (es : List Expression) (ordered : OperandsStandBefore es) where
-  -- enough levels give the same
-  levels_same : (j k h : ℕ) → h < j → h < k →
-      written_out_within j es h ≡ written_out_within k es h
-  levels_same zero k h lt_j lt_k = absurd (omega (arith, lt_j))
-  levels_same (suc j) zero h lt_j lt_k = absurd (omega (arith, lt_k))
-  levels_same (suc j) (suc k) h lt_j lt_k = by (slice_get es h) refl (levels_same j k)
-    where
-      by : (o : Option Expression) → slice_get es h ≡ o →
-          ((x : ℕ) → x < j → x < k → written_out_within j es x ≡ written_out_within k es x) →
-          option_map_or (written_out_over (written_out_within j es)) o false ≡
-          option_map_or (written_out_over (written_out_within k es)) o false
-      by None at each = refl
-      by (Some e) at each =
-          over_same (written_out_within j es) (written_out_within k es) h e (ordered h e at)
-          (λ x lt. each x (omega (arith, lt, lt_j)) (omega (arith, lt, lt_k)))
-
-  -- an expression may be written out by what may of its operands
-  constant_by : (h : ℕ) (e : Expression) → slice_get es h ≡ Some e → (test : ℕ → Bool) →
-      ((x : ℕ) → x < h → test x ≡ is_written_out es x) →
-      written_out_over test e ≡ is_written_out es h
-  constant_by h e at test same =
-      over_same test (written_out_within h es) h e (ordered h e at)
-      (λ x lt. same x lt ∙ levels_same (suc x) h x (omega arith) lt)
-      ∙ sym (ap (λ o. option_map_or (written_out_over (written_out_within h es)) o false) at)
-
-  pub none_below : (marks : List Bool) → length marks ≡ length es → MarksBelow es marks 0
+module _ (is : ℕ → Bool) (count : ℕ) where
+  pub none_below : (marks : List Bool) → length marks ≡ count → MarksBelow is count marks 0
   none_below marks size = record { size = size; cells = λ h lt. absurd (omega (arith, lt)) }
 
-  pub one_below : (marks : List Bool) (i : ℕ) (e : Expression) (mark : Bool) →
-      slice_get es i ≡ Some e → i < length es → mark ≡ written_out_over (is_marked marks) e →
-      MarksBelow es marks i → MarksBelow es (slice_set marks i mark) (i + 1)
-  one_below marks i e mark at lt is below =
+  pub one_below : (marks : List Bool) (i : ℕ) (mark : Bool) → i < count → mark ≡ is i →
+      MarksBelow is count marks i → MarksBelow is count (slice_set marks i mark) (i + 1)
+  one_below marks i mark lt same below =
       let within : i < length marks = subst (λ n. i < n) (sym below.size) lt in
       let now = slice_set marks i mark in
       record {
         size = length-set marks i mark ∙ below.size;
-        cells = below_more (λ h. get_or now h false ≡ is_written_out es h) i
+        cells = below_more (λ h. get_or now h false ≡ is h) i
             (λ h l.
             get_or-set_other marks i h mark false (λ same. absurd (omega (arith, l, same)))
             ∙ below.cells h l)
-            (get_or-set_at marks i i mark false refl within
-            ∙ (is ∙ constant_by i e at (is_marked marks) below.cells));
+            (get_or-set_at marks i i mark false refl within ∙ same);
       }
 
-  pub all_below : (marks : List Bool) → MarksBelow es marks (length es) → MarksConstants es marks
-  all_below marks below h = by (nat_lt h (length es)) refl
+  pub all_below : ((h : ℕ) → count ≤ h → is h ≡ false) → (marks : List Bool) →
+      MarksBelow is count marks count → (h : ℕ) → is_marked marks h ≡ is h
+  all_below beyond marks below h = by (nat_lt h count) refl
     where
-      by : (b : Bool) → nat_lt h (length es) ≡ b → is_marked marks h ≡ is_written_out es h
-      by true is = below.cells h (ltb-true h (length es) is)
-      by false is =
-          let le = ltb-false h (length es) is in
+      by : (b : Bool) → nat_lt h count ≡ b → is_marked marks h ≡ is h
+      by true within = below.cells h (ltb-true h count within)
+      by false outside =
+          let le = ltb-false h count outside in
           let past : length marks ≤ h = omega (arith, le, below.size) in
-          get_or_past marks h false past
-          ∙ sym
-          (ap (λ o. option_map_or (written_out_over (written_out_within h es)) o false)
-          (slice_get_past es h le))
+          get_or_past marks h false past ∙ sym (beyond h le)
+
+-- ---- what may be written out
+module _ (es : List Expression) (ordered : OperandsStandBefore es) where
+  -- an expression may be written out by what may of its operands
+  pub constant_by : (h : ℕ) (e : Expression) → slice_get es h ≡ Some e → (marks : List Bool) →
+      MarksBelow (is_written_out es) (length es) marks h →
+      written_out_over (is_marked marks) e ≡ is_written_out es h
+  constant_by h e at marks below =
+      by_those_before false es written_out_over (λ k h. written_out_within k es h) (λ k h. refl)
+      (λ h e at a b. out_same a b h e (ordered h e at)) h e at (is_marked marks) below.cells
+
+pub not_beyond : (es : List Expression) (h : ℕ) → length es ≤ h → is_written_out es h ≡ false
+not_beyond es h le =
+    ap (λ o. option_map_or (written_out_over (written_out_within h es)) o false)
+    (slice_get_past es h le)
+
+-- ---- a module's own expressions
+-- the initialiser of a constant that stands below
+initialiser_same : (m : Module) (a b : ℕ → Bool) (h c : ℕ) →
+    ((k : Constant) → slice_get m.constants c ≡ Some k → k.init < h) →
+    ((x : ℕ) → x < h → a x ≡ b x) → initialiser_passes m a c ≡ initialiser_passes m b c
+initialiser_same m a b h c before same = by (slice_get m.constants c) refl
+  where
+    by : (o : Option Constant) → slice_get m.constants c ≡ o →
+        option_map_or (λ k. a k.init) o false ≡ option_map_or (λ k. b k.init) o false
+    by None at = refl
+    by (Some k) at = same k.init (before k at)
+
+global_same : (m : Module) → GlobalsStandInOrder m → (h : ℕ) (e : Expression) →
+    slice_get m.global_expressions h ≡ Some e → (a b : ℕ → Bool) →
+    ((x : ℕ) → x < h → a x ≡ b x) → global_is_written_over m a e ≡ global_is_written_over m b e
+global_same m ordered h (expression.Constant c) at a b same =
+    initialiser_same m a b h c (λ k there. ordered.initialisers h c k at there) same
+global_same m ordered h (expression.Compose ty components) at a b same =
+    ap (λ all. has_form m.types (Handle ty) && all)
+    (list_same a b h components.items
+    (ordered.operands h (expression.Compose ty components) at) same)
+global_same m ordered h (expression.Splat size value) at a b same =
+    same value (ordered.operands h (expression.Splat size value) at).0
+global_same m ordered h _ at a b same = refl
+
+-- one is written by which of those before it are
+pub global_by : (m : Module) → GlobalsStandInOrder m → (h : ℕ) (e : Expression) →
+    slice_get m.global_expressions h ≡ Some e → (marks : List Bool) →
+    MarksBelow (global_is_written m) (length m.global_expressions) marks h →
+    global_is_written_over m (is_marked marks) e ≡ global_is_written m h
+global_by m ordered h e at marks below =
+    by_those_before false m.global_expressions (global_is_written_over m)
+    (λ k h. global_is_written_within k m h) (λ k h. refl) (global_same m ordered) h e at
+    (is_marked marks) below.cells
+
+pub no_global_beyond : (m : Module) (h : ℕ) → length m.global_expressions ≤ h →
+    global_is_written m h ≡ false
+no_global_beyond m h le =
+    ap (λ o. option_map_or (global_is_written_over m (global_is_written_within h m)) o false)
+    (slice_get_past m.global_expressions h le)
+
+-- a constant is written, by marks of the module's own expressions
+pub constant_marked : (m : Module) (marks : List Bool) → MarksGlobals m marks → (c : ℕ) →
+    initialiser_passes m (is_marked marks) c ≡ constant_is_written m c
+constant_marked m marks are c = by (slice_get m.constants c)
+  where
+    by : (o : Option Constant) →
+        option_map_or (λ k. is_marked marks k.init) o false ≡
+        option_map_or (λ k. global_is_written m k.init) o false
+    by None = refl
+    by (Some k) = are k.init

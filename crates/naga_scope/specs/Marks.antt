@@ -1,10 +1,15 @@
 -- A table of marks, one for each expression of a function.
-use Rattle.std.specs.Prelude.{◌≡◌, ℕ, Bool, false, List, ◌&&◌, ◌||◌, get_or, length, nat_eq, nat_lt}
+use Rattle.std.specs.Prelude.{◌≡◌, ◌<◌, ℕ, Bool, false, List, ◌&&◌, ◌||◌, get_or, length, nat_eq, nat_lt}
 use Rattle.std.specs.Prelude.{IsFalse, IsSomeAnd, IsTrue, None, Option, Some, slice_get}
 use Rattle.std.specs.List.{list_any}
+use Rattle.module_meaning.specs.Part.{global_is_written}
+use Rattle.module_meaning.specs.Premises.{OperandsStandBefore}
 use Rattle.module_meaning.specs.Writable.{is_written_out}
 use Rattle.module_meaning.specs.Written.{IsWritten}
 use Rattle.naga_ir.specs.declared.expression.Expression.{Expression}
+use Rattle.naga_ir.specs.declared.expression.Expression.TheVariants as expression
+use Rattle.naga_ir.specs.declared.module.Constant.{Constant}
+use Rattle.naga_ir.specs.declared.module.Module.{Module}
 
 -- the handle has a mark
 abbrev pub is_marked : List Bool → (handle : ℕ) → Bool
@@ -23,6 +28,18 @@ marked_with marks handles handle =
 abbrev pub MarksJust : (handles : List ℕ) → List Bool → Type 0
 MarksJust handles marks =
     (h : ℕ) → is_marked marks h ≡ (is_one_of handles h && nat_lt h (length marks))
+
+-- just those of the module's own expressions have marks that are written
+abbrev pub MarksGlobals : Module → List Bool → Type 0
+MarksGlobals m marks = (h : ℕ) → is_marked marks h ≡ global_is_written m h
+
+-- Among the module's own expressions operands stand before what they are operands of, and so do the
+-- initialisers of the constants that an expression names.
+pub record GlobalsStandInOrder (m : Module) : Type 0 where
+  pub operands : OperandsStandBefore m.global_expressions
+  pub initialisers : (h c : ℕ) (k : Constant) →
+      slice_get m.global_expressions h ≡ Some (expression.Constant c) →
+      slice_get m.constants c ≡ Some k → k.init < h
 
 -- just what may be written out as a constant has a mark
 abbrev pub MarksConstants : List Expression → List Bool → Type 0

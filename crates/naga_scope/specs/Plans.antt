@@ -63,7 +63,7 @@ abbrev pub IsRefusalToPlan : (explicit : Bool) → Module → ModuleInfo → ir.
 IsRefusalToPlan explicit m info f es namer OutOfScope = ScopeHolds (function_shape m info f es) → ⊥
 IsRefusalToPlan explicit m info f es namer (WithoutForm h) =
     IsWrittenIn m info f es h
-    × IsSomeAnd (slice_get f.expressions h) (λ e. IsFalse (expression_has_form m.types es f.expressions e))
+    × IsSomeAnd (slice_get f.expressions h) (λ e. IsFalse (expression_has_form m es f.expressions e))
 IsRefusalToPlan explicit m info f es namer (TypeWithoutForm ty) =
     IsSpelledIn explicit m info f es (Handle ty) × IsFalse (has_form m.types (Handle ty))
 IsRefusalToPlan explicit m info f es namer (LetWithoutForm h) =

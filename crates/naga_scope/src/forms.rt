@@ -10,27 +10,32 @@ ghost use Rattle.module_meaning.specs.Sampling.{sampling_is_written};
 ghost use Rattle.naga_info.specs.declared.info.TypeResolution.TheVariants.{Handle as OfHandle};
 ghost use Rattle.naga_ir.specs.declared.types.Type_.{Type_};
 ghost use Rattle.naga_scope.specs.Forms.{AreKnownIn};
+ghost use Rattle.naga_scope.specs.Marks.{MarksGlobals};
 ghost use Rattle.wgsl_words.specs.Words.{scalar_word};
 
+use crate::global_expressions::GlobalExpressions;
 use naga_acceptance::is_spelled;
 use naga_acceptance::parts::known_has_parts;
 use naga_info::{FunctionInfo, TypeResolution};
 use naga_ir::{
-    Expression, Handle, Literal, RelationalFunction, SampleLevel, Scalar, ScalarKind,
+    Expression, Handle, Literal, Module, RelationalFunction, SampleLevel, Scalar, ScalarKind,
     SwizzleComponent, Type_, TypeInner, UniqueArena,
 };
 use wgsl_words::TryToWgsl;
 
 /// Whether an expression is one that is written, where its offset, if it has one, is written out.
 pub(crate) fn is_written(
-    types: &UniqueArena<Type_>,
+    module: &Module,
+    globals: &GlobalExpressions,
     info: &FunctionInfo,
     expression: &Expression,
 ) -> bool
-    requires known { AreKnownIn types.now info.now }
-    ensures { result ≡ expression_is_written types.now info.now expression.now }
+    requires globals { MarksGlobals «module».now globals.now }
+    requires known { AreKnownIn «module».now.types info.now }
+    ensures { result ≡ expression_is_written «module».now info.now expression.now }
 {
     match expression {
+        Expression::Constant(constant) => globals.writes(module, *constant),
         Expression::Access { .. }
         | Expression::FunctionArgument(_)
         | Expression::LocalVariable(_)
@@ -52,16 +57,16 @@ pub(crate) fn is_written(
             ..
         } => sampling_has_form(*gather, *level, depth_ref.is_some(), *clamp_to_edge),
         Expression::AccessIndex { base, .. } => {
-            known_has_parts(types, info.expressions.as_slice(), *base)
+            known_has_parts(&module.types, info.expressions.as_slice(), *base)
         }
         Expression::ImageLoad { sample, level, .. } => sample.is_none() || level.is_none(),
-        Expression::ZeroValue(ty) => type_has_form(types, *ty),
-        Expression::Compose { ty, .. } => type_has_form(types, *ty),
+        Expression::ZeroValue(ty) => type_has_form(&module.types, *ty),
+        Expression::Compose { ty, .. } => type_has_form(&module.types, *ty),
         Expression::As {
             expr,
             kind,
             convert,
-        } => is_converted(types, info, *expr, *kind, *convert),
+        } => is_converted(&module.types, info, *expr, *kind, *convert),
         Expression::Math { fun, .. } => fun.try_to_wgsl().is_some(),
         Expression::Relational { fun, .. } => match fun {
             RelationalFunction::All | RelationalFunction::Any => true,
@@ -101,7 +106,7 @@ pub(crate) fn type_has_form(types: &UniqueArena<Type_>, ty: Handle<Type_>) -> bo
     is_spelled(types, &TypeResolution::Handle(ty))
 }
 
-fn literal_has_form(literal: Literal) -> bool
+pub(crate) fn literal_has_form(literal: Literal) -> bool
     ensures { result ≡ is_written_literal literal }
 {
     match literal {

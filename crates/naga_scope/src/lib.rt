@@ -6,6 +6,7 @@ pub mod binding;
 pub mod check;
 mod forms;
 mod given;
+pub mod global_expressions;
 pub mod plan;
 pub mod points;
 mod spelled;
@@ -13,5 +14,6 @@ mod written;
 
 pub use binding::binds;
 pub use forms::{converted_scalar, sampling_has_form};
+pub use global_expressions::GlobalExpressions;
 pub use plan::{Plan, PlanError};
 pub use points::{BoundName, Scope, Standing};

@@ -8,19 +8,20 @@ ghost use Rattle.module_meaning.specs.Names.{labels_given};
 ghost use Rattle.module_meaning.specs.Part.{function_is_written, is_written_so_far};
 ghost use Rattle.module_meaning.specs.Premises.{OperandsStandBefore};
 ghost use Rattle.naga_info.specs.declared.info.ModuleInfo.{ModuleInfo};
-ghost use Rattle.naga_ir.specs.declared.module.Module.{Module};
 ghost use Rattle.naga_scope.specs.Forms.{AreKnownIn};
 ghost use Rattle.naga_scope.specs.Plans.{IsPlan, IsPlanOf, IsRefusalToPlan, IsRefusalToPlanOf};
 ghost use Rattle.naga_scope.specs.GivenNames.{HasBegunLabels, NamesLabels};
+ghost use Rattle.naga_scope.specs.Marks.{MarksGlobals};
 ghost use Rattle.naga_scope.specs.declared.plan.PlanError.TheVariants.{Memory, Unnamed};
 
 use crate::check::function_holds;
 use crate::given::given_names;
+use crate::global_expressions::GlobalExpressions;
 use crate::points::Scope;
 use crate::spelled::{declared_without_form, told_without_form};
 use crate::written::written_without_form;
 use naga_info::{FunctionInfo, ModuleInfo};
-use naga_ir::{Expression, Function, Handle, Module, Type_, UniqueArena};
+use naga_ir::{Expression, Function, Handle, Module, Type_};
 use naga_names::NamerError;
 use naga_names::namer::Namer;
 use std::alloc::{AllocError, Global};
@@ -100,12 +101,14 @@ impl Plan {
         module: &Module,
         info: &ModuleInfo,
         handle: Handle<Function>,
+        globals: &GlobalExpressions,
         explicit: bool,
         namer: &mut Namer,
     ) -> Result<Plan, PlanError>
         requires accepted { IsTrue (is_accepted «module».now info.now) }
         requires written { IsTrue (is_written_so_far «module».now) }
         requires handle { handle < length «module».now.functions }
+        requires globals { MarksGlobals «module».now globals.now }
         ensures ok { IfOk result (IsPlanOf explicit «module».now info.now handle) }
         ensures named { IfOk result (λ p.
             NamesLabels namer.old [] (labels_given «module».now handle) namer.new p.given) }
@@ -116,7 +119,8 @@ impl Plan {
     {
         Plan::of_function(
             alloc,
-            &module.types,
+            module,
+            globals,
             &module.functions[handle],
             &info[handle],
             explicit,
@@ -126,7 +130,8 @@ impl Plan {
 
     fn of_function(
         alloc: Global,
-        types: &UniqueArena<Type_>,
+        module: &Module,
+        globals: &GlobalExpressions,
         function: &Function,
         info: &FunctionInfo,
         explicit: bool,
@@ -134,28 +139,29 @@ impl Plan {
     ) -> Result<Plan, PlanError>
         requires ordered { OperandsStandBefore function.now.expressions }
         requires written { IsTrue (function_is_written function.now) }
-        requires known { AreKnownIn types.now info.now }
-        ensures ok { (m : Module) (known : ModuleInfo) → m.types ≡ types.now →
-            IfOk result (IsPlan explicit m known function.now info.now) }
+        requires globals { MarksGlobals «module».now globals.now }
+        requires known { AreKnownIn «module».now.types info.now }
+        ensures ok { (known : ModuleInfo) →
+            IfOk result (IsPlan explicit «module».now known function.now info.now) }
         ensures named { IfOk result (λ p.
             NamesLabels namer.old [] (given_labels function.now) namer.new p.given) }
-        ensures err { (m : Module) (known : ModuleInfo) → m.types ≡ types.now →
-            IfErr result (IsRefusalToPlan explicit m known function.now info.now namer.old) }
+        ensures err { (known : ModuleInfo) → IfErr result
+            (IsRefusalToPlan explicit «module».now known function.now info.now namer.old) }
         ensures begun { OnErr result
             (HasBegunLabels namer.old (given_labels function.now) namer.new) }
     {
         let given = given_names(alloc, function, namer)?;
         let mut scope = Scope::start(alloc, function)?;
-        if !function_holds(&mut scope, types, function, info) {
+        if !function_holds(&mut scope, &module.types, function, info) {
             return Err(PlanError::OutOfScope);
         }
-        if let Some(handle) = written_without_form(alloc, types, function, info)? {
+        if let Some(handle) = written_without_form(alloc, module, globals, function, info)? {
             return Err(PlanError::WithoutForm(handle));
         }
-        if let Some(ty) = declared_without_form(types, function) {
+        if let Some(ty) = declared_without_form(&module.types, function) {
             return Err(PlanError::TypeWithoutForm(ty));
         }
-        if let Some(handle) = told_without_form(types, function, info, explicit) {
+        if let Some(handle) = told_without_form(&module.types, function, info, explicit) {
             return Err(PlanError::LetWithoutForm(handle));
         }
         scope.restart(function);

@@ -17,14 +17,16 @@ ghost use Rattle.naga_ir.specs.declared.module.Module.{Module};
 ghost use Rattle.module_meaning.specs.Premises.{OperandsStandBefore};
 ghost use Rattle.naga_ir.specs.declared.expression.Expression.{Expression};
 ghost use Rattle.naga_scope.specs.Forms.{AreKnownIn};
-ghost use Rattle.naga_scope.specs.Marks.{MarksConstants, MarksJust, Sweeps, is_marked};
+ghost use Rattle.naga_scope.specs.Marks.{MarksConstants, MarksGlobals, MarksJust, Sweeps};
+ghost use Rattle.naga_scope.specs.Marks.{is_marked};
 ghost use Rattle.naga_scope.specs.Marks.{marked_with};
 ghost use Rattle.shader_runs.specs.Program.{binds, from};
 
 use crate::binding::binds;
 use crate::forms::is_written;
+use crate::global_expressions::GlobalExpressions;
 use naga_info::FunctionInfo;
-use naga_ir::{Expression, Function, Handle, Place, Range, Statement, Type_, UniqueArena};
+use naga_ir::{Expression, Function, Handle, Module, Place, Range, Statement, Type_, UniqueArena};
 use std::alloc::{AllocError, Global};
 
 /// Notes that the expression with this handle is written, if there is one.
@@ -48,7 +50,7 @@ fn mark_if(marks: &mut [bool], handle: Handle<Expression>, is_written: bool)
 }
 
 /// Whether the expression with this handle has a mark.
-fn is_marked(marks: &[bool], handle: Handle<Expression>) -> bool
+pub(crate) fn is_marked(marks: &[bool], handle: Handle<Expression>) -> bool
     ensures { result ≡ is_marked marks.now handle }
 {
     match marks.get(handle.index()) {
@@ -58,7 +60,7 @@ fn is_marked(marks: &[bool], handle: Handle<Expression>) -> bool
 }
 
 /// Whether all of these have marks.
-fn are_marked(marks: &[bool], handles: &[Handle<Expression>]) -> bool
+pub(crate) fn are_marked(marks: &[bool], handles: &[Handle<Expression>]) -> bool
     ensures { result ≡ list_all (is_marked marks.now) handles.now }
 {
     for handle in handles {
@@ -114,15 +116,17 @@ fn offset_has_form(constants: &[bool], expression: &Expression) -> bool
 /// Whether an expression has a form, by marks of those that may be written out as constants.
 fn has_form(
     constants: &[bool],
-    types: &UniqueArena<Type_>,
+    module: &Module,
+    globals: &GlobalExpressions,
     info: &FunctionInfo,
     expression: &Expression,
 ) -> bool
-    requires known { AreKnownIn types.now info.now }
+    requires globals { MarksGlobals «module».now globals.now }
+    requires known { AreKnownIn «module».now.types info.now }
     ensures { (es : List Expression) → MarksConstants es constants.now →
-        result ≡ expression_has_form types.now info.now es expression.now }
+        result ≡ expression_has_form «module».now info.now es expression.now }
 {
-    is_written(types, info, expression) && offset_has_form(constants, expression)
+    is_written(module, globals, info, expression) && offset_has_form(constants, expression)
 }
 
 /// Marks what these handles of an `Emit` write: those that a `let` binds.
@@ -235,16 +239,18 @@ fn no_marks(alloc: Global, function: &Function) -> Result<Vec<bool>, AllocError>
 fn sweep(
     marks: &mut [bool],
     constants: &[bool],
-    types: &UniqueArena<Type_>,
+    module: &Module,
+    globals: &GlobalExpressions,
     function: &Function,
     info: &FunctionInfo,
 ) -> Option<Handle<Expression>>
     requires size { length marks.old ≡ length function.now.expressions }
     requires constants { MarksConstants function.now.expressions constants.now }
     requires ordered { OperandsStandBefore function.now.expressions }
-    requires known { AreKnownIn types.now info.now }
+    requires globals { MarksGlobals «module».now globals.now }
+    requires known { AreKnownIn «module».now.types info.now }
     ensures { (roots : List ℕ) → MarksJust roots marks.old →
-        Sweeps (expression_has_form types.now info.now function.now.expressions)
+        Sweeps (expression_has_form «module».now info.now function.now.expressions)
         function.now.expressions roots result }
 {
     let mut end = function.expressions.len();
@@ -253,7 +259,7 @@ fn sweep(
         if marks[end] {
             let handle = Place::from_index(end);
             let expression = &function.expressions[handle];
-            if !has_form(constants, types, info, expression) {
+            if !has_form(constants, module, globals, info, expression) {
                 return Some(handle);
             }
             mark_operands(marks, expression);
@@ -267,7 +273,8 @@ fn sweep(
 fn without_form(
     marks: &mut [bool],
     constants: &[bool],
-    types: &UniqueArena<Type_>,
+    module: &Module,
+    globals: &GlobalExpressions,
     function: &Function,
     info: &FunctionInfo,
 ) -> Option<Handle<Expression>>
@@ -275,36 +282,37 @@ fn without_form(
     requires written { IsTrue (function_is_written function.now) }
     requires marks { marks.old ≡ replicate (length function.now.expressions) false }
     requires constants { MarksConstants function.now.expressions constants.now }
-    requires known { AreKnownIn types.now info.now }
-    ensures { (m : Module) (known : ModuleInfo) →
-        m.types ≡ types.now →
-        let shape = function_shape m known function.now info.now in
-        Sweeps (expression_has_form types.now info.now function.now.expressions)
+    requires globals { MarksGlobals «module».now globals.now }
+    requires known { AreKnownIn «module».now.types info.now }
+    ensures { (known : ModuleInfo) →
+        let shape = function_shape «module».now known function.now info.now in
+        Sweeps (expression_has_form «module».now info.now function.now.expressions)
         function.now.expressions (function_roots (binds shape) function.now) result }
 {
     mark_first_values(marks, function);
-    mark_body(marks, types, function, info);
-    sweep(marks, constants, types, function, info)
+    mark_body(marks, &module.types, function, info);
+    sweep(marks, constants, module, globals, function, info)
 }
 
 /// The last written expression of the function that has no form, if there is one.
 pub(crate) fn written_without_form(
     alloc: Global,
-    types: &UniqueArena<Type_>,
+    module: &Module,
+    globals: &GlobalExpressions,
     function: &Function,
     info: &FunctionInfo,
 ) -> Result<Option<Handle<Expression>>, AllocError>
     requires ordered { OperandsStandBefore function.now.expressions }
     requires written { IsTrue (function_is_written function.now) }
-    requires known { AreKnownIn types.now info.now }
-    ensures { (m : Module) (known : ModuleInfo) →
-        m.types ≡ types.now →
-        let shape = function_shape m known function.now info.now in
-        IfOk result (Sweeps (expression_has_form types.now info.now function.now.expressions)
+    requires globals { MarksGlobals «module».now globals.now }
+    requires known { AreKnownIn «module».now.types info.now }
+    ensures { (known : ModuleInfo) →
+        let shape = function_shape «module».now known function.now info.now in
+        IfOk result (Sweeps (expression_has_form «module».now info.now function.now.expressions)
         function.now.expressions (function_roots (binds shape) function.now)) }
 {
     let mut constants = no_marks(alloc, function)?;
     mark_constants(&mut constants, function);
     let mut marks = no_marks(alloc, function)?;
-    Ok(without_form(&mut marks, &constants, types, function, info))
+    Ok(without_form(&mut marks, &constants, module, globals, function, info))
 }

@@ -12,7 +12,7 @@ loop-end-init c =
     record {
       size = c.requires.size;
       bound = omega (arith, len);
-      swept = λ roots just. begun (expression_has_form c.args.types.now c.args.info.now c.args.function.now.expressions) _ roots _ just c.requires.size c.len-end.result (omega (arith, len));
+      swept = λ roots just. begun (expression_has_form c.args.module.now c.args.info.now c.args.function.now.expressions) _ roots _ just c.requires.size c.len-end.result (omega (arith, len));
     }
 
 pub bounds-marks-end : goal.bounds-marks-end
@@ -27,7 +27,7 @@ returns-then-not-has_form c roots just =
     let swept = c.loop-end.invariant.swept roots just in
     let here = c.from_index-handle.ensures in (
       swept.sound c.from_index-handle.result (ap (is_marked c.loop-end.marks) here ∙ c.if-marks-end.true),
-      subst (λ o. IsSomeAnd o (λ e. IsFalse (expression_has_form c.args.types.now c.args.info.now c.args.function.now.expressions e))) (sym c.index-expression.ensures)
+      subst (λ o. IsSomeAnd o (λ e. IsFalse (expression_has_form c.args.module.now c.args.info.now c.args.function.now.expressions e))) (sym c.index-expression.ensures)
           (sym (c.if-not-has_form.ensures c.args.function.now.expressions c.requires.constants)),
     )
 
@@ -41,11 +41,11 @@ loop-end-preserved-then-marks-end c =
       size = c.mark_operands.ensures.size ∙ c.loop-end.invariant.size;
       bound = omega (arith, bound);
       swept = λ roots just.
-          next (expression_has_form c.args.types.now c.args.info.now c.args.function.now.expressions) _ roots _ c.loop-end.marks c.mark_operands.new.marks (c.loop-end.end - 1) _
+          next (expression_has_form c.args.module.now c.args.info.now c.args.function.now.expressions) _ roots _ c.loop-end.marks c.mark_operands.new.marks (c.loop-end.end - 1) _
           c.loop-end.invariant.size at
           (c.requires.ordered (c.loop-end.end - 1) c.index-expression.result.now at)
           c.if-marks-end.true (sym (c.if-not-has_form.ensures c.args.function.now.expressions c.requires.constants)) c.mark_operands.ensures.marks
-          (subst (λ k. Swept (expression_has_form c.args.types.now c.args.info.now c.args.function.now.expressions) c.args.function.now.expressions roots c.args.marks.now c.loop-end.marks k) (sym last)
+          (subst (λ k. Swept (expression_has_form c.args.module.now c.args.info.now c.args.function.now.expressions) c.args.function.now.expressions roots c.args.marks.now c.loop-end.marks k) (sym last)
           (c.loop-end.invariant.swept roots just));
     }
 
@@ -58,14 +58,14 @@ loop-end-preserved c =
       size = c.loop-end.invariant.size;
       bound = omega (arith, bound);
       swept = λ roots just.
-          passed (expression_has_form c.args.types.now c.args.info.now c.args.function.now.expressions) _ roots _ c.loop-end.marks (c.loop-end.end - 1) c.if-marks-end.false
-          (subst (λ k. Swept (expression_has_form c.args.types.now c.args.info.now c.args.function.now.expressions) c.args.function.now.expressions roots c.args.marks.now c.loop-end.marks k) (sym last)
+          passed (expression_has_form c.args.module.now c.args.info.now c.args.function.now.expressions) _ roots _ c.loop-end.marks (c.loop-end.end - 1) c.if-marks-end.false
+          (subst (λ k. Swept (expression_has_form c.args.module.now c.args.info.now c.args.function.now.expressions) c.args.function.now.expressions roots c.args.marks.now c.loop-end.marks k) (sym last)
           (c.loop-end.invariant.swept roots just));
     }
 
 pub returns : goal.returns
 returns c roots just h e at is =
     let none : c.loop-end.end ≡ 0 = omega (arith, c.loop-end-test.false) in
-    ended (expression_has_form c.args.types.now c.args.info.now c.args.function.now.expressions) _ roots _ just c.requires.size c.loop-end.marks
-    (subst (λ k. Swept (expression_has_form c.args.types.now c.args.info.now c.args.function.now.expressions) c.args.function.now.expressions roots c.args.marks.now c.loop-end.marks k) none
+    ended (expression_has_form c.args.module.now c.args.info.now c.args.function.now.expressions) _ roots _ just c.requires.size c.loop-end.marks
+    (subst (λ k. Swept (expression_has_form c.args.module.now c.args.info.now c.args.function.now.expressions) c.args.function.now.expressions roots c.args.marks.now c.loop-end.marks k) none
     (c.loop-end.invariant.swept roots just)) h e at is

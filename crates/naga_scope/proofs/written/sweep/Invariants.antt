@@ -9,7 +9,7 @@ invariant-loop-end l = record {
   size : length l.marks ≡ length l.function.expressions;
   bound : l.end ≤ length l.function.expressions;
   swept : (roots : List ℕ) → MarksJust roots l.initial.marks →
-      Swept (expression_has_form l.types l.info l.function.expressions) l.function.expressions roots l.initial.marks l.marks l.end;
+      Swept (expression_has_form l.module l.info l.function.expressions) l.function.expressions roots l.initial.marks l.marks l.end;
 }
 
 abbrev pub decreases-loop-end : goal.decreases-loop-end

@@ -1,4 +1,4 @@
-use Rattle.std.proofs.Common.{ap, ◌∙◌, false, length}
+use Rattle.std.proofs.Common.{ap, ◌∙◌, false, length, refl}
 use Rattle.std.specs.List.{flat_map}
 use Rattle.std.specs.Option.{option_to_list}
 use Rattle.module_meaning.specs.FunctionShapes.{function_shape}
@@ -15,7 +15,8 @@ sweep-requires-clause-size c =
     ∙ (ap length c.requires.marks ∙ length-replicate (length c.args.function.now.expressions) false))
 
 pub returns : goal.returns
-returns c m known same_types =
+returns c known =
+    let m = c.args.module.now in
     let f = c.args.function.now in
     let bound = binds (function_shape m known f c.args.info.now) in
     let firsts = flat_map (λ l. option_to_list l.init) f.local_variables in
@@ -23,6 +24,6 @@ returns c m known same_types =
     (just_marked c.args.marks.now c.mark_body.new.marks (function_roots bound f)
     (length f.expressions) c.requires.marks
     (c.mark_body.ensures.size ∙ c.mark_first_values.ensures.size)
-    (λ h. c.mark_body.ensures.marks m known h same_types
+    (λ h. c.mark_body.ensures.marks m known h refl
     ∙ marked_both c.args.marks.now c.mark_first_values.new.marks c.mark_first_values.ensures.size h
     firsts (block_roots bound f.body) (c.mark_first_values.ensures.marks h)))

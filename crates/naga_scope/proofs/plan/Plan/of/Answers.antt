@@ -33,6 +33,7 @@ of_function-requires c =
       ordered = operands_stand_before m is.callees f is.ranges;
       written = list_all_at function_is_written m.functions g f
           (functions_are_written m c.requires.written) c.index.ensures;
+      globals = c.requires.globals;
       known = λ h k at. fits_in_range (length m.overrides) m.types k.ty
           (known_is_fit m info c.requires.accepted g c.index-2.result.now c.index-2.ensures h k at);
     }
@@ -47,10 +48,10 @@ returns c =
     let labels : given_labels f ≡ labels_given m g = sym (ap (λ o. option_map_or given_labels o []) c.index.ensures) in
     record {
       ok = of_the_ok (IsPlan c.args.explicit m info) m info g f es c.index.ensures c.index-2.ensures
-          c.of_function.result (c.of_function.ensures.ok m info refl);
+          c.of_function.result (c.of_function.ensures.ok info);
       named = subst (λ ls. IfOk c.of_function.result (λ p. NamesLabels c.args.namer.now [] ls c.of_function.new.namer p.given)) labels c.of_function.ensures.named;
       err = of_the_err (λ f es. IsRefusalToPlan c.args.explicit m info f es c.args.namer.now) m info g f es
           c.index.ensures c.index-2.ensures c.of_function.result
-          (c.of_function.ensures.err m info refl);
+          (c.of_function.ensures.err info);
       begun = subst (λ ls. OnErr c.of_function.result (HasBegunLabels c.args.namer.now ls c.of_function.new.namer)) labels c.of_function.ensures.begun;
     }

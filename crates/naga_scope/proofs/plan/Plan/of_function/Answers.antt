@@ -1,5 +1,5 @@
 use Rattle.std.proofs.Common.{◌+◌, ◌<◌, ◌^◌, ◌≡◌, ◌∙◌, ap, List, ℕ, None, Some, arith, length, map, string_bytes}
-use Rattle.std.proofs.Common.{subst, sym, true≢false}
+use Rattle.std.proofs.Common.{refl, subst, sym, true≢false}
 use Rattle.std.specs.declared.string.String.{String}
 use Rattle.module_meaning.specs.GivenLabels.{given_labels}
 use Rattle.naga_form.proofs.Fits.{mapped_length}
@@ -7,8 +7,7 @@ use Rattle.module_meaning.specs.FunctionShapes.{function_shape}
 use Rattle.module_meaning.specs.Part.{expression_has_form}
 use Rattle.module_meaning.specs.Written.{function_roots}
 use Rattle.naga_scope.specs.Marks.{Sweeps}
-use Rattle.naga_scope.specs.Spelled.{declared_formless, told_formless}
-use Rattle.naga_scope.proofs.Spelled.{declared_lacks, let_lacks, spelled_formed}
+use Rattle.naga_scope.proofs.SpelledTypes.{declared_lacks, let_lacks, spelled_formed}
 use Rattle.shader_runs.specs.Program.{binds}
 use Rattle.naga_scope.proofs.Planned.{check_is_the_rules}
 use Rattle.naga_scope.proofs.plan.Plan.of_function.Goals as goal
@@ -17,11 +16,12 @@ pub function_holds-requires-clause-start : goal.function_holds-requires-clause-s
 function_holds-requires-clause-start c given m known = c.in_ok-scope.ensures.start given m known c.args.info.now
 
 pub returns-then-not-function_holds-clause-err : goal.returns-then-not-function_holds-clause-err
-returns-then-not-function_holds-clause-err c m known same rules =
+returns-then-not-function_holds-clause-err c known rules =
+    let m = c.args.module.now in
     let f = c.args.function.now in
     let es = c.args.info.now in
     let holds = (check_is_the_rules m known f es c.requires.ordered).1 rules in
-    let fails = sym (c.function_holds.ensures.scope (λ key. None) m known 0 same)
+    let fails = sym (c.function_holds.ensures.scope (λ key. None) m known 0 refl)
     ∙ c.if-not-function_holds.true in
     true≢false (sym holds ∙ fails)
 
@@ -30,18 +30,16 @@ few : {X : Type 0} (labels : List (List ℕ)) (names : List (String X)) → leng
 few labels names count small = let same = mapped_length string_bytes names in omega (arith, count, small, same)
 
 pub returns-clause-ok : goal.returns-clause-ok
-returns-clause-ok c m known same =
+returns-clause-ok c known =
+    let m = c.args.module.now in
     let f = c.args.function.now in
     let es = c.args.info.now in
     let shape = function_shape m known f es in
-    let holds = sym (c.function_holds.ensures.scope (λ key. None) m known 0 same)
+    let holds = sym (c.function_holds.ensures.scope (λ key. None) m known 0 refl)
     ∙ c.if-not-function_holds.false in
     let roots = function_roots (binds shape) f in
-    let none_declared =
-    ap (λ types. declared_formless types f) same ∙ (sym c.declared_without_form.ensures ∙ c.in_default-2.is) in
-    let none_told =
-    ap (λ types. told_formless c.args.explicit types es (binds shape) f) same
-    ∙ (sym (c.told_without_form.ensures m known same) ∙ c.in_default-3.is) in
+    let none_declared = sym c.declared_without_form.ensures ∙ c.in_default-declared_without_form.is in
+    let none_told = sym (c.told_without_form.ensures m known refl) ∙ c.in_default-told_without_form.is in
     record {
       in_scope = (check_is_the_rules m known f es c.requires.ordered).0 holds;
       starts = λ given. c.restart.ensures.start given m known es;
@@ -52,33 +50,28 @@ returns-clause-ok c m known same =
       room = few (given_labels f) c.in_ok-given.given.items c.in_ok-given.ensures.ok.count
           (omega (arith, c.in_ok-given.given.ok.0, c.in_ok-given.given.small));
       formed = record {
-        expressions = subst (λ types. Sweeps (expression_has_form types es f.expressions) f.expressions roots None) (sym same)
-            (subst (Sweeps (expression_has_form c.args.types.now es f.expressions) f.expressions roots) c.in_default.is
-            (c.in_ok-handle.ensures m known same));
+        expressions = subst (Sweeps (expression_has_form m es f.expressions) f.expressions roots) c.in_default.is
+            (c.in_ok-handle.ensures known);
         types = spelled_formed c.args.explicit m known f es none_declared none_told;
       };
     }
 
 pub returns-in-Some-clause-err : goal.returns-in-Some-clause-err
-returns-in-Some-clause-err c m known same =
+returns-in-Some-clause-err c known =
+    let m = c.args.module.now in
     let f = c.args.function.now in
     let es = c.args.info.now in
     let roots = function_roots (binds (function_shape m known f es)) f in
-    subst (λ types. Sweeps (expression_has_form types es f.expressions) f.expressions roots (Some c.in-Some.handle)) (sym same)
-    (subst (Sweeps (expression_has_form c.args.types.now es f.expressions) f.expressions roots) c.in-Some.is
-    (c.in_ok-handle.ensures m known same))
+    subst (Sweeps (expression_has_form m es f.expressions) f.expressions roots) c.in-Some.is
+    (c.in_ok-handle.ensures known)
 
-pub returns-in-Some-2-clause-err : goal.returns-in-Some-2-clause-err
-returns-in-Some-2-clause-err c m known same =
-    let f = c.args.function.now in
-    declared_lacks c.args.explicit m known f c.args.info.now c.in-Some-2.ty
-    (ap (λ types. declared_formless types f) same
-    ∙ (sym c.declared_without_form.ensures ∙ c.in-Some-2.is))
+pub returns-in-Some-declared_without_form-clause-err : goal.returns-in-Some-declared_without_form-clause-err
+returns-in-Some-declared_without_form-clause-err c known =
+    declared_lacks c.args.explicit c.args.module.now known c.args.function.now c.args.info.now
+    c.in-Some-declared_without_form.ty (sym c.declared_without_form.ensures ∙ c.in-Some-declared_without_form.is)
 
-pub returns-in-Some-3-clause-err : goal.returns-in-Some-3-clause-err
-returns-in-Some-3-clause-err c m known same =
-    let f = c.args.function.now in
-    let es = c.args.info.now in
-    let_lacks c.args.explicit m known f es c.in-Some-3.handle
-    (ap (λ types. told_formless c.args.explicit types es (binds (function_shape m known f es)) f) same
-    ∙ (sym (c.told_without_form.ensures m known same) ∙ c.in-Some-3.is))
+pub returns-in-Some-told_without_form-clause-err : goal.returns-in-Some-told_without_form-clause-err
+returns-in-Some-told_without_form-clause-err c known =
+    let m = c.args.module.now in
+    let_lacks c.args.explicit m known c.args.function.now c.args.info.now c.in-Some-told_without_form.handle
+    (sym (c.told_without_form.ensures m known refl) ∙ c.in-Some-told_without_form.is)
