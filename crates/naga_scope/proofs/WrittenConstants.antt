@@ -140,3 +140,12 @@ constant_marked m marks are c = by (slice_get m.constants c)
         option_map_or (λ k. global_is_written m k.init) o false
     by None = refl
     by (Some k) = are k.init
+
+-- ---- order
+-- in a module that is accepted operands and initialisers stand before
+pub globals_in_order : (m : Module) (info : ModuleInfo) → IsTrue (is_accepted m info) →
+    TypesAreTold m → GlobalsStandInOrder m
+globals_in_order m info accepted told = record {
+  operands = λ h e at. below_by_test h (expression_operands e) ((own_is m info accepted told).below h e at);
+  initialisers = λ h c k at there. initialiser_stands_before m info accepted told h c at k there;
+}

@@ -1,4 +1,5 @@
 pub mod Appending
+pub mod ConstantRows
 pub mod ConversionRows
 pub mod ExpressionRows
 pub mod FunctionRows

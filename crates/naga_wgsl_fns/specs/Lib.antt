@@ -1,4 +1,5 @@
 pub mod Appends
+pub mod Constants
 pub mod Errors
 pub mod Expressions
 pub mod FunctionText

@@ -1,0 +1,312 @@
+-- The text of a constant without a name, by its initialiser, and from what is written of that in turn.
+use Rattle.std.proofs.Common.{◌≡◌, ℕ, suc, ◌<◌, Bool, true, false, List, [], ◌∷◌, length, Option, Some}
+use Rattle.std.proofs.Common.{None, codes, refl, sym, ap, ap₂, ◌∙◌, arith, map, slice_get}
+use Rattle.std.specs.Prelude.{IsTrue, if◌then◌else◌, unwrap_or, ◌&&◌}
+use Rattle.std.specs.List.{AllByRecursion, list_all}
+use Rattle.std.specs.Option.{option_map_or}
+use Rattle.std.proofs.lemmas.Bool.{and_parts}
+use Rattle.std.proofs.lemmas.Option.{slice_get_within}
+use Rattle.module_meaning.proofs.Stepwise.{by_those_before, levels_same}
+use Rattle.module_meaning.specs.AlikeTypes.{has_form}
+use Rattle.module_meaning.specs.ExpressionOperators.{Surroundings, constructor}
+use Rattle.module_meaning.specs.OperatorTable.{Splat, run_word}
+use Rattle.module_meaning.specs.Part.{constant_is_written, global_is_written}
+use Rattle.module_meaning.specs.Part.{global_is_written_over, global_is_written_within}
+use Rattle.module_meaning.specs.Part.{initialiser_passes, is_written_literal}
+use Rattle.module_meaning.specs.Surroundings.{surroundings}
+use Rattle.naga_form.proofs.Operators.{constructor_called, typed_notation}
+use Rattle.naga_form.proofs.WrittenTypes.{tree_there}
+use Rattle.naga_form.specs.ConstantForms.{built_form, constant_form_over, global_form}
+use Rattle.naga_form.specs.ConstantForms.{global_form_within, initialiser_form, no_constant_form}
+use Rattle.naga_form.specs.Literals.{literal_form}
+use Rattle.naga_form.specs.Operators.{Called, applied_form, notation}
+use Rattle.naga_form.specs.TypeTrees.{type_tree}
+use Rattle.naga_info.specs.declared.info.TypeResolution.TheVariants.{Handle}
+use Rattle.naga_ir.specs.Operands.{expression_operands}
+use Rattle.naga_ir.specs.declared.expression.Expression as ir
+use Rattle.naga_ir.specs.declared.expression.Expression.TheVariants as expression
+use Rattle.naga_ir.specs.declared.module.Constant as ir_constant
+use Rattle.naga_ir.specs.declared.module.Module.{Module}
+use Rattle.naga_scope.proofs.WrittenConstants.{global_same, globals_in_order}
+use Rattle.naga_scope.specs.Marks.{GlobalsStandInOrder}
+use Rattle.naga_words.specs.Contexts.{Names as TypeNames}
+use Rattle.naga_words.specs.Output.{joined_texts}
+use Rattle.naga_wgsl_fns.specs.Constants.{called_global_text, constant_text, global_at, global_text}
+use Rattle.naga_wgsl_fns.specs.Constants.{made_global_text, next_part_text, parts_at, parts_left}
+use Rattle.naga_wgsl_fns.specs.Constants.{parts_text}
+use Rattle.naga_wgsl_fns.specs.Expressions.{made_type}
+use Rattle.naga_wgsl_fns.specs.FunctionText.{CanWrite, type_names_of}
+use Rattle.naga_wgsl_fns.specs.Literals.{literal_text}
+use Rattle.naga_wgsl_fns.specs.Types.{type_text}
+use Rattle.naga_wgsl_fns.specs.declared.functions.FunctionText.{FunctionText}
+use Rattle.naga_form.proofs.ToldItems.{written_are_told}
+use Rattle.shader_runs.specs.Premises.{AllBelow}
+use Rattle.wgsl_text.proofs.Expressions.{argument_text as argument_row_text}
+use Rattle.wgsl_text.proofs.Expressions.{call_text as call_row_text}
+use Rattle.wgsl_text.proofs.Expressions.{next_argument_text as next_argument_row_text}
+use Rattle.wgsl_text.proofs.Types.{named_text}
+use Rattle.wgsl_text.specs.Expressions.{Call, Constant, Expression, operands as arguments_of}
+use Rattle.wgsl_text.specs.Reading.{expression_layout}
+use Rattle.wgsl_text.specs.Types.{Named}
+
+-- ---- what is written among the module's own expressions
+module _ (m : Module) (ordered : GlobalsStandInOrder m) where
+  -- one that is written is there
+  pub global_there : (h : ℕ) → global_is_written m h ≡ true → h < length m.global_expressions
+  global_there h is = by (slice_get m.global_expressions h) refl is
+    where
+      by : (o : Option ir.Expression) → slice_get m.global_expressions h ≡ o →
+          option_map_or (global_is_written_over m (global_is_written_within h m)) o false ≡ true →
+          h < length m.global_expressions
+      by (Some e) at is = slice_get_within m.global_expressions h e at
+      by None at is = absurd cc
+
+  -- it is so by what stands before it
+  written_over : (h : ℕ) (e : ir.Expression) → slice_get m.global_expressions h ≡ Some e →
+      global_is_written m h ≡ true → global_is_written_over m (global_is_written m) e ≡ true
+  written_over h e at is =
+      by_those_before false m.global_expressions (global_is_written_over m)
+      (λ k h. global_is_written_within k m h) (λ k h. refl) (global_same m ordered) h e at
+      (global_is_written m) (λ x lt. refl)
+      ∙ is
+
+  -- what is written of these
+  abbrev pub ArePartsBelow : (h : ℕ) → List ℕ → Type 0
+  ArePartsBelow h xs = AllByRecursion (λ x. (x < h) × (global_is_written m x ≡ true)) xs
+
+  parts_of : (h : ℕ) (xs : List ℕ) → AllBelow h xs → list_all (global_is_written m) xs ≡ true →
+      ArePartsBelow h xs
+  parts_of h [] below is = tt
+  parts_of h (x ∷ xs) below is =
+      let both = and_parts (global_is_written m x) (list_all (global_is_written m) xs) is in
+      ((below.0, both.0), parts_of h xs below.1 both.1)
+
+  pub parts_are_written : (h : ℕ) (e : ir.Expression) → slice_get m.global_expressions h ≡ Some e →
+      global_is_written m h ≡ true → ArePartsBelow h (expression_operands e)
+  parts_are_written h e at is = by e at (ordered.operands h e at) (written_over h e at is)
+    where
+      by : (e : ir.Expression) → slice_get m.global_expressions h ≡ Some e →
+          AllBelow h (expression_operands e) →
+          global_is_written_over m (global_is_written m) e ≡ true →
+          ArePartsBelow h (expression_operands e)
+      by (expression.Literal value) at below is = tt
+      by (expression.Constant c) at below is = tt
+      by (expression.ZeroValue ty) at below is = tt
+      by (expression.Compose ty components) at below is =
+          parts_of h components.items below
+          (and_parts (has_form m.types (Handle ty)) (list_all (global_is_written m) components.items)
+          is).1
+      by (expression.Splat size value) at below is = ((below.0, is), tt)
+      by _ at below is = absurd cc
+
+  -- a constant that is written, and its initialiser
+  pub initialiser_written : (own : ℕ → Bool) (c : ℕ) → initialiser_passes m own c ≡ true →
+      (k : ir_constant.Constant) × (slice_get m.constants c ≡ Some k) × (own k.init ≡ true)
+  initialiser_written own c is = by (slice_get m.constants c) refl is
+    where
+      by : (o : Option ir_constant.Constant) → slice_get m.constants c ≡ o →
+          option_map_or (λ k. own k.init) o false ≡ true →
+          (k : ir_constant.Constant) × (slice_get m.constants c ≡ Some k) × (own k.init ≡ true)
+      by (Some k) at is = (k, at, is)
+      by None at is = absurd cc
+
+  pub constant_before : (h : ℕ) (e : ir.Expression) (c : ℕ) →
+      slice_get m.global_expressions h ≡ Some e → e ≡ expression.Constant c →
+      global_is_written m h ≡ true → (k : ir_constant.Constant) → slice_get m.constants c ≡ Some k →
+      (k.init < h) × (global_is_written m k.init ≡ true)
+  constant_before h e c at same is k there =
+      let here = at ∙ ap Some same in
+      let over = written_over h (expression.Constant c) here is in (
+        ordered.initialisers h c k here there,
+        sym (ap (λ o. option_map_or (λ k. global_is_written m k.init) o false) there) ∙ over,
+      )
+
+  pub literal_passes : (h : ℕ) (e : ir.Expression) (value : _) →
+      slice_get m.global_expressions h ≡ Some e → e ≡ expression.Literal value →
+      global_is_written m h ≡ true → is_written_literal value ≡ true
+  literal_passes h e value at same is = written_over h (expression.Literal value) (at ∙ ap Some same) is
+
+  pub zero_passes : (h : ℕ) (e : ir.Expression) (ty : ℕ) → slice_get m.global_expressions h ≡ Some e →
+      e ≡ expression.ZeroValue ty → global_is_written m h ≡ true →
+      has_form m.types (Handle ty) ≡ true
+  zero_passes h e ty at same is = written_over h (expression.ZeroValue ty) (at ∙ ap Some same) is
+
+  pub composed_passes : (h : ℕ) (e : ir.Expression) (ty : ℕ) (parts : _) →
+      slice_get m.global_expressions h ≡ Some e → e ≡ expression.Compose ty parts →
+      global_is_written m h ≡ true → has_form m.types (Handle ty) ≡ true
+  composed_passes h e ty parts at same is =
+      (and_parts (has_form m.types (Handle ty)) (list_all (global_is_written m) parts.items)
+      (written_over h (expression.Compose ty parts) (at ∙ ap Some same) is)).0
+
+  -- ---- forms
+  map_same : (a b : ℕ → Expression) (h : ℕ) (xs : List ℕ) → AllBelow h xs →
+      ((x : ℕ) → x < h → a x ≡ b x) → map a xs ≡ map b xs
+  map_same a b h [] below same = refl
+  map_same a b h (x ∷ xs) below same =
+      ap₂ (λ e es. e ∷ es) (same x below.0) (map_same a b h xs below.1 same)
+
+  initialiser_alike : (a b : ℕ → Expression) (h c : ℕ) →
+      ((k : ir_constant.Constant) → slice_get m.constants c ≡ Some k → k.init < h) →
+      ((x : ℕ) → x < h → a x ≡ b x) → initialiser_form m a c ≡ initialiser_form m b c
+  initialiser_alike a b h c before same = by (slice_get m.constants c) refl
+    where
+      by : (o : Option ir_constant.Constant) → slice_get m.constants c ≡ o →
+          option_map_or (λ k. a k.init) o no_constant_form ≡
+          option_map_or (λ k. b k.init) o no_constant_form
+      by None at = refl
+      by (Some k) at = same k.init (before k at)
+
+  module _ (t : TypeNames) where
+    abbrev over : (ℕ → Expression) → ir.Expression → Expression
+    over own e = constant_form_over (surroundings m (λ x. None)) t (initialiser_form m own) own e
+
+    over_alike : (h : ℕ) (e : ir.Expression) → slice_get m.global_expressions h ≡ Some e →
+        (a b : ℕ → Expression) → ((x : ℕ) → x < h → a x ≡ b x) → over a e ≡ over b e
+    over_alike h (expression.Constant c) at a b same =
+        initialiser_alike a b h c (λ k there. ordered.initialisers h c k at there) same
+    over_alike h (expression.Compose ty components) at a b same =
+        ap (built_form (surroundings m (λ x. None)) t ty (length components.items))
+        (map_same a b h components.items
+        (ordered.operands h (expression.Compose ty components) at) same)
+    over_alike h (expression.Splat size value) at a b same =
+        ap (λ e. applied_form (notation None (Splat size)) (e ∷ []))
+        (same value (ordered.operands h (expression.Splat size value) at).0)
+    over_alike h (expression.Literal value) at a b same = refl
+    over_alike h (expression.ZeroValue ty) at a b same = refl
+    over_alike h _ at a b same = refl
+
+    -- its form, over the forms of those before it
+    pub form_over : (h : ℕ) (e : ir.Expression) → slice_get m.global_expressions h ≡ Some e →
+        over (global_form m t) e ≡ global_form m t h
+    form_over h e at =
+        by_those_before no_constant_form m.global_expressions over
+        (λ k h. global_form_within k m t h) (λ k h. refl) over_alike h e at (global_form m t)
+        (λ x lt. refl)
+
+-- ---- of a function's module
+pub in_order : (f : FunctionText) → CanWrite f → GlobalsStandInOrder f.shader.now
+in_order f can =
+    globals_in_order f.shader.now f.module_info.now can.accepted
+    (written_are_told f.shader.now can.of_part).types
+
+own_form_is : (f : FunctionText) → CanWrite f → (h : ℕ) (e own : ir.Expression) →
+    slice_get f.shader.now.global_expressions h ≡ Some e → e ≡ own →
+    over f.shader.now (type_names_of f) (global_at f) own ≡ global_at f h
+own_form_is f can h e own at same =
+    form_over f.shader.now (in_order f can) (type_names_of f) h own (at ∙ ap Some same)
+
+-- a constant has its initialiser's text
+pub constant_row : (f : FunctionText) (c : ℕ) (k : ir_constant.Constant) →
+    slice_get f.shader.now.constants c ≡ Some k → global_text f k.init ≡ constant_text f c
+unfolding global_text constant_text
+constant_row f c k there =
+    ap (λ o. expression_layout (option_map_or (λ k. global_at f k.init) o no_constant_form))
+    (sym there)
+
+pub named_row : (f : FunctionText) → CanWrite f → (h : ℕ) (e : ir.Expression) (c : ℕ)
+    (k : ir_constant.Constant) → slice_get f.shader.now.global_expressions h ≡ Some e →
+    e ≡ expression.Constant c → slice_get f.shader.now.constants c ≡ Some k →
+    global_text f k.init ≡ global_text f h
+unfolding global_text
+named_row f can h e c k at same there =
+    ap (λ o. expression_layout (option_map_or (λ k. global_at f k.init) o no_constant_form))
+    (sym there)
+    ∙ ap expression_layout (own_form_is f can h e (expression.Constant c) at same)
+
+pub literal_row : (f : FunctionText) → CanWrite f → (h : ℕ) (e : ir.Expression) (value : _) →
+    slice_get f.shader.now.global_expressions h ≡ Some e → e ≡ expression.Literal value →
+    literal_text value ≡ global_text f h
+unfolding global_text literal_text
+literal_row f can h e value at same =
+    ap expression_layout (own_form_is f can h e (expression.Literal value) at same)
+
+-- a value of a type, from the parts of its expression
+made_of : (f : FunctionText) → CanWrite f → (h ty components : ℕ) (e own : ir.Expression) →
+    slice_get f.shader.now.global_expressions h ≡ Some e → e ≡ own →
+    has_form f.shader.now.types (Handle ty) ≡ true →
+    built_form (surroundings f.shader.now (λ x. None)) (type_names_of f) ty components
+    (map (global_at f) (expression_operands own)) ≡
+    over f.shader.now (type_names_of f) (global_at f) own →
+    made_global_text f ty h ≡ global_text f h
+unfolding made_global_text global_text
+made_of f can h ty components e own at same formed is =
+    let tree = tree_there (type_names_of f) (Handle ty) formed in
+    let parts = map (global_at f) (expression_operands own) in
+    let a = surroundings f.shader.now (λ x. None) in
+    ap₂
+    (λ o x. expression_layout
+    (Call (unwrap_or o (Named []))
+    (arguments_of (map (global_at f) (option_map_or expression_operands x [])))))
+    tree.1 (at ∙ ap Some same)
+    ∙ (ap (λ n. expression_layout (applied_form n parts))
+    (sym
+    (typed_notation _ (constructor_called a (Handle ty) components) (type_tree (type_names_of f) ty)
+    tree.0 tree.1))
+    ∙ ap expression_layout (is ∙ own_form_is f can h e own at same))
+
+pub zero_row : (f : FunctionText) → CanWrite f → (h ty : ℕ) (e : ir.Expression) →
+    slice_get f.shader.now.global_expressions h ≡ Some e → e ≡ expression.ZeroValue ty →
+    has_form f.shader.now.types (Handle ty) ≡ true → made_global_text f ty h ≡ global_text f h
+zero_row f can h ty e at same formed =
+    made_of f can h ty 0 e (expression.ZeroValue ty) at same formed refl
+
+pub composed_row : (f : FunctionText) → CanWrite f → (h ty : ℕ) (parts : _) (e : ir.Expression) →
+    slice_get f.shader.now.global_expressions h ≡ Some e → e ≡ expression.Compose ty parts →
+    has_form f.shader.now.types (Handle ty) ≡ true → made_global_text f ty h ≡ global_text f h
+composed_row f can h ty parts e at same formed =
+    made_of f can h ty (length parts.items) e (expression.Compose ty parts) at same formed refl
+
+-- a vector of one value
+pub splat_row : (f : FunctionText) → CanWrite f → (h : ℕ) (size : _) (value : ℕ) (e : ir.Expression)
+    (word : List ℕ) → slice_get f.shader.now.global_expressions h ≡ Some e →
+    e ≡ expression.Splat size value → word ≡ run_word (Splat size) →
+    called_global_text f word h ≡ global_text f h
+unfolding called_global_text global_text
+splat_row f can h size value e word at same named =
+    ap₂
+    (λ w o. expression_layout
+    (Call (Named w) (arguments_of (map (global_at f) (option_map_or expression_operands o [])))))
+    named (at ∙ ap Some same)
+    ∙ ap expression_layout (own_form_is f can h e (expression.Splat size value) at same)
+
+-- ---- rows
+pub made_global_row : (f : FunctionText) (ty handle : ℕ) →
+    made_global_text f ty handle ≡
+    joined_texts (type_text f ty) (joined_texts (codes "(") (parts_text f handle))
+unfolding made_global_text type_text parts_text joined_texts
+made_global_row f ty handle =
+    call_row_text (made_type f ty) (arguments_of (map (global_at f) (parts_at f handle)))
+
+pub called_global_row : (f : FunctionText) (word : List ℕ) (handle : ℕ) →
+    called_global_text f word handle ≡
+    joined_texts word (joined_texts (codes "(") (parts_text f handle))
+unfolding called_global_text parts_text joined_texts
+called_global_row f word handle =
+    call_row_text (Named word) (arguments_of (map (global_at f) (parts_at f handle)))
+    ∙ ap (λ w. joined_texts w (joined_texts (codes "(") (parts_left f true (parts_at f handle))))
+    (named_text word)
+
+pub next_part_row : (f : FunctionText) (first : Bool) (part : ℕ) →
+    next_part_text f first part ≡
+    joined_texts (if first then [] else codes ", ") (global_text f part)
+unfolding next_part_text joined_texts
+next_part_row f first part = refl
+
+-- the next part, and those behind it
+pub parts_more : (f : FunctionText) (first : Bool) (part : ℕ) (more : List ℕ) →
+    parts_left f first (part ∷ more) ≡
+    joined_texts (next_part_text f first part) (parts_left f false more)
+unfolding next_part_text global_text joined_texts
+parts_more f true part more =
+    argument_row_text (global_at f part) (arguments_of (map (global_at f) more))
+parts_more f false part more =
+    next_argument_row_text (global_at f part) (arguments_of (map (global_at f) more))
+
+pub parts_none : (f : FunctionText) (first : Bool) → parts_left f first [] ≡ codes ")"
+parts_none f true = refl
+parts_none f false = refl
+
+pub parts_start : (f : FunctionText) (handle : ℕ) →
+    parts_text f handle ≡ parts_left f true (parts_at f handle)
+unfolding parts_text
+parts_start f handle = refl

@@ -1,0 +1,138 @@
+//! Constants without names, which are written as their initialisers are.
+
+ghost use Rattle.std.specs.Prelude.{◌≡◌, IsTrue};
+ghost use Rattle.module_meaning.specs.AlikeTypes.{has_form};
+ghost use Rattle.module_meaning.specs.Part.{constant_is_written, global_is_written};
+ghost use Rattle.naga_info.specs.declared.info.TypeResolution.TheVariants as resolution;
+ghost use Rattle.naga_words.specs.Output.{Writes};
+ghost use Rattle.naga_wgsl_fns.specs.Constants.{called_global_text, constant_text, global_text};
+ghost use Rattle.naga_wgsl_fns.specs.Constants.{made_global_text, next_part_text, parts_text};
+ghost use Rattle.naga_wgsl_fns.specs.FunctionText.{CanWrite};
+
+use crate::functions::FunctionText;
+use crate::literal::write_literal;
+use naga_ir::{Constant, Expression, Handle, Type_};
+use naga_words::words::vector_str;
+use naga_words::{Output, TextSink};
+use std::alloc::Global;
+
+impl FunctionText<'_> {
+    /// A constant without a name.
+    pub(crate) fn write_constant<W: TextSink>(
+        &self,
+        alloc: Global,
+        constant: Handle<Constant>,
+        out: &mut Output<'_, W>,
+    )
+        requires can { CanWrite self.now }
+        requires written { IsTrue (constant_is_written self.now.shader.now constant) }
+        ensures { Writes W.text W.failures out.old out.new (constant_text self.now constant) }
+    {
+        self.write_global(alloc, self.shader.constants[constant].init, out);
+    }
+
+    /// One of the module's own expressions.
+    #[cycle(global)]
+    fn write_global<W: TextSink>(
+        &self,
+        alloc: Global,
+        handle: Handle<Expression>,
+        out: &mut Output<'_, W>,
+    )
+        requires can { CanWrite self.now }
+        requires written { IsTrue (global_is_written self.now.shader.now handle) }
+        ensures { Writes W.text W.failures out.old out.new (global_text self.now handle) }
+    {
+        match &self.shader.global_expressions[handle] {
+            Expression::Literal(literal) => write_literal(*literal, out),
+            Expression::Constant(constant) => {
+                self.write_global(alloc, self.shader.constants[*constant].init, out)
+            }
+            Expression::ZeroValue(ty) => self.write_made_global(alloc, *ty, handle, out),
+            Expression::Compose { ty, .. } => self.write_made_global(alloc, *ty, handle, out),
+            Expression::Splat { size, .. } => {
+                self.write_called_global(alloc, vector_str(*size), handle, out)
+            }
+            _ => unreachable!(),
+        }
+    }
+
+    /// A value of a type, made of the parts of the expression with this handle.
+    #[cycle(global)]
+    #[tactic(auto, using(naga_words::proofs::Writing::writes_then, crate::proofs::ConstantRows::made_global_row))]
+    fn write_made_global<W: TextSink>(
+        &self,
+        alloc: Global,
+        ty: Handle<Type_>,
+        handle: Handle<Expression>,
+        out: &mut Output<'_, W>,
+    )
+        requires can { CanWrite self.now }
+        requires formed { IsTrue (has_form self.now.shader.now.types (resolution.Handle ty)) }
+        requires written { IsTrue (global_is_written self.now.shader.now handle) }
+        ensures { Writes W.text W.failures out.old out.new (made_global_text self.now ty handle) }
+    {
+        self.write_type(alloc, ty, out);
+        out.put("(");
+        self.write_parts(alloc, handle, out);
+    }
+
+    /// A word that is called with the parts of the expression with this handle.
+    #[cycle(global)]
+    #[tactic(auto, using(naga_words::proofs::Writing::writes_then, crate::proofs::ConstantRows::called_global_row))]
+    fn write_called_global<W: TextSink>(
+        &self,
+        alloc: Global,
+        word: &str,
+        handle: Handle<Expression>,
+        out: &mut Output<'_, W>,
+    )
+        requires can { CanWrite self.now }
+        requires written { IsTrue (global_is_written self.now.shader.now handle) }
+        ensures { Writes W.text W.failures out.old out.new
+            (called_global_text self.now word.now handle) }
+    {
+        out.put(word);
+        out.put("(");
+        self.write_parts(alloc, handle, out);
+    }
+
+    /// The parts of the expression with this handle, up to the `)` behind them.
+    #[cycle(global)]
+    fn write_parts<W: TextSink>(
+        &self,
+        alloc: Global,
+        handle: Handle<Expression>,
+        out: &mut Output<'_, W>,
+    )
+        requires can { CanWrite self.now }
+        requires written { IsTrue (global_is_written self.now.shader.now handle) }
+        ensures { Writes W.text W.failures out.old out.new (parts_text self.now handle) }
+    {
+        let mut is_first = true;
+        for part in self.shader.global_expressions[handle].operands() {
+            self.write_next_part(alloc, is_first, part, out);
+            is_first = false;
+        }
+        out.put(")");
+    }
+
+    /// A part, and what stands between it and the one before.
+    #[cycle(global)]
+    #[tactic(auto, using(naga_words::proofs::Writing::writes_then, crate::proofs::ConstantRows::next_part_row))]
+    fn write_next_part<W: TextSink>(
+        &self,
+        alloc: Global,
+        is_first: bool,
+        part: Handle<Expression>,
+        out: &mut Output<'_, W>,
+    )
+        requires can { CanWrite self.now }
+        requires written { IsTrue (global_is_written self.now.shader.now part) }
+        ensures { Writes W.text W.failures out.old out.new
+            (next_part_text self.now is_first part) }
+    {
+        out.put(if is_first { "" } else { ", " });
+        self.write_global(alloc, part, out);
+    }
+}
