@@ -7,6 +7,6 @@ pub mod Marking
 pub mod Offsets
 pub mod FirstValues
 pub mod Planned
-pub mod Spelled
+pub mod SpelledTypes
 pub mod Sweeping
 pub mod WrittenConstants

@@ -3,4 +3,4 @@ pub mod Forms
 pub mod Marks
 pub mod GivenNames
 pub mod Plans
-pub mod Spelled
+pub mod SpelledTypes

@@ -10,8 +10,8 @@ ghost use Rattle.module_meaning.specs.Written.{block_emits, statement_emits};
 ghost use Rattle.naga_info.specs.declared.info.ModuleInfo.{ModuleInfo};
 ghost use Rattle.naga_ir.specs.StatementViews.{tree_of};
 ghost use Rattle.naga_ir.specs.declared.module.Module.{Module};
-ghost use Rattle.naga_scope.specs.Spelled.{declared_formless, is_formless, tells_formless};
-ghost use Rattle.naga_scope.specs.Spelled.{told_formless};
+ghost use Rattle.naga_scope.specs.SpelledTypes.{declared_formless, is_formless, tells_formless};
+ghost use Rattle.naga_scope.specs.SpelledTypes.{told_formless};
 ghost use Rattle.shader_runs.specs.Program.{binds, from};
 
 use crate::binding::binds;

@@ -147,10 +147,13 @@ fn first_holds(
         return Ok(None);
     }
     let mut namer = Namer::default(alloc);
-    match Plan::of(alloc, module, info, Place::from_index(0), &mut namer) {
+    match Plan::of(alloc, module, info, Place::from_index(0), false, &mut namer) {
         Ok(_) => Ok(Some(true)),
         Err(PlanError::OutOfScope) => Ok(Some(false)),
-        Err(PlanError::WithoutForm(_)) | Err(PlanError::Unnamed(_)) => Ok(None),
+        Err(PlanError::WithoutForm(_))
+        | Err(PlanError::TypeWithoutForm(_))
+        | Err(PlanError::LetWithoutForm(_))
+        | Err(PlanError::Unnamed(_)) => Ok(None),
         Err(PlanError::Memory(error)) => Err(error),
     }
 }

@@ -7,8 +7,8 @@ use Rattle.module_meaning.specs.FunctionShapes.{function_shape}
 use Rattle.module_meaning.specs.Part.{expression_has_form}
 use Rattle.module_meaning.specs.Written.{function_roots}
 use Rattle.naga_scope.specs.Marks.{Sweeps}
-use Rattle.naga_scope.specs.Spelled.{declared_formless, told_formless}
-use Rattle.naga_scope.proofs.Spelled.{declared_lacks, let_lacks, spelled_formed}
+use Rattle.naga_scope.specs.SpelledTypes.{declared_formless, told_formless}
+use Rattle.naga_scope.proofs.SpelledTypes.{declared_lacks, let_lacks, spelled_formed}
 use Rattle.shader_runs.specs.Program.{binds}
 use Rattle.naga_scope.proofs.Planned.{check_is_the_rules}
 use Rattle.naga_scope.proofs.plan.Plan.of_function.Goals as goal
@@ -38,10 +38,10 @@ returns-clause-ok c m known same =
     ∙ c.if-not-function_holds.false in
     let roots = function_roots (binds shape) f in
     let none_declared =
-    ap (λ types. declared_formless types f) same ∙ (sym c.declared_without_form.ensures ∙ c.in_default-2.is) in
+    ap (λ types. declared_formless types f) same ∙ (sym c.declared_without_form.ensures ∙ c.in_default-declared_without_form.is) in
     let none_told =
     ap (λ types. told_formless c.args.explicit types es (binds shape) f) same
-    ∙ (sym (c.told_without_form.ensures m known same) ∙ c.in_default-3.is) in
+    ∙ (sym (c.told_without_form.ensures m known same) ∙ c.in_default-told_without_form.is) in
     record {
       in_scope = (check_is_the_rules m known f es c.requires.ordered).0 holds;
       starts = λ given. c.restart.ensures.start given m known es;
@@ -68,17 +68,17 @@ returns-in-Some-clause-err c m known same =
     (subst (Sweeps (expression_has_form c.args.types.now es f.expressions) f.expressions roots) c.in-Some.is
     (c.in_ok-handle.ensures m known same))
 
-pub returns-in-Some-2-clause-err : goal.returns-in-Some-2-clause-err
-returns-in-Some-2-clause-err c m known same =
+pub returns-in-Some-declared_without_form-clause-err : goal.returns-in-Some-declared_without_form-clause-err
+returns-in-Some-declared_without_form-clause-err c m known same =
     let f = c.args.function.now in
-    declared_lacks c.args.explicit m known f c.args.info.now c.in-Some-2.ty
+    declared_lacks c.args.explicit m known f c.args.info.now c.in-Some-declared_without_form.ty
     (ap (λ types. declared_formless types f) same
-    ∙ (sym c.declared_without_form.ensures ∙ c.in-Some-2.is))
+    ∙ (sym c.declared_without_form.ensures ∙ c.in-Some-declared_without_form.is))
 
-pub returns-in-Some-3-clause-err : goal.returns-in-Some-3-clause-err
-returns-in-Some-3-clause-err c m known same =
+pub returns-in-Some-told_without_form-clause-err : goal.returns-in-Some-told_without_form-clause-err
+returns-in-Some-told_without_form-clause-err c m known same =
     let f = c.args.function.now in
     let es = c.args.info.now in
-    let_lacks c.args.explicit m known f es c.in-Some-3.handle
+    let_lacks c.args.explicit m known f es c.in-Some-told_without_form.handle
     (ap (λ types. told_formless c.args.explicit types es (binds (function_shape m known f es)) f) same
-    ∙ (sym (c.told_without_form.ensures m known same) ∙ c.in-Some-3.is))
+    ∙ (sym (c.told_without_form.ensures m known same) ∙ c.in-Some-told_without_form.is))

@@ -1,16 +1,20 @@
 -- What a search for a type without a form says of the types that the text of a function spells.
-use Rattle.std.proofs.Common.{◌≡◌, ◌<◌, ◌+◌, ℕ, zero, suc, Bool, true, false, ◌&&◌, List, [], ◌∷◌, ◌++◌}
-use Rattle.std.proofs.Common.{length, map, Option, Some, None, refl, sym, ap, subst, ◌∙◌, arith}
+use Rattle.std.proofs.Common.{◌≡◌, ◌<◌, ◌≤◌, ◌+◌, ℕ, zero, suc, Bool, true, false, ◌&&◌, List, [], ◌∷◌, ◌++◌}
+use Rattle.std.proofs.Common.{drop, length, map, slice_index_or, Option, Some, None, refl, sym, ap, subst, ◌∙◌, arith}
 use Rattle.std.specs.Prelude.{IsFalse, IsSomeAnd, IsTrue, ◌⊎◌, cond, if◌then◌else◌, not, slice_get}
 use mathlib.Core.Logic.{inl, inr}
-use Rattle.std.specs.List.{IsAmong, find}
+use Rattle.std.specs.List.{IsAmong, enumerate_from, find}
 use Rattle.std.specs.Option.{option_map, option_map_or, option_or, option_to_list}
 use Rattle.std.proofs.lemmas.Bool.{and_parts}
+use Rattle.std.proofs.lemmas.List.{drop_all}
 use Rattle.std.proofs.lemmas.List.Folds.{find-append}
+use Rattle.module_meaning.proofs.Fitting.{drop_first}
 use Rattle.module_meaning.specs.AlikeTypes.{has_form}
 use Rattle.module_meaning.specs.FunctionShapes.{function_shape}
 use Rattle.module_meaning.specs.Written.{IsSpelledIn, OfArgument, OfLet, OfLocal, OfResult}
-use Rattle.module_meaning.specs.Written.{block_emits}
+use Rattle.module_meaning.specs.Written.{block_emits, statement_emits}
+use Rattle.naga_ir.specs.StatementViews.{block_of, tree_of}
+use Rattle.naga_ir.specs.declared.statement.Statement.{Statement}
 use Rattle.naga_info.specs.declared.info.ExpressionInfo.{ExpressionInfo}
 use Rattle.naga_info.specs.declared.info.ModuleInfo.{ModuleInfo}
 use Rattle.naga_info.specs.declared.info.TypeResolution.{TypeResolution}
@@ -18,8 +22,9 @@ use Rattle.naga_info.specs.declared.info.TypeResolution.TheVariants.{Handle}
 use Rattle.naga_ir.specs.declared.module.Function.{Function}
 use Rattle.naga_ir.specs.declared.module.FunctionResult.{FunctionResult}
 use Rattle.naga_ir.specs.declared.module.Module.{Module}
-use Rattle.naga_scope.specs.Spelled.{declared_formless, declared_types, is_formless, tells_formless}
-use Rattle.naga_scope.specs.Spelled.{told_formless}
+use Rattle.naga_ir.specs.declared.types.Type_.{Type_}
+use Rattle.naga_scope.specs.SpelledTypes.{declared_formless, declared_types, is_formless, tells_formless}
+use Rattle.naga_scope.specs.SpelledTypes.{told_formless}
 use Rattle.shader_runs.specs.Program.{binds}
 
 -- ---- searches
@@ -27,23 +32,59 @@ module _ {X : Type 0} (p : X → Bool) where
   -- what finds nothing says of each
   none_passes : (xs : List X) → find p xs ≡ None → (i : ℕ) (x : X) → slice_get xs i ≡ Some x → p x ≡ false
   none_passes [] none i x at = absurd cc
-  none_passes (y ∷ ys) none i x at = by (p y) refl none i at
+  none_passes (y ∷ ys) none i x at = by (p y) refl none (none_passes ys) i at
     where
-      by : (b : Bool) → p y ≡ b → cond b (Some y) (find p ys) ≡ None → (i : ℕ) →
+      by : (b : Bool) → p y ≡ b → cond b (Some y) (find p ys) ≡ None →
+          (find p ys ≡ None → (i : ℕ) (x : X) → slice_get ys i ≡ Some x → p x ≡ false) → (i : ℕ) →
           slice_get (y ∷ ys) i ≡ Some x → p x ≡ false
-      by true is none i at = absurd cc
-      by false is none zero at = let same : y ≡ x = cc in ap p (sym same) ∙ is
-      by false is none (suc i) at = none_passes ys none i x at
+      by true is none rest i at = absurd cc
+      by false is none rest zero at = let same : y ≡ x = cc in ap p (sym same) ∙ is
+      by false is none rest (suc i) at = rest none i x at
 
   -- what is found is there and passes
   found_passes : (xs : List X) (x : X) → find p xs ≡ Some x → (i : ℕ) × (slice_get xs i ≡ Some x) × (p x ≡ true)
   found_passes [] x is = absurd cc
-  found_passes (y ∷ ys) x is = by (p y) refl is
+  found_passes (y ∷ ys) x is = by (p y) refl is (found_passes ys x)
     where
       by : (b : Bool) → p y ≡ b → cond b (Some y) (find p ys) ≡ Some x →
+          (find p ys ≡ Some x → (i : ℕ) × (slice_get ys i ≡ Some x) × (p x ≡ true)) →
           (i : ℕ) × (slice_get (y ∷ ys) i ≡ Some x) × (p x ≡ true)
-      by true passes is = let same : y ≡ x = cc in (0, ap Some same, ap p (sym same) ∙ passes)
-      by false passes is = let rest = found_passes ys x is in (suc rest.0, rest.1.0, rest.1.1)
+      by true passes is rest = let same : y ≡ x = cc in (0, ap Some same, ap p (sym same) ∙ passes)
+      by false passes is rest = let further = rest is in (suc further.0, further.1, further.2)
+
+-- a search from an item on, by whether the item passes
+module _ {X Y : Type 0} (g : X → Y) (p : Y → Bool) (xs : List X) (i : ℕ) (x : X) (lt : i < length xs) (is : x ≡ slice_index_or xs i x) where
+  from_here : find p (map g (drop i xs)) ≡ cond (p (g x)) (Some (g x)) (find p (map g (drop (i + 1) xs)))
+  from_here =
+      ap (λ ys. find p (map g ys))
+      (drop_first i xs x lt ∙ ap (λ y. y ∷ drop (i + 1) xs) (sym is))
+
+  pub found_here : p (g x) ≡ true → Some (g x) ≡ find p (map g (drop i xs))
+  found_here passes =
+      sym (from_here ∙ ap (λ b. cond b (Some (g x)) (find p (map g (drop (i + 1) xs)))) passes)
+
+  pub not_here : p (g x) ≡ false → find p (map g (drop (i + 1) xs)) ≡ find p (map g (drop i xs))
+  not_here fails =
+      sym (from_here ∙ ap (λ b. cond b (Some (g x)) (find p (map g (drop (i + 1) xs)))) fails)
+
+-- what is numbered is mapped as by itself
+pub numbered_mapped : {X Y : Type 0} (g : X → Y) (k : ℕ) (xs : List X) →
+    map (λ q. g q.1) (enumerate_from k xs) ≡ map g xs
+numbered_mapped g k [] = refl
+numbered_mapped g k (x ∷ xs) = ap (λ ys. g x ∷ ys) (numbered_mapped g (k + 1) xs)
+
+-- the handles that the statements from some on emit
+pub emits_more : (i : ℕ) (items : List Statement) (x : Statement) → i < length items →
+    x ≡ slice_index_or items i x →
+    block_emits (block_of (drop i items)) ≡
+    statement_emits (tree_of x) ++ block_emits (block_of (drop (i + 1) items))
+emits_more i items x lt is =
+    ap (λ xs. block_emits (block_of xs))
+    (drop_first i items x lt ∙ ap (λ y. y ∷ drop (i + 1) items) (sym is))
+
+pub emits_end : (items : List Statement) (i : ℕ) → length items ≤ i →
+    block_emits (block_of (drop i items)) ≡ []
+emits_end items i le = ap (λ xs. block_emits (block_of xs)) (drop_all i items le)
 
 -- the same by what is among a list
 there_among : {X : Type 0} (xs : List X) (x : X) → IsAmong xs x → (i : ℕ) × (slice_get xs i ≡ Some x)
@@ -86,6 +127,25 @@ turned_true true is = absurd cc
 turned_true false is = refl
 
 -- ---- a function
+abbrev argument_types : Function → List ℕ
+argument_types f = map (λ a. a.ty) f.arguments.items
+
+abbrev answer_types : Function → List ℕ
+answer_types f = option_to_list (option_map (λ r. r.ty) f.result)
+
+abbrev local_types : Function → List ℕ
+local_types f = map (λ l. l.ty) f.local_variables
+
+-- the first of all is the first of the arguments', or of the result's, or of the locals'
+pub parted : (types : List Type_) (f : Function) →
+    declared_formless types f ≡
+    option_or (find (is_formless types) (argument_types f))
+    (option_or (find (is_formless types) (answer_types f)) (find (is_formless types) (local_types f)))
+parted types f =
+    find-append (is_formless types) (argument_types f) (answer_types f ++ local_types f)
+    ∙ ap (option_or (find (is_formless types) (argument_types f)))
+    (find-append (is_formless types) (answer_types f) (local_types f))
+
 module _ (explicit : Bool) (m : Module) (info : ModuleInfo) (f : Function) (es : List ExpressionInfo) where
   abbrev bound : ℕ → Bool
   bound = binds (function_shape m info f es)
@@ -96,29 +156,15 @@ module _ (explicit : Bool) (m : Module) (info : ModuleInfo) (f : Function) (es :
   abbrev told : ℕ → Bool
   told = tells_formless m.types es bound
 
-  abbrev answer_types : List ℕ
-  answer_types = option_to_list (option_map (λ r. r.ty) f.result)
-
-  abbrev argument_types : List ℕ
-  argument_types = map (λ a. a.ty) f.arguments.items
-
-  abbrev local_types : List ℕ
-  local_types = map (λ l. l.ty) f.local_variables
-
-  parted : declared_formless m.types f ≡ option_or (find p argument_types) (option_or (find p answer_types) (find p local_types))
-  parted =
-      find-append p argument_types (answer_types ++ local_types)
-      ∙ ap (option_or (find p argument_types)) (find-append p answer_types local_types)
-
   -- where neither search finds one, each type that is spelled has a form
   pub spelled_formed : declared_formless m.types f ≡ None → told_formless explicit m.types es bound f ≡ None →
       (r : TypeResolution) → IsSpelledIn explicit m info f es r → IsTrue (has_form m.types r)
   spelled_formed none_declared none_told = spelled
     where
-      one : (find p argument_types ≡ None) × (option_or (find p answer_types) (find p local_types) ≡ None)
-      one = neither _ _ (sym parted ∙ none_declared)
+      one : (find p (argument_types f) ≡ None) × (option_or (find p (answer_types f)) (find p (local_types f)) ≡ None)
+      one = neither _ _ (sym (parted m.types f) ∙ none_declared)
 
-      two : (find p answer_types ≡ None) × (find p local_types ≡ None)
+      two : (find p (answer_types f) ≡ None) × (find p (local_types f) ≡ None)
       two = neither _ _ one.1
 
       at_answer : (o : Option FunctionResult) (r : FunctionResult) → o ≡ Some r →
@@ -140,16 +186,16 @@ module _ (explicit : Bool) (m : Module) (info : ModuleInfo) (f : Function) (es :
 
       spelled : (r : TypeResolution) → IsSpelledIn explicit m info f es r → IsTrue (has_form m.types r)
       spelled _ (OfArgument n a at) =
-          turned_false (has_form m.types (Handle a.ty)) (none_passes p argument_types one.0 n a.ty (map_at (λ a. a.ty) f.arguments.items n a at))
+          turned_false (has_form m.types (Handle a.ty)) (none_passes p (argument_types f) one.0 n a.ty (map_at (λ a. a.ty) f.arguments.items n a at))
       spelled _ (OfResult r is) =
-          turned_false (has_form m.types (Handle r.ty)) (none_passes p answer_types two.0 0 r.ty (at_answer f.result r is))
+          turned_false (has_form m.types (Handle r.ty)) (none_passes p (answer_types f) two.0 0 r.ty (at_answer f.result r is))
       spelled _ (OfLocal l v at) =
-          turned_false (has_form m.types (Handle v.ty)) (none_passes p local_types two.1 l v.ty (map_at (λ l. l.ty) f.local_variables l v at))
+          turned_false (has_form m.types (Handle v.ty)) (none_passes p (local_types f) two.1 l v.ty (map_at (λ l. l.ty) f.local_variables l v at))
       spelled _ (OfLet h k tells among is_bound at) = let_formed explicit tells none_told h k among is_bound at
 
   -- what the first search finds is spelled, and has no form
   pub declared_lacks : (ty : ℕ) → declared_formless m.types f ≡ Some ty → IsSpelledIn explicit m info f es (Handle ty) × IsFalse (has_form m.types (Handle ty))
-  declared_lacks ty is = by (either_one _ _ ty (sym parted ∙ is))
+  declared_lacks ty is = by (either_one _ _ ty (sym (parted m.types f) ∙ is))
     where
       of_answer : (o : Option FunctionResult) → f.result ≡ o → (i : ℕ) →
           slice_get (option_to_list (option_map (λ r. r.ty) o)) i ≡ Some ty → IsSpelledIn explicit m info f es (Handle ty)
@@ -159,24 +205,24 @@ module _ (explicit : Bool) (m : Module) (info : ModuleInfo) (f : Function) (es :
           subst (λ ty. IsSpelledIn explicit m info f es (Handle ty)) same (OfResult r result)
       of_answer (Some r) result (suc i) at = absurd cc
 
-      inside : (find p answer_types ≡ Some ty) ⊎ (find p local_types ≡ Some ty) →
+      inside : (find p (answer_types f) ≡ Some ty) ⊎ (find p (local_types f) ≡ Some ty) →
           IsSpelledIn explicit m info f es (Handle ty) × IsFalse (has_form m.types (Handle ty))
       inside (inl is) =
-          let found = found_passes p answer_types ty is in
-          (of_answer f.result refl found.0 found.1.0, turned_true (has_form m.types (Handle ty)) found.1.1)
+          let found = found_passes p (answer_types f) ty is in
+          (of_answer f.result refl found.0 found.1, turned_true (has_form m.types (Handle ty)) found.2)
       inside (inr is) =
-          let found = found_passes p local_types ty is in
-          let here = at_map (λ l. l.ty) f.local_variables found.0 ty found.1.0 in
-          (subst (λ ty. IsSpelledIn explicit m info f es (Handle ty)) here.1.1 (OfLocal found.0 here.0 here.1.0),
-          turned_true (has_form m.types (Handle ty)) found.1.1)
+          let found = found_passes p (local_types f) ty is in
+          let here = at_map (λ l. l.ty) f.local_variables found.0 ty found.1 in
+          (subst (λ ty. IsSpelledIn explicit m info f es (Handle ty)) here.2 (OfLocal found.0 here.0 here.1),
+          turned_true (has_form m.types (Handle ty)) found.2)
 
-      by : (find p argument_types ≡ Some ty) ⊎ (option_or (find p answer_types) (find p local_types) ≡ Some ty) →
+      by : (find p (argument_types f) ≡ Some ty) ⊎ (option_or (find p (answer_types f)) (find p (local_types f)) ≡ Some ty) →
           IsSpelledIn explicit m info f es (Handle ty) × IsFalse (has_form m.types (Handle ty))
       by (inl is) =
-          let found = found_passes p argument_types ty is in
-          let here = at_map (λ a. a.ty) f.arguments.items found.0 ty found.1.0 in
-          (subst (λ ty. IsSpelledIn explicit m info f es (Handle ty)) here.1.1 (OfArgument found.0 here.0 here.1.0),
-          turned_true (has_form m.types (Handle ty)) found.1.1)
+          let found = found_passes p (argument_types f) ty is in
+          let here = at_map (λ a. a.ty) f.arguments.items found.0 ty found.1 in
+          (subst (λ ty. IsSpelledIn explicit m info f es (Handle ty)) here.2 (OfArgument found.0 here.0 here.1),
+          turned_true (has_form m.types (Handle ty)) found.2)
       by (inr is) = inside (either_one _ _ ty is)
 
   -- so it is with what the second finds
@@ -196,5 +242,5 @@ module _ (explicit : Bool) (m : Module) (info : ModuleInfo) (f : Function) (es :
       by false tells is = absurd cc
       by true tells is =
           let found = found_passes told (block_emits f.body) h is in
-          let both = and_parts (bound h) (option_map_or (λ k. not (has_form m.types k.ty)) (slice_get es h) false) found.1.1 in
-          known (slice_get es h) refl tells (among_there (block_emits f.body) found.0 h found.1.0) both.0 both.1
+          let both = and_parts (bound h) (option_map_or (λ k. not (has_form m.types k.ty)) (slice_get es h) false) found.2 in
+          known (slice_get es h) refl tells (among_there (block_emits f.body) found.0 h found.1) both.0 both.1
