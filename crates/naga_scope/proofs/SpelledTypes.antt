@@ -22,6 +22,7 @@ use Rattle.naga_info.specs.declared.info.TypeResolution.TheVariants.{Handle}
 use Rattle.naga_ir.specs.declared.module.Function.{Function}
 use Rattle.naga_ir.specs.declared.module.FunctionResult.{FunctionResult}
 use Rattle.naga_ir.specs.declared.module.Module.{Module}
+use Rattle.naga_ir.specs.declared.types.Type_.{Type_}
 use Rattle.naga_scope.specs.SpelledTypes.{declared_formless, declared_types, is_formless, tells_formless}
 use Rattle.naga_scope.specs.SpelledTypes.{told_formless}
 use Rattle.shader_runs.specs.Program.{binds}
@@ -126,6 +127,25 @@ turned_true true is = absurd cc
 turned_true false is = refl
 
 -- ---- a function
+abbrev argument_types : Function → List ℕ
+argument_types f = map (λ a. a.ty) f.arguments.items
+
+abbrev answer_types : Function → List ℕ
+answer_types f = option_to_list (option_map (λ r. r.ty) f.result)
+
+abbrev local_types : Function → List ℕ
+local_types f = map (λ l. l.ty) f.local_variables
+
+-- the first of all is the first of the arguments', or of the result's, or of the locals'
+pub parted : (types : List Type_) (f : Function) →
+    declared_formless types f ≡
+    option_or (find (is_formless types) (argument_types f))
+    (option_or (find (is_formless types) (answer_types f)) (find (is_formless types) (local_types f)))
+parted types f =
+    find-append (is_formless types) (argument_types f) (answer_types f ++ local_types f)
+    ∙ ap (option_or (find (is_formless types) (argument_types f)))
+    (find-append (is_formless types) (answer_types f) (local_types f))
+
 module _ (explicit : Bool) (m : Module) (info : ModuleInfo) (f : Function) (es : List ExpressionInfo) where
   abbrev bound : ℕ → Bool
   bound = binds (function_shape m info f es)
@@ -136,29 +156,15 @@ module _ (explicit : Bool) (m : Module) (info : ModuleInfo) (f : Function) (es :
   abbrev told : ℕ → Bool
   told = tells_formless m.types es bound
 
-  abbrev answer_types : List ℕ
-  answer_types = option_to_list (option_map (λ r. r.ty) f.result)
-
-  abbrev argument_types : List ℕ
-  argument_types = map (λ a. a.ty) f.arguments.items
-
-  abbrev local_types : List ℕ
-  local_types = map (λ l. l.ty) f.local_variables
-
-  parted : declared_formless m.types f ≡ option_or (find p argument_types) (option_or (find p answer_types) (find p local_types))
-  parted =
-      find-append p argument_types (answer_types ++ local_types)
-      ∙ ap (option_or (find p argument_types)) (find-append p answer_types local_types)
-
   -- where neither search finds one, each type that is spelled has a form
   pub spelled_formed : declared_formless m.types f ≡ None → told_formless explicit m.types es bound f ≡ None →
       (r : TypeResolution) → IsSpelledIn explicit m info f es r → IsTrue (has_form m.types r)
   spelled_formed none_declared none_told = spelled
     where
-      one : (find p argument_types ≡ None) × (option_or (find p answer_types) (find p local_types) ≡ None)
-      one = neither _ _ (sym parted ∙ none_declared)
+      one : (find p (argument_types f) ≡ None) × (option_or (find p (answer_types f)) (find p (local_types f)) ≡ None)
+      one = neither _ _ (sym (parted m.types f) ∙ none_declared)
 
-      two : (find p answer_types ≡ None) × (find p local_types ≡ None)
+      two : (find p (answer_types f) ≡ None) × (find p (local_types f) ≡ None)
       two = neither _ _ one.1
 
       at_answer : (o : Option FunctionResult) (r : FunctionResult) → o ≡ Some r →
@@ -180,16 +186,16 @@ module _ (explicit : Bool) (m : Module) (info : ModuleInfo) (f : Function) (es :
 
       spelled : (r : TypeResolution) → IsSpelledIn explicit m info f es r → IsTrue (has_form m.types r)
       spelled _ (OfArgument n a at) =
-          turned_false (has_form m.types (Handle a.ty)) (none_passes p argument_types one.0 n a.ty (map_at (λ a. a.ty) f.arguments.items n a at))
+          turned_false (has_form m.types (Handle a.ty)) (none_passes p (argument_types f) one.0 n a.ty (map_at (λ a. a.ty) f.arguments.items n a at))
       spelled _ (OfResult r is) =
-          turned_false (has_form m.types (Handle r.ty)) (none_passes p answer_types two.0 0 r.ty (at_answer f.result r is))
+          turned_false (has_form m.types (Handle r.ty)) (none_passes p (answer_types f) two.0 0 r.ty (at_answer f.result r is))
       spelled _ (OfLocal l v at) =
-          turned_false (has_form m.types (Handle v.ty)) (none_passes p local_types two.1 l v.ty (map_at (λ l. l.ty) f.local_variables l v at))
+          turned_false (has_form m.types (Handle v.ty)) (none_passes p (local_types f) two.1 l v.ty (map_at (λ l. l.ty) f.local_variables l v at))
       spelled _ (OfLet h k tells among is_bound at) = let_formed explicit tells none_told h k among is_bound at
 
   -- what the first search finds is spelled, and has no form
   pub declared_lacks : (ty : ℕ) → declared_formless m.types f ≡ Some ty → IsSpelledIn explicit m info f es (Handle ty) × IsFalse (has_form m.types (Handle ty))
-  declared_lacks ty is = by (either_one _ _ ty (sym parted ∙ is))
+  declared_lacks ty is = by (either_one _ _ ty (sym (parted m.types f) ∙ is))
     where
       of_answer : (o : Option FunctionResult) → f.result ≡ o → (i : ℕ) →
           slice_get (option_to_list (option_map (λ r. r.ty) o)) i ≡ Some ty → IsSpelledIn explicit m info f es (Handle ty)
@@ -199,21 +205,21 @@ module _ (explicit : Bool) (m : Module) (info : ModuleInfo) (f : Function) (es :
           subst (λ ty. IsSpelledIn explicit m info f es (Handle ty)) same (OfResult r result)
       of_answer (Some r) result (suc i) at = absurd cc
 
-      inside : (find p answer_types ≡ Some ty) ⊎ (find p local_types ≡ Some ty) →
+      inside : (find p (answer_types f) ≡ Some ty) ⊎ (find p (local_types f) ≡ Some ty) →
           IsSpelledIn explicit m info f es (Handle ty) × IsFalse (has_form m.types (Handle ty))
       inside (inl is) =
-          let found = found_passes p answer_types ty is in
+          let found = found_passes p (answer_types f) ty is in
           (of_answer f.result refl found.0 found.1, turned_true (has_form m.types (Handle ty)) found.2)
       inside (inr is) =
-          let found = found_passes p local_types ty is in
+          let found = found_passes p (local_types f) ty is in
           let here = at_map (λ l. l.ty) f.local_variables found.0 ty found.1 in
           (subst (λ ty. IsSpelledIn explicit m info f es (Handle ty)) here.2 (OfLocal found.0 here.0 here.1),
           turned_true (has_form m.types (Handle ty)) found.2)
 
-      by : (find p argument_types ≡ Some ty) ⊎ (option_or (find p answer_types) (find p local_types) ≡ Some ty) →
+      by : (find p (argument_types f) ≡ Some ty) ⊎ (option_or (find p (answer_types f)) (find p (local_types f)) ≡ Some ty) →
           IsSpelledIn explicit m info f es (Handle ty) × IsFalse (has_form m.types (Handle ty))
       by (inl is) =
-          let found = found_passes p argument_types ty is in
+          let found = found_passes p (argument_types f) ty is in
           let here = at_map (λ a. a.ty) f.arguments.items found.0 ty found.1 in
           (subst (λ ty. IsSpelledIn explicit m info f es (Handle ty)) here.2 (OfArgument found.0 here.0 here.1),
           turned_true (has_form m.types (Handle ty)) found.2)
