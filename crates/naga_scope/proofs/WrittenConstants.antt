@@ -4,12 +4,18 @@ use Rattle.std.proofs.Common.{◌≡◌, ℕ, zero, suc, ◌+◌, ◌<◌, ◌�
 use Rattle.std.proofs.Common.{Option, Some, None, refl, sym, ap, ap₂, ◌∙◌, arith, subst, length}
 use Rattle.std.proofs.Common.{below_more, get_or, nat_lt, slice_get, slice_set}
 use Rattle.std.specs.List.{list_all}
+use Rattle.std.specs.Prelude.{IsTrue}
 use Rattle.std.specs.Option.{option_map_or}
 use Rattle.std.proofs.lemmas.Bool.{ltb-false, ltb-true}
 use Rattle.std.proofs.lemmas.Grind.{get_or-set_at}
 use Rattle.std.proofs.lemmas.List.{get_or-set_other, get_or_past, length-set}
 use Rattle.std.proofs.lemmas.Option.{slice_get_past}
 use Rattle.module_meaning.proofs.Stepwise.{by_those_before}
+use Rattle.module_meaning.specs.Accepted.{is_accepted}
+use Rattle.module_meaning.specs.Names.{TypesAreTold}
+use Rattle.naga_form.proofs.Ordered.{each_below}
+use Rattle.naga_form.proofs.WrittenOut.{initialiser_stands_before, own_is}
+use Rattle.naga_info.specs.declared.info.ModuleInfo.{ModuleInfo}
 use Rattle.module_meaning.specs.AlikeTypes.{has_form}
 use Rattle.module_meaning.specs.Part.{constant_is_written, global_is_written}
 use Rattle.module_meaning.specs.Part.{global_is_written_over, global_is_written_within}
@@ -101,7 +107,7 @@ initialiser_same m a b h c before same = by (slice_get m.constants c) refl
     by None at = refl
     by (Some k) at = same k.init (before k at)
 
-global_same : (m : Module) → GlobalsStandInOrder m → (h : ℕ) (e : Expression) →
+pub global_same : (m : Module) → GlobalsStandInOrder m → (h : ℕ) (e : Expression) →
     slice_get m.global_expressions h ≡ Some e → (a b : ℕ → Bool) →
     ((x : ℕ) → x < h → a x ≡ b x) → global_is_written_over m a e ≡ global_is_written_over m b e
 global_same m ordered h (expression.Constant c) at a b same =
@@ -146,6 +152,6 @@ constant_marked m marks are c = by (slice_get m.constants c)
 pub globals_in_order : (m : Module) (info : ModuleInfo) → IsTrue (is_accepted m info) →
     TypesAreTold m → GlobalsStandInOrder m
 globals_in_order m info accepted told = record {
-  operands = λ h e at. below_by_test h (expression_operands e) ((own_is m info accepted told).below h e at);
+  operands = λ h e at. each_below h (expression_operands e) ((own_is m info accepted told).below h e at);
   initialisers = λ h c k at there. initialiser_stands_before m info accepted told h c at k there;
 }
