@@ -25,7 +25,10 @@ use Rattle.naga_info.specs.declared.info.TypeResolution.TheVariants.{Handle}
 use Rattle.naga_ir.specs.Operands.{expression_operands}
 use Rattle.naga_ir.specs.declared.expression.Expression as ir
 use Rattle.naga_ir.specs.declared.expression.Expression.TheVariants as expression
+use Rattle.naga_ir.specs.declared.expression.Literal.{Literal}
 use Rattle.naga_ir.specs.declared.module.Constant as ir_constant
+use Rattle.naga_ir.specs.declared.types.VectorSize.{VectorSize}
+use Rattle.std.proofs.Common.{Global, Vec}
 use Rattle.naga_ir.specs.declared.module.Module.{Module}
 use Rattle.naga_scope.proofs.WrittenConstants.{global_same, globals_in_order}
 use Rattle.naga_scope.specs.Marks.{GlobalsStandInOrder}
@@ -49,6 +52,22 @@ use Rattle.wgsl_text.specs.Expressions.{Call, Constant, Expression, operands as 
 use Rattle.wgsl_text.specs.Reading.{expression_layout}
 use Rattle.wgsl_text.specs.Types.{Named}
 
+-- an expression is of none of the kinds that are written among a module's own
+pub record IsNoOtherGlobal (e : ir.Expression) : Type 0 where
+  pub literal : (value : Literal) → e ≡ expression.Literal value → ⊥
+  pub constant : (c : ℕ) → e ≡ expression.Constant c → ⊥
+  pub zero_value : (ty : ℕ) → e ≡ expression.ZeroValue ty → ⊥
+  pub composed : (ty : ℕ) (parts : Vec ℕ Global) → e ≡ expression.Compose ty parts → ⊥
+  pub splat : (size : VectorSize) (x : ℕ) → e ≡ expression.Splat size x → ⊥
+
+-- these stand before, and are written
+abbrev pub ArePartsBelow : Module → (h : ℕ) → List ℕ → Type 0
+ArePartsBelow m h xs = AllByRecursion (λ x. (x < h) × (global_is_written m x ≡ true)) xs
+
+-- the form of one of the module's own expressions, over those of others
+abbrev over : Module → TypeNames → (ℕ → Expression) → ir.Expression → Expression
+over m t own e = constant_form_over (surroundings m (λ x. None)) t (initialiser_form m own) own e
+
 -- ---- what is written among the module's own expressions
 module _ (m : Module) (ordered : GlobalsStandInOrder m) where
   -- one that is written is there
@@ -70,25 +89,21 @@ module _ (m : Module) (ordered : GlobalsStandInOrder m) where
       (global_is_written m) (λ x lt. refl)
       ∙ is
 
-  -- what is written of these
-  abbrev pub ArePartsBelow : (h : ℕ) → List ℕ → Type 0
-  ArePartsBelow h xs = AllByRecursion (λ x. (x < h) × (global_is_written m x ≡ true)) xs
-
   parts_of : (h : ℕ) (xs : List ℕ) → AllBelow h xs → list_all (global_is_written m) xs ≡ true →
-      ArePartsBelow h xs
+      ArePartsBelow m h xs
   parts_of h [] below is = tt
   parts_of h (x ∷ xs) below is =
       let both = and_parts (global_is_written m x) (list_all (global_is_written m) xs) is in
       ((below.0, both.0), parts_of h xs below.1 both.1)
 
   pub parts_are_written : (h : ℕ) (e : ir.Expression) → slice_get m.global_expressions h ≡ Some e →
-      global_is_written m h ≡ true → ArePartsBelow h (expression_operands e)
+      global_is_written m h ≡ true → ArePartsBelow m h (expression_operands e)
   parts_are_written h e at is = by e at (ordered.operands h e at) (written_over h e at is)
     where
       by : (e : ir.Expression) → slice_get m.global_expressions h ≡ Some e →
           AllBelow h (expression_operands e) →
           global_is_written_over m (global_is_written m) e ≡ true →
-          ArePartsBelow h (expression_operands e)
+          ArePartsBelow m h (expression_operands e)
       by (expression.Literal value) at below is = tt
       by (expression.Constant c) at below is = tt
       by (expression.ZeroValue ty) at below is = tt
@@ -120,6 +135,29 @@ module _ (m : Module) (ordered : GlobalsStandInOrder m) where
         ordered.initialisers h c k here there,
         sym (ap (λ o. option_map_or (λ k. global_is_written m k.init) o false) there) ∙ over,
       )
+
+  -- the constant that one names is there
+  pub constant_there : (h : ℕ) (e : ir.Expression) (c : ℕ) →
+      slice_get m.global_expressions h ≡ Some e → e ≡ expression.Constant c →
+      global_is_written m h ≡ true → c < length m.constants
+  constant_there h e c at same is =
+      let over = written_over h (expression.Constant c) (at ∙ ap Some same) is in
+      let k = initialiser_written (global_is_written m) c over in
+      slice_get_within m.constants c k.0 k.1
+
+  -- no other expression is written
+  pub no_other_global : (h : ℕ) (e : ir.Expression) → slice_get m.global_expressions h ≡ Some e →
+      global_is_written m h ≡ true → IsNoOtherGlobal e → ⊥
+  no_other_global h e at is none = by e (written_over h e at is) none
+    where
+      by : (e : ir.Expression) → global_is_written_over m (global_is_written m) e ≡ true →
+          IsNoOtherGlobal e → ⊥
+      by (expression.Literal v) is none = none.literal v refl
+      by (expression.Constant c) is none = none.constant c refl
+      by (expression.ZeroValue ty) is none = none.zero_value ty refl
+      by (expression.Compose ty parts) is none = none.composed ty parts refl
+      by (expression.Splat size value) is none = none.splat size value refl
+      by _ is none = absurd cc
 
   pub literal_passes : (h : ℕ) (e : ir.Expression) (value : _) →
       slice_get m.global_expressions h ≡ Some e → e ≡ expression.Literal value →
@@ -157,11 +195,8 @@ module _ (m : Module) (ordered : GlobalsStandInOrder m) where
       by (Some k) at = same k.init (before k at)
 
   module _ (t : TypeNames) where
-    abbrev over : (ℕ → Expression) → ir.Expression → Expression
-    over own e = constant_form_over (surroundings m (λ x. None)) t (initialiser_form m own) own e
-
     over_alike : (h : ℕ) (e : ir.Expression) → slice_get m.global_expressions h ≡ Some e →
-        (a b : ℕ → Expression) → ((x : ℕ) → x < h → a x ≡ b x) → over a e ≡ over b e
+        (a b : ℕ → Expression) → ((x : ℕ) → x < h → a x ≡ b x) → over m t a e ≡ over m t b e
     over_alike h (expression.Constant c) at a b same =
         initialiser_alike a b h c (λ k there. ordered.initialisers h c k at there) same
     over_alike h (expression.Compose ty components) at a b same =
@@ -177,9 +212,9 @@ module _ (m : Module) (ordered : GlobalsStandInOrder m) where
 
     -- its form, over the forms of those before it
     pub form_over : (h : ℕ) (e : ir.Expression) → slice_get m.global_expressions h ≡ Some e →
-        over (global_form m t) e ≡ global_form m t h
+        over m t (global_form m t) e ≡ global_form m t h
     form_over h e at =
-        by_those_before no_constant_form m.global_expressions over
+        by_those_before no_constant_form m.global_expressions (over m t)
         (λ k h. global_form_within k m t h) (λ k h. refl) over_alike h e at (global_form m t)
         (λ x lt. refl)
 

@@ -112,7 +112,7 @@ cast_else f bits ty is = sym (ap (λ b. if b then bitcast_text f ty else resolut
 -- ---- what an expression is made of that is a conversion
 pub own_conversion : (f : FunctionText) (table : List Standing) (handle : ℕ) (e : ir.Expression)
     (operand : ℕ) (kind : ScalarKind) (convert : Option ℕ) → CanWrite f → IsInText f handle →
-    expression_is_written f.shader.now.types f.info.now (As operand kind convert) ≡ true →
+    expression_is_written f.shader.now f.info.now (As operand kind convert) ≡ true →
     slice_get (expressions f) handle ≡ Some e → e ≡ As operand kind convert →
     made_text f table (conversion_callee f operand kind convert) handle ≡ own_text f table handle
 own_conversion f table handle e operand kind convert can within may here is =

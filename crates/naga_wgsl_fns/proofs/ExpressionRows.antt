@@ -67,6 +67,7 @@ use Rattle.naga_scope.specs.declared.points.Standing.{Standing}
 use Rattle.naga_scope.specs.declared.points.Standing.TheVariants.{Absent, Barred, Everywhere}
 use Rattle.naga_scope.specs.declared.points.Standing.TheVariants.{Inline, Named}
 use Rattle.naga_words.specs.Output.{joined_texts}
+use Rattle.naga_wgsl_fns.specs.Constants.{constant_text}
 use Rattle.naga_wgsl_fns.specs.Literals.{literal_text}
 use Rattle.wgsl_text.specs.Reading.{expression_layout}
 use Rattle.naga_wgsl_fns.specs.declared.functions.FunctionText.{FunctionText}
@@ -152,6 +153,7 @@ module _ (n : Naming) (code : Source) (before : OperandsStandBefore code.express
       (each_below h (expression_operands e) below)))
       same)
   own_same a b h (expression.Literal value) below same = refl
+  own_same a b h (expression.Constant c) below same = refl
   own_same a b h (expression.FunctionArgument number) below same = refl
   own_same a b h (expression.LocalVariable handle) below same = refl
   own_same a b h e below same =
@@ -223,6 +225,7 @@ application_at f table type hs None = expression_layout (as_value no_form)
 abbrev pub own_at : FunctionText → (table : List Standing) → (handle : ℕ) → Option ir.Expression →
     List ℕ
 own_at f table handle (Some (expression.Literal value)) = literal_text value
+own_at f table handle (Some (expression.Constant c)) = constant_text f c
 own_at f table handle (Some (expression.ZeroValue ty)) =
     applied_text f table
     (notation (type_tree (type_names_of f) ty) (constructor (around f) (Handle ty) 0)) []
@@ -248,7 +251,7 @@ own_at f table handle None = expression_layout (as_value no_form)
 pub own_row : (f : FunctionText) (table : List Standing) (handle : ℕ) → CanWrite f →
     IsInText f handle →
     own_text f table handle ≡ own_at f table handle (slice_get (expressions f) handle)
-unfolding own_text literal_text name_of_argument address_text reference_text applied_text member_text part_value_text plain_address_text plain_text
+unfolding own_text literal_text constant_text name_of_argument address_text reference_text applied_text member_text part_value_text plain_address_text plain_text
 own_row f table handle can within = by (slice_get (expressions f) handle) refl
   where
     operand : ℕ → PlainForm
@@ -288,6 +291,7 @@ own_row f table handle can within = by (slice_get (expressions f) handle) refl
     by (Some (expression.AccessIndex base index)) at =
         parted (Some (expression.AccessIndex base index)) at base refl
     by (Some (expression.Literal value)) at = refl
+    by (Some (expression.Constant c)) at = refl
     by (Some (expression.FunctionArgument number)) at = name_text (name_of_argument f number)
     by (Some (expression.LocalVariable local)) at = refl
     by (Some (expression.Load pointer)) at =
@@ -381,6 +385,7 @@ reference_row f table handle can within =
         parted mine (Some (expression.AccessIndex base index)) at base refl
     kind mine (Some (expression.Literal value)) at =
         pointed_by mine (Some (expression.Literal value)) at refl
+    kind mine (Some (expression.Constant c)) at = pointed_by mine (Some (expression.Constant c)) at refl
     kind mine (Some (expression.ZeroValue ty)) at = pointed_by mine (Some (expression.ZeroValue ty)) at refl
     kind mine (Some (expression.Swizzle size vector pattern)) at =
         pointed_by mine (Some (expression.Swizzle size vector pattern)) at refl

@@ -100,7 +100,7 @@ module _ (f : FunctionText) (can : CanWrite f) where
       ((x : ℕ) → x < h → may x ≡ true → as_value (form_at f [] x) ≡ part x) →
       (e : ir.Expression) → AllBelow h (expression_operands e) → written_out_over may e ≡ true →
       as_value (own_plain (naming f) (source f) (form_at f []) e) ≡
-      constant_form_over (around f) (type_names_of f) part e
+      constant_form_over (around f) (type_names_of f) (source f).constant part e
   over_same part may h same (expression.Literal value) below is = refl
   over_same part may h same (expression.ZeroValue ty) below is = refl
   over_same part may h same (expression.Compose ty components) below is =
@@ -115,7 +115,7 @@ module _ (f : FunctionText) (can : CanWrite f) where
   pub constant_same : (levels h : ℕ) → h < length (expressions f) →
       written_out_within levels (expressions f) h ≡ true →
       as_value (form_at f [] h) ≡
-      constant_form_within levels (around f) (type_names_of f) (expressions f) h
+      constant_form_within levels (around f) (type_names_of f) (source f).constant (expressions f) h
   constant_same zero h lt is = absurd cc
   constant_same (suc levels) h lt is =
       ap as_value (cell_form f [] h can lt)
@@ -126,15 +126,15 @@ module _ (f : FunctionText) (can : CanWrite f) where
           ((x : ℕ) → x < length (expressions f) →
           written_out_within levels (expressions f) x ≡ true →
           as_value (form_at f [] x) ≡
-          constant_form_within levels (around f) (type_names_of f) (expressions f) x) →
+          constant_form_within levels (around f) (type_names_of f) (source f).constant (expressions f) x) →
           as_value (own_if (naming f) (source f) (form_at f []) o) ≡
           option_map_or
-          (constant_form_over (around f) (type_names_of f)
-          (constant_form_within levels (around f) (type_names_of f) (expressions f))) o
+          (constant_form_over (around f) (type_names_of f) (source f).constant
+          (constant_form_within levels (around f) (type_names_of f) (source f).constant (expressions f))) o
           no_constant_form
       by None at is each = absurd cc
       by (Some e) at is each =
-          over_same (constant_form_within levels (around f) (type_names_of f) (expressions f))
+          over_same (constant_form_within levels (around f) (type_names_of f) (source f).constant (expressions f))
           (written_out_within levels (expressions f)) h
           (λ x below is. each x (omega (arith, below, lt)) is) e
           (all_before f can h e at) is

@@ -57,7 +57,7 @@ module _ (f : FunctionText) (table : List Standing) (can : CanWrite f) where
   }
 
   selected_form : (base index : ℕ) →
-      expression_is_written f.shader.now.types f.info.now (expression.AccessIndex base index) ≡ true →
+      expression_is_written f.shader.now f.info.now (expression.AccessIndex base index) ≡ true →
       PartForm f table (Some (expression.AccessIndex base index)) base
   unfolding selector_text
   selected_form base index may =

@@ -1,6 +1,6 @@
 -- The texts of parts: what they are taken of, and what is chosen.
 use Rattle.std.proofs.Common.{◌≡◌, ℕ, zero, suc, ◌<◌, Bool, true, false, List, [], ◌∷◌, ◌++◌, length}
-use Rattle.std.proofs.Common.{Option, Some, None, codes, refl, sym, ap, ◌∙◌, get_or}
+use Rattle.std.proofs.Common.{Option, Some, None, codes, refl, sym, ap, ◌∙◌, get_or, map}
 use Rattle.std.proofs.lemmas.List.{append-nil}
 use Rattle.std.specs.Prelude.{slice_get, if◌then◌else◌}
 use Rattle.std.specs.Option.{option_map_or}
@@ -39,7 +39,14 @@ use Rattle.wgsl_text.proofs.Expressions.{member_text as member_row_text}
 use Rattle.wgsl_text.proofs.Text.{text-append}
 use Rattle.wgsl_text.specs.Expressions as tree
 use Rattle.std.specs.Prelude.{IsTrue}
-use Rattle.module_meaning.specs.ExpressionOperators.{applied_operator}
+use Rattle.module_meaning.specs.ExpressionOperators.{Surroundings, applied_operator}
+use Rattle.module_meaning.specs.Surroundings.{surroundings}
+use Rattle.naga_form.specs.ConstantForms.{constant_form_over, global_form, global_form_within}
+use Rattle.naga_form.specs.ConstantForms.{initialiser_form, no_constant_form, written_constant_form}
+use Rattle.naga_ir.specs.declared.module.Constant as ir_constant
+use Rattle.naga_ir.specs.declared.module.Module.{Module}
+use Rattle.naga_words.specs.Contexts.{Names as TypeNames}
+use Rattle.naga_wgsl_fns.specs.FunctionText.{type_names_of}
 use Rattle.module_meaning.specs.ExpressionOperators.{load_operator, points_to_atomic}
 use Rattle.module_meaning.specs.OperatorTable.{AtomicLoad, Operator, WithoutForm}
 use Rattle.module_meaning.specs.Names.{given_name, numbered_name}
@@ -260,6 +267,7 @@ module _ (n : Naming) (code : Source) (s : Handles) where
       is_signed (as_reference (own_if n code operand o)) ≡ false
   own_unsigned operand None = refl
   own_unsigned operand (Some (expression.Literal value)) = refl
+  own_unsigned operand (Some (expression.Constant c)) = refl
   own_unsigned operand (Some (expression.ZeroValue ty)) = refl
   own_unsigned operand (Some (expression.FunctionArgument number)) = refl
   own_unsigned operand (Some (expression.LocalVariable handle)) = refl
@@ -324,6 +332,45 @@ base_unpointed f table base is =
     let e = if b then as_reference (form_at f table base) else as_value (form_at f table base) in
     text (tree.base_pieces e (tree.expression_pieces e))) is)
 
+-- nor does a constant without a name
+module _ (m : Module) (t : TypeNames) where
+  initialiser_unsigned : (own : ℕ → tree.Expression) → ((x : ℕ) → is_signed (own x) ≡ false) →
+      (c : ℕ) → is_signed (initialiser_form m own c) ≡ false
+  initialiser_unsigned own each c = by (slice_get m.constants c)
+    where
+      by : (o : Option ir_constant.Constant) →
+          is_signed (option_map_or (λ k. own k.init) o no_constant_form) ≡ false
+      by None = refl
+      by (Some k) = each k.init
+
+  global_unsigned : (levels h : ℕ) → is_signed (global_form_within levels m t h) ≡ false
+  global_unsigned zero h = refl
+  global_unsigned (suc levels) h = by (slice_get m.global_expressions h) (global_unsigned levels)
+    where
+      own : ℕ → tree.Expression
+      own = global_form_within levels m t
+
+      a : Surroundings
+      a = surroundings m (λ x. None)
+
+      by : (o : Option ir.Expression) → ((x : ℕ) → is_signed (own x) ≡ false) →
+          is_signed
+          (option_map_or (constant_form_over a t (initialiser_form m own) own) o no_constant_form) ≡
+          false
+      by None each = refl
+      by (Some (expression.Constant c)) each = initialiser_unsigned own each c
+      by (Some (expression.ZeroValue ty)) each =
+          called_unsigned _ (constructor_called a (Handle ty) 0) (type_tree t ty) []
+      by (Some (expression.Compose ty components)) each =
+          called_unsigned _ (constructor_called a (Handle ty) (length components.items))
+          (type_tree t ty) (map own components.items)
+      by (Some (expression.Literal value)) each = refl
+      by (Some (expression.Splat size value)) each = refl
+      by (Some _) each = refl
+
+  constant_unsigned : (c : ℕ) → is_signed (written_constant_form m t c) ≡ false
+  constant_unsigned c = initialiser_unsigned (global_form m t) (λ x. global_unsigned (suc x) x) c
+
 -- a value starts with one where its expression is one before its operand
 abbrev pub is_prefix : Option ir.Expression → Bool
 is_prefix (Some (expression.Unary op x)) = true
@@ -370,6 +417,7 @@ signed_row f table handle can within =
             IsTrue (expression_is_of_part e) →
             is_signed (as_value (own_plain (naming f) (source f) operand e)) ≡ is_prefix (Some e)
         of_written (expression.Literal value) at is = refl
+        of_written (expression.Constant c) at is = constant_unsigned f.shader.now (type_names_of f) c
         of_written (expression.ZeroValue ty) at is =
             called_unsigned _ (constructor_called (around f) (Handle ty) 0)
             (type_tree (source f).type_names ty) []

@@ -39,7 +39,8 @@ use Rattle.module_meaning.specs.FunctionShapes.{statement_shape}
 use Rattle.module_meaning.specs.Names.{given_name, module_names, numbered_name}
 use Rattle.module_meaning.specs.OperatorTable.{relational_word}
 use Rattle.module_meaning.specs.AlikeTypes.{has_form}
-use Rattle.module_meaning.specs.Part.{expression_is_written, is_written_literal}
+use Rattle.module_meaning.specs.Part.{constant_is_written, expression_is_written}
+use Rattle.module_meaning.specs.Part.{is_written_literal}
 use Rattle.naga_form.proofs.AcceptedGroups.{fits_in_range, known_fits, known_is_fit}
 use Rattle.naga_form.proofs.PartTypes.{known_before}
 use Rattle.naga_info.specs.declared.info.ModuleInfo.{ModuleInfo}
@@ -96,6 +97,7 @@ use Rattle.naga_wgsl_fns.specs.Types.{told_type_text}
 -- an expression is of none of these kinds, which are those that are written so far
 pub record IsNoOther (e : Expression) : Type 0 where
   pub literal : (value : ir_literal.Literal) → e ≡ expression.Literal value → ⊥
+  pub constant : (c : ℕ) → e ≡ expression.Constant c → ⊥
   pub zero_value : (ty : ℕ) → e ≡ expression.ZeroValue ty → ⊥
   pub composed : (ty : ℕ) (parts : Vec ℕ Global) → e ≡ expression.Compose ty parts → ⊥
   pub element : (b i : ℕ) → e ≡ expression.Access b i → ⊥
@@ -251,7 +253,7 @@ module _ (t : FunctionText) (can : CanWrite t) where
   letter_of d whole _ index none parts = absurd cc
 
   pub component_is : (base index : ℕ) →
-      expression_is_written m.types es (expression.AccessIndex base index) ≡ true →
+      expression_is_written m es (expression.AccessIndex base index) ≡ true →
       (letter : Option (List ℕ)) →
       letter ≡ (if has_components t base then slice_get component_letters index else None) →
       part_selector (source t).declared base index ≡ Some (selector_of letter index)
@@ -300,7 +302,7 @@ module _ (t : FunctionText) (can : CanWrite t) where
 
   -- what a part is taken of is known
   pub base_known : (base index : ℕ) →
-      expression_is_written m.types es (expression.AccessIndex base index) ≡ true → base < length es
+      expression_is_written m es (expression.AccessIndex base index) ≡ true → base < length es
   base_known base index may =
       let b = known_base m es base index may in slice_get_within es base b.known b.there
 
@@ -325,16 +327,16 @@ module _ (t : FunctionText) (can : CanWrite t) where
   is_of_part h e here = list_all_at expression_is_of_part f.expressions h e (function_parts f can.written).expressions here
 
   -- one that is written has a form
-  pub expression_formed : (h : ℕ) (e : Expression) → slice_get f.expressions h ≡ Some e → IsInText t h → IsTrue (expression_is_written m.types es e)
-  expression_formed h e here is = (has_form_parts m.types es f.expressions e (can.formed.expressions h e here is.written)).0
+  pub expression_formed : (h : ℕ) (e : Expression) → slice_get f.expressions h ≡ Some e → IsInText t h → IsTrue (expression_is_written m es e)
+  expression_formed h e here is = (has_form_parts m es f.expressions e (can.formed.expressions h e here is.written)).0
 
   -- and so has its offset
   pub offset_has_form : (h : ℕ) (e : Expression) → slice_get f.expressions h ≡ Some e → IsInText t h →
       IsTrue (own_offset_is_written f.expressions e)
-  offset_has_form h e here is = (has_form_parts m.types es f.expressions e (can.formed.expressions h e here is.written)).1
+  offset_has_form h e here is = (has_form_parts m es f.expressions e (can.formed.expressions h e here is.written)).1
 
   pub literal_is_written : (h : ℕ) (e : Expression) (value : ir_literal.Literal) → slice_get f.expressions h ≡ Some e → IsInText t h → e ≡ expression.Literal value → IsTrue (is_written_literal value)
-  literal_is_written h e value here within is = ap (expression_is_written m.types es) (sym is) ∙ expression_formed h e here within
+  literal_is_written h e value here within is = ap (expression_is_written m es) (sym is) ∙ expression_formed h e here within
 
   -- what an expression names is there
   names_there : (h : ℕ) (e own : Expression) → slice_get f.expressions h ≡ Some e → e ≡ own → IsTrue (names_in_range m g (length f.arguments.items) (length f.local_variables) own)
@@ -391,24 +393,24 @@ module _ (t : FunctionText) (can : CanWrite t) where
   pub part_is_written : (h base : ℕ) (e : Expression) (b i : ℕ) → slice_get f.expressions h ≡ Some e →
       IsInText t h → e ≡ expression.AccessIndex b i →
       base_of (slice_get f.expressions h) ≡ Some base →
-      expression_is_written m.types es (expression.AccessIndex base i) ≡ true
+      expression_is_written m es (expression.AccessIndex base i) ≡ true
   part_is_written h base e b i here within is part =
       let there = here ∙ ap Some is in
       let same = same_Some b base (sym (ap base_of there) ∙ part) in
-      subst (λ b. expression_is_written m.types es (expression.AccessIndex b i) ≡ true) same
+      subst (λ b. expression_is_written m es (expression.AccessIndex b i) ≡ true) same
       (expression_formed h (expression.AccessIndex b i) there within)
 
   -- a conversion that is written has a form
   pub conversion_formed : (h : ℕ) (e : Expression) (x : ℕ) (kind : ScalarKind)
       (convert : Option ℕ) → slice_get f.expressions h ≡ Some e → IsInText t h →
       e ≡ expression.As x kind convert →
-      expression_is_written m.types es (expression.As x kind convert) ≡ true
+      expression_is_written m es (expression.As x kind convert) ≡ true
   conversion_formed h e x kind convert here within is =
-      ap (expression_is_written m.types es) (sym is) ∙ expression_formed h e here within
+      ap (expression_is_written m es) (sym is) ∙ expression_formed h e here within
 
   -- what the operand of a conversion is converted to
   pub converted_is : (x : ℕ) (kind : ScalarKind) (convert : Option ℕ) →
-      expression_is_written m.types es (expression.As x kind convert) ≡ true → (from : TypeInner) →
+      expression_is_written m es (expression.As x kind convert) ≡ true → (from : TypeInner) →
       type_known (around t) x ≡ Some from →
       (to : TypeInner) × ((conversion_target from kind convert ≡ Some to) × (has_form m.types (resolution.Value to) ≡ true))
   converted_is x kind convert may from known =
@@ -430,18 +432,24 @@ module _ (t : FunctionText) (can : CanWrite t) where
       by (expression.AccessIndex b i) is one two = two b i refl
       by _ is one two = absurd cc
 
+  -- a constant is written as its initialiser is
+  pub constant_passes : (h : ℕ) (e : Expression) (c : ℕ) → slice_get f.expressions h ≡ Some e →
+      IsInText t h → e ≡ expression.Constant c → IsTrue (constant_is_written m c)
+  constant_passes h e c here within is =
+      ap (expression_is_written m es) (sym is) ∙ expression_formed h e here within
+
   -- functions of mathematics and relations have words
   pub math_is_written : (h : ℕ) (e : Expression) (fun : MathFunction) (x : ℕ) (y z w : Option ℕ) →
       slice_get f.expressions h ≡ Some e → IsInText t h → e ≡ expression.Math fun x y z w →
       IsTrue (is_some (math_word fun))
   math_is_written h e fun x y z w here within is =
-      ap (expression_is_written m.types es) (sym is) ∙ expression_formed h e here within
+      ap (expression_is_written m es) (sym is) ∙ expression_formed h e here within
 
   pub relation_is_written : (h : ℕ) (e : Expression) (fun : RelationalFunction) (x : ℕ) →
       slice_get f.expressions h ≡ Some e → IsInText t h → e ≡ expression.Relational fun x →
       IsTrue (is_some (relational_word fun))
   relation_is_written h e fun x here within is =
-      ap (expression_is_written m.types es) (sym is) ∙ expression_formed h e here within
+      ap (expression_is_written m es) (sym is) ∙ expression_formed h e here within
 
   -- it loads and stores no atomic
   pub points_to_none : (h : ℕ) → points_to_atomic (around t) h ≡ false
@@ -450,10 +458,10 @@ module _ (t : FunctionText) (can : CanWrite t) where
   -- the type of which an expression that is written makes a value has a form
   pub made_value : (h : ℕ) (e own : Expression) (ty : ℕ) → slice_get f.expressions h ≡ Some e →
       IsInText t h → e ≡ own →
-      expression_is_written m.types es own ≡ has_form m.types (resolution.Handle ty) →
+      expression_is_written m es own ≡ has_form m.types (resolution.Handle ty) →
       IsTrue (has_form m.types (resolution.Handle ty))
   made_value h e own ty here within is names =
-      sym names ∙ (ap (expression_is_written m.types es) (sym is) ∙ expression_formed h e here within)
+      sym names ∙ (ap (expression_is_written m es) (sym is) ∙ expression_formed h e here within)
 
   -- no other expression is written
   pub no_other_expression : (h : ℕ) (e : Expression) → slice_get f.expressions h ≡ Some e → IsNoOther e → ⊥
@@ -461,6 +469,7 @@ module _ (t : FunctionText) (can : CanWrite t) where
     where
       by : (e : Expression) → IsTrue (expression_is_of_part e) → IsNoOther e → ⊥
       by (expression.Literal v) is none = none.literal v refl
+      by (expression.Constant c) is none = none.constant c refl
       by (expression.ZeroValue t) is none = none.zero_value t refl
       by (expression.Compose t xs) is none = none.composed t xs refl
       by (expression.Access b i) is none = none.element b i refl

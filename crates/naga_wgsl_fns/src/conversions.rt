@@ -34,7 +34,7 @@ impl FunctionText<'_> {
     )
         requires can { CanWrite self.now }
         requires handle { IsInText self.now handle }
-        requires formed { IsTrue (expression_is_written self.now.shader.now.types self.now.info.now
+        requires formed { IsTrue (expression_is_written self.now.shader.now self.now.info.now
             (As operand kind convert)) }
         ensures { Writes W.text W.failures out.old out.new
             (made_text self.now scope.now.table (conversion_callee self.now operand kind convert)
@@ -56,7 +56,7 @@ impl FunctionText<'_> {
         out: &mut Output<'_, W>,
     )
         requires can { CanWrite self.now }
-        requires formed { IsTrue (expression_is_written self.now.shader.now.types self.now.info.now
+        requires formed { IsTrue (expression_is_written self.now.shader.now self.now.info.now
             (As operand kind convert)) }
         ensures { Writes W.text W.failures out.old out.new
             (callee_text self.now operand kind convert) }

@@ -72,6 +72,7 @@ impl FunctionText<'_> {
     {
         match &self.function.expressions[handle] {
             Expression::Literal(literal) => write_literal(*literal, out),
+            Expression::Constant(constant) => self.write_constant(alloc, *constant, out),
             Expression::ZeroValue(ty) => self.write_made(alloc, scope, handle, *ty, out),
             Expression::Compose { ty, .. } => self.write_made(alloc, scope, handle, *ty, out),
             Expression::Access { base, .. } => {

@@ -4,6 +4,7 @@
 //! Users take these through the crate `naga_wgsl_out`.
 #![tactic(auto)]
 
+mod constants;
 mod conversions;
 pub mod error;
 mod expressions;

@@ -185,7 +185,7 @@ impl FunctionText<'_> {
         out: &mut Output<'_, W>,
     )
         requires can { CanWrite self.now }
-        requires written { IsTrue (expression_is_written self.now.shader.now.types self.now.info.now
+        requires written { IsTrue (expression_is_written self.now.shader.now self.now.info.now
             (AccessIndex base index)) }
         ensures { Writes W.text W.failures out.old out.new (selector_text self.now base index) }
     {
@@ -198,7 +198,7 @@ impl FunctionText<'_> {
     /// The letter of a component of a vector, or of one that is pointed at. Other parts have none.
     fn component(&self, base: Handle<Expression>, index: u32) -> Option<&'static str>
         requires can { CanWrite self.now }
-        requires written { IsTrue (expression_is_written self.now.shader.now.types self.now.info.now
+        requires written { IsTrue (expression_is_written self.now.shader.now self.now.info.now
             (AccessIndex base index)) }
         ensures { part_selector (source self.now).declared base index
             ≡ Some (selector_of (option_map (λ word. word.now) result) index) }

@@ -13,7 +13,7 @@ use Rattle.naga_ir.specs.Operands.{level_operands}
 use Rattle.naga_wgsl_fns.proofs.ImageRows.{furthers_none, furthers_one, furthers_two, no_offset}
 use Rattle.naga_wgsl_fns.proofs.ImageRows.{offset_row, sampling_whole}
 use Rattle.naga_wgsl_fns.proofs.Wanted.{all_in_text, are_sampled, expression_formed, highest_below}
-use Rattle.naga_wgsl_fns.proofs.Wanted.{offset_has_form}
+use Rattle.naga_wgsl_fns.proofs.Wanted.{constant_passes, offset_has_form}
 use Rattle.naga_wgsl_fns.specs.Expressions.{next_operand_text}
 use Rattle.naga_wgsl_fns.specs.FunctionText.{AreInText, expressions}
 use Rattle.naga_wgsl_fns.specs.Images.{furthers_text, level_text, offset_text}
@@ -37,6 +37,10 @@ use Rattle.naga_wgsl_fns.proofs.functions.FunctionText.+expression.Goals as goal
 pub write_own-write_literal-requires : goal.write_own-write_literal-requires
 write_own-write_literal-requires g t c =
     literal_is_written c.args.self.now c.requires.can c.args.handle c.index.result.now c.in-Literal.literal c.index.ensures c.requires.handle c.in-Literal.is
+
+pub write_own-write_constant-requires-clause-written : goal.write_own-write_constant-requires-clause-written
+write_own-write_constant-requires-clause-written g t c =
+    constant_passes c.args.self.now c.requires.can c.args.handle c.index.result.now c.in-Constant.constant c.index.ensures c.requires.handle c.in-Constant.is
 
 pub write_own-write_argument_name-requires-clause-argument : goal.write_own-write_argument_name-requires-clause-argument
 write_own-write_argument_name-requires-clause-argument g t c =
@@ -86,6 +90,7 @@ write_own-unreachable-requires g t c =
     no_other_expression c.args.self.now c.requires.can c.args.handle c.index.result.now c.index.ensures
     (record {
       literal = c.in_default.not-Literal;
+      constant = c.in_default.not-Constant;
       zero_value = c.in_default.not-ZeroValue;
       composed = c.in_default.not-Compose;
       element = c.in_default.not-Access;
@@ -502,7 +507,7 @@ pub write_sampling-write_sampling_head-requires-clause-written : goal.write_samp
 write_sampling-write_sampling_head-requires-clause-written g t c =
     let s = c.in-ImageSample in
     ap (λ b. sampling_is_written s.gather s.level b s.clamp_to_edge) c.is_some-compares.ensures
-    ∙ (ap (expression_is_written c.args.self.now.shader.now.types c.args.self.now.info.now) (sym s.is)
+    ∙ (ap (expression_is_written c.args.self.now.shader.now c.args.self.now.info.now) (sym s.is)
     ∙ expression_formed c.args.self.now c.requires.can c.args.handle c.index.result.now c.index.ensures
     c.requires.handle)
 
