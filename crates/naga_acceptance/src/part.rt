@@ -9,7 +9,7 @@ ghost use Rattle.module_meaning.specs.ExpressionOperators.{has_parts, is_composi
 ghost use Rattle.module_meaning.specs.InfoSizes.{all_paired};
 ghost use Rattle.module_meaning.specs.AlikeTypes.{has_form};
 ghost use Rattle.module_meaning.specs.Part.{block_is_written, declares_functions};
-ghost use Rattle.module_meaning.specs.Part.{expression_is_of_part, literal_is_of_part};
+ghost use Rattle.module_meaning.specs.Part.{expression_is_of_part};
 ghost use Rattle.module_meaning.specs.Part.{function_is_written, is_literal, is_unbound};
 ghost use Rattle.module_meaning.specs.Part.{is_extended, is_written_so_far, local_is_written};
 ghost use Rattle.module_meaning.specs.Part.{known_types_have_forms, needs_nothing};
@@ -20,19 +20,20 @@ use crate::alike::is_spelled;
 use crate::parts::{inner_at, inner_of};
 use naga_info::{ExpressionInfo, FunctionInfo, ModuleInfo, TypeResolution};
 use naga_ir::{
-    Arena, Block, Expression, Function, FunctionArgument, Handle, Literal, LocalVariable, Module,
-    Place, Scalar, ScalarKind, Statement, Type_, TypeInner, UniqueArena,
+    Arena, Block, Expression, Function, FunctionArgument, Handle, LocalVariable, Module, Place,
+    Scalar, ScalarKind, Statement, Type_, TypeInner, UniqueArena,
 };
 
 /// Whether the module is of the part that is written so far: it declares nothing but functions and
-/// types that need no extension, no declaration and are no atomics; the types have forms, and so has
+/// types that need no extension and no declaration; the types have forms, and so has
 /// what is known of the functions' expressions. The functions'
 /// arguments and results are bound to nothing, their locals have a literal as first value or
-/// none; their expressions are arguments, locals, literals of all types but 16 bits, zero values,
+/// none; their expressions are arguments, locals, literals, zero values,
 /// values of a type composed of others, loads, operators with a sign, choices, vectors of one value,
 /// swizzles, parts at an index, conversions, derivatives, operations on images, lengths of arrays,
-/// products of cooperative matrices, and calls of functions of mathematics and of relations; and
-/// their statements are `Emit`s, `Store`s and `Return`s. A known index is that of what has parts.
+/// loads and products of cooperative matrices, calls of functions of mathematics and of relations,
+/// results of statements and what ray queries found; and their statements are `Emit`s, `Store`s and
+/// `Return`s. A known index is that of what has parts.
 #[tactic(auto, unfolding(module_meaning::specs::Part::is_written_so_far))]
 pub fn is_written_so_far(module: &Module, info: &ModuleInfo) -> bool
     ensures { result ≡ is_written_so_far «module».now info.now }
@@ -65,7 +66,7 @@ fn is_extended(scalar: Scalar) -> bool
     }
 }
 
-/// Whether a module declares and enables nothing for the type, and it is no atomic.
+/// Whether a module declares and enables nothing for the type.
 fn needs_nothing(inner: &TypeInner) -> bool
     ensures { result ≡ needs_nothing inner.now }
 {
@@ -74,11 +75,11 @@ fn needs_nothing(inner: &TypeInner) -> bool
         | TypeInner::Vector { scalar, .. }
         | TypeInner::Matrix { scalar, .. } => !is_extended(*scalar),
         TypeInner::CooperativeMatrix { .. }
-        | TypeInner::Atomic(_)
         | TypeInner::Struct { .. }
         | TypeInner::AccelerationStructure { .. }
         | TypeInner::BindingArray { .. } => false,
-        TypeInner::Pointer { .. }
+        TypeInner::Atomic(_)
+        | TypeInner::Pointer { .. }
         | TypeInner::ValuePointer { .. }
         | TypeInner::Array { .. }
         | TypeInner::Image { .. }
@@ -191,7 +192,8 @@ fn expression_is_of_part(expression: &Expression) -> bool
     ensures { result ≡ expression_is_of_part expression.now }
 {
     match expression {
-        Expression::ZeroValue(_)
+        Expression::Literal(_)
+        | Expression::ZeroValue(_)
         | Expression::Compose { .. }
         | Expression::Access { .. }
         | Expression::AccessIndex { .. }
@@ -211,9 +213,17 @@ fn expression_is_of_part(expression: &Expression) -> bool
         | Expression::ImageLoad { .. }
         | Expression::ImageQuery { .. }
         | Expression::ArrayLength(_)
-        | Expression::CooperativeMultiplyAdd { .. } => true,
-        Expression::Literal(literal) => literal_is_of_part(*literal),
-        _ => false,
+        | Expression::CooperativeLoad { .. }
+        | Expression::CooperativeMultiplyAdd { .. }
+        | Expression::CallResult(_)
+        | Expression::AtomicResult { .. }
+        | Expression::WorkGroupUniformLoadResult { .. }
+        | Expression::SubgroupOperationResult { .. }
+        | Expression::SubgroupBallotResult
+        | Expression::RayQueryProceedResult
+        | Expression::RayQueryGetIntersection { .. }
+        | Expression::RayQueryVertexPositions { .. } => true,
+        Expression::Constant(_) | Expression::Override(_) | Expression::GlobalVariable(_) => false,
     }
 }
 
@@ -296,15 +306,6 @@ fn is_composite(inner: &TypeInner) -> bool
         | TypeInner::BindingArray { .. }
         | TypeInner::Struct { .. } => true,
         _ => false,
-    }
-}
-
-fn literal_is_of_part(literal: Literal) -> bool
-    ensures { result ≡ literal_is_of_part literal }
-{
-    match literal {
-        Literal::I16(_) | Literal::U16(_) => false,
-        _ => true,
     }
 }
 
