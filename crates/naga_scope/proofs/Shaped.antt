@@ -14,7 +14,7 @@ use Rattle.naga_ir.specs.declared.module.Function as ir_function
 use Rattle.naga_ir.specs.declared.module.Module.{Module}
 use Rattle.naga_info.specs.declared.info.ExpressionInfo.{ExpressionInfo}
 use Rattle.naga_info.specs.declared.info.ModuleInfo.{ModuleInfo}
-use Rattle.naga_back.specs.Baking.{count_to_bind}
+use Rattle.naga_scope.specs.Forms.{least_uses}
 use Rattle.shader_runs.specs.Program.{Expression, Load, Operator, Access, AccessIndex, Logical}
 use Rattle.shader_runs.specs.Program.{Argument, Constant, Global, Local, Request, Result, Swizzle}
 use Rattle.shader_runs.specs.Program.{operands_of}
@@ -34,6 +34,9 @@ use Rattle.module_meaning.specs.ExpressionShapes.{Declared, shape_of, applied_or
 use Rattle.module_meaning.specs.ExpressionShapes.{part_selector, part_shape}
 use Rattle.module_meaning.specs.FunctionShapes.{function_shape}
 use Rattle.module_meaning.specs.OperatorTable.{Operator as TableOperator, AtomicLoad, BinarySign}
+use Rattle.module_meaning.specs.OperatorTable.{CooperativeLoad, MatrixLoad, WithoutForm}
+use Rattle.naga_ir.specs.declared.types.CooperativeRole.{CooperativeRole}
+use Rattle.naga_ir.specs.declared.types.CooperativeSize.{CooperativeSize}
 use Rattle.module_meaning.specs.Part.{expression_is_of_part, function_is_written, types_allow}
 use Rattle.module_meaning.specs.Part.{types_allow_all}
 use Rattle.naga_form.proofs.AllowedParts.{selected}
@@ -51,9 +54,9 @@ use Rattle.naga_form.proofs.PartFits.{function_parts}
 use Rattle.naga_form.proofs.WellFormed.{applied_any}
 use Rattle.naga_scope.specs.Standings.{kind_at, operands_at, is_pure_kind, is_constant_kind}
 use Rattle.naga_scope.specs.Standings.{is_emittable_kind, is_image_operation, usable_by}
-use Rattle.module_meaning.specs.ExpressionOperators.{is_depth_image, level_of, query_operator}
+use Rattle.module_meaning.specs.ExpressionOperators.{is_depthimage, level_of, query_operator}
 use Rattle.module_meaning.specs.ExpressionOperators.{sample_operator}
-use Rattle.naga_ir.specs.Operands.{query_operands}
+use Rattle.naga_ir.specs.Operands.{cooperative_operands, query_operands}
 use Rattle.naga_ir.specs.declared.expression.ImageQuery.{ImageQuery}
 use Rattle.naga_ir.specs.declared.expression.ImageQuery.TheVariants as query
 use Rattle.naga_ir.specs.declared.expression.SwizzleComponent.{SwizzleComponent}
@@ -190,7 +193,7 @@ module _ (m : Module) (info : ModuleInfo) (f : ir_function.Function) (es : List 
           operands_of (Some (shape_of d f.expressions h e)) ≡ expression_operands e
       own
           (expression.ImageSample
-          image sampler gather coordinate array_index offset level depth_ref clamp) is =
+          image sampler gather coordinate array_index offset level depthref clamp) is =
           absurd cc
       own e is = shape_operands d f.expressions h e refl
 
@@ -276,11 +279,23 @@ module _ (m : Module) (info : ModuleInfo) (f : ir_function.Function) (es : List 
     query_bound h query.NumLayers xs = refl
     query_bound h query.NumSamples xs = refl
 
+    -- the load of a matrix is bound from the first use on, whether its type has a form or not
+    load_binds : (h : ℕ) (columns rows : CooperativeSize) (role : CooperativeRole) (row_major : Bool)
+        (o : Option (List ℕ)) (xs : List ℕ) →
+        binds_as shape h
+        (Some
+        (applied_shape
+        (option_map_or (CooperativeLoad row_major) o
+        (WithoutForm (MatrixLoad columns rows role row_major))) xs)) ≡
+        is_counted shape 1 h
+    load_binds h columns rows role row_major None xs = refl
+    load_binds h columns rows role row_major (Some w) xs = refl
+
     -- what an Emit may give is bound where it has a name, and from its number of uses on, or always
     pub emitted_binds : IsTrue (types_allow_all m.types f es) → (h : ℕ) (e : ir.Expression) →
         slice_get f.expressions h ≡ Some e →
         is_emittable_kind (kind_of e) ≡ true →
-        (is_image_operation e || named_or h (nat_le (count_to_bind e) (count h))) ≡ binds shape h
+        (is_image_operation e || named_or h (nat_le (least_uses e) (count h))) ≡ binds shape h
     emitted_binds allowed h e at may =
         sym
         (ap (binds_as shape h) (expression_at m info f es h e at)
@@ -291,7 +306,7 @@ module _ (m : Module) (info : ModuleInfo) (f : ir_function.Function) (es : List 
             types_allow m.types es e ≡ true →
             is_emittable_kind (kind_of e) ≡ true →
             binds_as shape h (Some (shape_of d f.expressions h e)) ≡
-            (is_image_operation e || named_or h (nat_le (count_to_bind e) (count h)))
+            (is_image_operation e || named_or h (nat_le (least_uses e) (count h)))
         own (expression.Load pointer) is types may = by (points_to_atomic d.around pointer)
           where
             by : (atomic : Bool) →
@@ -327,22 +342,27 @@ module _ (m : Module) (info : ModuleInfo) (f : ir_function.Function) (es : List 
         own (expression.Relational fun argument) is types may = counted_from 2 h
         own
             (expression.ImageSample
-            image sampler gather coordinate array_index offset level depth_ref clamp) is types may =
+            image sampler gather coordinate array_index offset level depthref clamp) is types may =
             by gather
           where
             by : (g : Option SwizzleComponent) →
                 is_asked shape h
                 (asking
                 (sample_operator
-                (option_map_or is_depth_image (type_known d.around image) false)
-                g (level_of level) (is_some depth_ref) clamp
+                (option_map_or is_depthimage (type_known d.around image) false)
+                g (level_of level) (is_some depthref) clamp
                 (is_some array_index) (is_some offset))) ≡ true
             by None = refl
             by (Some c) = refl
         own (expression.ImageLoad image coordinate array_index sample level) is types may = refl
         own (expression.ImageQuery image query) is types may = query_bound h query (image ∷ query_operands query)
         own (expression.ArrayLength array) is types may = counted_from 2 h
+        own (expression.CooperativeLoad columns rows role place) is types may =
+            load_binds h columns rows role place.row_major _ (cooperative_operands place)
+            ∙ counted_from 1 h
         own (expression.CooperativeMultiplyAdd x y z) is types may = counted_from 2 h
+        own (expression.RayQueryGetIntersection query committed) is types may = counted_from 2 h
+        own (expression.RayQueryVertexPositions query committed) is types may = counted_from 2 h
         own (expression.Literal value) is types may = absurd cc
         own (expression.FunctionArgument number) is types may = absurd cc
         own (expression.LocalVariable handle) is types may = absurd cc

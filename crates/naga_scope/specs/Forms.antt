@@ -1,10 +1,20 @@
--- What is asked of types where it is decided whether expressions have forms.
+-- What is asked of types where it is decided whether expressions have forms, and how often one is
+-- used that a `let` binds.
 use Rattle.std.specs.Prelude.{◌≡◌, ℕ, List, Some, slice_get}
+use Rattle.naga_back.specs.Baking.{count_to_bind}
 use Rattle.naga_info.specs.Resolution.{InRange}
 use Rattle.naga_info.specs.declared.info.ExpressionInfo.{ExpressionInfo}
+use Rattle.naga_ir.specs.declared.expression.Expression.{Expression}
+use Rattle.naga_ir.specs.declared.expression.Expression.TheVariants.{CooperativeLoad}
 use Rattle.naga_ir.specs.declared.types.Type_.{Type_}
 
 -- each type that is known of an expression is one of these or one by itself
 abbrev pub AreKnownIn : List Type_ → List ExpressionInfo → Type 0
 AreKnownIn types es =
     (h : ℕ) (k : ExpressionInfo) → slice_get es h ≡ Some k → InRange k.ty types
+
+-- From how many uses on a `let` binds what an `Emit` gives: naga's number, but one for the load of a
+-- cooperative matrix too, since that reads memory.
+abbrev pub least_uses : Expression → ℕ
+least_uses (CooperativeLoad columns rows role place) = 1
+least_uses e = count_to_bind e

@@ -6,10 +6,10 @@ ghost use Rattle.std.specs.Option.{is_some, option_map};
 ghost use Rattle.module_meaning.specs.FunctionShapes.{function_shape};
 ghost use Rattle.module_meaning.specs.GivenLabels.{label_of};
 ghost use Rattle.module_meaning.specs.Part.{function_is_written, types_allow_all};
-ghost use Rattle.naga_back.specs.Baking.{count_to_bind};
 ghost use Rattle.naga_info.specs.declared.info.ModuleInfo.{ModuleInfo};
 ghost use Rattle.naga_ir.specs.declared.module.Module.{Module};
 ghost use Rattle.shader_runs.specs.Program.{binds};
+ghost use Rattle.naga_scope.specs.Forms.{least_uses};
 ghost use Rattle.naga_scope.specs.Standings.{is_constant_kind, is_emittable_kind, is_pure_kind};
 ghost use Rattle.naga_scope.specs.Standings.{is_image_operation, kind_at};
 
@@ -111,6 +111,17 @@ fn asks_an_image(expression: &Expression) -> bool
     }
 }
 
+/// From how many uses on a `let` binds an expression: naga's number, but one for the load of a
+/// cooperative matrix too, since that reads memory.
+fn least_uses(expression: &Expression) -> usize
+    ensures { result ≡ least_uses expression.now }
+{
+    match expression {
+        Expression::CooperativeLoad { .. } => 1,
+        _ => expression.bake_ref_count(),
+    }
+}
+
 /// Whether a front end named the expression with this handle, or it is used as often as its kind
 /// asks.
 fn is_asked_for(
@@ -120,13 +131,13 @@ fn is_asked_for(
     expression: &Expression,
 ) -> bool
     ensures { result ≡ (is_some (label_of function.now handle)
-        || nat_le (count_to_bind expression.now) (get_or (map (λ e. e.ref_count) info.now) handle 0)) }
+        || nat_le (least_uses expression.now) (get_or (map (λ e. e.ref_count) info.now) handle 0)) }
 {
-    is_named(function, handle) || count_of(info, handle) >= expression.bake_ref_count()
+    is_named(function, handle) || count_of(info, handle) >= least_uses(expression)
 }
 
 /// Whether a `let` binds the expression with this handle where it is emitted: an operation on an
-/// image, a `Load` or a derivative with a use, or another operator, but no part at an index, with two,
+/// image, a `Load`, a derivative or the load of a cooperative matrix with a use, or another operator, but no part at an index, with two,
 /// and whatever a front end named. It is for functions that are written so far.
 pub fn binds(function: &Function, info: &FunctionInfo, handle: Handle<Expression>) -> bool
     requires written { IsTrue (function_is_written function.now) }

@@ -11,6 +11,6 @@ pub mod points;
 mod written;
 
 pub use binding::binds;
-pub use forms::{converted_scalar, sampling_has_form};
+pub use forms::{converted_scalar, sampling_has_form, scalar_behind};
 pub use plan::{Plan, PlanError};
 pub use points::{BoundName, Scope, Standing};

@@ -1,5 +1,5 @@
 use Rattle.std.proofs.Common.{nat_le, ap, get_or, map, sym, ◌∙◌, ◌||◌}
-use Rattle.naga_back.specs.Baking.{count_to_bind}
+use Rattle.naga_scope.specs.Forms.{least_uses}
 use Rattle.module_meaning.specs.GivenLabels.{label_of}
 use Rattle.std.specs.Option.{is_some}
 use Rattle.std.specs.Option.{option_map, option_map_or}
@@ -14,7 +14,7 @@ returns-then-asks_an_image c m known allowed =
     let at = sym c.expression_at.ensures ∙ ap (option_map (λ e. e.now)) c.in-Some.is in
     let e = c.in-Some.expression.now in
     let counted = is_some (label_of c.args.function.now c.args.handle)
-    || nat_le (count_to_bind e) (get_or (map (λ k. k.ref_count) c.args.info.now) c.args.handle 0) in
+    || nat_le (least_uses e) (get_or (map (λ k. k.ref_count) c.args.info.now) c.args.handle 0) in
     c.if-asks_an_image.true
     ∙ ap (λ b. b || counted) (sym (sym c.asks_an_image.ensures ∙ c.if-asks_an_image.true))
     ∙ emitted_binds m known c.args.function.now c.args.info.now c.requires.written allowed c.args.handle
@@ -25,7 +25,7 @@ returns-else-asks_an_image c m known allowed =
     let at = sym c.expression_at.ensures ∙ ap (option_map (λ e. e.now)) c.in-Some.is in
     let e = c.in-Some.expression.now in
     let counted = is_some (label_of c.args.function.now c.args.handle)
-    || nat_le (count_to_bind e) (get_or (map (λ k. k.ref_count) c.args.info.now) c.args.handle 0) in
+    || nat_le (least_uses e) (get_or (map (λ k. k.ref_count) c.args.info.now) c.args.handle 0) in
     c.is_asked_for.ensures
     ∙ ap (λ b. b || counted) (sym (sym c.asks_an_image.ensures ∙ c.if-asks_an_image.false))
     ∙ emitted_binds m known c.args.function.now c.args.info.now c.requires.written allowed c.args.handle
