@@ -89,7 +89,7 @@ use Rattle.shader_runs.specs.Scope.{Standing, Named, Handles, Naming, bound_name
 use Rattle.shader_runs.specs.Scope.{given_after, given_by, given_by_all, after_one, after}
 use Rattle.shader_runs.specs.Scope.{after_all}
 use Rattle.shader_runs.specs.Text.{LiteralOf, before, ReturnLine, Let, Assign, Braces, IfElse}
-use Rattle.shader_runs.specs.Text.{SwitchOn, LoopOf, group, Perform, more, no_more}
+use Rattle.shader_runs.specs.Text.{SwitchOn, LoopOf, group, Perform}
 use Rattle.shader_runs.specs.Form.{written_below, names_from, variables_from, form_function, Plain}
 use Rattle.shader_runs.specs.Form.{AsValue, AsPlace, let_if}
 use Rattle.shader_runs.specs.Form as runs
@@ -601,7 +601,7 @@ module _ (names : NameMap) (m : Module) (info : ModuleInfo) (g : ℕ) (f : ir_fu
 
   store_reads : (to_atomic : Bool) (k : ℕ) (pointer value : ℕ) (s : Handles) (rest : tree.Statements) → W pointer → W value → before (statement_read (store_line to_atomic (plain_form own source s pointer) (plain_form own source s value))) (statements_read rest) ≡ runs.form own k (store_shape to_atomic pointer value) s (statements_read rest)
   store_reads true k pointer value s rest wp wv =
-      λ i. before (Perform (named_text (run_word AtomicStore) i) (more (value_reads s pointer wp i) (more (value_reads s value wv i) no_more))) (statements_read rest)
+      λ i. before (Perform (named_text (run_word AtomicStore) i) (trees_of_text.more (value_reads s pointer wp i) (trees_of_text.more (value_reads s value wv i) trees_of_text.no_more))) (statements_read rest)
   store_reads false k pointer value s rest wp wv =
       λ i. before (Assign ((place_is (plain_form own source s pointer) ∙ ap runs.place_form (plain_reads s pointer wp)) i) (value_reads s value wv i)) (statements_read rest)
 

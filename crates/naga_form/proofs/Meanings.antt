@@ -1,6 +1,6 @@
 -- A module of the part that is written so far has a world that keeps the types, and no run of it is
 -- stuck.
-use Rattle.std.proofs.Common.{[], ◌≡◌, ℕ, Bool, true, List, ◌∷◌, length, Option, refl, sym, ap, subst}
+use Rattle.std.proofs.Common.{[], ◌≡◌, ℕ, Bool, true, false, List, ◌∷◌, length, Option, refl, sym, ap, subst}
 use Rattle.std.proofs.Common.{◌∙◌}
 use Rattle.std.specs.Prelude.{IsTrue, cond}
 use Rattle.std.specs.Bool.{nat_eq}

@@ -24,6 +24,9 @@ use Rattle.naga_ir.specs.declared.operators.DerivativeControl.{DerivativeControl
 use Rattle.naga_ir.specs.declared.operators.MathFunction.{MathFunction}
 use Rattle.naga_ir.specs.declared.operators.RelationalFunction.{RelationalFunction}
 use Rattle.naga_ir.specs.declared.operators.UnaryOperator.{UnaryOperator}
+use Rattle.naga_ir.specs.declared.expression.CooperativeData.{CooperativeData}
+use Rattle.naga_ir.specs.declared.types.CooperativeRole.{CooperativeRole}
+use Rattle.naga_ir.specs.declared.types.CooperativeSize.{CooperativeSize}
 use Rattle.naga_ir.specs.declared.types.VectorSize.{VectorSize}
 use Rattle.naga_info.specs.declared.info.ExpressionInfo.{ExpressionInfo}
 use Rattle.module_meaning.proofs.Lists.{list_all_at}
@@ -33,13 +36,12 @@ use Rattle.naga_ir.specs.declared.expression.ImageQuery.{ImageQuery}
 use Rattle.naga_ir.specs.declared.expression.SampleLevel.{SampleLevel}
 use Rattle.std.proofs.Common.{Bool, max}
 use Rattle.naga_wgsl_fns.specs.FunctionText.{AreInText}
-use Rattle.module_meaning.proofs.ModuleShapes.{points_plainly}
-use Rattle.module_meaning.specs.ExpressionOperators.{points_to_atomic}
 use Rattle.module_meaning.specs.FunctionShapes.{statement_shape}
 use Rattle.module_meaning.specs.Names.{given_name, module_names, numbered_name}
 use Rattle.module_meaning.specs.OperatorTable.{relational_word}
 use Rattle.module_meaning.specs.AlikeTypes.{has_form}
-use Rattle.module_meaning.specs.Part.{expression_is_written, is_written_literal, types_allow}
+use Rattle.module_meaning.specs.Part.{expression_is_written, is_written_literal, loads_matrix}
+use Rattle.module_meaning.specs.Part.{types_allow}
 use Rattle.naga_form.proofs.AcceptedGroups.{fits_in_range, known_fits, known_is_fit}
 use Rattle.naga_form.proofs.PartTypes.{argument_formed, known_before, known_formed, local_formed}
 use Rattle.naga_form.proofs.PartTypes.{result_formed}
@@ -48,7 +50,8 @@ use Rattle.naga_words.specs.Spelling.{is_struct}
 use Rattle.module_meaning.specs.ExpressionOperators.{has_parts, is_composite, type_known}
 use Rattle.module_meaning.specs.ExpressionShapes.{Declared, component_letters, own_selector}
 use Rattle.module_meaning.specs.ExpressionShapes.{part_selector, selector}
-use Rattle.naga_form.proofs.AllowedParts.{conversion, known_base, selector_is}
+use Rattle.naga_form.proofs.AllowedParts.{LoadedMatrix, conversion, known_base, known_operand}
+use Rattle.naga_form.proofs.AllowedParts.{loaded_matrix, selector_is}
 use Rattle.naga_form.proofs.AllowedParts.{type_known_is as known_type_is}
 use Rattle.naga_ir.specs.declared.types.ScalarKind.{ScalarKind}
 use Rattle.module_meaning.specs.Conversions.{conversion_target}
@@ -125,6 +128,8 @@ pub record IsNoOther (e : Expression) : Type 0 where
       e ≡ expression.ImageLoad image coordinate array_index sample level → ⊥
   pub asked : (image : ℕ) (query : ImageQuery) → e ≡ expression.ImageQuery image query → ⊥
   pub counted : (array : ℕ) → e ≡ expression.ArrayLength array → ⊥
+  pub matrix_load : (columns rows : CooperativeSize) (role : CooperativeRole)
+      (place : CooperativeData) → e ≡ expression.CooperativeLoad columns rows role place → ⊥
   pub product : (x y z : ℕ) → e ≡ expression.CooperativeMultiplyAdd x y z → ⊥
 
 -- a handle stands before this one, and is written
@@ -439,9 +444,27 @@ module _ (t : FunctionText) (can : CanWrite t) where
   relation_is_written h e fun x here within is =
       ap (expression_is_written m.types es) (sym is) ∙ expression_formed h e here within
 
-  -- it loads and stores no atomic
-  pub points_to_none : (h : ℕ) → points_to_atomic (around t) h ≡ false
-  points_to_none h = points_plainly (around t) can.values h
+  -- the load of a matrix that is written has a form, and is from scalars that are known
+  pub matrix_load_formed : (h : ℕ) (e : Expression) (columns rows : CooperativeSize)
+      (role : CooperativeRole) (place : CooperativeData) → slice_get f.expressions h ≡ Some e →
+      IsInText t h → e ≡ expression.CooperativeLoad columns rows role place →
+      expression_is_written m.types es (expression.CooperativeLoad columns rows role place) ≡ true
+  matrix_load_formed h e columns rows role place here within is =
+      ap (expression_is_written m.types es) (sym is) ∙ expression_formed h e here within
+
+  pub matrix_loaded : (columns rows : CooperativeSize) (role : CooperativeRole)
+      (place : CooperativeData) →
+      expression_is_written m.types es (expression.CooperativeLoad columns rows role place) ≡ true →
+      LoadedMatrix m (around t) columns rows role place.pointer
+  matrix_loaded columns rows role place may = loaded_matrix m info es columns rows role place may
+
+  pub pointer_within : (columns rows : CooperativeSize) (role : CooperativeRole)
+      (place : CooperativeData) →
+      expression_is_written m.types es (expression.CooperativeLoad columns rows role place) ≡ true →
+      place.pointer < length es
+  pointer_within columns rows role place may =
+      let k = known_operand m es (loads_matrix m.types columns rows role) place.pointer may in
+      slice_get_within es place.pointer k.known k.there
 
   -- the type of which an expression that is written makes a value has a form
   pub made_value : (h : ℕ) (e own : Expression) (ty : ℕ) → slice_get f.expressions h ≡ Some e →
@@ -452,10 +475,10 @@ module _ (t : FunctionText) (can : CanWrite t) where
       sym names ∙ (ap (expression_is_written m.types es) (sym is) ∙ expression_formed h e here within)
 
   -- no other expression is written
-  pub no_other_expression : (h : ℕ) (e : Expression) → slice_get f.expressions h ≡ Some e → IsNoOther e → ⊥
-  no_other_expression h e here none = by e (is_of_part h e here) none
+  pub no_other_expression : (h : ℕ) (e : Expression) → slice_get f.expressions h ≡ Some e → IsInText t h → IsNoOther e → ⊥
+  no_other_expression h e here within none = by e (expression_formed h e here within) none
     where
-      by : (e : Expression) → IsTrue (expression_is_of_part e) → IsNoOther e → ⊥
+      by : (e : Expression) → IsTrue (expression_is_written m.types es e) → IsNoOther e → ⊥
       by (expression.Literal v) is none = none.literal v refl
       by (expression.ZeroValue t) is none = none.zero_value t refl
       by (expression.Compose t xs) is none = none.composed t xs refl
@@ -481,6 +504,8 @@ module _ (t : FunctionText) (can : CanWrite t) where
           none.loaded image coordinate array_index sample level refl
       by (expression.ImageQuery image query) is none = none.asked image query refl
       by (expression.ArrayLength array) is none = none.counted array refl
+      by (expression.CooperativeLoad columns rows role place) is none =
+          none.matrix_load columns rows role place refl
       by (expression.CooperativeMultiplyAdd x y z) is none = none.product x y z refl
       by _ is none = absurd cc
 
