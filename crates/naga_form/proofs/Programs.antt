@@ -609,8 +609,10 @@ module _ (m : Module) (info : ModuleInfo) (g : ℕ) (f : ir_function.Function) (
           (store_line to_atomic (plain_form own source s pointer) (plain_form own source s value))
       store_is true = (
         atomic_store_called,
-        (value_is_one (plain_form own source s pointer) (plain_is s well pointer w.0),
-            (value_is_one (plain_form own source s value) (plain_is s well value w.1.0), tt)),
+        (
+          value_is_one (plain_form own source s pointer) (plain_is s well pointer w.0),
+          (value_is_one (plain_form own source s value) (plain_is s well value w.1.0), tt),
+        ),
         refl,
       )
       store_is false =
