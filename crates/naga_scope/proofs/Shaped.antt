@@ -54,7 +54,7 @@ use Rattle.naga_form.proofs.PartFits.{function_parts}
 use Rattle.naga_form.proofs.WellFormed.{applied_any}
 use Rattle.naga_scope.specs.Standings.{kind_at, operands_at, is_pure_kind, is_constant_kind}
 use Rattle.naga_scope.specs.Standings.{is_emittable_kind, is_image_operation, usable_by}
-use Rattle.module_meaning.specs.ExpressionOperators.{is_depthimage, level_of, query_operator}
+use Rattle.module_meaning.specs.ExpressionOperators.{is_depth_image, level_of, query_operator}
 use Rattle.module_meaning.specs.ExpressionOperators.{sample_operator}
 use Rattle.naga_ir.specs.Operands.{cooperative_operands, query_operands}
 use Rattle.naga_ir.specs.declared.expression.ImageQuery.{ImageQuery}
@@ -193,7 +193,7 @@ module _ (m : Module) (info : ModuleInfo) (f : ir_function.Function) (es : List 
           operands_of (Some (shape_of d f.expressions h e)) ≡ expression_operands e
       own
           (expression.ImageSample
-          image sampler gather coordinate array_index offset level depthref clamp) is =
+          image sampler gather coordinate array_index offset level depth_ref clamp) is =
           absurd cc
       own e is = shape_operands d f.expressions h e refl
 
@@ -342,15 +342,15 @@ module _ (m : Module) (info : ModuleInfo) (f : ir_function.Function) (es : List 
         own (expression.Relational fun argument) is types may = counted_from 2 h
         own
             (expression.ImageSample
-            image sampler gather coordinate array_index offset level depthref clamp) is types may =
+            image sampler gather coordinate array_index offset level depth_ref clamp) is types may =
             by gather
           where
             by : (g : Option SwizzleComponent) →
                 is_asked shape h
                 (asking
                 (sample_operator
-                (option_map_or is_depthimage (type_known d.around image) false)
-                g (level_of level) (is_some depthref) clamp
+                (option_map_or is_depth_image (type_known d.around image) false)
+                g (level_of level) (is_some depth_ref) clamp
                 (is_some array_index) (is_some offset))) ≡ true
             by None = refl
             by (Some c) = refl
