@@ -1,7 +1,7 @@
 -- The texts of loads: by whether an atomic is loaded, and of a cooperative matrix from what is written
 -- of it in turn.
 use Rattle.std.proofs.Common.{◌≡◌, ℕ, Bool, true, false, List, [], ◌∷◌, ◌++◌, Some}
-use Rattle.std.proofs.Common.{codes, ap, sym, ◌∙◌}
+use Rattle.std.proofs.Common.{codes, ap, refl, sym, ◌∙◌}
 use Rattle.std.specs.Prelude.{slice_get, unwrap_or, if◌then◌else◌}
 use Rattle.std.specs.Option.{option_map_or}
 use Rattle.module_meaning.specs.AlikeTypes.{has_form}

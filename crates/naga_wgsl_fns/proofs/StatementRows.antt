@@ -21,7 +21,7 @@ use Rattle.shader_runs.specs.Scope.{bound_name, given_after, given_by_all}
 use Rattle.module_meaning.specs.GivenLabels.{block_labels, label_of, labels_in, labels_of_each}
 use Rattle.module_meaning.specs.FunctionShapes.{statement_shape, statements_shape}
 use Rattle.wgsl_text.specs.Types.{TypeSpecifier, Named as NamedType}
-use Rattle.wgsl_text.specs.Expressions.{Expression, expression_pieces, operands}
+use Rattle.wgsl_text.specs.Expressions.{Expression, NoArguments, expression_pieces, operands}
 use Rattle.naga_form.specs.Expressions.{Source, as_value, as_reference, plain_form, value_form}
 use Rattle.naga_form.specs.Expressions.{unnamed_form}
 use Rattle.wgsl_text.specs.Statements.{Block, Statements, NoStatements, Then, statement_pieces}
@@ -30,9 +30,10 @@ use Rattle.naga_form.specs.Statements.{let_form, then_if, lets_form, return_line
 use Rattle.naga_form.specs.Statements.{line_form, lines_form, cases_form, store_line}
 use Rattle.module_meaning.specs.ExpressionOperators.{points_to_atomic}
 use Rattle.module_meaning.specs.OperatorTable.{AtomicStore, run_word}
-use Rattle.wgsl_text.proofs.Text.{text-append}
+use Rattle.wgsl_text.proofs.Expressions.{argument_text, next_argument_text}
 use Rattle.wgsl_text.proofs.Statements.{let_text as let_row_text, typed_let_text, assign_text}
-use Rattle.wgsl_text.proofs.Statements.{return_text as return_row_text, then_text}
+use Rattle.wgsl_text.proofs.Statements.{call_statement_text, return_text as return_row_text}
+use Rattle.wgsl_text.proofs.Statements.{then_text}
 use Rattle.wgsl_text.specs.Statements as tree
 use Rattle.naga_scope.specs.declared.points.Standing.{Standing}
 use Rattle.naga_scope.specs.Standings.{TextPoint}
@@ -80,7 +81,15 @@ line_starts level word rest = append_assoc (indentation level) word rest ∙ ap 
 -- ---- statements
 -- a store to an atomic, by the texts of the pointer and the value
 atomic_store_pieces : (place value : Expression) (level : ℕ) → text (statement_pieces (tree.CallStatement (NamedType (run_word AtomicStore)) (operands (place ∷ value ∷ []))) level) ≡ replicate (4 * level) 32 ++ (codes "atomicStore(" ++ (text (expression_pieces place) ++ (codes ", " ++ (text (expression_pieces value) ++ codes ");\n"))))
-atomic_store_pieces place value level = simp text-append
+atomic_store_pieces place value level =
+    let first = text (expression_pieces place) in
+    let second = text (expression_pieces value) in
+    call_statement_text (NamedType (run_word AtomicStore)) (operands (place ∷ value ∷ [])) level
+    ∙ ap (λ w. replicate (4 * level) 32 ++ (codes "atomicStore(" ++ w))
+    (ap (λ w. w ++ codes ";\n")
+    (argument_text place (operands (value ∷ [])) ∙ ap (λ w. first ++ w) (next_argument_text value NoArguments))
+    ∙ (append_assoc first (codes ", " ++ (second ++ codes ")")) (codes ";\n")
+    ∙ ap (λ w. first ++ (codes ", " ++ w)) (append_assoc second (codes ")") (codes ";\n"))))
 
 -- by whether an atomic is stored to
 pub store_to_atomic : (f : FunctionText) (table : List Standing) (level pointer value : ℕ) → points_to_atomic (around f) pointer ≡ true → atomic_store_text f table level pointer value ≡ store_text f table level pointer value

@@ -40,8 +40,7 @@ use Rattle.module_meaning.specs.FunctionShapes.{statement_shape}
 use Rattle.module_meaning.specs.Names.{given_name, module_names, numbered_name}
 use Rattle.module_meaning.specs.OperatorTable.{relational_word}
 use Rattle.module_meaning.specs.AlikeTypes.{has_form}
-use Rattle.module_meaning.specs.Part.{expression_is_written, is_written_literal, loads_matrix}
-use Rattle.module_meaning.specs.Part.{types_allow}
+use Rattle.module_meaning.specs.Part.{expression_is_written, is_written_literal, types_allow}
 use Rattle.naga_form.proofs.AcceptedGroups.{fits_in_range, known_fits, known_is_fit}
 use Rattle.naga_form.proofs.PartTypes.{argument_formed, known_before, known_formed, local_formed}
 use Rattle.naga_form.proofs.PartTypes.{result_formed}
@@ -50,8 +49,8 @@ use Rattle.naga_words.specs.Spelling.{is_struct}
 use Rattle.module_meaning.specs.ExpressionOperators.{has_parts, is_composite, type_known}
 use Rattle.module_meaning.specs.ExpressionShapes.{Declared, component_letters, own_selector}
 use Rattle.module_meaning.specs.ExpressionShapes.{part_selector, selector}
-use Rattle.naga_form.proofs.AllowedParts.{LoadedMatrix, conversion, known_base, known_operand}
-use Rattle.naga_form.proofs.AllowedParts.{loaded_matrix, selector_is}
+use Rattle.naga_form.proofs.AllowedParts.{LoadedMatrix, conversion, known_base, loaded_matrix}
+use Rattle.naga_form.proofs.AllowedParts.{selector_is}
 use Rattle.naga_form.proofs.AllowedParts.{type_known_is as known_type_is}
 use Rattle.naga_ir.specs.declared.types.ScalarKind.{ScalarKind}
 use Rattle.module_meaning.specs.Conversions.{conversion_target}
@@ -457,14 +456,6 @@ module _ (t : FunctionText) (can : CanWrite t) where
       expression_is_written m.types es (expression.CooperativeLoad columns rows role place) ≡ true →
       LoadedMatrix m (around t) columns rows role place.pointer
   matrix_loaded columns rows role place may = loaded_matrix m info es columns rows role place may
-
-  pub pointer_within : (columns rows : CooperativeSize) (role : CooperativeRole)
-      (place : CooperativeData) →
-      expression_is_written m.types es (expression.CooperativeLoad columns rows role place) ≡ true →
-      place.pointer < length es
-  pointer_within columns rows role place may =
-      let k = known_operand m es (loads_matrix m.types columns rows role) place.pointer may in
-      slice_get_within es place.pointer k.known k.there
 
   -- the type of which an expression that is written makes a value has a form
   pub made_value : (h : ℕ) (e own : Expression) (ty : ℕ) → slice_get f.expressions h ≡ Some e →

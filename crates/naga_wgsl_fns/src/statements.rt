@@ -194,7 +194,6 @@ impl FunctionText<'_> {
         }
     }
 
-    #[tactic(auto, using(naga_words::proofs::Writing::writes_then, crate::proofs::StatementRows::atomic_store_row))]
     fn write_atomic_store<W: TextSink>(
         &self,
         alloc: Global,

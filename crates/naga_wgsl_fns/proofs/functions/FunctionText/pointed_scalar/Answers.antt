@@ -1,4 +1,5 @@
-use Rattle.std.proofs.Common.{◌≡◌, ◌∙◌, ap, sym, false≢true}
+use Rattle.std.proofs.Common.{◌∙◌, ap, sym}
+use Rattle.std.proofs.lemmas.Bool.{false≢true}
 use Rattle.std.specs.Option.{is_some, option_and_then}
 use Rattle.module_meaning.specs.ExpressionOperators.{scalar_behind}
 use Rattle.naga_wgsl_fns.proofs.functions.FunctionText.pointed_scalar.Goals as goal

@@ -1,24 +1,12 @@
-use Rattle.std.proofs.Common.{◌≡◌, ◌∙◌, ap, sym, subst, true, Some, refl}
+use Rattle.std.proofs.Common.{◌≡◌, ◌∙◌, refl, subst, sym, true}
 use Rattle.std.proofs.lemmas.Option.{same_Some}
-use Rattle.std.specs.Option.{is_some}
 use Rattle.module_meaning.specs.AlikeTypes.{has_form}
 use Rattle.naga_info.specs.declared.info.TypeResolution.TheVariants.{Value}
 use Rattle.naga_ir.specs.declared.types.TypeInner.TheVariants.{CooperativeMatrix}
 use Rattle.naga_words.proofs.Writing.{writes_as}
 use Rattle.naga_wgsl_fns.proofs.LoadRows.{matrix_callee_row}
-use Rattle.naga_wgsl_fns.proofs.Wanted.{matrix_loaded, pointer_within}
+use Rattle.naga_wgsl_fns.proofs.Wanted.{matrix_loaded}
 use Rattle.naga_wgsl_fns.proofs.functions.FunctionText.write_matrix_callee.Goals as goal
-
-pub pointed_scalar-requires-clause-handle : goal.pointed_scalar-requires-clause-handle
-pointed_scalar-requires-clause-handle g c =
-    pointer_within c.args.self.now c.requires.can c.args.columns c.args.rows c.args.role c.args.place
-    c.requires.formed
-
-pub pointed_scalar-requires-clause-scalar : goal.pointed_scalar-requires-clause-scalar
-pointed_scalar-requires-clause-scalar g c =
-    ap is_some
-    (matrix_loaded c.args.self.now c.requires.can c.args.columns c.args.rows c.args.role c.args.place
-    c.requires.formed).known
 
 pub write_taking-requires-clause-formed : goal.write_taking-requires-clause-formed
 write_taking-requires-clause-formed g c =
