@@ -38,7 +38,6 @@ use Rattle.shader_runs.specs.Text as trees_of_text
 use Rattle.shader_runs.specs.Text.{Apply}
 use Rattle.std.proofs.Common.{subst, ◌<◌}
 use Rattle.std.proofs.lemmas.Bool.{and_from, and_parts}
-use Rattle.std.proofs.Common.{nat_lt}
 use Rattle.std.proofs.lemmas.List.{map-append}
 use Rattle.naga_ir.specs.declared.statement.SwitchValue.{SwitchValue}
 use Rattle.naga_ir.specs.declared.statement.SwitchValue.TheVariants as label
@@ -75,7 +74,6 @@ use Rattle.module_meaning.specs.Written.{IsWrittenIn, OfLocal, WrittenHaveForms}
 use Rattle.naga_form.proofs.WrittenHandles.{all_rest}
 use Rattle.module_meaning.specs.Part.{block_is_written, expression_has_form, expression_is_written}
 use Rattle.module_meaning.specs.Part.{function_is_written, type_is_of_part, statement_is_written}
-use Rattle.module_meaning.proofs.Lists.{list_all_at}
 use Rattle.naga_names.specs.Keys.{NameMap}
 use Rattle.wgsl_text.specs.Reading.{type_layout}
 use Rattle.wgsl_text.specs.Types.{TypeSpecifier, Named, pointer_tree}

@@ -1,12 +1,12 @@
 -- Words of operators that no name hides: the signs, words and types of the operators that are written
 -- so far.
-use Rattle.std.proofs.Common.{◌≡◌, ℕ, Bool, true, false, List, [], ◌∷◌, refl, sym, ap, ◌∙◌, nat_eq}
+use Rattle.std.proofs.Common.{◌≡◌, ℕ, Bool, true, false, List, [], ◌∷◌, refl, nat_eq}
 use Rattle.std.proofs.Common.{codes, ◌++◌}
 use Rattle.std.specs.List.{AllByRecursion}
 use Rattle.std.specs.Prelude.{◌&&◌, ◌||◌, if◌then◌else◌, not}
-use Rattle.std.specs.Option.{is_some, option_map_or}
+use Rattle.std.specs.Option.{option_map_or}
 use Rattle.module_meaning.specs.OperatorTable.{BinarySign, UnarySign, Choice, Mathematical}
-use Rattle.module_meaning.specs.OperatorTable.{Relation, Splat, relational_word, run_word}
+use Rattle.module_meaning.specs.OperatorTable.{Relation, Splat, run_word}
 use Rattle.module_meaning.specs.OperatorTable.{Derivative, with_type, Formless, Cast, PartAt}
 use Rattle.module_meaning.specs.OperatorTable.{ValueOf, MatrixLoad, WithoutForm}
 use Rattle.module_meaning.specs.OperatorTable.{ArrayLength, Automatic}
@@ -45,7 +45,6 @@ use Rattle.wgsl_text.specs.Reading.{type_layout}
 use Rattle.wgsl_text.specs.Requests.{is_request}
 use Rattle.wgsl_text.specs.Types.{Named, plain_type_words, type_templates}
 use Rattle.wgsl_text.specs.Words.{is_builtin}
-use Rattle.wgsl_words.specs.Words.{math_word}
 
 -- it has another sign than blanks
 abbrev pub is_signed : List ℕ → Bool

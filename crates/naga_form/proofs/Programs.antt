@@ -1,6 +1,5 @@
 -- What is written for a module is a program of the grammar.
 use Rattle.module_meaning.specs.Accepted.{is_accepted}
-use Rattle.module_meaning.specs.Numbers.{signature_fits_32_bits}
 use Rattle.module_meaning.specs.Part.{block_is_written, statement_is_written, function_is_written, expression_is_written, is_written_so_far}
 use Rattle.module_meaning.specs.Part.{types_allow, types_allow_all}
 use Rattle.module_meaning.specs.ExpressionShapes.{part_selector}
@@ -12,7 +11,7 @@ use Rattle.wgsl_text.specs.Expressions.{Index}
 use Rattle.std.specs.Prelude.{◌==◌}
 use Rattle.std.specs.List.{zip}
 use Rattle.std.specs.Option.{option_map_or}
-use Rattle.module_meaning.specs.Ranges.{function_in_range, local_in_range, signature_fits, signature_types_fit}
+use Rattle.module_meaning.specs.Ranges.{function_in_range, local_in_range}
 use Rattle.module_meaning.proofs.Lists.{list_all_at}
 use Rattle.module_meaning.proofs.Part.{written_so_far_parts}
 use Rattle.naga_form.proofs.AcceptedFunctions.{accepted_at, locals_are_in_range, names_are_in_range}
@@ -112,7 +111,6 @@ use Rattle.std.proofs.lemmas.Bool.{eqb-true}
 use Rattle.naga_form.specs.TypeTrees.{type_tree}
 use Rattle.naga_info.specs.declared.info.TypeResolution.TheVariants.{Handle}
 use Rattle.module_meaning.specs.ExpressionOperators.{constructor}
-use Rattle.module_meaning.specs.Ranges.{names_in_range}
 use Rattle.naga_form.proofs.WrittenTypes.{tree_there}
 use Rattle.naga_info.specs.declared.info.TypeResolution.{TypeResolution}
 use Rattle.naga_info.specs.declared.info.TypeResolution.TheVariants.{Value}
