@@ -7,7 +7,7 @@ gives is told by the number of events before it.
 
 from modules import EVENTS, READS
 from operators import LEAST, literal_text, numbers_around, offset_of, word_of
-from spelling import spelled
+from spelling import points_to_atomic, spelled
 from words import ASKING, KEYWORDS
 from writer import uses_of
 
@@ -29,7 +29,7 @@ class ModuleRun:
                 for h in range(s[1], s[2] + 1):
                     self.emit(h)
             elif s[0] == "store":
-                self.events.append(("store", self.value(s[1]), self.value(s[2])))
+                self.events.append((*self.access("store", s[1]), self.value(s[1]), self.value(s[2])))
             else:
                 return self.events, None if s[1] is None else self.value(s[1])
         return self.events, None
@@ -45,9 +45,17 @@ class ModuleRun:
             except NoValue:
                 pass
             return
-        event = ("load", self.value(e.operands[0])) if e.kind == "load" else ("asked", *self.applied(h))
+        if e.kind == "load":
+            event = (*self.access("load", e.operands[0]), self.value(e.operands[0]))
+        else:
+            event = ("asked", *self.applied(h))
         self.values[h] = ("answer", len(self.events))
         self.events.append(event)
+
+    def access(self, what, p):
+        """What a load or a store is called: of an atomic it is asked by a word."""
+        is_atomic = points_to_atomic(self.f.type_of(p))
+        return ("asked", "atomic" + what.capitalize()) if is_atomic else (what,)
 
     def value(self, h):
         e = self.f.expressions[h]
@@ -103,6 +111,8 @@ class TextRun:
             elif line.startswith("let "):
                 name, value = line[4:-1].split(" = ", 1)
                 self.declare(self.known, name.split(":")[0], self.expression(value))
+            elif line.startswith("atomicStore("):
+                self.expression(line[:-1])
             elif line == "return;":
                 return self.events, None
             elif line.startswith("return "):

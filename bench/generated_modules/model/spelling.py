@@ -111,14 +111,18 @@ def held(ty):
     return ("scalar", ty[1]) if ty[0] == "atomic" else ty
 
 
+def points_to_atomic(ty):
+    return points(ty) and pointed_at(ty)[0] == "atomic"
+
+
 def scalar_of(ty):
     """The scalar of a scalar, a vector or a matrix; none of another type."""
     return ty[-1] if ty[0] in ("scalar", "vector", "matrix") else None
 
 
 def waits(ty):
-    """Whether a type needs an extension, or is of a kind that is not written so far."""
-    return scalar_of(ty) in HALVES or ty[0] == "atomic"
+    """Whether a type needs an extension."""
+    return scalar_of(ty) in HALVES
 
 
 def lacking_scalar(ty):

@@ -85,4 +85,4 @@ QUERIES = ["textureDimensions", "textureNumLevels", "textureNumLayers", "texture
 ASKING = {
     *DERIVATIVES, *QUERIES,
     *words_of("textureLoad texture{Sample,Gather}{,Compare} textureSample{,Compare}{Level,Bias,Grad}"),
-    "textureSampleBaseClampToEdge"}
+    "textureSampleBaseClampToEdge", "atomicLoad", "atomicStore"}

@@ -4,7 +4,8 @@ from modules import EVENTS, IMAGES, LEAVES, PARTS, READS
 from naming import names_of
 from operators import (
     conversion_word, literal_text, numbers_around, offset_of, wanted_scalar, word_of)
-from spelling import lacking_scalar, part_of, points, scalar_of, spelled, waits
+from spelling import (
+    lacking_scalar, part_of, points, points_to_atomic, scalar_of, spelled, waits)
 from words import MATH, RELATIONAL
 
 NOT_YET_WRITTEN = "not yet written"
@@ -244,7 +245,10 @@ class Writer:
         if e.kind == "local":
             return self.names.locals[e.what[0]]
         if e.kind == "load":
-            return self.reference(self.use(e.operands[0]))
+            p = e.operands[0]
+            if points_to_atomic(self.f.type_of(p)):
+                return f"atomicLoad({self.operand(p)})"
+            return self.reference(self.use(p))
         if e.kind in PARTS:
             return self.part(h)
         word = word_of(self.f, e)
@@ -302,6 +306,8 @@ class Writer:
         if s[0] == "emit":
             for h in range(s[1], s[2] + 1):
                 self.emit(h, lines)
+        elif s[0] == "store" and points_to_atomic(self.f.type_of(s[1])):
+            lines.append(f"    atomicStore({self.operand(s[1])}, {self.operand(s[2])});")
         elif s[0] == "store":
             place = self.reference(self.use(s[1]))
             lines.append(f"    {place} = {self.operand(s[2])};")

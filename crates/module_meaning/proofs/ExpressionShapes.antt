@@ -2,15 +2,14 @@
 -- atomic is loaded or an offset is a constant.
 --
 -- Throughout, a is what stands around expressions, d what the module declares too, es are the
--- expressions of a function, e is one and h its handle, op is an operator over operands xs, and s is
--- a statement.
+-- expressions of a function, e is one and h its handle, and op is an operator over operands xs.
 use Rattle.std.proofs.Common.{◌≡◌, ℕ, Bool, true, false, List, [], ◌∷◌, Option, Some, None, refl}
 use Rattle.std.proofs.Common.{ap, ◌∙◌}
 use Rattle.std.specs.Prelude.{IsTrue, if◌then◌else◌}
 use Rattle.std.specs.Option.{option_map_or, option_and_then, is_some, is_none}
 use Rattle.naga_ir.specs.Kinds.{kind_of}
 use Rattle.naga_ir.specs.Operands.{expression_operands}
-use Rattle.naga_ir.specs.StatementTree.{store}
+use Rattle.naga_ir.specs.declared.expression.CooperativeData.{CooperativeData}
 use Rattle.naga_ir.specs.declared.expression.Expression as ir
 use Rattle.naga_ir.specs.declared.expression.Expression.TheVariants as expression
 use Rattle.naga_ir.specs.declared.expression.ImageQuery.{ImageQuery}
@@ -22,7 +21,7 @@ use Rattle.naga_ir.specs.declared.types.CooperativeSize.{CooperativeSize}
 use Rattle.naga_ir.specs.declared.types.ScalarKind.{ScalarKind}
 use Rattle.naga_info.specs.declared.info.TypeResolution.{TypeResolution}
 use Rattle.module_meaning.specs.ExpressionOperators.{Surroundings, cast, cast_to, constructor}
-use Rattle.module_meaning.specs.ExpressionOperators.{points_to_atomic, query_operator}
+use Rattle.module_meaning.specs.ExpressionOperators.{matrix_load, points_to_atomic, query_operator}
 use Rattle.module_meaning.specs.ExpressionShapes.{Declared, shape_of, applied_shape, applied_or}
 use Rattle.module_meaning.specs.ExpressionShapes.{asking, part_shape, part_selector, own_selector}
 use Rattle.module_meaning.specs.ExpressionShapes.{selector}
@@ -38,10 +37,9 @@ use Rattle.module_meaning.specs.OperatorTable.{CooperativeLoad, WithoutForm, Val
 use Rattle.module_meaning.specs.OperatorTable.{MatrixLoad, asks, run_word}
 use Rattle.module_meaning.specs.ShapeKinds.{shape_kind}
 use Rattle.module_meaning.specs.Shapes.{operator_shape}
-use Rattle.module_meaning.specs.StatementShapes.{simple_shape, store_shape}
 use Rattle.module_meaning.proofs.ShapeKinds.{operator_kind}
 use Rattle.module_meaning.proofs.Shapes.{operator_operands}
-use Rattle.shader_runs.specs.Program.{Load, Request, Store, operands_of, no_constant}
+use Rattle.shader_runs.specs.Program.{Load, Request, operands_of, no_constant}
 use Rattle.shader_runs.specs.Value.{Selector}
 
 -- ---- which operators ask
@@ -72,6 +70,10 @@ load_among : (columns rows : CooperativeSize) (role : CooperativeRole) (row_majo
     true
 load_among columns rows role row_major None = refl
 load_among columns rows role row_major (Some w) = refl
+
+pub load_asks : (a : Surroundings) (columns rows : CooperativeSize) (role : CooperativeRole)
+    (place : CooperativeData) → asks (matrix_load a columns rows role place) ≡ true
+load_asks a columns rows role place = load_among columns rows role place.row_major _
 
 pub query_asks : (q : ImageQuery) → asks (query_operator q) ≡ true
 query_asks (query.Size level) = refl
@@ -126,7 +128,7 @@ shape_kinds d es h (expression.Binary op left right) =
     pure_kind (BinarySign op) (left ∷ right ∷ []) refl
 shape_kinds d es h (expression.As expr k convert) = pure_kind _ _ (cast_asks d.around k convert _)
 shape_kinds d es h (expression.CooperativeLoad columns rows role place) =
-    request_kind _ _ (load_among columns rows role place.row_major _)
+    request_kind _ _ (load_asks d.around columns rows role place)
 shape_kinds d es h _ = refl
 
 -- ---- operands
@@ -230,16 +232,3 @@ parts_agree d base index =
     turned : (b : Bool) → b ≡ is_none (if b then None else Some (WithoutForm (PartAt index)))
     turned true = refl
     turned false = refl
-
--- ---- memory
--- what points to no atomic is loaded plainly
-pub plain_load : (d : Declared) (es : List ir.Expression) (h pointer : ℕ) →
-    points_to_atomic d.around pointer ≡ false →
-    shape_of d es h (expression.Load pointer) ≡ Load pointer
-plain_load d es h pointer plain =
-    ap (λ b. applied_or (Load pointer) (pointer ∷ []) (if b then Some AtomicLoad else None)) plain
-
--- and stored to plainly
-pub plain_store : (a : Surroundings) (pointer value : ℕ) → points_to_atomic a pointer ≡ false →
-    simple_shape a (store pointer value) ≡ Store pointer value
-plain_store a pointer value plain = ap (λ b. store_shape b pointer value) plain

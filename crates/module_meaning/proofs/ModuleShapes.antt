@@ -1,57 +1,26 @@
--- The program of shapes of a module of the part that is written so far: its functions alone, which
--- load and store no atomics.
+-- The program of shapes of a module of the part that is written so far: its functions alone.
 --
--- Throughout, m is a module, info what is known of it, a what stands around expressions, fs are
--- functions, ess is what is known of their expressions, h a handle, and it a type by itself.
-use Rattle.std.proofs.Common.{◌≡◌, ℕ, ◌==◌, true, false, List, [], ◌∷◌, ◌++◌}
-use Rattle.std.proofs.Common.{length, map, reverse, Option, Some, None, refl, ap, ◌∙◌}
-use Rattle.std.proofs.Common.{slice_get}
+-- Throughout, m is a module, info what is known of it, fs are functions, and ess is what is known of
+-- their expressions.
+use Rattle.std.proofs.Common.{◌≡◌, ◌==◌, true, List, [], ◌∷◌, ◌++◌, Option, Some, None}
+use Rattle.std.proofs.Common.{length, map, reverse, refl, ap, ◌∙◌}
 use Rattle.std.specs.Prelude.{IsTrue, if◌then◌else◌}
 use Rattle.std.specs.List.{list_all, filter, zip}
-use Rattle.std.specs.Option.{option_map, option_map_or, option_and_then, is_none, is_some}
+use Rattle.std.specs.Option.{is_none, is_some}
 use Rattle.std.proofs.lemmas.Bool.{and_parts, eqb-true}
 use Rattle.std.proofs.lemmas.List.{append-nil, nil_from_length}
 use Rattle.naga_ir.specs.declared.module.Constant.{Constant}
 use Rattle.naga_ir.specs.declared.module.Function as ir_function
 use Rattle.naga_ir.specs.declared.module.Module as ir_module
-use Rattle.naga_ir.specs.declared.types.Type_.{Type_}
-use Rattle.naga_ir.specs.declared.types.TypeInner.{TypeInner}
-use Rattle.naga_ir.specs.declared.types.TypeInner.TheVariants as inner
 use Rattle.naga_info.specs.declared.info.ExpressionInfo.{ExpressionInfo}
 use Rattle.naga_info.specs.declared.info.ModuleInfo.{ModuleInfo}
-use Rattle.module_meaning.specs.ExpressionOperators.{Surroundings, type_behind, type_known}
-use Rattle.module_meaning.specs.ExpressionOperators.{is_atomic, points_to_atomic}
 use Rattle.module_meaning.specs.ExpressionTypes.{variable_type}
 use Rattle.module_meaning.specs.FunctionShapes.{function_shape, function_shapes}
 use Rattle.module_meaning.specs.ModuleShapes.{module_shape, initialiser, part_words}
-use Rattle.module_meaning.specs.Part.{type_is_of_part, needs_nothing, is_written_so_far}
+use Rattle.module_meaning.specs.Part.{is_written_so_far}
 use Rattle.module_meaning.specs.Types.{declared_type, type_of_values}
-use Rattle.module_meaning.proofs.Lists.{list_all_at}
 use Rattle.module_meaning.proofs.Part.{written_so_far_parts}
 use Rattle.shader_runs.specs.Program.{Module}
-
--- ---- nothing is atomic
--- a type of the part is no atomic
-no_atomic : (it : TypeInner) → needs_nothing it ≡ true → is_atomic it ≡ false
-no_atomic (inner.Atomic s) is = absurd cc
-no_atomic _ is = refl
-
--- a pointer points to no atomic among such types
-no_atomic_behind : (types : List Type_) → list_all type_is_of_part types ≡ true →
-    (o : Option TypeInner) →
-    option_map_or is_atomic (option_and_then (type_behind types) o) false ≡ false
-no_atomic_behind types values None = refl
-no_atomic_behind types values (Some (inner.Pointer base space)) = by (slice_get types base) refl
-  where
-    by : (o : Option Type_) → slice_get types base ≡ o →
-        option_map_or is_atomic (option_map (λ t. t.inner) o) false ≡ false
-    by None at = refl
-    by (Some t) at = no_atomic t.inner (list_all_at type_is_of_part types base t values at)
-no_atomic_behind types values (Some _) = refl
-
-pub points_plainly : (a : Surroundings) → list_all type_is_of_part a.types ≡ true → (h : ℕ) →
-    points_to_atomic a h ≡ false
-points_plainly a values h = no_atomic_behind a.types values (type_known a h)
 
 -- ---- modules
 nothing_there : {X : Type 0} (xs : List X) → (length xs == 0) ≡ true → xs ≡ []

@@ -310,8 +310,18 @@ formless_code (MatrixLoad columns rows role row_major) =
     3 ∷ cooperative_number columns ∷ cooperative_number rows
     ∷ role_number role ∷ truth_number row_major ∷ []
 
+-- What asks for an event begins like what does so in a text.
+abbrev pub formless_head : Formless → List ℕ
+formless_head (MatrixLoad columns rows role row_major) = codes "coopLoad"
+formless_head what = []
+
+-- a blank, and behind it what tells it
+abbrev pub formless_word : Formless → List ℕ
+formless_word what = formless_head what ++ (32 ∷ formless_code what)
+
 -- What has no word is called by one that no text can spell: with a blank in front or, where it asks
--- an image, the word of such an operation with a blank and what is no number behind it.
+-- an image or loads a matrix, the word of such an operation with a blank and what is no number of a
+-- text behind it.
 abbrev pub own_word : Operator → List ℕ
 own_word (Mathematical fun) = own_math_word fun
 own_word (Relation fun) = own_relational_word fun
@@ -325,7 +335,7 @@ own_word (Collective op collective) = own_collective_word op collective
 own_word RayStep = codes " step"
 own_word (RayIntersection committed) = codes " intersection" ++ committed_word committed
 own_word (RayCorners committed) = codes " corners" ++ committed_word committed
-own_word (WithoutForm what) = 32 ∷ formless_code what
+own_word (WithoutForm what) = formless_word what
 own_word _ = []
 
 -- what the runs call an operator

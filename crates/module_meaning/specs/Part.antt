@@ -18,12 +18,22 @@ use Rattle.naga_ir.specs.declared.expression.Expression.TheVariants.{Relational,
 use Rattle.naga_ir.specs.declared.expression.Expression.TheVariants.{Access, AccessIndex, As}
 use Rattle.naga_ir.specs.declared.expression.Expression.TheVariants.{Derivative, ArrayLength}
 use Rattle.naga_ir.specs.declared.expression.Expression.TheVariants.{CooperativeMultiplyAdd}
+use Rattle.naga_ir.specs.declared.expression.Expression.TheVariants.{CooperativeLoad, CallResult}
+use Rattle.naga_ir.specs.declared.expression.Expression.TheVariants.{AtomicResult}
+use Rattle.naga_ir.specs.declared.expression.Expression.TheVariants.{WorkGroupUniformLoadResult}
+use Rattle.naga_ir.specs.declared.expression.Expression.TheVariants.{SubgroupOperationResult}
+use Rattle.naga_ir.specs.declared.expression.Expression.TheVariants.{SubgroupBallotResult}
+use Rattle.naga_ir.specs.declared.expression.Expression.TheVariants.{RayQueryProceedResult}
+use Rattle.naga_ir.specs.declared.expression.Expression.TheVariants.{RayQueryGetIntersection}
+use Rattle.naga_ir.specs.declared.expression.Expression.TheVariants.{RayQueryVertexPositions}
 use Rattle.naga_ir.specs.declared.expression.Expression.TheVariants.{ImageSample, ImageLoad}
 use Rattle.naga_ir.specs.declared.expression.Expression.TheVariants.{ImageQuery}
 use Rattle.naga_ir.specs.declared.expression.Literal.{Literal as LiteralValue}
 use Rattle.naga_ir.specs.declared.expression.Literal.TheVariants as literal
 use Rattle.naga_ir.specs.declared.module.Function.{Function}
 use Rattle.naga_ir.specs.declared.module.Module.{Module}
+use Rattle.naga_ir.specs.declared.types.CooperativeRole.{CooperativeRole}
+use Rattle.naga_ir.specs.declared.types.CooperativeSize.{CooperativeSize}
 use Rattle.naga_ir.specs.declared.types.Scalar.{Scalar}
 use Rattle.naga_ir.specs.declared.types.ScalarKind.{ScalarKind}
 use Rattle.naga_ir.specs.declared.types.ScalarKind.TheVariants as kind
@@ -35,7 +45,7 @@ use Rattle.naga_info.specs.declared.info.ExpressionInfo.{ExpressionInfo}
 use Rattle.naga_info.specs.declared.info.TypeResolution.TheVariants.{Handle, Value}
 use Rattle.module_meaning.specs.AlikeTypes.{has_form}
 use Rattle.module_meaning.specs.Conversions.{conversion_target}
-use Rattle.module_meaning.specs.ExpressionOperators.{has_parts}
+use Rattle.module_meaning.specs.ExpressionOperators.{has_parts, scalar_behind}
 use Rattle.module_meaning.specs.OperatorTable.{relational_word}
 use Rattle.module_meaning.specs.Sampling.{own_offset_is_written, sampling_is_written}
 use Rattle.wgsl_words.specs.Words.{math_word}
@@ -57,13 +67,12 @@ width_is_extended _ width = false
 abbrev pub is_extended : Scalar → Bool
 is_extended s = width_is_extended s.kind s.width
 
--- A module declares nothing for the type and enables nothing for it; and, so far, it is no atomic.
+-- a module declares nothing for the type and enables nothing for it
 abbrev pub needs_nothing : TypeInner → Bool
 needs_nothing (inner.Scalar s) = not (is_extended s)
 needs_nothing (inner.Vector size s) = not (is_extended s)
 needs_nothing (inner.Matrix columns rows s) = not (is_extended s)
 needs_nothing (inner.CooperativeMatrix columns rows s role) = false
-needs_nothing (inner.Atomic s) = false
 needs_nothing (inner.Struct members span) = false
 needs_nothing (inner.AccelerationStructure vertex_return) = false
 needs_nothing (inner.BindingArray base size) = false
@@ -76,6 +85,8 @@ type_is_of_part t = needs_nothing t.inner
 -- the literal is of `bool` or of one of these integer types
 abbrev pub is_written_literal : LiteralValue → Bool
 is_written_literal (literal.Bool value) = true
+is_written_literal (literal.I16 value) = true
+is_written_literal (literal.U16 value) = true
 is_written_literal (literal.I32 value) = true
 is_written_literal (literal.U32 value) = true
 is_written_literal (literal.I64 value) = true
@@ -92,6 +103,13 @@ known_passes types es test h =
 abbrev pub converts : List Type_ → ScalarKind → (convert : Option ℕ) → TypeInner → Bool
 converts types kind convert it =
     option_map_or (λ new. has_form types (Value new)) (conversion_target it kind convert) false
+
+-- a cooperative matrix of the scalars that a pointer of this type points to has a form
+abbrev pub loads_matrix : List Type_ → (columns rows : CooperativeSize) → CooperativeRole →
+    TypeInner → Bool
+loads_matrix types columns rows role it =
+    option_map_or (λ s. has_form types (Value (inner.CooperativeMatrix columns rows s role)))
+    (scalar_behind types it) false
 
 -- ---- constants
 -- the initialiser of a constant, by what is said of the module's own expressions
@@ -127,9 +145,11 @@ constant_is_written m h = initialiser_passes m (global_is_written m) h
 -- A literal of `bool` or of an integer type, the zero value of a type, a value of a type from its
 -- parts, a part at an index, an argument, a local, a load, an operator with a sign, the choice of
 -- one of two values, a vector of one value, components of a vector, a conversion, a derivative, an
--- operation on an image that has a form, the length of an array, a product of cooperative matrices,
--- or a function of mathematics or a relation that has a word. A type that it spells has a form, and a
--- known index is that of what has parts. A constant without a name is written as its initialiser is.
+-- operation on an image that has a form, the length of an array, a load or a product of cooperative
+-- matrices, or a function of mathematics or a relation that has a word. A type that it spells has a
+-- form, and a known index is that of what has parts. A constant without a name is written as its
+-- initialiser is. The result of a statement has no form so far, since none of the statements that give
+-- one is written: it is in scope nowhere.
 abbrev pub expression_is_written : Module → List ExpressionInfo → Expression → Bool
 expression_is_written m es (Literal value) = is_written_literal value
 expression_is_written m es (Constant handle) = constant_is_written m handle
@@ -156,6 +176,8 @@ expression_is_written m es (ImageLoad image coordinate array_index sample level)
     is_none sample || is_none level
 expression_is_written m es (ImageQuery image query) = true
 expression_is_written m es (ArrayLength array) = true
+expression_is_written m es (CooperativeLoad columns rows role place) =
+    known_passes m.types es (loads_matrix m.types columns rows role) place.pointer
 expression_is_written m es (CooperativeMultiplyAdd a b c) = true
 expression_is_written m es (Math fun arg arg1 arg2 arg3) = is_some (math_word fun)
 expression_is_written m es (Relational fun argument) = is_some (relational_word fun)
@@ -168,15 +190,11 @@ expression_has_form m known es e =
 
 -- What has no form is refused by name where it is written, and let be where it is not: a float, an
 -- abstract literal, a function of mathematics or a relation without a word, an operation on an image
--- without a form, what spells a type without a form, and a part at an index of what has no parts.
-abbrev pub literal_is_of_part : LiteralValue → Bool
-literal_is_of_part (literal.I16 value) = false
-literal_is_of_part (literal.U16 value) = false
-literal_is_of_part _ = true
-
--- the expression is written, or refused so
+-- without a form, what spells a type without a form, a part at an index of what has no parts, what a
+-- ray query found, and the result of a statement, which is out of scope there. The expression is
+-- written, or refused so.
 abbrev pub expression_is_of_part : Expression → Bool
-expression_is_of_part (Literal value) = literal_is_of_part value
+expression_is_of_part (Literal value) = true
 expression_is_of_part (ZeroValue ty) = true
 expression_is_of_part (Compose ty components) = true
 expression_is_of_part (Access base index) = true
@@ -199,7 +217,16 @@ expression_is_of_part
 expression_is_of_part (ImageLoad image coordinate array_index sample level) = true
 expression_is_of_part (ImageQuery image query) = true
 expression_is_of_part (ArrayLength array) = true
+expression_is_of_part (CooperativeLoad columns rows role place) = true
 expression_is_of_part (CooperativeMultiplyAdd a b c) = true
+expression_is_of_part (CallResult function) = true
+expression_is_of_part (AtomicResult ty comparison) = true
+expression_is_of_part (WorkGroupUniformLoadResult ty) = true
+expression_is_of_part (SubgroupOperationResult ty) = true
+expression_is_of_part SubgroupBallotResult = true
+expression_is_of_part RayQueryProceedResult = true
+expression_is_of_part (RayQueryGetIntersection query committed) = true
+expression_is_of_part (RayQueryVertexPositions query committed) = true
 expression_is_of_part _ = false
 
 

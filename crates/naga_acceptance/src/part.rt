@@ -5,24 +5,25 @@ ghost use Rattle.std.specs.List.{list_all};
 ghost use Rattle.std.specs.Option.{is_none};
 ghost use Rattle.naga_ir.specs.StatementViews.{tree_of};
 ghost use Rattle.module_meaning.specs.Part.{block_is_written, declares_functions};
-ghost use Rattle.module_meaning.specs.Part.{expression_is_of_part, literal_is_of_part};
+ghost use Rattle.module_meaning.specs.Part.{expression_is_of_part};
 ghost use Rattle.module_meaning.specs.Part.{function_is_written, is_unbound};
 ghost use Rattle.module_meaning.specs.Part.{is_extended, is_written_so_far};
 ghost use Rattle.module_meaning.specs.Part.{needs_nothing, statement_is_written, type_is_of_part};
 
 use naga_ir::{
-    Arena, Block, Constant, Expression, Function, FunctionArgument, Literal, Module, Scalar,
-    ScalarKind, Statement, Type_, TypeInner, UniqueArena,
+    Arena, Block, Constant, Expression, Function, FunctionArgument, Module, Scalar, ScalarKind,
+    Statement, Type_, TypeInner, UniqueArena,
 };
 
 /// Whether the module is of the part that is written so far: it declares nothing but functions and
-/// types that need no extension, no declaration and are no atomics, and its constants have no names;
-/// the functions' arguments and results are bound to nothing; their expressions are arguments,
-/// locals, constants, literals of all types but 16 bits, zero values,
+/// types that need no extension and no declaration, and its constants have no names; the functions'
+/// arguments and results are bound to nothing; their expressions are arguments, locals, constants,
+/// literals, zero values,
 /// values of a type composed of others, loads, operators with a sign, choices, vectors of one value,
 /// swizzles, parts at an index, conversions, derivatives, operations on images, lengths of arrays,
-/// products of cooperative matrices, and calls of functions of mathematics and of relations; and
-/// their statements are `Emit`s, `Store`s and `Return`s. Types without a form may stand in it.
+/// loads and products of cooperative matrices, calls of functions of mathematics and of relations,
+/// results of statements and what ray queries found; and their statements are `Emit`s, `Store`s and
+/// `Return`s. Types without a form may stand in it.
 #[tactic(auto, unfolding(module_meaning::specs::Part::is_written_so_far))]
 pub fn is_written_so_far(module: &Module) -> bool
     ensures { result ≡ is_written_so_far «module».now }
@@ -63,7 +64,7 @@ fn is_extended(scalar: Scalar) -> bool
     }
 }
 
-/// Whether a module declares and enables nothing for the type, and it is no atomic.
+/// Whether a module declares and enables nothing for the type.
 fn needs_nothing(inner: &TypeInner) -> bool
     ensures { result ≡ needs_nothing inner.now }
 {
@@ -72,11 +73,11 @@ fn needs_nothing(inner: &TypeInner) -> bool
         | TypeInner::Vector { scalar, .. }
         | TypeInner::Matrix { scalar, .. } => !is_extended(*scalar),
         TypeInner::CooperativeMatrix { .. }
-        | TypeInner::Atomic(_)
         | TypeInner::Struct { .. }
         | TypeInner::AccelerationStructure { .. }
         | TypeInner::BindingArray { .. } => false,
-        TypeInner::Pointer { .. }
+        TypeInner::Atomic(_)
+        | TypeInner::Pointer { .. }
         | TypeInner::ValuePointer { .. }
         | TypeInner::Array { .. }
         | TypeInner::Image { .. }
@@ -147,8 +148,9 @@ fn expression_is_of_part(expression: &Expression) -> bool
     ensures { result ≡ expression_is_of_part expression.now }
 {
     match expression {
-        Expression::ZeroValue(_)
+        Expression::Literal(_)
         | Expression::Constant(_)
+        | Expression::ZeroValue(_)
         | Expression::Compose { .. }
         | Expression::Access { .. }
         | Expression::AccessIndex { .. }
@@ -168,18 +170,17 @@ fn expression_is_of_part(expression: &Expression) -> bool
         | Expression::ImageLoad { .. }
         | Expression::ImageQuery { .. }
         | Expression::ArrayLength(_)
-        | Expression::CooperativeMultiplyAdd { .. } => true,
-        Expression::Literal(literal) => literal_is_of_part(*literal),
-        _ => false,
-    }
-}
-
-fn literal_is_of_part(literal: Literal) -> bool
-    ensures { result ≡ literal_is_of_part literal }
-{
-    match literal {
-        Literal::I16(_) | Literal::U16(_) => false,
-        _ => true,
+        | Expression::CooperativeLoad { .. }
+        | Expression::CooperativeMultiplyAdd { .. }
+        | Expression::CallResult(_)
+        | Expression::AtomicResult { .. }
+        | Expression::WorkGroupUniformLoadResult { .. }
+        | Expression::SubgroupOperationResult { .. }
+        | Expression::SubgroupBallotResult
+        | Expression::RayQueryProceedResult
+        | Expression::RayQueryGetIntersection { .. }
+        | Expression::RayQueryVertexPositions { .. } => true,
+        Expression::Constant(_) | Expression::Override(_) | Expression::GlobalVariable(_) => false,
     }
 }
 

@@ -39,7 +39,6 @@ use Rattle.shader_runs.specs.Text as trees_of_text
 use Rattle.shader_runs.specs.Text.{Apply}
 use Rattle.std.proofs.Common.{subst, ◌<◌}
 use Rattle.std.proofs.lemmas.Bool.{and_from, and_parts}
-use Rattle.std.proofs.Common.{nat_lt}
 use Rattle.std.proofs.lemmas.List.{map-append}
 use Rattle.naga_ir.specs.declared.statement.SwitchValue.{SwitchValue}
 use Rattle.naga_ir.specs.declared.statement.SwitchValue.TheVariants as label
@@ -92,7 +91,7 @@ use Rattle.shader_runs.specs.Scope.{Standing, Named, Handles, Naming, bound_name
 use Rattle.shader_runs.specs.Scope.{given_after, given_by, given_by_all, after_one, after}
 use Rattle.shader_runs.specs.Scope.{after_all}
 use Rattle.shader_runs.specs.Text.{LiteralOf, before, ReturnLine, Let, Assign, Braces, IfElse}
-use Rattle.shader_runs.specs.Text.{SwitchOn, LoopOf, group}
+use Rattle.shader_runs.specs.Text.{SwitchOn, LoopOf, group, Perform}
 use Rattle.shader_runs.specs.Form.{written_below, names_from, variables_from, form_function, Plain}
 use Rattle.shader_runs.specs.Form.{AsValue, AsPlace, let_if}
 use Rattle.shader_runs.specs.Form as runs
@@ -103,7 +102,7 @@ use Rattle.naga_form.specs.Expressions.{function_source, unnamed_form}
 use Rattle.naga_form.specs.Functions.{locals_form, parameters_form, function_form}
 use Rattle.naga_form.specs.Statements.{let_form, then_if, lets_form, return_line, simple_form}
 use Rattle.naga_form.specs.Statements.{loop_form, label_form, labels_form, line_form, lines_form}
-use Rattle.naga_form.specs.Statements.{cases_form, has_form, have_forms, have_forms_in}
+use Rattle.naga_form.specs.Statements.{cases_form, has_form, have_forms, have_forms_in, store_line}
 use Rattle.naga_form.specs.Statements.{cases_have_forms}
 use Rattle.module_meaning.specs.Names.{function_name, argument_name, module_names}
 use Rattle.naga_form.specs.Types.{type_form, told_type, LocalsHaveForms}
@@ -121,8 +120,10 @@ use Rattle.module_meaning.specs.Namings.{function_naming, outer_names}
 use Rattle.module_meaning.specs.OperatorTable.{Operator}
 use Rattle.module_meaning.specs.Shapes.{label_shape}
 use Rattle.module_meaning.specs.StatementShapes.{simple_shape}
-use Rattle.module_meaning.proofs.ExpressionShapes.{plain_store}
-use Rattle.module_meaning.proofs.ModuleShapes.{points_plainly}
+use Rattle.module_meaning.specs.ExpressionOperators.{points_to_atomic}
+use Rattle.module_meaning.specs.OperatorTable.{AtomicStore}
+use Rattle.module_meaning.specs.StatementShapes.{store_shape}
+use Rattle.wgsl_text.proofs.Types.{named_text}
 use Rattle.naga_form.proofs.ModulePlaces.{expression_is, shapes_length}
 use Rattle.naga_form.proofs.PartFits.{function_parts}
 use Rattle.naga_ir.specs.Operands.{expression_operands}
@@ -435,6 +436,8 @@ module _ (n : Naming) (code : Source) (spells : SpellsTypes code.declared.around
       applies operand like k (expression.ImageQuery image query) same
   own_reads operand like k h (expression.ArrayLength array) same w known =
       applies operand like k (expression.ArrayLength array) same
+  own_reads operand like k h (expression.CooperativeLoad columns rows role place) same w known =
+      applies operand like k (expression.CooperativeLoad columns rows role place) same
   own_reads operand like k h (expression.CooperativeMultiplyAdd x y z) same w known =
       applies operand like k (expression.CooperativeMultiplyAdd x y z) same
   own_reads operand like k h (expression.Unary op expr) same w known =
@@ -613,11 +616,16 @@ module _ (names : NameMap) (m : Module) (info : ModuleInfo) (g : ℕ) (f : ir_fu
   return_reads s None w = refl
   return_reads s (Some h) w = ap (λ e. ReturnLine (Some e)) (value_reads s h w.0)
 
+  store_reads : (to_atomic : Bool) (k : ℕ) (pointer value : ℕ) (s : Handles) (rest : tree.Statements) → W pointer → W value → before (statement_read (store_line to_atomic (plain_form own source s pointer) (plain_form own source s value))) (statements_read rest) ≡ runs.form own k (store_shape to_atomic pointer value) s (statements_read rest)
+  store_reads true k pointer value s rest wp wv =
+      λ i. before (Perform (named_text (run_word AtomicStore) i) (trees_of_text.more (value_reads s pointer wp i) (trees_of_text.more (value_reads s value wv i) trees_of_text.no_more))) (statements_read rest)
+  store_reads false k pointer value s rest wp wv =
+      λ i. before (Assign ((place_is (plain_form own source s pointer) ∙ ap runs.place_form (plain_reads s pointer wp)) i) (value_reads s value wv i)) (statements_read rest)
+
   simple_reads : (told : ℕ → Option TypeSpecifier) (k : ℕ) (st : SimpleStatement) (s : Handles) (rest : tree.Statements) → has_form st ≡ true → Writes (simple_roots bound st) → statements_read (simple_form own told source k st s rest) ≡ runs.form own k (simple_shape d.around st) s (statements_read rest)
   simple_reads told k (emit first end) s rest has w = lets_read told k (from first (end - first)) s rest w
   simple_reads told k (store pointer value) s rest has w =
-      (λ i. before (Assign ((place_is (plain_form own source s pointer) ∙ ap runs.place_form (plain_reads s pointer w.0)) i) (value_reads s value w.1.0 i)) (statements_read rest))
-      ∙ ap (λ shape. runs.form own k shape s (statements_read rest)) (sym (plain_store d.around pointer value (points_plainly d.around values pointer)))
+      store_reads (points_to_atomic d.around pointer) k pointer value s rest w.0 w.1.0
   simple_reads told k (return value) s rest has w = ap (λ l. before l (statements_read rest)) (return_reads s value w)
   simple_reads told k break s rest has w = refl
   simple_reads told k continue s rest has w = refl

@@ -9,7 +9,7 @@ use Rattle.naga_ir.specs.declared.expression.SwizzleComponent.TheVariants as com
 use Rattle.naga_ir.specs.declared.types.Type_.{Type_}
 use Rattle.module_meaning.proofs.ExpressionShapes.{there_if}
 use Rattle.module_meaning.specs.AlikeTypes.{has_form}
-use Rattle.module_meaning.specs.Part.{converts, expression_is_written, known_passes}
+use Rattle.module_meaning.specs.Part.{converts, expression_is_written, known_passes, loads_matrix}
 use Rattle.module_meaning.specs.Part.{type_is_of_part}
 use Rattle.module_meaning.specs.Types.{type_names}
 use Rattle.naga_info.specs.declared.info.TypeResolution.TheVariants.{Value}
@@ -22,12 +22,18 @@ use Rattle.std.specs.Option.{is_some, option_and_then, option_map, option_map_or
 use Rattle.naga_info.specs.Resolution.{inner_of, handle_of}
 use Rattle.naga_info.specs.declared.info.ExpressionInfo.{ExpressionInfo}
 use Rattle.naga_info.specs.declared.info.ModuleInfo.{ModuleInfo}
+use Rattle.naga_ir.specs.declared.expression.CooperativeData.{CooperativeData}
 use Rattle.naga_ir.specs.declared.expression.Expression.TheVariants.{AccessIndex, As}
+use Rattle.naga_ir.specs.declared.expression.Expression.TheVariants.{CooperativeLoad}
+use Rattle.naga_ir.specs.declared.types.CooperativeRole.{CooperativeRole}
+use Rattle.naga_ir.specs.declared.types.CooperativeSize.{CooperativeSize}
+use Rattle.naga_ir.specs.declared.types.Scalar.{Scalar}
 use Rattle.naga_ir.specs.declared.types.ScalarKind.{ScalarKind}
 use Rattle.module_meaning.specs.Conversions.{conversion_target}
-use Rattle.module_meaning.specs.ExpressionOperators.{Surroundings, type_known}
+use Rattle.module_meaning.specs.ExpressionOperators.{Surroundings, scalar_behind, type_known}
 use Rattle.naga_form.proofs.SameValues.{IsFit}
 use Rattle.naga_form.proofs.WrittenTypes.{no_struct, no_struct_known, tree_there}
+use Rattle.naga_form.specs.Expressions.{scalar_pointed}
 use Rattle.naga_form.specs.TypeTrees.{inner_tree}
 use Rattle.naga_ir.specs.declared.module.Module.{Module}
 use Rattle.naga_ir.specs.declared.types.TypeInner.{TypeInner}
@@ -150,6 +156,15 @@ pub record Conversion (m : Module) (a : Surroundings) (operand : ℕ) (kind : Sc
   pub tree : TypeSpecifier
   pub is : inner_tree (type_names m) to ≡ Some tree
 
+-- the scalars of the matrix that a cooperative load that is written loads, whose type has a form
+pub record LoadedMatrix (m : Module) (a : Surroundings) (columns rows : CooperativeSize)
+    (role : CooperativeRole) (pointer : ℕ) : Type 0 where
+  pub scalar : Scalar
+  pub known : scalar_pointed a pointer ≡ Some scalar
+  pub written : has_form m.types (Value (inner.CooperativeMatrix columns rows scalar role)) ≡ true
+  pub tree : TypeSpecifier
+  pub is : inner_tree (type_names m) (inner.CooperativeMatrix columns rows scalar role) ≡ Some tree
+
 -- what it gives is a scalar, a vector or a matrix, which is fit
 pub target_fit : (m : Module) (from to : TypeInner) (kind : ScalarKind) (convert : Option ℕ) →
     conversion_target from kind convert ≡ Some to → IsFit m (Value to)
@@ -192,6 +207,27 @@ module _ (m : Module) (info : ModuleInfo) (es : List ExpressionInfo) where
             is = t.1;
           }
       by it known None target written = absurd cc
+
+  pub loaded_matrix : (columns rows : CooperativeSize) (role : CooperativeRole)
+      (place : CooperativeData) →
+      expression_is_written m.types es (CooperativeLoad columns rows role place) ≡ true →
+      LoadedMatrix m d.around columns rows role place.pointer
+  loaded_matrix columns rows role place may =
+      let k = known_operand m es (loads_matrix m.types columns rows role) place.pointer may in
+      by (scalar_behind m.types k.type)
+      (ap (option_and_then (scalar_behind m.types))
+      (type_known_is place.pointer k.known k.there ∙ k.is))
+      k.passes
+    where
+      by : (o : Option Scalar) → scalar_pointed d.around place.pointer ≡ o →
+          option_map_or
+          (λ s. has_form m.types (Value (inner.CooperativeMatrix columns rows s role))) o false ≡
+          true →
+          LoadedMatrix m d.around columns rows role place.pointer
+      by (Some s) known written =
+          let t = tree_there (type_names m) (Value (inner.CooperativeMatrix columns rows s role)) written in
+          record { scalar = s; known = known; written = written; tree = t.0; is = t.1 }
+      by None known written = absurd cc
 
   pub selector_is : (base index : ℕ) → (b : KnownBase m es base) →
       part_selector d base index ≡ selector d (handle_of b.known.ty) b.type index

@@ -22,7 +22,8 @@ use Rattle.shader_runs.specs.Bindings.{text_lets, Binding, function_bindings, em
 use Rattle.shader_runs.specs.Bindings.{statement_bindings, statements_bindings, cases_bindings}
 use Rattle.shader_runs.proofs.Bindings.{binds_as_meant}
 use Rattle.wgsl_text.specs.Types.{TypeSpecifier}
-use Rattle.naga_form.specs.Expressions.{Source, as_value, function_source, unnamed_form}
+use Rattle.naga_form.specs.Expressions.{Source, as_value, function_source, plain_form}
+use Rattle.naga_form.specs.Expressions.{unnamed_form}
 use Rattle.naga_form.specs.Statements.{let_form, then_if, lets_form, return_line, simple_form}
 use Rattle.naga_form.specs.Statements.{loop_form, label_form, line_form, lines_form, cases_form}
 use Rattle.naga_form.specs.Functions.{functions_form}
@@ -53,6 +54,7 @@ use Rattle.module_meaning.proofs.Part.{functions_are_written}
 use Rattle.naga_form.proofs.Abstraction.{written_have_forms}
 use Rattle.naga_form.proofs.PartFits.{function_parts}
 use Rattle.naga_form.specs.Statements.{has_form, have_forms, have_forms_in, cases_have_forms}
+use Rattle.naga_form.specs.Statements.{store_line}
 use Rattle.naga_ir.specs.StatementTree.{break, continue, kill}
 use Rattle.std.specs.List.{list_all}
 use Rattle.std.proofs.lemmas.Bool.{and_parts}
@@ -101,7 +103,7 @@ module _ (n : Naming) (told : ℕ → Option TypeSpecifier) (source : Source) wh
   simple_tells k (return v) have s rest = ap (λ ts. ts ++ statements_annotations rest) (return_tells s v)
   simple_tells k (store pointer value) have s rest = stored (points_to_atomic source.declared.around pointer)
     where
-      stored : (b : Bool) → statements_annotations rest ≡ told_of (statement_bindings n k (store_shape b pointer value)) ++ statements_annotations rest
+      stored : (b : Bool) → statements_annotations (tree.Then (store_line b (plain_form n source s pointer) (plain_form n source s value)) rest) ≡ told_of (statement_bindings n k (store_shape b pointer value)) ++ statements_annotations rest
       stored true = refl
       stored false = refl
   simple_tells k break have s rest = refl

@@ -17,17 +17,17 @@ use Rattle.module_meaning.specs.OperatorTable.{Operator, CooperativeLoad}
 use Rattle.module_meaning.specs.OperatorTable.{Construct, Convert, Reinterpret, WithoutForm, Formless}
 use Rattle.module_meaning.specs.OperatorTable.{Cast, PartAt, ValueOf, MatrixLoad, with_type, run_word}
 use Rattle.module_meaning.specs.OperatorTable.{one_word, asks, is_untyped, SpellsAType, TypeIsSound}
-use Rattle.module_meaning.specs.OperatorTable.{formless_code, formless_asks}
+use Rattle.module_meaning.specs.OperatorTable.{formless_word, formless_asks}
 use Rattle.naga_form.proofs.FreeNames.{begins_free}
 use Rattle.naga_form.proofs.OperatorEvents.{asks_as_told}
 use Rattle.naga_form.proofs.OperatorTable.{mathematical, others, first_with, operator_of, told}
 use Rattle.naga_form.proofs.TypedWords.{head_is, no_blank}
 
--- the words with a blank in front that ask for events, by their second letter: steps and scans,
--- texels, and loads of matrices whose type has no form
+-- the words with a blank in front that ask for events, by their second letter: steps and scans, and
+-- texels
 abbrev own_request : List ℕ → Bool
 own_request (b ∷ c ∷ w) =
-    nat_eq b 32 && (nat_eq c 115 || (nat_eq c 116 || nat_eq c 3))
+    nat_eq b 32 && (nat_eq c 115 || nat_eq c 116)
 own_request _ = false
 
 -- a word that asks for an event, whether a text has it or not
@@ -114,7 +114,7 @@ no_own_request [] is = refl
 no_own_request (b ∷ []) is = refl
 no_own_request (b ∷ c ∷ w) is = by (nat_eq b 32) refl
   where
-    by : (x : Bool) → nat_eq b 32 ≡ x → (x && (nat_eq c 115 || (nat_eq c 116 || nat_eq c 3))) ≡ false
+    by : (x : Bool) → nat_eq b 32 ≡ x → (x && (nat_eq c 115 || nat_eq c 116)) ≡ false
     by true at = absurd (no_blank (b ∷ c ∷ w) (c ∷ w) is (ap (λ a. a ∷ c ∷ w) (eqb-true b 32 at)))
     by false at = refl
 
@@ -128,12 +128,18 @@ spelling_is_told : (w : List ℕ) → SpellsAType w → (begins_free w ≡ false
 spelling_is_told w is =
     (no_number w (type_begins w is), by_text w false (asks_as_told (Convert w) w is refl) (no_own_request w is))
 
-formless_told : (x : Formless) → free_request (32 ∷ formless_code x) ≡ formless_asks x
+formless_told : (x : Formless) → free_request (formless_word x) ≡ formless_asks x
 unfolding free_request is_request
 formless_told (Cast kind width) = refl
 formless_told (PartAt index) = refl
 formless_told (ValueOf numbers components) = refl
 formless_told (MatrixLoad columns rows role row_major) = refl
+
+formless_is_free : (x : Formless) → begins_free (formless_word x) ≡ false
+formless_is_free (Cast kind width) = refl
+formless_is_free (PartAt index) = refl
+formless_is_free (ValueOf numbers components) = refl
+formless_is_free (MatrixLoad columns rows role row_major) = refl
 
 typed_is_told : (o : Operator) → is_untyped o ≡ false → TypeIsSound o → WordIsTold o
 typed_is_told (Construct w n) u is = let parts = spelling_is_told w is in record { free = parts.0; asking = parts.1 }
@@ -150,7 +156,7 @@ typed_is_told (CooperativeLoad true w) u is = record {
   free = refl;
   asking = by_text (with_type (codes "coopLoadT") w) true (asks_as_told (CooperativeLoad true w) (with_type (codes "coopLoadT") w) is refl) refl;
 }
-typed_is_told (WithoutForm x) u is = record { free = refl; asking = formless_told x }
+typed_is_told (WithoutForm x) u is = record { free = formless_is_free x; asking = formless_told x }
 typed_is_told _ u is = absurd (true≢false u)
 
 pub word_is_told : (o : Operator) → TypeIsSound o → WordIsTold o

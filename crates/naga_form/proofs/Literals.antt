@@ -34,6 +34,9 @@ literal_read (literal.I32 (pos n)) w = refl
 literal_read (literal.I64 (pos n)) w = refl
 literal_read (literal.Bool b) w = refl
 literal_read (literal.U32 n) w = refl
+literal_read (literal.I16 (pos n)) w = refl
+literal_read (literal.I16 (negsuc n)) w = refl
+literal_read (literal.U16 n) w = refl
 literal_read (literal.U64 n) w = refl
 literal_read _ w = absurd (false≢true w)
 
@@ -52,6 +55,10 @@ literal_is (literal.Bool b) w e = tt
 literal_is (literal.I32 (pos n)) w e = ltb-true n (2 ^ 31) e
 literal_is (literal.I32 (negsuc n)) w e = least_or n (n == 2147483647) refl (ltb-true n (2 ^ 31) e)
 literal_is (literal.U32 n) w e = ltb-true n (2 ^ 32) e
+literal_is (literal.I16 (pos n)) w e = ltb-true n (2 ^ 15) e
+literal_is (literal.I16 (negsuc n)) w e =
+    let within = ltb-true n (2 ^ 15) e in omega (arith, within)
+literal_is (literal.U16 n) w e = ltb-true n (2 ^ 16) e
 literal_is (literal.I64 (pos n)) w e = ltb-true n (2 ^ 63) e
 literal_is (literal.I64 (negsuc n)) w e = least_long_or n (n == 9223372036854775807) refl (ltb-true n (2 ^ 63) e)
 literal_is (literal.U64 n) w e = ltb-true n (2 ^ 64) e

@@ -1,6 +1,6 @@
 -- A module of the part that is written so far has a world that keeps the types, and no run of it is
 -- stuck.
-use Rattle.std.proofs.Common.{[], ◌≡◌, ℕ, Bool, true, List, ◌∷◌, length, Option, refl, sym, ap, subst}
+use Rattle.std.proofs.Common.{[], ◌≡◌, ℕ, Bool, true, false, List, ◌∷◌, length, Option, refl, sym, ap, subst}
 use Rattle.std.proofs.Common.{◌∙◌}
 use Rattle.std.specs.Prelude.{IsTrue, cond}
 use Rattle.std.specs.Bool.{nat_eq}
@@ -34,16 +34,16 @@ use Rattle.module_meaning.specs.Meanings.{HasTypedWorld, IsNeverStuck}
 use Rattle.module_meaning.specs.ModuleShapes.{module_shape}
 use Rattle.module_meaning.specs.Names.{NamesAreCounted, module_names, function_name}
 use Rattle.module_meaning.specs.Part.{block_is_written, function_is_written, is_written_so_far}
-use Rattle.module_meaning.specs.Part.{type_is_of_part, statement_is_written}
+use Rattle.module_meaning.specs.Part.{statement_is_written}
 use Rattle.module_meaning.specs.Premises.{ScopesHold}
-use Rattle.module_meaning.specs.ExpressionOperators.{Surroundings}
+use Rattle.module_meaning.specs.ExpressionOperators.{Surroundings, points_to_atomic}
+use Rattle.module_meaning.specs.StatementShapes.{store_shape}
 use Rattle.module_meaning.specs.FunctionShapes.{statement_shape, statements_shape, function_shape}
 use Rattle.module_meaning.specs.FunctionShapes.{function_shapes}
 use Rattle.module_meaning.specs.Namings.{namings, outer_names}
 use Rattle.module_meaning.specs.Surroundings.{declared, types_known}
-use Rattle.module_meaning.proofs.ExpressionShapes.{plain_store}
-use Rattle.module_meaning.proofs.ModuleShapes.{declares_functions_alone, points_plainly}
-use Rattle.module_meaning.proofs.Part.{functions_are_written, written_so_far_parts}
+use Rattle.module_meaning.proofs.ModuleShapes.{declares_functions_alone}
+use Rattle.module_meaning.proofs.Part.{functions_are_written}
 use Rattle.naga_form.proofs.PartFits.{function_parts}
 use Rattle.naga_form.proofs.Runs.{module_fits, reads_as_shapes}
 use Rattle.module_meaning.specs.Written.{AllWrittenHaveForms}
@@ -51,10 +51,9 @@ use Rattle.naga_form.proofs.ScopeRules.{scopes_are_checked}
 use Rattle.naga_form.proofs.WellFormed.{all_well_formed}
 
 -- ---- bounds on loop turns
--- a body is that of a function that is written so far, among types of values
+-- a body is that of a function that is written so far
 pub record IsWrittenBody (body : shapes.Statements) : Type 0 where
   pub around : Surroundings
-  pub values : IsTrue (list_all type_is_of_part around.types)
   pub block : BlockTree
   pub written : block_is_written block ≡ true
   pub same : body ≡ statements_shape around block
@@ -64,15 +63,14 @@ abbrev AllAreWritten : List shapes.Function → Type 0
 AllAreWritten [] = Unit {0}
 AllAreWritten (f ∷ fs) = IsWrittenBody f.body × AllAreWritten fs
 
-all_are_written : (m : Module) (info : ModuleInfo) → IsTrue (list_all type_is_of_part m.types) → (fs : List ir_function.Function) (ess : List (List ExpressionInfo)) → list_all function_is_written fs ≡ true → (behind : List shapes.Function) → AllAreWritten behind → AllAreWritten (reverse_aux (function_shapes m info fs ess) behind)
-all_are_written m info values [] ess written behind all = all
-all_are_written m info values (f ∷ fs) [] written behind all = all
-all_are_written m info values (f ∷ fs) (es ∷ ess) written behind all =
+all_are_written : (m : Module) (info : ModuleInfo) → (fs : List ir_function.Function) (ess : List (List ExpressionInfo)) → list_all function_is_written fs ≡ true → (behind : List shapes.Function) → AllAreWritten behind → AllAreWritten (reverse_aux (function_shapes m info fs ess) behind)
+all_are_written m info [] ess written behind all = all
+all_are_written m info (f ∷ fs) [] written behind all = all
+all_are_written m info (f ∷ fs) (es ∷ ess) written behind all =
     let parts = and_parts (function_is_written f) (list_all function_is_written fs) written in
-    all_are_written m info values fs ess parts.1 (function_shape m info f es ∷ behind) (
+    all_are_written m info fs ess parts.1 (function_shape m info f es ∷ behind) (
       record {
         around = (declared m info (types_known es)).around;
-        values = values;
         block = f.body;
         written = (function_parts f parts.0).body;
         same = refl;
@@ -81,12 +79,16 @@ all_are_written m info values (f ∷ fs) (es ∷ ess) written behind all =
     )
 
 -- no statement that is written so far makes turns
-module _ (c : Call) (j n : ℕ) (a : Surroundings) (values : IsTrue (list_all type_is_of_part a.types)) where
+module _ (c : Call) (j n : ℕ) (a : Surroundings) where
   steady_line : (s : StatementTree) → statement_is_written s ≡ true → (kept : KeptValues) (t : List Event) → run c j (statement_shape a s) kept t ≡ run c n (statement_shape a s) kept t
   steady_line (simple (emit first last)) is kept t = refl
-  steady_line (simple (store pointer value)) is kept t =
-      let plain = plain_store a pointer value (points_plainly a values pointer) in
-      subst (λ s. run c j s kept t ≡ run c n s kept t) (sym plain) refl
+  steady_line (simple (store pointer value)) is kept t = stored (points_to_atomic a pointer)
+    where
+      stored : (atomic : Bool) →
+          run c j (store_shape atomic pointer value) kept t ≡
+          run c n (store_shape atomic pointer value) kept t
+      stored true = refl
+      stored false = refl
   steady_line (simple (return value)) is kept t = refl
   steady_line _ is kept t = absurd (cc)
 
@@ -114,7 +116,7 @@ module _ (env : Environment) (w : World) (m : Meaning) (f : shapes.Function) (fs
       λ i. run_if_arguments_fit (nat_eq (length vs) (argument_count f)) (run_from_entry (length fs) vs (first_used_all c kept f.first_values) t (λ t1. answer (lines kept t1 i))) t
     where
       lines : (kept : KeptValues) (t1 : List Event) → run_all (call_by calls) j f.body kept t1 ≡ run_all (call_by calls) n f.body kept t1
-      lines kept t1 = subst (λ b. run_all (call_by calls) j b kept t1 ≡ run_all (call_by calls) n b kept t1) (sym body.same) (steady_lines (call_by calls) j n body.around body.values body.block body.written kept t1)
+      lines kept t1 = subst (λ b. run_all (call_by calls) j b kept t1 ≡ run_all (call_by calls) n b kept t1) (sym body.same) (steady_lines (call_by calls) j n body.around body.block body.written kept t1)
 
 steady_calls : (env : Environment) (w : World) (m : Meaning) (fs : List shapes.Function) → AllAreWritten fs → (j n g : ℕ) (vs : List Value) (t : List Event) → run_call env w m j fs g vs t ≡ run_call env w m n fs g vs t
 steady_calls env w m [] all j n g vs t = refl
@@ -131,7 +133,7 @@ module _ (m : Module) (info : ModuleInfo) (written : IsTrue (is_written_so_far m
   all_written : AllAreWritten shape.functions
   all_written =
       subst (λ (p : shapes.Module). AllAreWritten p.functions) (sym (declares_functions_alone m info written))
-      (all_are_written m info (written_so_far_parts m written).1 m.functions info.functions.items (functions_are_written m written) [] tt)
+      (all_are_written m info m.functions info.functions.items (functions_are_written m written) [] tt)
 
   pub has_world : HasTypedWorld m info
   has_world settings fit meaning typed =

@@ -1,18 +1,22 @@
 -- Words of operators that no name hides: the signs, words and types of the operators that are written
 -- so far.
-use Rattle.std.proofs.Common.{◌≡◌, ℕ, Bool, true, false, List, [], ◌∷◌, refl, sym, ap, ◌∙◌, nat_eq}
+use Rattle.std.proofs.Common.{◌≡◌, ℕ, Bool, true, false, List, [], ◌∷◌, refl, nat_eq}
 use Rattle.std.proofs.Common.{codes, ◌++◌}
 use Rattle.std.specs.List.{AllByRecursion}
 use Rattle.std.specs.Prelude.{◌&&◌, ◌||◌, if◌then◌else◌, not}
-use Rattle.std.specs.Option.{is_some}
+use Rattle.std.specs.Option.{option_map_or}
 use Rattle.module_meaning.specs.OperatorTable.{BinarySign, UnarySign, Choice, Mathematical}
-use Rattle.module_meaning.specs.OperatorTable.{Relation, Splat, relational_word, run_word}
+use Rattle.module_meaning.specs.OperatorTable.{Relation, Splat, run_word}
 use Rattle.module_meaning.specs.OperatorTable.{Derivative, with_type, Formless, Cast, PartAt}
 use Rattle.module_meaning.specs.OperatorTable.{ValueOf, MatrixLoad, WithoutForm}
 use Rattle.module_meaning.specs.OperatorTable.{ArrayLength, Automatic}
 use Rattle.module_meaning.specs.OperatorTable.{Biased, CooperativeMultiplyAdd, Exact, Gather, Graded}
-use Rattle.module_meaning.specs.OperatorTable.{Level, Sample, Texel, Zero}
+use Rattle.module_meaning.specs.OperatorTable.{Level, Sample, Texel, Zero, AtomicLoad, AtomicStore}
+use Rattle.module_meaning.specs.OperatorTable.{CooperativeLoad, RayIntersection, RayCorners}
+use Rattle.module_meaning.specs.OperatorTable.{formless_asks}
 use Rattle.module_meaning.specs.ExpressionOperators.{query_operator, sample_operator, texel_of}
+use Rattle.module_meaning.specs.ExpressionOperators.{Surroundings, matrix_load}
+use Rattle.naga_ir.specs.declared.expression.CooperativeData.{CooperativeData}
 use Rattle.naga_ir.specs.declared.expression.ImageQuery.{ImageQuery}
 use Rattle.naga_ir.specs.declared.expression.ImageQuery.TheVariants as query
 use Rattle.naga_ir.specs.declared.expression.SwizzleComponent.{SwizzleComponent}
@@ -30,6 +34,8 @@ use Rattle.naga_ir.specs.declared.operators.RelationalFunction.{RelationalFuncti
 use Rattle.naga_ir.specs.declared.operators.RelationalFunction.TheVariants as relational
 use Rattle.naga_ir.specs.declared.operators.UnaryOperator.{UnaryOperator}
 use Rattle.naga_ir.specs.declared.operators.UnaryOperator.TheVariants as unary
+use Rattle.naga_ir.specs.declared.types.CooperativeRole.{CooperativeRole}
+use Rattle.naga_ir.specs.declared.types.CooperativeSize.{CooperativeSize}
 use Rattle.naga_ir.specs.declared.types.VectorSize.{VectorSize}
 use Rattle.naga_ir.specs.declared.types.VectorSize.TheVariants.{Bi, Tri, Quad}
 use Rattle.naga_keywords.specs.Plain.{is_word}
@@ -39,7 +45,6 @@ use Rattle.wgsl_text.specs.Reading.{type_layout}
 use Rattle.wgsl_text.specs.Requests.{is_request}
 use Rattle.wgsl_text.specs.Types.{Named, plain_type_words, type_templates}
 use Rattle.wgsl_text.specs.Words.{is_builtin}
-use Rattle.wgsl_words.specs.Words.{math_word}
 
 -- it has another sign than blanks
 abbrev pub is_signed : List ℕ → Bool
@@ -291,12 +296,49 @@ unfolding is_request is_builtin builtin_words
 bits_free word = refl
 
 -- what stands for what has no form: a blank, and behind it no blank
-pub formless_free : (what : Formless) → operates_freely (run_word (WithoutForm what)) ≡ true
+pub formless_free : (what : Formless) → formless_asks what ≡ false →
+    operates_freely (run_word (WithoutForm what)) ≡ true
 unfolding is_request is_builtin builtin_words
-formless_free (Cast kind width) = refl
-formless_free (PartAt index) = refl
-formless_free (ValueOf numbers components) = refl
-formless_free (MatrixLoad columns rows role row_major) = refl
+formless_free (Cast kind width) silent = refl
+formless_free (PartAt index) silent = refl
+formless_free (ValueOf numbers components) silent = refl
+formless_free (MatrixLoad columns rows role row_major) silent = absurd cc
+
+-- as are what a ray query found and the corners of that
+pub hit_free : (committed : Bool) → operates_freely (run_word (RayIntersection committed)) ≡ true
+unfolding is_request is_builtin builtin_words
+hit_free true = refl
+hit_free false = refl
+
+pub corners_free : (committed : Bool) → operates_freely (run_word (RayCorners committed)) ≡ true
+unfolding is_request is_builtin builtin_words
+corners_free true = refl
+corners_free false = refl
+
+-- as are the loads and stores of atomics and the loads of matrices, which ask
+pub atomic_load_free : asks_freely (run_word AtomicLoad) ≡ true
+unfolding is_request is_builtin builtin_words
+atomic_load_free = refl
+
+pub atomic_store_free : asks_freely (run_word AtomicStore) ≡ true
+unfolding is_request is_builtin builtin_words
+atomic_store_free = refl
+
+load_among_free : (columns rows : CooperativeSize) (role : CooperativeRole) (row_major : Bool)
+    (o : Option (List ℕ)) →
+    asks_freely
+    (run_word
+    (option_map_or (CooperativeLoad row_major) o
+    (WithoutForm (MatrixLoad columns rows role row_major)))) ≡
+    true
+unfolding is_request is_builtin builtin_words
+load_among_free columns rows role true (Some w) = refl
+load_among_free columns rows role false (Some w) = refl
+load_among_free columns rows role row_major None = refl
+
+pub matrix_load_free : (a : Surroundings) (columns rows : CooperativeSize) (role : CooperativeRole)
+    (place : CooperativeData) → asks_freely (run_word (matrix_load a columns rows role place)) ≡ true
+matrix_load_free a columns rows role place = load_among_free columns rows role place.row_major _
 
 -- as are the types of one word, and words of types with parts, whatever these are
 pub plain_types_free :

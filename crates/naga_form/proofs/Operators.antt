@@ -5,6 +5,7 @@ use Rattle.std.proofs.Common.{refl, sym, ap, subst, ◌∙◌, length, codes, �
 use Rattle.std.specs.Prelude.{IsTrue, if◌then◌else◌, unwrap_or, ◌||◌}
 use Rattle.std.specs.List.{AllByRecursion}
 use Rattle.std.specs.Option.{is_none, is_some, option_map, option_map_or, option_and_then}
+use Rattle.naga_ir.specs.declared.expression.CooperativeData.{CooperativeData}
 use Rattle.naga_ir.specs.declared.expression.Expression as ir
 use Rattle.naga_ir.specs.declared.expression.Expression.TheVariants as expression
 use Rattle.naga_ir.specs.declared.operators.BinaryOperator.{BinaryOperator}
@@ -16,13 +17,19 @@ use Rattle.module_meaning.specs.Conversions.{conversion_target, keeps_bits}
 use Rattle.module_meaning.specs.ExpressionOperators.{Surroundings, applied_operator, cast, cast_to}
 use Rattle.module_meaning.specs.ExpressionOperators.{type_known}
 use Rattle.module_meaning.specs.ExpressionOperators.{points_to_atomic, constructor, load_operator}
+use Rattle.module_meaning.specs.ExpressionOperators.{matrix_load}
 use Rattle.naga_info.specs.declared.info.TypeResolution.{TypeResolution}
 use Rattle.naga_info.specs.declared.info.TypeResolution.TheVariants.{Handle, Value}
 use Rattle.naga_words.specs.Contexts.{Names as TypeNames}
-use Rattle.naga_form.specs.Expressions.{cast_tree, conversion_tree, operator_type}
+use Rattle.naga_form.specs.Expressions.{cast_tree, conversion_tree, load_tree, matrix_tree}
+use Rattle.naga_form.specs.Expressions.{operator_type, scalar_pointed}
 use Rattle.naga_form.specs.TypeTrees.{inner_tree, resolution_tree, type_tree}
+use Rattle.naga_ir.specs.declared.types.CooperativeRole.{CooperativeRole}
+use Rattle.naga_ir.specs.declared.types.CooperativeSize.{CooperativeSize}
+use Rattle.naga_ir.specs.declared.types.Scalar.{Scalar}
 use Rattle.naga_ir.specs.declared.types.ScalarKind.{ScalarKind}
 use Rattle.naga_ir.specs.declared.types.TypeInner.{TypeInner}
+use Rattle.naga_ir.specs.declared.types.TypeInner.TheVariants as inner
 use Rattle.naga_ir.specs.declared.operators.RelationalFunction.{RelationalFunction}
 use Rattle.naga_ir.specs.declared.types.VectorSize.{VectorSize}
 use Rattle.module_meaning.specs.OperatorTable.{Choice, Splat, Relation, Mathematical, Construct}
@@ -41,12 +48,13 @@ use Rattle.wgsl_text.specs.Expressions.{IsCallee}
 use Rattle.wgsl_text.specs.Types.{IsType}
 use Rattle.module_meaning.specs.ExpressionShapes.{applied_shape, asking}
 use Rattle.module_meaning.specs.OperatorTable.{Operator, BinarySign, UnarySign, AtomicLoad, asks}
+use Rattle.module_meaning.specs.OperatorTable.{AtomicStore, CooperativeLoad, MatrixLoad}
 use Rattle.module_meaning.specs.OperatorTable.{own_math_word, run_word}
 use Rattle.module_meaning.specs.Part.{expression_is_written}
 use Rattle.naga_ir.specs.declared.module.Module.{Module}
 use Rattle.naga_info.specs.declared.info.ExpressionInfo.{ExpressionInfo}
 use Rattle.module_meaning.specs.Shapes.{operator_shape}
-use Rattle.naga_ir.specs.Operands.{expression_operands, query_operands}
+use Rattle.naga_ir.specs.Operands.{cooperative_operands, expression_operands, query_operands}
 use Rattle.naga_ir.specs.declared.types.VectorSize.TheVariants.{Bi, Tri, Quad}
 use Rattle.wgsl_text.specs.Types.{TypeSpecifier, Named, NoParts, has_gaps, of_one}
 use Rattle.wgsl_text.specs.Expressions.{Call, operands, binary_pieces, unary_mark, IsExpression}
@@ -145,11 +153,19 @@ constructor_spelled a r components (Some t) e =
     spelled_by (λ spelling. Construct spelling components)
     (WithoutForm (ValueOf (a.numbers r) components)) (λ t. t) (λ t. refl) (a.spelled r) (Some t) e
 
+-- a function that takes a type is spelled by its word and the type
+pub taking_text : (v : List ℕ) (t : TypeSpecifier) →
+    type_layout (of_one v t) ≡ with_type v (type_layout t)
+taking_text v t = ap (λ w. v ++ (codes "<" ++ w)) (type_part_text t NoParts (has_gaps v))
+
 pub bits_text : (t : TypeSpecifier) →
     type_layout (of_one (codes "bitcast") t) ≡ with_type (codes "bitcast") (type_layout t)
-bits_text t =
-    ap (λ w. codes "bitcast" ++ (codes "<" ++ w))
-    (type_part_text t NoParts (has_gaps (codes "bitcast")))
+bits_text t = taking_text (codes "bitcast") t
+
+pub load_text : (row_major : Bool) (t : TypeSpecifier) →
+    type_layout (load_tree row_major t) ≡ run_word (CooperativeLoad row_major (type_layout t))
+load_text false t = taking_text (codes "coopLoad") t
+load_text true t = taking_text (codes "coopLoadT") t
 
 cast_text : (bits : Bool) (t : TypeSpecifier) →
     type_layout (cast_tree bits t) ≡ run_word (cast_to bits (type_layout t))
@@ -174,6 +190,26 @@ cast_spelled a t spells kind convert (Some it) = by (conversion_target it kind c
         spelled_by (cast_to bits) (WithoutForm (Cast kind convert)) (cast_tree bits)
         (cast_text bits) (a.spelled (Value new)) (inner_tree t new) (spells (Value new))
 
+matrix_spelled : (a : Surroundings) (t : TypeNames) → SpellsTypes a t →
+    (columns rows : CooperativeSize) (role : CooperativeRole) (place : CooperativeData) →
+    Spells (matrix_tree t columns rows role place.row_major (scalar_pointed a place.pointer))
+    (matrix_load a columns rows role place)
+matrix_spelled a t spells columns rows role place = by (scalar_pointed a place.pointer)
+  where
+    without : Operator
+    without = WithoutForm (MatrixLoad columns rows role place.row_major)
+
+    by : (s : Option Scalar) →
+        Spells (matrix_tree t columns rows role place.row_major s)
+        (option_map_or (CooperativeLoad place.row_major)
+        (option_and_then (λ s. a.spelled (Value (inner.CooperativeMatrix columns rows s role))) s)
+        without)
+    by None = tt
+    by (Some s) =
+        let it = inner.CooperativeMatrix columns rows s role in
+        spelled_by (CooperativeLoad place.row_major) without (load_tree place.row_major)
+        (load_text place.row_major) (a.spelled (Value it)) (inner_tree t it) (spells (Value it))
+
 pub untyped : (o : Option Operator) → SpellsIf None o
 untyped None = tt
 untyped (Some op) = tt
@@ -184,6 +220,8 @@ operator_spelled a t spells (expression.Compose ty components) =
     constructor_spelled a (Handle ty) (length components.items) (type_tree t ty) (spells (Handle ty))
 operator_spelled a t spells (expression.As operand kind convert) =
     cast_spelled a t spells kind convert (type_known a operand)
+operator_spelled a t spells (expression.CooperativeLoad columns rows role place) =
+    matrix_spelled a t spells columns rows role place
 operator_spelled a t spells e = untyped (applied_operator a e)
 
 -- ---- what is read
@@ -320,6 +358,14 @@ cast_called a kind convert operand =
     by true w type = refl
     by false w type = refl
 
+pub load_called : (a : Surroundings) (columns rows : CooperativeSize) (role : CooperativeRole)
+    (place : CooperativeData) → IsCalled (matrix_load a columns rows role place)
+load_called a columns rows role place =
+    either_called (CooperativeLoad place.row_major)
+    (WithoutForm (MatrixLoad columns rows role place.row_major)) (λ w type. refl) (λ type. refl)
+    (option_and_then (λ s. a.spelled (Value (inner.CooperativeMatrix columns rows s role)))
+    (scalar_pointed a place.pointer))
+
 pub typed_notation : (op : Operator) → IsCalled op → (type : Option TypeSpecifier)
     (t : TypeSpecifier) → type ≡ Some t → notation type op ≡ Called t
 typed_notation op called type t is =
@@ -361,10 +407,27 @@ conversion_is a t operand kind convert from to tree known target is =
     ∙ ap (option_map (cast_tree (keeps_bits from convert)))
     (ap (option_and_then (inner_tree t)) target ∙ is)
 
+-- what loads a matrix of scalars that are known is called by, where the type has this tree
+pub matrix_is : (a : Surroundings) (t : TypeNames) (columns rows : CooperativeSize)
+    (role : CooperativeRole) (place : CooperativeData) (s : Scalar) (tree : TypeSpecifier) →
+    scalar_pointed a place.pointer ≡ Some s →
+    inner_tree t (inner.CooperativeMatrix columns rows s role) ≡ Some tree →
+    operator_type a t (expression.CooperativeLoad columns rows role place) ≡
+    Some (load_tree place.row_major tree)
+matrix_is a t columns rows role place s tree known is =
+    ap (matrix_tree t columns rows role place.row_major) known
+    ∙ ap (option_map (load_tree place.row_major)) is
+
 -- the type to which bits are cast, and the type of a conversion, may be called
 pub cast_callee : (bits : Bool) (t : TypeSpecifier) → IsType t → IsCallee (cast_tree bits t)
 cast_callee false t is = called_words.type t is
 cast_callee true t is = called_words.taking_type (codes "bitcast") t refl is
+
+-- so may a word that loads a matrix
+pub load_callee : (row_major : Bool) (t : TypeSpecifier) → IsType t →
+    IsCallee (load_tree row_major t)
+load_callee false t is = called_words.taking_type (codes "coopLoad") t refl is
+load_callee true t is = called_words.taking_type (codes "coopLoadT") t refl is
 
 -- a built-in word may be called
 pub callee_of : (w : List ℕ) → is_builtin w ≡ true → IsCallee (Named w)
@@ -446,6 +509,11 @@ load_notated a pointer = by (points_to_atomic a pointer)
     by true = atomic_called
     by false = tt
 
+-- and the store to one
+pub atomic_store_called : IsCallee (Named (run_word AtomicStore))
+unfolding is_builtin builtin_words
+atomic_store_called = callee_of (run_word AtomicStore) refl
+
 -- the type of which an expression makes a value has a form, a type of the grammar
 abbrev pub HasFormAt : TypeNames → (ty : ℕ) → Type 0
 HasFormAt t ty = (tree : TypeSpecifier) × (type_tree t ty ≡ Some tree) × IsType tree
@@ -457,6 +525,10 @@ TypeIsFormed a t (expression.Compose ty components) = HasFormAt t ty
 TypeIsFormed a t (expression.As operand kind convert) =
     (tree : TypeSpecifier)
     × (operator_type a t (expression.As operand kind convert) ≡ Some tree) × IsCallee tree
+TypeIsFormed a t (expression.CooperativeLoad columns rows role place) =
+    (tree : TypeSpecifier)
+    × (operator_type a t (expression.CooperativeLoad columns rows role place) ≡ Some tree)
+    × IsCallee tree
 TypeIsFormed a t _ = Unit {0}
 
 -- A part at a known index applies an operator only where there is none, and that has no notation; a
@@ -489,6 +561,12 @@ notated a t m es (expression.As operand kind convert) written has formed =
     (sym
     (typed_notation _ (cast_called a kind convert (type_known a operand))
     (operator_type a t (expression.As operand kind convert)) formed.0 formed.1))
+    formed.2
+notated a t m es (expression.CooperativeLoad columns rows role place) written has formed =
+    subst (λ n. NotationFits n (cooperative_operands place))
+    (sym
+    (typed_notation _ (load_called a columns rows role place)
+    (operator_type a t (expression.CooperativeLoad columns rows role place)) formed.0 formed.1))
     formed.2
 notated a t m es (expression.Derivative along how expr) written has formed = derivative_called along how
 notated a t m es (expression.ImageLoad image coordinate array_index sample level) written has formed =

@@ -13,11 +13,13 @@ use Rattle.naga_ir.specs.declared.module.Function as ir_function
 use Rattle.naga_info.specs.declared.info.ExpressionInfo.{ExpressionInfo}
 use Rattle.naga_info.specs.declared.info.ModuleInfo.{ModuleInfo}
 use Rattle.module_meaning.specs.Conversions.{keeps_bits}
-use Rattle.module_meaning.specs.ExpressionOperators.{cast, cast_to, constructor}
-use Rattle.module_meaning.specs.ExpressionShapes.{Declared, shape_of, applied_shape, constant_shape}
+use Rattle.module_meaning.specs.ExpressionOperators.{cast_to, constructor}
+use Rattle.module_meaning.specs.ExpressionShapes.{Declared, shape_of, applied_or, applied_shape}
+use Rattle.module_meaning.specs.ExpressionShapes.{constant_shape}
 use Rattle.module_meaning.specs.OperatorTable.{BinarySign, UnarySign, Choice, Mathematical}
 use Rattle.module_meaning.specs.OperatorTable.{Relation, Splat, run_word, Operator, Construct}
 use Rattle.module_meaning.specs.OperatorTable.{WithoutForm, ValueOf, Cast, PartAt, Derivative, with_type}
+use Rattle.module_meaning.specs.OperatorTable.{AtomicLoad, AtomicStore, RayIntersection, RayCorners}
 use Rattle.module_meaning.specs.Ranges.{function_in_range, names_in_range}
 use Rattle.module_meaning.specs.Types.{type_names}
 use Rattle.naga_info.specs.declared.info.TypeResolution.{TypeResolution}
@@ -30,7 +32,9 @@ use Rattle.wgsl_text.proofs.Text.{text-append}
 use Rattle.naga_form.proofs.AcceptedFunctions.{names_are_in_range}
 use Rattle.naga_form.proofs.OperatingWords.{operates_freely, unary_free, binary_free, choice_free}
 use Rattle.naga_form.proofs.OperatingWords.{asks_freely, bits_free, derivative_free}
-use Rattle.naga_form.proofs.OperatingWords.{formless_free, is_signed}
+use Rattle.naga_form.proofs.OperatingWords.{formless_free, is_signed, atomic_load_free}
+use Rattle.naga_form.proofs.OperatingWords.{atomic_store_free, matrix_load_free, hit_free}
+use Rattle.naga_form.proofs.OperatingWords.{corners_free}
 use Rattle.naga_form.proofs.OperatingWords.{splat_free, math_free, relation_free}
 use Rattle.naga_form.proofs.OperatingWords.{names_no_item}
 use Rattle.naga_form.proofs.TreeWords.{constant_words, levels_words, offset_words, or_false_words}
@@ -40,8 +44,7 @@ use Rattle.naga_info.proofs.Options.{then_some}
 use Rattle.naga_form.proofs.SameValues.{IsFit, TypesAreCounted}
 use Rattle.naga_form.proofs.WrittenTypes.{free_form}
 use Rattle.module_meaning.specs.Surroundings.{declared, types_known}
-use Rattle.module_meaning.proofs.ExpressionShapes.{plain_load, plain_store}
-use Rattle.module_meaning.proofs.ModuleShapes.{points_plainly}
+use Rattle.module_meaning.proofs.ExpressionShapes.{load_asks}
 use Rattle.module_meaning.proofs.Shapes.{operator_any}
 use Rattle.naga_names.specs.Reset.{LabelledItem, labelled_items, labels_of}
 use Rattle.shader_runs.specs.Value.{ValueType}
@@ -93,14 +96,16 @@ use Rattle.naga_ir.specs.declared.types.TypeInner.{TypeInner}
 use Rattle.wgsl_text.specs.Types.{TypeSpecifier}
 use Rattle.module_meaning.proofs.ExpressionShapes.{query_asks}
 use Rattle.module_meaning.specs.ExpressionOperators.{is_depth_image, level_of, query_operator}
-use Rattle.module_meaning.specs.ExpressionOperators.{sample_operator, texel_of}
+use Rattle.module_meaning.specs.ExpressionOperators.{sample_operator, texel_of, matrix_load}
+use Rattle.module_meaning.specs.ExpressionOperators.{points_to_atomic}
+use Rattle.module_meaning.specs.StatementShapes.{store_shape}
 use Rattle.module_meaning.specs.ExpressionShapes.{asking, built, constant_tree, tree_over, tree_then}
 use Rattle.module_meaning.specs.ExpressionShapes.{tree_within, trees, trees_of, written_zero}
 use Rattle.module_meaning.specs.OperatorTable.{ArrayLength, CooperativeMultiplyAdd, Texel, asks}
 use Rattle.module_meaning.specs.Shapes.{operator_shape}
 use Rattle.naga_form.proofs.OperatingWords.{length_free, product_free, query_free, sampling_free}
 use Rattle.naga_form.proofs.OperatingWords.{texel_free}
-use Rattle.naga_ir.specs.Operands.{query_operands}
+use Rattle.naga_ir.specs.Operands.{cooperative_operands, query_operands}
 use Rattle.naga_ir.specs.declared.expression.SampleLevel.{SampleLevel}
 use Rattle.naga_ir.specs.declared.expression.SampleLevel.TheVariants as level
 use Rattle.naga_ir.specs.declared.types.VectorSize.{VectorSize}
@@ -262,7 +267,7 @@ module _ (m : Module) (info : ModuleInfo) (values : IsTrue (list_all type_is_of_
       (λ word free. makes word (operates word free))
       (without
       (operates (run_word (unmade components ty))
-      (formless_free (ValueOf (d.around.numbers (Handle ty)) components))))
+      (formless_free (ValueOf (d.around.numbers (Handle ty)) components) refl)))
 
   cast_words : (bits : Bool) (word : List ℕ) (operand : ℕ) → operates_freely word ≡ true →
       WordFits p own (Some (applied_shape (cast_to bits word) (operand ∷ [])))
@@ -282,9 +287,9 @@ module _ (m : Module) (info : ModuleInfo) (values : IsTrue (list_all type_is_of_
   converted_words bits kind convert operand from (Some it) fit =
       spelled_words (Value it) (fit it refl) (λ op. WordFits p own (Some (applied_shape op (operand ∷ []))))
       (cast_to bits) (WithoutForm (Cast kind convert)) (λ word free. cast_words bits word operand free)
-      (operates (run_word (WithoutForm (Cast kind convert))) (formless_free (Cast kind convert)))
+      (operates (run_word (WithoutForm (Cast kind convert))) (formless_free (Cast kind convert) refl))
   converted_words bits kind convert operand from None fit =
-      operates (run_word (WithoutForm (Cast kind convert))) (formless_free (Cast kind convert))
+      operates (run_word (WithoutForm (Cast kind convert))) (formless_free (Cast kind convert) refl)
 
   target_is_fit : (kind : ScalarKind) (convert : Option ℕ) (o : Option TypeInner) (it : TypeInner) →
       option_and_then (λ it. conversion_target it kind convert) o ≡ Some it → IsFit m (Value it)
@@ -394,9 +399,29 @@ module _ (m : Module) (info : ModuleInfo) (values : IsTrue (list_all type_is_of_
   words h (expression.FunctionArgument number) is range = tt
   words h (expression.LocalVariable handle) is range = tt
   words h (expression.Swizzle size vector pattern) is range = tt
-  words h (expression.Load pointer) is range =
-      subst (λ s. WordFits p own (Some s))
-      (sym (plain_load d f.expressions h pointer (points_plainly d.around values pointer))) tt
+  words h (expression.Load pointer) is range = by (points_to_atomic d.around pointer)
+    where
+      by : (atomic : Bool) →
+          WordFits p own
+          (Some
+          (applied_or (shapes.Load pointer) (pointer ∷ [])
+          (if atomic then Some AtomicLoad else None)))
+      by true = (asks_by (run_word AtomicLoad) atomic_load_free, tt)
+      by false = tt
+  words h (expression.CooperativeLoad columns rows role place) is range =
+      query_words (matrix_load d.around columns rows role place)
+      (load_asks d.around columns rows role place)
+      (matrix_load_free d.around columns rows role place) (cooperative_operands place)
+  words h (expression.RayQueryGetIntersection query committed) is range =
+      operates (run_word (RayIntersection committed)) (hit_free committed)
+  words h (expression.RayQueryVertexPositions query committed) is range =
+      operates (run_word (RayCorners committed)) (corners_free committed)
+  words h (expression.CallResult function) is range = tt
+  words h (expression.AtomicResult ty comparison) is range = tt
+  words h (expression.WorkGroupUniformLoadResult ty) is range = tt
+  words h (expression.SubgroupOperationResult ty) is range = tt
+  words h expression.SubgroupBallotResult is range = tt
+  words h expression.RayQueryProceedResult is range = tt
   words h (expression.Literal value) is range = tt
   words h (expression.Unary op expr) is range = operates (run_word (UnarySign op)) (unary_free op)
   words h (expression.Binary op left right) is range =
@@ -421,9 +446,11 @@ module _ (m : Module) (info : ModuleInfo) (values : IsTrue (list_all type_is_of_
   line_worded : (st : StatementTree) → statement_is_written st ≡ true →
       IsWorded p own (statement_shape d.around st)
   line_worded (simple (emit first last)) is = tt
-  line_worded (simple (store pointer value)) is =
-      subst (IsWorded p own)
-      (sym (plain_store d.around pointer value (points_plainly d.around values pointer))) tt
+  line_worded (simple (store pointer value)) is = by (points_to_atomic d.around pointer)
+    where
+      by : (atomic : Bool) → IsWorded p own (store_shape atomic pointer value)
+      by true = asks_by (run_word AtomicStore) atomic_store_free
+      by false = tt
   line_worded (simple (return value)) is = tt
   line_worded _ is = absurd cc
 

@@ -1,6 +1,5 @@
 -- What is written for a module is a program of the grammar.
 use Rattle.module_meaning.specs.Accepted.{is_accepted}
-use Rattle.module_meaning.specs.Numbers.{signature_fits_32_bits}
 use Rattle.module_meaning.specs.Part.{block_is_written, statement_is_written, function_is_written, expression_is_written, is_written_so_far}
 use Rattle.module_meaning.specs.ExpressionShapes.{part_selector}
 use Rattle.module_meaning.specs.OperatorTable.{WithoutForm, PartAt}
@@ -11,7 +10,7 @@ use Rattle.wgsl_text.specs.Expressions.{Index}
 use Rattle.std.specs.Prelude.{◌==◌}
 use Rattle.std.specs.List.{zip}
 use Rattle.std.specs.Option.{option_map_or}
-use Rattle.module_meaning.specs.Ranges.{function_in_range, local_in_range, signature_fits, signature_types_fit}
+use Rattle.module_meaning.specs.Ranges.{function_in_range, local_in_range}
 use Rattle.module_meaning.proofs.Lists.{list_all_at}
 use Rattle.module_meaning.proofs.Part.{written_so_far_parts}
 use Rattle.naga_form.proofs.AcceptedFunctions.{accepted_at, locals_are_in_range, names_are_in_range}
@@ -63,7 +62,7 @@ use Rattle.naga_form.specs.Functions.{locals_form, parameters_form, result_form,
 use Rattle.naga_form.specs.Functions.{functions_form}
 use Rattle.naga_form.specs.Statements.{let_form, then_if, lets_form, return_line, simple_form}
 use Rattle.naga_form.specs.Statements.{loop_form, label_form, labels_form, line_form, lines_form}
-use Rattle.naga_form.specs.Statements.{cases_form, has_form}
+use Rattle.naga_form.specs.Statements.{cases_form, has_form, store_line}
 use Rattle.module_meaning.specs.Premises.{handles_are_counted}
 use Rattle.module_meaning.specs.Names.{module_names, wgsl_names, numbered_text, numbered_name}
 use Rattle.module_meaning.specs.Types.{type_names}
@@ -80,11 +79,12 @@ use Rattle.module_meaning.specs.StatementShapes.{store_shape}
 use Rattle.naga_ir.specs.Operands.{expression_operands}
 use Rattle.naga_form.specs.Operators.{notation}
 use Rattle.naga_form.proofs.Operators.{HasFormAt, IsNotated, TypeIsFormed, applied_is}
-use Rattle.naga_form.proofs.Operators.{cast_callee, constructor_notated, conversion_is}
+use Rattle.naga_form.proofs.Operators.{atomic_store_called, cast_callee, constructor_notated}
+use Rattle.naga_form.proofs.Operators.{conversion_is, load_callee, matrix_is}
 use Rattle.naga_form.proofs.Operators.{load_notated, notated}
 use Rattle.module_meaning.specs.Conversions.{keeps_bits}
 use Rattle.module_meaning.specs.AlikeTypes.{has_form as type_has_form}
-use Rattle.naga_form.proofs.AllowedParts.{conversion, target_fit}
+use Rattle.naga_form.proofs.AllowedParts.{conversion, loaded_matrix, target_fit}
 use Rattle.std.proofs.Common.{map}
 use Rattle.std.specs.Option.{is_some}
 use Rattle.module_meaning.proofs.Part.{has_form_parts}
@@ -106,13 +106,13 @@ use Rattle.std.specs.List.{AllByRecursion, filter}
 use Rattle.std.specs.Prelude.{if◌then◌else◌}
 use Rattle.std.proofs.Common.{add-zero, length-append, zero-add}
 use Rattle.std.specs.Option.{is_some, option_to_list}
-use Rattle.naga_form.specs.Expressions.{cast_tree, operator_type}
+use Rattle.naga_form.specs.Expressions.{cast_tree, load_tree, operator_type}
+use Rattle.naga_ir.specs.declared.types.TypeInner.TheVariants as inner
 use Rattle.naga_form.proofs.Letters.{letters_are_a_word}
 use Rattle.std.proofs.lemmas.Bool.{eqb-true}
 use Rattle.naga_form.specs.TypeTrees.{type_tree}
 use Rattle.naga_info.specs.declared.info.TypeResolution.TheVariants.{Handle}
 use Rattle.module_meaning.specs.ExpressionOperators.{constructor}
-use Rattle.module_meaning.specs.Ranges.{names_in_range}
 use Rattle.naga_form.proofs.WrittenTypes.{tree_there}
 use Rattle.naga_info.specs.declared.info.TypeResolution.{TypeResolution}
 use Rattle.naga_info.specs.declared.info.TypeResolution.TheVariants.{Value}
@@ -324,6 +324,14 @@ module _ (m : Module) (info : ModuleInfo) (g : ℕ) (f : ir_function.Function) (
         conversion_is d.around (type_names m) operand kind convert c.from c.to c.tree c.known
             c.target c.is,
         cast_callee (keeps_bits c.from convert) c.tree (tree_is m are (Value c.to) fit c.tree c.is),
+      )
+  type_formed (expression.CooperativeLoad columns rows role place) is =
+      let c = loaded_matrix m info es columns rows role place is in (
+        load_tree place.row_major c.tree,
+        matrix_is d.around (type_names m) columns rows role place c.scalar c.tree c.known c.is,
+        load_callee place.row_major c.tree
+            (tree_is m are (Value (inner.CooperativeMatrix columns rows c.scalar role))
+            (refl, tt, refl) c.tree c.is),
       )
   type_formed _ is = tt
 
@@ -593,8 +601,22 @@ module _ (m : Module) (info : ModuleInfo) (g : ℕ) (f : ir_function.Function) (
   simple_is : (told : ℕ → Option TypeSpecifier) → ((h : ℕ) (t : TypeSpecifier) → told h ≡ Some t → IsType t) → (k : ℕ) (st : SimpleStatement) (s : Handles) → NamesAre s → HasRoom k (labels_in f (simple st)) → (rest : tree.Statements) → IsStatements rest → Writes (simple_roots bound st) → IsStatements (simple_form own told source k st s rest)
   simple_is told told_well k (emit first last) s well room rest is w = lets_are told told_well k (from first (last - first)) s well room rest is w
   simple_is told told_well k (store pointer value) s well room rest is w =
-      let r = reference_is_one (plain_form own source s pointer) (plain_is s well pointer w.0) in
-      ((r.0, value_is_one (plain_form own source s value) (plain_is s well value w.1.0), r.1), is)
+      (store_is (points_to_atomic d.around pointer), is)
+    where
+      store_is : (to_atomic : Bool) →
+          IsStatement
+          (store_line to_atomic (plain_form own source s pointer) (plain_form own source s value))
+      store_is true = (
+        atomic_store_called,
+        (
+          value_is_one (plain_form own source s pointer) (plain_is s well pointer w.0),
+          (value_is_one (plain_form own source s value) (plain_is s well value w.1.0), tt),
+        ),
+        refl,
+      )
+      store_is false =
+          let r = reference_is_one (plain_form own source s pointer) (plain_is s well pointer w.0) in
+          (r.0, value_is_one (plain_form own source s value) (plain_is s well value w.1.0), r.1)
   simple_is told told_well k (return v) s well room rest is w = (return_is s well v w, is)
   simple_is told told_well k _ s well room rest is w = (tt, is)
 

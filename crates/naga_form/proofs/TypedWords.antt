@@ -1,6 +1,6 @@
 -- The words of operators that take a type are told from all others, and tell the type.
 use Rattle.std.proofs.Common.{[], ◌≡◌, ℕ, Bool, true, false, not, ◌&&◌, ◌||◌, List, ◌∷◌, ◌++◌}
-use Rattle.std.proofs.Common.{codes, drop, Some, None, refl, sym, ap, ◌∙◌}
+use Rattle.std.proofs.Common.{codes, drop, suc, Some, None, refl, sym, ap, ◌∙◌}
 use Rattle.std.specs.Prelude.{if◌then◌else◌, get_or, slice_get, nat_lt}
 use Rattle.std.specs.Str.{bytes_eq}
 use Rattle.std.specs.Bool.{nat_eq}
@@ -25,7 +25,8 @@ use Rattle.module_meaning.specs.OperatorTable.{Operator, CooperativeLoad, Constr
 use Rattle.module_meaning.specs.OperatorTable.{Reinterpret, with_type, run_word, one_word}
 use Rattle.module_meaning.specs.OperatorTable.{is_untyped, SpellsAType, TypeIsSound}
 use Rattle.module_meaning.specs.OperatorTable.{Formless, Cast, PartAt, ValueOf, MatrixLoad}
-use Rattle.module_meaning.specs.OperatorTable.{WithoutForm, formless_code, one_formless}
+use Rattle.module_meaning.specs.OperatorTable.{WithoutForm, formless_code, formless_word}
+use Rattle.module_meaning.specs.OperatorTable.{one_formless}
 use Rattle.module_meaning.proofs.TypeIdentity.{kind_of, kind_told, cooperative_of, cooperative_told}
 use Rattle.module_meaning.proofs.TypeIdentity.{role_of, role_told, truth_of, truth_told}
 
@@ -165,10 +166,13 @@ transposed_opens w = refl
 spelling_is_none : (w : List ℕ) → SpellsAType w → operator_of w ≡ None
 spelling_is_none w is = ap operator_of (sym is.1.1) ∙ type_is_none is.0 is.1.0
 
--- what no text has begins with a blank and a number that is no letter's
+-- what no text has holds a blank and a number that is no letter's: at its start, or behind the word
+-- that loads a matrix
+abbrev is_formless_at : (place : ℕ) → List ℕ → Bool
+is_formless_at place w = nat_eq (get_or w place 0) 32 && nat_lt (get_or w (suc place) 4) 4
+
 abbrev is_formless : List ℕ → Bool
-is_formless (b ∷ tag ∷ w) = nat_eq b 32 && nat_lt tag 4
-is_formless _ = false
+is_formless w = is_formless_at 0 w || is_formless_at 8 w
 
 not_formless : List ℕ → Bool
 not_formless w = not (is_formless w)
@@ -181,14 +185,16 @@ none_formless_mathematical : all_words not_formless mathematical ≡ true
 unfolding not_formless
 none_formless_mathematical = refl
 
-formless_begins : (x : Formless) → not_formless (32 ∷ formless_code x) ≡ false
+formless_begins : (x : Formless) → not_formless (formless_word x) ≡ false
 unfolding not_formless
 formless_begins (Cast kind width) = refl
-formless_begins _ = refl
+formless_begins (PartAt index) = refl
+formless_begins (ValueOf numbers components) = refl
+formless_begins (MatrixLoad columns rows role row_major) = refl
 
-formless_is_none : (x : Formless) → operator_of (32 ∷ formless_code x) ≡ None
+formless_is_none : (x : Formless) → operator_of (formless_word x) ≡ None
 formless_is_none x =
-    no_operator not_formless (32 ∷ formless_code x) (formless_begins x) none_formless_others none_formless_mathematical
+    no_operator not_formless (formless_word x) (formless_begins x) none_formless_others none_formless_mathematical
 
 typed_is_none : (o : Operator) → is_untyped o ≡ false → TypeIsSound o → operator_of (run_word o) ≡ None
 typed_is_none (CooperativeLoad false w) u is = open_is_none (with_type (codes "coopLoad") w) (load_opens w)
@@ -241,12 +247,12 @@ other_call v u a b apart w x e =
 -- its word tells it
 abbrev formless_of : List ℕ → Formless
 formless_of code =
-    get_or (
+    if nat_eq (get_or code 0 0) 32 then get_or (
     Cast (kind_of (get_or code 2 0)) (slice_get code 3) ∷ PartAt (get_or code 2 0) ∷ ValueOf (drop 2 code) 1 ∷
-    MatrixLoad (cooperative_of (get_or code 2 0)) (cooperative_of (get_or code 3 0)) (role_of (get_or code 4 0)) (truth_of (get_or code 5 0)) ∷
     []) (get_or code 1 0) (PartAt 0)
+    else MatrixLoad (cooperative_of (get_or code 10 0)) (cooperative_of (get_or code 11 0)) (role_of (get_or code 12 0)) (truth_of (get_or code 13 0))
 
-formless_told : (x : Formless) → formless_of (32 ∷ formless_code x) ≡ one_formless x
+formless_told : (x : Formless) → formless_of (formless_word x) ≡ one_formless x
 formless_told (Cast kind None) = λ i. Cast (kind_told kind i) None
 formless_told (Cast kind (Some width)) = λ i. Cast (kind_told kind i) (Some width)
 formless_told (PartAt index) = refl
@@ -254,7 +260,7 @@ formless_told (ValueOf numbers components) = refl
 formless_told (MatrixLoad columns rows role row_major) =
     λ i. MatrixLoad (cooperative_told columns i) (cooperative_told rows i) (role_told role i) (truth_told row_major i)
 
-formless_share : (x y : Formless) → 32 ∷ formless_code x ≡ 32 ∷ formless_code y → one_formless x ≡ one_formless y
+formless_share : (x y : Formless) → formless_word x ≡ formless_word y → one_formless x ≡ one_formless y
 formless_share x y e = sym (formless_told x) ∙ (ap formless_of e ∙ formless_told y)
 
 -- no type is spelled so
@@ -262,19 +268,35 @@ pub no_blank : (w code : List ℕ) → SpellsAType w → w ≡ 32 ∷ code → �
 no_blank w code is e =
     false≢true (ap is_word_text (sym (ap head_word (is.1.1 ∙ e)) ∙ head_is is.0 is.1.0.part) ∙ head_text is.0 is.1.0.part)
 
+no_formless : (w : List ℕ) (x : Formless) → SpellsAType w → w ≡ formless_word x → ⊥
+no_formless w (Cast kind width) is e = no_blank w (formless_code (Cast kind width)) is e
+no_formless w (PartAt index) is e = no_blank w (formless_code (PartAt index)) is e
+no_formless w (ValueOf numbers components) is e = no_blank w (formless_code (ValueOf numbers components)) is e
+no_formless w (MatrixLoad columns rows role row_major) is e =
+    no_type_begins (codes "coopLoad") load_takes.named load_takes.rule is.0 is.1.0
+    (sym (head_is is.0 is.1.0.part) ∙ ap head_word (is.1.1 ∙ e))
+
 -- nor a function that takes a type
-abbrev begins_blank : List ℕ → Bool
-begins_blank [] = false
-begins_blank (b ∷ bytes) = nat_eq b 32
+abbrev has_byte : (place byte : ℕ) → List ℕ → Bool
+has_byte place byte w = nat_eq (get_or w place 0) byte
 
-no_blank_reinterpret : (w code : List ℕ) → with_type (codes "bitcast") w ≡ 32 ∷ code → ⊥
-no_blank_reinterpret w code e = false≢true (ap begins_blank e)
+no_formless_reinterpret : (w : List ℕ) (x : Formless) → with_type (codes "bitcast") w ≡ formless_word x → ⊥
+no_formless_reinterpret w (Cast kind width) e = false≢true (ap (has_byte 0 32) e)
+no_formless_reinterpret w (PartAt index) e = false≢true (ap (has_byte 0 32) e)
+no_formless_reinterpret w (ValueOf numbers components) e = false≢true (ap (has_byte 0 32) e)
+no_formless_reinterpret w (MatrixLoad columns rows role row_major) e = false≢true (ap (has_byte 0 99) e)
 
-no_blank_load : (w code : List ℕ) → with_type (codes "coopLoad") w ≡ 32 ∷ code → ⊥
-no_blank_load w code e = false≢true (ap begins_blank e)
+no_formless_load : (w : List ℕ) (x : Formless) → with_type (codes "coopLoad") w ≡ formless_word x → ⊥
+no_formless_load w (Cast kind width) e = false≢true (ap (has_byte 0 32) e)
+no_formless_load w (PartAt index) e = false≢true (ap (has_byte 0 32) e)
+no_formless_load w (ValueOf numbers components) e = false≢true (ap (has_byte 0 32) e)
+no_formless_load w (MatrixLoad columns rows role row_major) e = false≢true (ap (has_byte 8 32) e)
 
-no_blank_transposed : (w code : List ℕ) → with_type (codes "coopLoadT") w ≡ 32 ∷ code → ⊥
-no_blank_transposed w code e = false≢true (ap begins_blank e)
+no_formless_transposed : (w : List ℕ) (x : Formless) → with_type (codes "coopLoadT") w ≡ formless_word x → ⊥
+no_formless_transposed w (Cast kind width) e = false≢true (ap (has_byte 0 32) e)
+no_formless_transposed w (PartAt index) e = false≢true (ap (has_byte 0 32) e)
+no_formless_transposed w (ValueOf numbers components) e = false≢true (ap (has_byte 0 32) e)
+no_formless_transposed w (MatrixLoad columns rows role row_major) e = false≢true (ap (has_byte 8 32) e)
 
 -- ---- the law
 some_none : (o : Operator) → Some o ≡ None → ⊥
@@ -307,16 +329,16 @@ typed_share (CooperativeLoad true w) (Reinterpret x) ua ub sa sb e = absurd (oth
 typed_share (CooperativeLoad true w) (CooperativeLoad false x) ua ub sa sb e = absurd (other_call (codes "coopLoadT") (codes "coopLoad") transposed_takes load_takes refl w x e)
 typed_share (CooperativeLoad true w) (CooperativeLoad true x) ua ub sa sb e = ap (CooperativeLoad true) (same_call (codes "coopLoadT") w x e)
 typed_share (WithoutForm x) (WithoutForm y) ua ub sa sb e = ap WithoutForm (formless_share x y e)
-typed_share (WithoutForm x) (Construct w n) ua ub sa sb e = absurd (no_blank w (formless_code x) sb (sym e))
-typed_share (WithoutForm x) (Convert w) ua ub sa sb e = absurd (no_blank w (formless_code x) sb (sym e))
-typed_share (WithoutForm x) (Reinterpret w) ua ub sa sb e = absurd (no_blank_reinterpret w (formless_code x) (sym e))
-typed_share (WithoutForm x) (CooperativeLoad false w) ua ub sa sb e = absurd (no_blank_load w (formless_code x) (sym e))
-typed_share (WithoutForm x) (CooperativeLoad true w) ua ub sa sb e = absurd (no_blank_transposed w (formless_code x) (sym e))
-typed_share (Construct w n) (WithoutForm x) ua ub sa sb e = absurd (no_blank w (formless_code x) sa e)
-typed_share (Convert w) (WithoutForm x) ua ub sa sb e = absurd (no_blank w (formless_code x) sa e)
-typed_share (Reinterpret w) (WithoutForm x) ua ub sa sb e = absurd (no_blank_reinterpret w (formless_code x) e)
-typed_share (CooperativeLoad false w) (WithoutForm x) ua ub sa sb e = absurd (no_blank_load w (formless_code x) e)
-typed_share (CooperativeLoad true w) (WithoutForm x) ua ub sa sb e = absurd (no_blank_transposed w (formless_code x) e)
+typed_share (WithoutForm x) (Construct w n) ua ub sa sb e = absurd (no_formless w x sb (sym e))
+typed_share (WithoutForm x) (Convert w) ua ub sa sb e = absurd (no_formless w x sb (sym e))
+typed_share (WithoutForm x) (Reinterpret w) ua ub sa sb e = absurd (no_formless_reinterpret w x (sym e))
+typed_share (WithoutForm x) (CooperativeLoad false w) ua ub sa sb e = absurd (no_formless_load w x (sym e))
+typed_share (WithoutForm x) (CooperativeLoad true w) ua ub sa sb e = absurd (no_formless_transposed w x (sym e))
+typed_share (Construct w n) (WithoutForm x) ua ub sa sb e = absurd (no_formless w x sa e)
+typed_share (Convert w) (WithoutForm x) ua ub sa sb e = absurd (no_formless w x sa e)
+typed_share (Reinterpret w) (WithoutForm x) ua ub sa sb e = absurd (no_formless_reinterpret w x e)
+typed_share (CooperativeLoad false w) (WithoutForm x) ua ub sa sb e = absurd (no_formless_load w x e)
+typed_share (CooperativeLoad true w) (WithoutForm x) ua ub sa sb e = absurd (no_formless_transposed w x e)
 typed_share (WithoutForm x) _ ua ub sa sb e = absurd (true≢false ub)
 typed_share (Construct w n) _ ua ub sa sb e = absurd (true≢false ub)
 typed_share (Convert w) _ ua ub sa sb e = absurd (true≢false ub)

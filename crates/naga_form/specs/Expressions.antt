@@ -10,6 +10,9 @@ use Rattle.std.specs.Prelude.{length, map, codes, ◌||◌}
 use Rattle.std.specs.Option.{option_map, option_map_or, option_and_then, is_some, option_to_list}
 use Rattle.naga_ir.specs.declared.expression.Expression as ir
 use Rattle.naga_ir.specs.declared.expression.Expression.TheVariants as expression
+use Rattle.naga_ir.specs.declared.types.CooperativeRole.{CooperativeRole}
+use Rattle.naga_ir.specs.declared.types.CooperativeSize.{CooperativeSize}
+use Rattle.naga_ir.specs.declared.types.Scalar.{Scalar}
 use Rattle.naga_ir.specs.declared.types.ScalarKind.{ScalarKind}
 use Rattle.naga_ir.specs.declared.types.TypeInner.{TypeInner}
 use Rattle.naga_ir.specs.declared.types.TypeInner.TheVariants as inner
@@ -21,7 +24,7 @@ use Rattle.shader_runs.specs.Scope.{Standing, Named, Handles, Naming}
 use Rattle.shader_runs.specs.Value.{Selector, MemberNamed, ElementAt}
 use Rattle.module_meaning.specs.Conversions.{conversion_target, keeps_bits}
 use Rattle.module_meaning.specs.ExpressionOperators.{Surroundings, applied_operator, constructor}
-use Rattle.module_meaning.specs.ExpressionOperators.{load_operator, type_known}
+use Rattle.module_meaning.specs.ExpressionOperators.{load_operator, scalar_behind, type_known}
 use Rattle.module_meaning.specs.ExpressionShapes.{Declared, part_selector, swizzle_letters}
 use Rattle.module_meaning.specs.OperatorTable.{Operator, WithoutForm, PartAt}
 use Rattle.module_meaning.specs.Surroundings.{declared, types_known}
@@ -78,11 +81,30 @@ conversion_tree t kind convert it =
     option_map (cast_tree (keeps_bits it convert))
     (option_and_then (inner_tree t) (conversion_target it kind convert))
 
+-- a cooperative matrix of this type is loaded by a word that takes the type, and says whether the
+-- matrix lies there row by row
+abbrev pub load_tree : (row_major : Bool) → TypeSpecifier → TypeSpecifier
+load_tree false t = of_one (codes "coopLoad") t
+load_tree true t = of_one (codes "coopLoadT") t
+
+-- the same of a matrix of these scalars, if its type has a form
+abbrev pub matrix_tree : TypeNames → (columns rows : CooperativeSize) → CooperativeRole →
+    (row_major : Bool) → Option Scalar → Option TypeSpecifier
+matrix_tree t columns rows role row_major s =
+    option_map (load_tree row_major)
+    (option_and_then (λ s. inner_tree t (inner.CooperativeMatrix columns rows s role)) s)
+
+-- the scalars that the expression with this handle points to
+abbrev pub scalar_pointed : Surroundings → ℕ → Option Scalar
+scalar_pointed a pointer = option_and_then (scalar_behind a.types) (type_known a pointer)
+
 -- the type by which the operator of an expression is spelled, if it is one that has a form
 abbrev pub operator_type : Surroundings → TypeNames → ir.Expression → Option TypeSpecifier
 operator_type a t (expression.Compose ty components) = type_tree t ty
 operator_type a t (expression.As operand kind convert) =
     option_and_then (conversion_tree t kind convert) (type_known a operand)
+operator_type a t (expression.CooperativeLoad columns rows role place) =
+    matrix_tree t columns rows role place.row_major (scalar_pointed a place.pointer)
 operator_type a t _ = None
 
 -- what has no form so far, and a handle without an expression

@@ -4,6 +4,7 @@ use Rattle.naga_ir.specs.declared.expression.Literal as ir
 use Rattle.naga_ir.specs.declared.expression.Literal.TheVariants as literal
 use Rattle.wgsl_text.specs.Token.{SuffixI, SuffixU, SuffixLi, SuffixLu}
 use Rattle.wgsl_text.specs.Literals.{Literal, Truth, Suffixed, LeastInteger, LeastLong}
+use Rattle.wgsl_text.specs.Literals.{SignedShort, UnsignedShort}
 
 -- The least `i32` and the least `i64` have forms of their own: a `-` stands outside of a number.
 abbrev pub integer_form : ℤ → Literal
@@ -15,10 +16,17 @@ long_form (pos n) = Suffixed false n SuffixLi
 long_form (negsuc n) =
     if n == 9223372036854775807 then LeastLong else Suffixed true (suc n) SuffixLi
 
--- how a literal is written. Those of other types than `bool`, `i32`, `u32`, `i64` and `u64` are not
--- written so far, and stand as `false`
+-- those of 16 bits have no suffix, and all of them have one form
+abbrev pub short_form : ℤ → Literal
+short_form (pos n) = SignedShort false n
+short_form (negsuc n) = SignedShort true (suc n)
+
+-- how a literal is written. Those of floating-point and abstract types are not written, and stand as
+-- `false`
 abbrev pub literal_form : ir.Literal → Literal
 literal_form (literal.Bool b) = Truth b
+literal_form (literal.I16 z) = short_form z
+literal_form (literal.U16 n) = UnsignedShort n
 literal_form (literal.I32 z) = integer_form z
 literal_form (literal.U32 n) = Suffixed false n SuffixU
 literal_form (literal.I64 z) = long_form z

@@ -12,18 +12,21 @@ use Rattle.naga_ir.specs.StatementTree.{SimpleStatement, emit, store, return, br
 use Rattle.naga_ir.specs.StatementTree.{StatementTree, simple, block, branch, switch, loop}
 use Rattle.naga_ir.specs.StatementTree.{BlockTree, no_statements, statement, CaseTrees, no_cases}
 use Rattle.naga_ir.specs.StatementTree.{case}
-use Rattle.wgsl_text.specs.Expressions.{Expression}
+use Rattle.wgsl_text.specs.Expressions.{Expression, operands}
 use Rattle.wgsl_text.specs.Statements.{Label, DefaultLabel, SignedLabel, UnsignedLabel, Labels}
 use Rattle.wgsl_text.specs.Statements.{LastLabel, MoreLabels, Statement, Let, TypedLet, Assign}
-use Rattle.wgsl_text.specs.Statements.{Return, ReturnValue, Discard, Break, Continue, If, Loop}
+use Rattle.wgsl_text.specs.Statements.{CallStatement, Return, ReturnValue, Discard, Break, Continue, If, Loop}
 use Rattle.wgsl_text.specs.Statements.{LoopBreakIf, Switch, Block, Statements, NoStatements, Then}
 use Rattle.wgsl_text.specs.Statements.{Cases, NoCases, Case}
-use Rattle.wgsl_text.specs.Types.{TypeSpecifier}
+use Rattle.wgsl_text.specs.Types.{Named, TypeSpecifier}
 use Rattle.shader_runs.specs.Program.{binds, from}
 use Rattle.shader_runs.specs.Scope.{Handles, Naming, bound_name, given_after, given_by}
 use Rattle.shader_runs.specs.Scope.{given_by_all, after_one, after, after_all}
+use Rattle.module_meaning.specs.ExpressionOperators.{points_to_atomic}
 use Rattle.module_meaning.specs.FunctionShapes.{statement_shape, statements_shape}
-use Rattle.naga_form.specs.Expressions.{Source, as_value, as_reference, plain_form, value_form}
+use Rattle.module_meaning.specs.OperatorTable.{AtomicStore, run_word}
+use Rattle.naga_form.specs.Expressions.{PlainForm, Source, as_value, as_reference, plain_form}
+use Rattle.naga_form.specs.Expressions.{value_form}
 use Rattle.naga_form.specs.Expressions.{unnamed_form}
 
 -- a `let`, which tells its type where one is given
@@ -50,6 +53,13 @@ abbrev pub return_line : Naming → Source → Handles → Option ℕ → Statem
 return_line n source s None = Return
 return_line n source s (Some h) = ReturnValue (value_form n source s h)
 
+-- a store: to an atomic by the word of that, with the pointer and the value, and else an assignment to
+-- what is pointed to
+abbrev pub store_line : (to_atomic : Bool) → (pointer value : PlainForm) → Statement
+store_line true pointer value =
+    CallStatement (Named (run_word AtomicStore)) (operands (as_value pointer ∷ as_value value ∷ []))
+store_line false pointer value = Assign (as_reference pointer) (as_value value)
+
 -- a statement without blocks, in front of what follows. What is not written so far, and stands in
 -- no accepted module, is an empty block
 abbrev pub simple_form :
@@ -58,7 +68,9 @@ abbrev pub simple_form :
 simple_form n told source k (emit first last) s rest =
     lets_form n told source k (from first (last - first)) s rest
 simple_form n told source k (store pointer value) s rest =
-    Then (Assign (as_reference (plain_form n source s pointer)) (value_form n source s value)) rest
+    Then
+    (store_line (points_to_atomic source.declared.around pointer) (plain_form n source s pointer)
+    (plain_form n source s value)) rest
 simple_form n told source k (return value) s rest = Then (return_line n source s value) rest
 simple_form n told source k break s rest = Then Break rest
 simple_form n told source k continue s rest = Then Continue rest

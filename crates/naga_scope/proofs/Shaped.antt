@@ -33,7 +33,9 @@ use Rattle.module_meaning.specs.ExpressionShapes.{Declared, shape_of, applied_or
 use Rattle.module_meaning.specs.ExpressionShapes.{part_selector, part_shape}
 use Rattle.module_meaning.specs.FunctionShapes.{function_shape}
 use Rattle.module_meaning.specs.OperatorTable.{Operator as TableOperator, AtomicLoad, BinarySign}
-use Rattle.module_meaning.specs.OperatorTable.{PartAt, WithoutForm}
+use Rattle.module_meaning.specs.OperatorTable.{CooperativeLoad, MatrixLoad, PartAt, WithoutForm}
+use Rattle.naga_ir.specs.declared.types.CooperativeRole.{CooperativeRole}
+use Rattle.naga_ir.specs.declared.types.CooperativeSize.{CooperativeSize}
 use Rattle.module_meaning.specs.ExpressionOperators.{has_parts}
 use Rattle.module_meaning.specs.Part.{expression_is_of_part, function_is_written, known_passes}
 use Rattle.naga_form.proofs.AllowedParts.{part_there}
@@ -55,7 +57,7 @@ use Rattle.naga_scope.specs.Standings.{is_emittable_kind, is_image_operation, us
 use Rattle.naga_scope.specs.Standings.{uses_to_bind}
 use Rattle.module_meaning.specs.ExpressionOperators.{is_depth_image, level_of, query_operator}
 use Rattle.module_meaning.specs.ExpressionOperators.{sample_operator}
-use Rattle.naga_ir.specs.Operands.{query_operands}
+use Rattle.naga_ir.specs.Operands.{cooperative_operands, query_operands}
 use Rattle.naga_ir.specs.declared.expression.ImageQuery.{ImageQuery}
 use Rattle.naga_ir.specs.declared.expression.ImageQuery.TheVariants as query
 use Rattle.naga_ir.specs.declared.expression.SwizzleComponent.{SwizzleComponent}
@@ -278,6 +280,18 @@ module _ (m : Module) (info : ModuleInfo) (f : ir_function.Function) (es : List 
     query_bound h query.NumLayers xs = refl
     query_bound h query.NumSamples xs = refl
 
+    -- the load of a matrix is bound from the first use on, whether its type has a form or not
+    load_binds : (h : ℕ) (columns rows : CooperativeSize) (role : CooperativeRole) (row_major : Bool)
+        (o : Option (List ℕ)) (xs : List ℕ) →
+        binds_as shape h
+        (Some
+        (applied_shape
+        (option_map_or (CooperativeLoad row_major) o
+        (WithoutForm (MatrixLoad columns rows role row_major))) xs)) ≡
+        is_counted shape 1 h
+    load_binds h columns rows role row_major None xs = refl
+    load_binds h columns rows role row_major (Some w) xs = refl
+
     -- what an Emit may give is bound where it has a name, and from its number of uses on, or always
     pub emitted_binds : (h : ℕ) (e : ir.Expression) →
         slice_get f.expressions h ≡ Some e →
@@ -350,7 +364,12 @@ module _ (m : Module) (info : ModuleInfo) (f : ir_function.Function) (es : List 
         own (expression.ImageLoad image coordinate array_index sample level) is may = refl
         own (expression.ImageQuery image query) is may = query_bound h query (image ∷ query_operands query)
         own (expression.ArrayLength array) is may = counted_from 2 h
+        own (expression.CooperativeLoad columns rows role place) is may =
+            load_binds h columns rows role place.row_major _ (cooperative_operands place)
+            ∙ counted_from 1 h
         own (expression.CooperativeMultiplyAdd x y z) is may = counted_from 2 h
+        own (expression.RayQueryGetIntersection query committed) is may = counted_from 2 h
+        own (expression.RayQueryVertexPositions query committed) is may = counted_from 2 h
         own (expression.Literal value) is may = absurd cc
         own (expression.FunctionArgument number) is may = absurd cc
         own (expression.LocalVariable handle) is may = absurd cc

@@ -91,9 +91,11 @@ is_image_operation (expression.ImageLoad image coordinate array_index sample lev
 is_image_operation (expression.ImageQuery image query) = true
 is_image_operation e = false
 
--- From how many uses on a `let` binds an expression: a part of what has no parts is an operator
+-- From how many uses on a `let` binds an expression: naga's number, but one for the load of a
+-- cooperative matrix too, since that reads memory; and a part of what has no parts is an operator
 -- without a form, and bound as one.
 abbrev pub uses_to_bind : List Type_ → List ExpressionInfo → ir.Expression → ℕ
+uses_to_bind types es (expression.CooperativeLoad columns rows role place) = 1
 uses_to_bind types es (expression.AccessIndex base index) =
     if known_passes types es (has_parts types) base
     then count_to_bind (expression.AccessIndex base index)

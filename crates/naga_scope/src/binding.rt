@@ -111,7 +111,9 @@ fn asks_an_image(expression: &Expression) -> bool
     }
 }
 
-/// From how many uses on a `let` binds an expression. A part of what has no parts is an operator.
+/// From how many uses on a `let` binds an expression: naga's number, but one for the load of a
+/// cooperative matrix too, since that reads memory, and two for a part of what has no parts, which is an
+/// operator.
 fn uses_to_bind(
     types: &UniqueArena<Type_>,
     info: &FunctionInfo,
@@ -120,6 +122,7 @@ fn uses_to_bind(
     ensures { result ≡ uses_to_bind types.now info.now expression.now }
 {
     match expression {
+        Expression::CooperativeLoad { .. } => 1,
         Expression::AccessIndex { base, .. } => {
             if known_has_parts(types, info.expressions.as_slice(), *base) {
                 expression.bake_ref_count()
@@ -148,7 +151,7 @@ fn is_asked_for(
 }
 
 /// Whether a `let` binds the expression with this handle where it is emitted: an operation on an
-/// image, a `Load` or a derivative with a use, or another operator, but no part at an index, with two,
+/// image, a `Load`, a derivative or the load of a cooperative matrix with a use, or another operator, but no part at an index, with two,
 /// and whatever a front end named. It is for functions that are written so far.
 pub fn binds(
     types: &UniqueArena<Type_>,

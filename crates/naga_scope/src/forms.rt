@@ -5,7 +5,8 @@ ghost use Rattle.std.specs.Option.{is_some};
 ghost use Rattle.module_meaning.specs.AlikeTypes.{has_form};
 ghost use Rattle.module_meaning.specs.Conversions.{converted_scalar};
 ghost use Rattle.module_meaning.specs.Part.{converts, expression_is_written, is_written_literal};
-ghost use Rattle.module_meaning.specs.Part.{known_passes};
+ghost use Rattle.module_meaning.specs.ExpressionOperators.{scalar_behind, scalar_in};
+ghost use Rattle.module_meaning.specs.Part.{known_passes, loads_matrix};
 ghost use Rattle.module_meaning.specs.Sampling.{sampling_is_written};
 ghost use Rattle.naga_info.specs.declared.info.TypeResolution.TheVariants.{Handle as OfHandle};
 ghost use Rattle.naga_ir.specs.declared.types.Type_.{Type_};
@@ -18,8 +19,8 @@ use naga_acceptance::is_spelled;
 use naga_acceptance::parts::known_has_parts;
 use naga_info::{FunctionInfo, TypeResolution};
 use naga_ir::{
-    Expression, Handle, Literal, Module, RelationalFunction, SampleLevel, Scalar, ScalarKind,
-    SwizzleComponent, Type_, TypeInner, UniqueArena,
+    CooperativeRole, CooperativeSize, Expression, Handle, Literal, Module, RelationalFunction,
+    SampleLevel, Scalar, ScalarKind, SwizzleComponent, Type_, TypeInner, UniqueArena,
 };
 use wgsl_words::TryToWgsl;
 
@@ -72,6 +73,12 @@ pub(crate) fn is_written(
             RelationalFunction::All | RelationalFunction::Any => true,
             RelationalFunction::IsNan | RelationalFunction::IsInf => false,
         },
+        Expression::CooperativeLoad {
+            columns,
+            rows,
+            role,
+            data_,
+        } => is_loaded(types, info, *columns, *rows, *role, data_.pointer),
         Expression::Literal(literal) => literal_has_form(*literal),
         _ => false,
     }
@@ -110,9 +117,18 @@ pub(crate) fn literal_has_form(literal: Literal) -> bool
     ensures { result ≡ is_written_literal literal }
 {
     match literal {
-        Literal::Bool(_) | Literal::I32(_) | Literal::U32(_) | Literal::I64(_) | Literal::U64(_) =>
-            true,
-        _ => false,
+        Literal::Bool(_)
+        | Literal::I16(_)
+        | Literal::U16(_)
+        | Literal::I32(_)
+        | Literal::U32(_)
+        | Literal::I64(_)
+        | Literal::U64(_) => true,
+        Literal::F16(_)
+        | Literal::F32(_)
+        | Literal::F64(_)
+        | Literal::AbstractInt(_)
+        | Literal::AbstractFloat(_) => false,
     }
 }
 
@@ -142,6 +158,67 @@ fn converts(inner: &TypeInner, kind: ScalarKind, convert: Option<u8>) -> bool
         | TypeInner::Vector { scalar, .. }
         | TypeInner::Matrix { scalar, .. } => has_word(converted_scalar(*scalar, kind, convert)),
         _ => false,
+    }
+}
+
+/// Whether a cooperative matrix is loaded from a pointer whose type gives it one that has a form.
+fn is_loaded(
+    types: &UniqueArena<Type_>,
+    info: &FunctionInfo,
+    columns: CooperativeSize,
+    rows: CooperativeSize,
+    role: CooperativeRole,
+    pointer: Handle<Expression>,
+) -> bool
+    requires known { AreKnownIn types.now info.now }
+    ensures { result
+        ≡ known_passes types.now info.now (loads_matrix types.now columns rows role) pointer }
+{
+    match info.expressions.get(pointer.index()) {
+        Some(known) => loads_matrix(types, columns, rows, role, known.ty.inner_with(types)),
+        None => false,
+    }
+}
+
+/// Whether a cooperative matrix has a form that is loaded from a pointer of this type.
+fn loads_matrix(
+    types: &UniqueArena<Type_>,
+    columns: CooperativeSize,
+    rows: CooperativeSize,
+    role: CooperativeRole,
+    inner: &TypeInner,
+) -> bool
+    ensures { result ≡ loads_matrix types.now columns rows role inner.now }
+{
+    match scalar_behind(types, inner) {
+        Some(scalar) => has_word(scalar),
+        None => false,
+    }
+}
+
+/// The scalars that a pointer of this type points to: those of a scalar or a vector.
+pub fn scalar_behind(types: &UniqueArena<Type_>, inner: &TypeInner) -> Option<Scalar>
+    ensures { result ≡ scalar_behind types.now inner.now }
+{
+    match inner {
+        TypeInner::Pointer { base, .. } => {
+            if base.index() < types.len() {
+                scalar_in(&types[*base].inner)
+            } else {
+                None
+            }
+        }
+        TypeInner::ValuePointer { scalar, .. } => Some(*scalar),
+        _ => None,
+    }
+}
+
+fn scalar_in(inner: &TypeInner) -> Option<Scalar>
+    ensures { result ≡ scalar_in inner.now }
+{
+    match inner {
+        TypeInner::Scalar(scalar) | TypeInner::Vector { scalar, .. } => Some(*scalar),
+        _ => None,
     }
 }
 

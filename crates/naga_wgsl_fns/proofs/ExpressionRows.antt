@@ -39,7 +39,7 @@ use Rattle.naga_wgsl_fns.specs.Types.{type_text}
 use Rattle.naga_wgsl_fns.specs.Expressions.{made_text, made_type}
 use Rattle.naga_wgsl_fns.specs.FunctionText.{type_names_of}
 use Rattle.module_meaning.specs.ExpressionOperators.{points_to_atomic}
-use Rattle.module_meaning.specs.OperatorTable.{AtomicLoad, Operator}
+use Rattle.module_meaning.specs.OperatorTable.{AtomicLoad, Operator, run_word}
 use Rattle.module_meaning.specs.OperatorTable.{WithoutForm}
 use Rattle.naga_form.specs.Operators.{Called, Infix, Notation, Prefix, applied_form, notation}
 use Rattle.naga_form.specs.Operators.{operator_form}
@@ -75,11 +75,12 @@ use Rattle.naga_wgsl_fns.specs.FunctionText.{CanWrite, IsInText, around, express
 use Rattle.naga_wgsl_fns.specs.FunctionText.{naming, source}
 use Rattle.naga_wgsl_fns.specs.Names.{name_of_argument, name_of_local}
 use Rattle.naga_wgsl_fns.specs.Expressions.{address_text, applied_text, called_text, form_at}
+use Rattle.naga_wgsl_fns.specs.Expressions.{load_text}
 use Rattle.naga_wgsl_fns.specs.Expressions.{next_operand_text, operands_at, operands_left}
 use Rattle.naga_wgsl_fns.specs.Expressions.{operands_text, own_form, own_text}
 use Rattle.naga_wgsl_fns.specs.Expressions.{pointed_text, reference_text, value_text}
 use Rattle.naga_wgsl_fns.proofs.PartForms.{part_form, referred_part, valued_part}
-use Rattle.naga_wgsl_fns.proofs.Wanted.{ordered, points_to_none}
+use Rattle.naga_wgsl_fns.proofs.Wanted.{ordered}
 use Rattle.naga_wgsl_fns.specs.Expressions.{base_of, part_reference_text, part_value_text}
 use Rattle.naga_wgsl_fns.specs.Expressions.{plain_address_text, plain_text, plain_tree}
 use Rattle.naga_form.specs.Expressions.{part_plain, points, selected_part}
@@ -237,7 +238,7 @@ own_at f table handle (Some (expression.FunctionArgument number)) = name_of_argu
 own_at f table handle (Some (expression.LocalVariable local)) = address_text f local
 own_at f table handle (Some (expression.Swizzle size vector pattern)) =
     member_text f table vector (swizzle_letters size pattern)
-own_at f table handle (Some (expression.Load pointer)) = reference_text f table pointer
+own_at f table handle (Some (expression.Load pointer)) = load_text f table pointer
 own_at f table handle
     (Some
     (expression.ImageSample
@@ -251,7 +252,7 @@ own_at f table handle None = expression_layout (as_value no_form)
 pub own_row : (f : FunctionText) (table : List Standing) (handle : ℕ) → CanWrite f →
     IsInText f handle →
     own_text f table handle ≡ own_at f table handle (slice_get (expressions f) handle)
-unfolding own_text literal_text constant_text name_of_argument address_text reference_text applied_text member_text part_value_text plain_address_text plain_text
+unfolding own_text literal_text constant_text name_of_argument address_text load_text reference_text applied_text member_text part_value_text plain_address_text plain_text
 own_row f table handle can within = by (slice_get (expressions f) handle) refl
   where
     operand : ℕ → PlainForm
@@ -263,14 +264,15 @@ own_row f table handle can within = by (slice_get (expressions f) handle) refl
     applied type hs None = refl
     applied type hs (Some op) = refl
 
-    loaded : (pointer : ℕ) (atomic : Bool) → atomic ≡ false →
+    loaded : (pointer : ℕ) (atomic : Bool) →
         expression_layout
         (as_value
         (applied_plain (ValueForm (as_reference (operand pointer))) None operand (pointer ∷ [])
         (if atomic then Some AtomicLoad else None))) ≡
-        expression_layout (as_reference (operand pointer))
-    loaded pointer false plain = refl
-    loaded pointer true plain = absurd cc
+        (if atomic then applied_text f table (Called (NamedType (run_word AtomicLoad))) (pointer ∷ [])
+        else reference_text f table pointer)
+    loaded pointer false = refl
+    loaded pointer true = refl
 
     parted : (e : Option ir.Expression) → slice_get (expressions f) handle ≡ e → (base : ℕ) →
         base_of e ≡ Some base →
@@ -295,7 +297,7 @@ own_row f table handle can within = by (slice_get (expressions f) handle) refl
     by (Some (expression.FunctionArgument number)) at = name_text (name_of_argument f number)
     by (Some (expression.LocalVariable local)) at = refl
     by (Some (expression.Load pointer)) at =
-        loaded pointer (points_to_atomic (around f) pointer) (points_to_none f can pointer)
+        loaded pointer (points_to_atomic (around f) pointer)
     by
         (Some
         (expression.ImageSample

@@ -5,6 +5,7 @@ pub mod ExpressionRows
 pub mod FunctionRows
 pub mod ImageRows
 pub mod Literals
+pub mod LoadRows
 pub mod NameRows
 pub mod PartForms
 pub mod PartRows

@@ -1,9 +1,10 @@
 -- The texts of integers, from what is written of them in turn.
-use Rattle.std.proofs.Common.{◌≡◌, ◌++◌, ℤ, pos, negsuc, false, codes, decimal, refl, ap, ◌==◌}
+use Rattle.std.proofs.Common.{◌≡◌, ◌++◌, ℕ, ℤ, pos, negsuc, false, codes, decimal, refl, ap, ◌==◌}
 use Rattle.std.proofs.Common.{ne_eqb}
 use Rattle.std.specs.Fmt.{digits, signed_decimal}
 use Rattle.std.proofs.lemmas.List.{append-nil}
-use Rattle.naga_wgsl_fns.specs.Literals.{integer_text, long_text}
+use Rattle.naga_words.specs.Output.{joined_texts}
+use Rattle.naga_wgsl_fns.specs.Literals.{integer_text, long_text, short_text, unsigned_short_text}
 
 pub least_integer_row : integer_text (negsuc 2147483647) ≡ codes "i32(-2147483648)"
 unfolding integer_text digits
@@ -26,3 +27,15 @@ long_row (pos n) other = append-nil (decimal n ++ codes "li")
 long_row (negsuc n) other =
     let another : (n == 9223372036854775807) ≡ false = ne_eqb n 9223372036854775807 (λ is. other (ap negsuc is)) in
     rw another (append-nil (signed_decimal (negsuc n) ++ codes "li"))
+
+-- those of 16 bits stand in parentheses
+pub short_row : (z : ℤ) → short_text z ≡ joined_texts (codes "i16(") (signed_decimal z ++ codes ")")
+unfolding short_text joined_texts
+short_row (pos n) = ap (λ w. codes "i16(" ++ (w ++ codes ")")) (append-nil (decimal n))
+short_row (negsuc n) =
+    ap (λ w. codes "i16(" ++ (w ++ codes ")")) (append-nil (signed_decimal (negsuc n)))
+
+pub unsigned_short_row : (n : ℕ) →
+    unsigned_short_text n ≡ joined_texts (codes "u16(") (decimal n ++ codes ")")
+unfolding unsigned_short_text joined_texts
+unsigned_short_row n = ap (λ w. codes "u16(" ++ (w ++ codes ")")) (append-nil (decimal n))

@@ -25,7 +25,7 @@ use Rattle.naga_wgsl_fns.specs.Expressions.{part_value_text, plain_address_text,
 use Rattle.naga_wgsl_fns.specs.Expressions.{plain_tree, pointed_text, reference_text, word_text}
 use Rattle.naga_wgsl_fns.proofs.ImageRows.{query_is_called}
 use Rattle.module_meaning.specs.ExpressionOperators.{query_operator}
-use Rattle.naga_ir.specs.Operands.{query_operands}
+use Rattle.naga_ir.specs.Operands.{cooperative_operands, query_operands}
 use Rattle.naga_wgsl_fns.proofs.PartForms.{part_form, part_unsigned, selected_unsigned}
 use Rattle.naga_wgsl_fns.proofs.PartForms.{tree_of_part}
 use Rattle.naga_form.specs.Expressions.{no_form, part_plain, points, selected_part}
@@ -53,7 +53,7 @@ use Rattle.module_meaning.specs.Names.{given_name, numbered_name}
 use Rattle.module_meaning.specs.Part.{expression_is_of_part}
 use Rattle.naga_form.specs.Expressions.{PlainForm, Source, ValueForm, applied_plain, as_reference}
 use Rattle.module_meaning.specs.ExpressionOperators.{type_known}
-use Rattle.naga_form.proofs.Operators.{IsCalled, cast_called, constructor_called}
+use Rattle.naga_form.proofs.Operators.{IsCalled, cast_called, constructor_called, load_called}
 use Rattle.naga_form.specs.Expressions.{operator_type, own_if, own_plain, plain_below, plain_form}
 use Rattle.naga_form.specs.Expressions.{standing_plain, value_forms}
 use Rattle.naga_form.specs.TypeTrees.{type_tree}
@@ -453,7 +453,20 @@ signed_row f table handle can within =
             called_unsigned (query_operator query) (query_is_called query) None
             (value_forms operand (image ∷ query_operands query))
         of_written (expression.ArrayLength array) at is = refl
+        of_written (expression.CooperativeLoad columns rows role place) at is =
+            called_unsigned _ (load_called (around f) columns rows role place)
+            (operator_type (around f) (source f).type_names
+            (expression.CooperativeLoad columns rows role place))
+            (value_forms operand (cooperative_operands place))
         of_written (expression.CooperativeMultiplyAdd x y z) at is = refl
+        of_written (expression.CallResult function) at is = refl
+        of_written (expression.AtomicResult ty comparison) at is = refl
+        of_written (expression.WorkGroupUniformLoadResult ty) at is = refl
+        of_written (expression.SubgroupOperationResult ty) at is = refl
+        of_written expression.SubgroupBallotResult at is = refl
+        of_written expression.RayQueryProceedResult at is = refl
+        of_written (expression.RayQueryGetIntersection query committed) at is = refl
+        of_written (expression.RayQueryVertexPositions query committed) at is = refl
         of_written _ at is = absurd cc
 
     whole : is_signed (as_value (own_form f table handle)) ≡ is_prefix (slice_get (expressions f) handle)

@@ -20,16 +20,20 @@ use Rattle.shader_runs.specs.Scope.{Handles, Naming, after, after_all, after_emi
 use Rattle.shader_runs.specs.Scope.{bound_name, given_after, given_by_all}
 use Rattle.module_meaning.specs.GivenLabels.{block_labels, label_of, labels_in, labels_of_each}
 use Rattle.module_meaning.specs.FunctionShapes.{statement_shape, statements_shape}
-use Rattle.wgsl_text.specs.Types.{TypeSpecifier}
-use Rattle.wgsl_text.specs.Expressions.{Expression, expression_pieces}
+use Rattle.wgsl_text.specs.Types.{TypeSpecifier, Named as NamedType}
+use Rattle.wgsl_text.specs.Expressions.{Expression, NoArguments, expression_pieces, operands}
 use Rattle.naga_form.specs.Expressions.{Source, as_value, as_reference, plain_form, value_form}
 use Rattle.naga_form.specs.Expressions.{unnamed_form}
 use Rattle.wgsl_text.specs.Statements.{Block, Statements, NoStatements, Then, statement_pieces}
 use Rattle.wgsl_text.specs.Statements.{statements_pieces}
 use Rattle.naga_form.specs.Statements.{let_form, then_if, lets_form, return_line, loop_form}
-use Rattle.naga_form.specs.Statements.{line_form, lines_form, cases_form}
+use Rattle.naga_form.specs.Statements.{line_form, lines_form, cases_form, store_line}
+use Rattle.module_meaning.specs.ExpressionOperators.{points_to_atomic}
+use Rattle.module_meaning.specs.OperatorTable.{AtomicStore, run_word}
+use Rattle.wgsl_text.proofs.Expressions.{argument_text, next_argument_text}
 use Rattle.wgsl_text.proofs.Statements.{let_text as let_row_text, typed_let_text, assign_text}
-use Rattle.wgsl_text.proofs.Statements.{return_text as return_row_text, then_text}
+use Rattle.wgsl_text.proofs.Statements.{call_statement_text, return_text as return_row_text}
+use Rattle.wgsl_text.proofs.Statements.{then_text}
 use Rattle.wgsl_text.specs.Statements as tree
 use Rattle.naga_scope.specs.declared.points.Standing.{Standing}
 use Rattle.naga_scope.specs.Standings.{TextPoint}
@@ -41,8 +45,9 @@ use Rattle.naga_wgsl_fns.specs.declared.functions.FunctionText.{FunctionText}
 use Rattle.naga_wgsl_fns.specs.FunctionText.{CanWrite, around, handles_in, let_annotation}
 use Rattle.naga_wgsl_fns.specs.FunctionText.{naming, source}
 use Rattle.naga_wgsl_fns.specs.Names.{next_name_text}
-use Rattle.naga_wgsl_fns.specs.Expressions.{own_form, own_text, reference_text, value_text}
+use Rattle.naga_wgsl_fns.specs.Expressions.{form_at, own_form, own_text, reference_text, value_text}
 use Rattle.naga_wgsl_fns.specs.Statements.{block_text, emitted_text, let_line, let_text, lets_text}
+use Rattle.naga_wgsl_fns.specs.Statements.{assignment_text, atomic_store_text}
 use Rattle.naga_wgsl_fns.specs.Statements.{line_start, line_text, lines_text, return_text}
 use Rattle.naga_wgsl_fns.specs.Statements.{return_value_text, statement_text, store_text}
 use Rattle.naga_wgsl_fns.specs.Types.{told_text, told_type_text}
@@ -74,10 +79,42 @@ unfolding line_start joined_texts
 line_starts level word rest = append_assoc (indentation level) word rest ∙ ap (λ t. t ++ (word ++ rest)) (indentation_row level)
 
 -- ---- statements
-pub store_row : (f : FunctionText) (table : List Standing) (level pointer value : ℕ)
-    → store_text f table level pointer value ≡ joined_texts (line_start level []) (joined_texts (reference_text f table pointer) (joined_texts (codes " = ") (joined_texts (value_text f table value) (codes ";\n"))))
-unfolding store_text reference_text value_text joined_texts
-store_row f table level pointer value =
+-- a store to an atomic, by the texts of the pointer and the value
+atomic_store_pieces : (place value : Expression) (level : ℕ) → text (statement_pieces (tree.CallStatement (NamedType (run_word AtomicStore)) (operands (place ∷ value ∷ []))) level) ≡ replicate (4 * level) 32 ++ (codes "atomicStore(" ++ (text (expression_pieces place) ++ (codes ", " ++ (text (expression_pieces value) ++ codes ");\n"))))
+atomic_store_pieces place value level =
+    let first = text (expression_pieces place) in
+    let second = text (expression_pieces value) in
+    call_statement_text (NamedType (run_word AtomicStore)) (operands (place ∷ value ∷ [])) level
+    ∙ ap (λ w. replicate (4 * level) 32 ++ (codes "atomicStore(" ++ w))
+    (ap (λ w. w ++ codes ";\n")
+    (argument_text place (operands (value ∷ [])) ∙ ap (λ w. first ++ w) (next_argument_text value NoArguments))
+    ∙ (append_assoc first (codes ", " ++ (second ++ codes ")")) (codes ";\n")
+    ∙ ap (λ w. first ++ (codes ", " ++ w)) (append_assoc second (codes ")") (codes ";\n"))))
+
+-- by whether an atomic is stored to
+pub store_to_atomic : (f : FunctionText) (table : List Standing) (level pointer value : ℕ) → points_to_atomic (around f) pointer ≡ true → atomic_store_text f table level pointer value ≡ store_text f table level pointer value
+unfolding store_text atomic_store_text
+store_to_atomic f table level pointer value is =
+    ap (λ b. line_text level (store_line b (form_at f table pointer) (form_at f table value))) (sym is)
+
+pub store_to_other : (f : FunctionText) (table : List Standing) (level pointer value : ℕ) → points_to_atomic (around f) pointer ≡ false → assignment_text f table level pointer value ≡ store_text f table level pointer value
+unfolding store_text assignment_text
+store_to_other f table level pointer value is =
+    ap (λ b. line_text level (store_line b (form_at f table pointer) (form_at f table value))) (sym is)
+
+pub atomic_store_row : (f : FunctionText) (table : List Standing) (level pointer value : ℕ)
+    → atomic_store_text f table level pointer value ≡ joined_texts (line_start level (codes "atomicStore(")) (joined_texts (value_text f table pointer) (joined_texts (codes ", ") (joined_texts (value_text f table value) (codes ");\n"))))
+unfolding atomic_store_text value_text joined_texts
+atomic_store_row f table level pointer value =
+    let place = text (expression_pieces (as_value (form_at f table pointer))) in
+    let stored = text (expression_pieces (as_value (form_at f table value))) in
+    atomic_store_pieces (as_value (form_at f table pointer)) (as_value (form_at f table value)) level
+    ∙ sym (line_starts level (codes "atomicStore(") (place ++ (codes ", " ++ (stored ++ codes ");\n"))))
+
+pub assignment_row : (f : FunctionText) (table : List Standing) (level pointer value : ℕ)
+    → assignment_text f table level pointer value ≡ joined_texts (line_start level []) (joined_texts (reference_text f table pointer) (joined_texts (codes " = ") (joined_texts (value_text f table value) (codes ";\n"))))
+unfolding assignment_text reference_text value_text joined_texts
+assignment_row f table level pointer value =
     let operand = plain_form (naming f) (source f) (handles_in f table) in
     assign_text (as_reference (operand pointer)) (as_value (operand value)) level
     ∙ sym (line_starts level [] (text (expression_pieces (as_reference (operand pointer))) ++ (codes " = " ++ (text (expression_pieces (as_value (operand value))) ++ codes ";\n"))))
@@ -127,8 +164,8 @@ pub statement_row : (f : FunctionText) (at : TextPoint) (level : ℕ) (st : Stat
 unfolding statement_text lets_text store_text return_text
 statement_row f at level (simple (emit first last)) = refl
 statement_row f at level (simple (store pointer value)) =
-    let operand = plain_form (naming f) (source f) (handles_in f at.table) in
-    then_text (tree.Assign (as_reference (operand pointer)) (as_value (operand value))) NoStatements level ∙ append-nil (store_text f at.table level pointer value)
+    let to_atomic = points_to_atomic (around f) pointer in
+    then_text (store_line to_atomic (form_at f at.table pointer) (form_at f at.table value)) NoStatements level ∙ append-nil (store_text f at.table level pointer value)
 statement_row f at level (simple (return value)) =
     then_text (return_line (naming f) (source f) (handles_in f at.table) value) NoStatements level ∙ append-nil (return_text f at.table level value)
 statement_row f at level _ = refl
@@ -219,7 +256,8 @@ module _ (f : FunctionText) (can : CanWrite f) where
 
       by : (st : StatementTree) → lines_text level (line_form (naming f) (let_annotation f) (source f) k st s rest) ≡ lines_text level (line_form (naming f) (let_annotation f) (source f) k st s NoStatements) ++ lines_text level rest
       by (simple (emit first last)) = lets_then (naming f) (let_annotation f) (source f) k (from first (last - first)) s rest level
-      by (simple (store pointer value)) = one (tree.Assign (as_reference (plain_form (naming f) (source f) s pointer)) (value_form (naming f) (source f) s value))
+      by (simple (store pointer value)) =
+          one (store_line (points_to_atomic (around f) pointer) (plain_form (naming f) (source f) s pointer) (plain_form (naming f) (source f) s value))
       by (simple (return value)) = one (return_line (naming f) (source f) s value)
       by (simple break) = one tree.Break
       by (simple continue) = one tree.Continue

@@ -24,6 +24,9 @@ use Rattle.naga_ir.specs.declared.operators.DerivativeControl.{DerivativeControl
 use Rattle.naga_ir.specs.declared.operators.MathFunction.{MathFunction}
 use Rattle.naga_ir.specs.declared.operators.RelationalFunction.{RelationalFunction}
 use Rattle.naga_ir.specs.declared.operators.UnaryOperator.{UnaryOperator}
+use Rattle.naga_ir.specs.declared.expression.CooperativeData.{CooperativeData}
+use Rattle.naga_ir.specs.declared.types.CooperativeRole.{CooperativeRole}
+use Rattle.naga_ir.specs.declared.types.CooperativeSize.{CooperativeSize}
 use Rattle.naga_ir.specs.declared.types.VectorSize.{VectorSize}
 use Rattle.naga_info.specs.declared.info.ExpressionInfo.{ExpressionInfo}
 use Rattle.module_meaning.proofs.Lists.{list_all_at}
@@ -33,8 +36,6 @@ use Rattle.naga_ir.specs.declared.expression.ImageQuery.{ImageQuery}
 use Rattle.naga_ir.specs.declared.expression.SampleLevel.{SampleLevel}
 use Rattle.std.proofs.Common.{Bool, max}
 use Rattle.naga_wgsl_fns.specs.FunctionText.{AreInText}
-use Rattle.module_meaning.proofs.ModuleShapes.{points_plainly}
-use Rattle.module_meaning.specs.ExpressionOperators.{points_to_atomic}
 use Rattle.module_meaning.specs.FunctionShapes.{statement_shape}
 use Rattle.module_meaning.specs.Names.{given_name, module_names, numbered_name}
 use Rattle.module_meaning.specs.OperatorTable.{relational_word}
@@ -48,7 +49,8 @@ use Rattle.naga_words.specs.Spelling.{is_struct}
 use Rattle.module_meaning.specs.ExpressionOperators.{has_parts, is_composite, type_known}
 use Rattle.module_meaning.specs.ExpressionShapes.{Declared, component_letters, own_selector}
 use Rattle.module_meaning.specs.ExpressionShapes.{part_selector, selector}
-use Rattle.naga_form.proofs.AllowedParts.{conversion, known_base, selector_is}
+use Rattle.naga_form.proofs.AllowedParts.{LoadedMatrix, conversion, known_base, loaded_matrix}
+use Rattle.naga_form.proofs.AllowedParts.{selector_is}
 use Rattle.naga_form.proofs.AllowedParts.{type_known_is as known_type_is}
 use Rattle.naga_ir.specs.declared.types.ScalarKind.{ScalarKind}
 use Rattle.module_meaning.specs.Conversions.{conversion_target}
@@ -127,6 +129,8 @@ pub record IsNoOther (e : Expression) : Type 0 where
       e ≡ expression.ImageLoad image coordinate array_index sample level → ⊥
   pub asked : (image : ℕ) (query : ImageQuery) → e ≡ expression.ImageQuery image query → ⊥
   pub counted : (array : ℕ) → e ≡ expression.ArrayLength array → ⊥
+  pub matrix_load : (columns rows : CooperativeSize) (role : CooperativeRole)
+      (place : CooperativeData) → e ≡ expression.CooperativeLoad columns rows role place → ⊥
   pub product : (x y z : ℕ) → e ≡ expression.CooperativeMultiplyAdd x y z → ⊥
 
 -- a handle stands before this one, and is written
@@ -451,9 +455,19 @@ module _ (t : FunctionText) (can : CanWrite t) where
   relation_is_written h e fun x here within is =
       ap (expression_is_written m es) (sym is) ∙ expression_formed h e here within
 
-  -- it loads and stores no atomic
-  pub points_to_none : (h : ℕ) → points_to_atomic (around t) h ≡ false
-  points_to_none h = points_plainly (around t) can.values h
+  -- the load of a matrix that is written has a form, and is from scalars that are known
+  pub matrix_load_formed : (h : ℕ) (e : Expression) (columns rows : CooperativeSize)
+      (role : CooperativeRole) (place : CooperativeData) → slice_get f.expressions h ≡ Some e →
+      IsInText t h → e ≡ expression.CooperativeLoad columns rows role place →
+      expression_is_written m.types es (expression.CooperativeLoad columns rows role place) ≡ true
+  matrix_load_formed h e columns rows role place here within is =
+      ap (expression_is_written m.types es) (sym is) ∙ expression_formed h e here within
+
+  pub matrix_loaded : (columns rows : CooperativeSize) (role : CooperativeRole)
+      (place : CooperativeData) →
+      expression_is_written m.types es (expression.CooperativeLoad columns rows role place) ≡ true →
+      LoadedMatrix m (around t) columns rows role place.pointer
+  matrix_loaded columns rows role place may = loaded_matrix m info es columns rows role place may
 
   -- the type of which an expression that is written makes a value has a form
   pub made_value : (h : ℕ) (e own : Expression) (ty : ℕ) → slice_get f.expressions h ≡ Some e →
@@ -464,10 +478,10 @@ module _ (t : FunctionText) (can : CanWrite t) where
       sym names ∙ (ap (expression_is_written m es) (sym is) ∙ expression_formed h e here within)
 
   -- no other expression is written
-  pub no_other_expression : (h : ℕ) (e : Expression) → slice_get f.expressions h ≡ Some e → IsNoOther e → ⊥
-  no_other_expression h e here none = by e (is_of_part h e here) none
+  pub no_other_expression : (h : ℕ) (e : Expression) → slice_get f.expressions h ≡ Some e → IsInText t h → IsNoOther e → ⊥
+  no_other_expression h e here within none = by e (expression_formed h e here within) none
     where
-      by : (e : Expression) → IsTrue (expression_is_of_part e) → IsNoOther e → ⊥
+      by : (e : Expression) → IsTrue (expression_is_written m.types es e) → IsNoOther e → ⊥
       by (expression.Literal v) is none = none.literal v refl
       by (expression.Constant c) is none = none.constant c refl
       by (expression.ZeroValue t) is none = none.zero_value t refl
@@ -494,6 +508,8 @@ module _ (t : FunctionText) (can : CanWrite t) where
           none.loaded image coordinate array_index sample level refl
       by (expression.ImageQuery image query) is none = none.asked image query refl
       by (expression.ArrayLength array) is none = none.counted array refl
+      by (expression.CooperativeLoad columns rows role place) is none =
+          none.matrix_load columns rows role place refl
       by (expression.CooperativeMultiplyAdd x y z) is none = none.product x y z refl
       by _ is none = absurd cc
 

@@ -1,10 +1,15 @@
 -- The texts of expressions, by the table of what is in scope where they are written.
-use Rattle.std.specs.Prelude.{ℕ, Bool, true, false, List, [], ◌++◌, codes, slice_get}
+use Rattle.std.specs.Prelude.{ℕ, Bool, true, false, List, [], ◌∷◌, ◌++◌, codes, slice_get}
 use Rattle.std.specs.Prelude.{if◌then◌else◌, nat_lt, decimal, Option, Some, None, unwrap_or}
 use Rattle.naga_ir.specs.declared.expression.Expression as ir
 use Rattle.naga_ir.specs.declared.expression.Expression.TheVariants as expression
 use Rattle.naga_form.specs.Expressions.{ValueForm, ReferenceForm, points}
-use Rattle.module_meaning.specs.ExpressionOperators.{type_known, type_with}
+use Rattle.module_meaning.specs.ExpressionOperators.{is_atomic, points_to_atomic, type_known}
+use Rattle.module_meaning.specs.ExpressionOperators.{type_with}
+use Rattle.module_meaning.specs.OperatorTable.{AtomicLoad, run_word}
+use Rattle.naga_ir.specs.declared.expression.CooperativeData.{CooperativeData}
+use Rattle.naga_ir.specs.declared.types.CooperativeRole.{CooperativeRole}
+use Rattle.naga_ir.specs.declared.types.CooperativeSize.{CooperativeSize}
 use Rattle.module_meaning.specs.ExpressionShapes.{part_selector}
 use Rattle.naga_ir.specs.declared.types.Type_.{Type_}
 use Rattle.naga_ir.specs.declared.types.TypeInner.{TypeInner}
@@ -104,6 +109,37 @@ made_text f table type handle =
 -- a type of the module, where a value of it is made
 abbrev pub made_type : FunctionText → (ty : ℕ) → TypeSpecifier
 made_type f ty = type_form (type_names_of f) ty
+
+-- what is behind a pointer: an atomic by its word, and anything else as the pointer's reference
+unfoldable pub load_text : FunctionText → (table : List Standing) → (pointer : ℕ) → List ℕ
+load_text f table pointer =
+    if points_to_atomic (around f) pointer then
+    applied_text f table (Called (Named (run_word AtomicLoad))) (pointer ∷ [])
+    else reference_text f table pointer
+
+-- a type of the module is that of an atomic
+abbrev pub is_atomic_at : List Type_ → (ty : ℕ) → Bool
+is_atomic_at types ty = option_map_or is_atomic (type_with types ty) false
+
+-- what the load of a cooperative matrix is called by: its word with the matrix's type
+abbrev pub matrix_callee : FunctionText → (columns rows : CooperativeSize) → CooperativeRole →
+    CooperativeData → TypeSpecifier
+matrix_callee f columns rows role place =
+    unwrap_or
+    (operator_type (around f) (type_names_of f)
+    (expression.CooperativeLoad columns rows role place)) (Named [])
+
+unfoldable pub matrix_callee_text : FunctionText → (columns rows : CooperativeSize) →
+    CooperativeRole → CooperativeData → List ℕ
+matrix_callee_text f columns rows role place = type_layout (matrix_callee f columns rows role place)
+
+-- the word that loads a matrix, and a word that takes a type with that
+abbrev pub load_word : (row_major : Bool) → List ℕ
+load_word false = codes "coopLoad"
+load_word true = codes "coopLoadT"
+
+unfoldable pub taking_text : FunctionText → (word : List ℕ) → TypeResolution → List ℕ
+taking_text f word ty = word ++ (codes "<" ++ (resolution_text f ty ++ codes ">"))
 
 -- what a conversion is called by: the type of its value, or `bitcast` to that
 abbrev pub conversion_callee : FunctionText → (operand : ℕ) → ScalarKind → (convert : Option ℕ) →

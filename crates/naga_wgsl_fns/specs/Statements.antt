@@ -1,19 +1,21 @@
 -- The texts of statements, by the level of their lines and the point in front of them: the table of
 -- what is in scope there, and how many names that front ends gave stand in front of it.
-use Rattle.std.specs.Prelude.{ℕ, List, ◌++◌, Option, cond, []}
+use Rattle.std.specs.Prelude.{ℕ, List, ◌++◌, Option, cond, [], true, false}
 use Rattle.naga_ir.specs.StatementTree.{BlockTree, StatementTree}
 use Rattle.naga_back.specs.Indentation.{indentation}
 use Rattle.shader_runs.specs.Program.{binds}
 use Rattle.shader_runs.specs.Scope.{bound_name}
-use Rattle.naga_form.specs.Expressions.{as_value, as_reference}
-use Rattle.wgsl_text.specs.Statements.{Statement, Assign, ReturnValue, Statements, NoStatements}
+use Rattle.naga_form.specs.Expressions.{as_value}
+use Rattle.wgsl_text.specs.Statements.{Statement, ReturnValue, Statements, NoStatements}
 use Rattle.wgsl_text.specs.Statements.{statement_pieces, statements_pieces}
 use Rattle.naga_form.specs.Statements.{let_form, lets_form, return_line, line_form, lines_form}
+use Rattle.naga_form.specs.Statements.{store_line}
+use Rattle.module_meaning.specs.ExpressionOperators.{points_to_atomic}
 use Rattle.naga_scope.specs.declared.points.Standing.{Standing}
 use Rattle.naga_scope.specs.Standings.{TextPoint}
 use Rattle.wgsl_text.specs.Text.{text}
 use Rattle.naga_wgsl_fns.specs.declared.functions.FunctionText.{FunctionText}
-use Rattle.naga_wgsl_fns.specs.FunctionText.{handles_in, source, naming, let_annotation}
+use Rattle.naga_wgsl_fns.specs.FunctionText.{around, handles_in, source, naming, let_annotation}
 use Rattle.naga_wgsl_fns.specs.Expressions.{form_at, own_form}
 
 -- a statement's lines
@@ -27,11 +29,22 @@ lines_text level statements = text (statements_pieces statements level)
 unfoldable pub line_start : (level : ℕ) → (word : List ℕ) → List ℕ
 line_start level word = indentation level ++ word
 
+-- a store, to an atomic or not
 unfoldable pub store_text : FunctionText → (table : List Standing)
     → (level pointer value : ℕ) → List ℕ
 store_text f table level pointer value =
-    let place = as_reference (form_at f table pointer) in
-    line_text level (Assign place (as_value (form_at f table value)))
+    let to_atomic = points_to_atomic (around f) pointer in
+    line_text level (store_line to_atomic (form_at f table pointer) (form_at f table value))
+
+unfoldable pub assignment_text : FunctionText → (table : List Standing)
+    → (level pointer value : ℕ) → List ℕ
+assignment_text f table level pointer value =
+    line_text level (store_line false (form_at f table pointer) (form_at f table value))
+
+unfoldable pub atomic_store_text : FunctionText → (table : List Standing)
+    → (level pointer value : ℕ) → List ℕ
+atomic_store_text f table level pointer value =
+    line_text level (store_line true (form_at f table pointer) (form_at f table value))
 
 unfoldable pub return_text : FunctionText → (table : List Standing)
     → (level : ℕ) (value : Option ℕ) → List ℕ

@@ -83,7 +83,7 @@ impl FunctionText<'_> {
             }
             Expression::FunctionArgument(number) => self.write_argument_name(*number, out),
             Expression::LocalVariable(local) => self.write_address(*local, out),
-            Expression::Load { pointer } => self.write_reference(alloc, scope, *pointer, out),
+            Expression::Load { pointer } => self.write_load(alloc, scope, handle, *pointer, out),
             Expression::Unary { op, expr } => self.write_prefix(alloc, scope, *op, *expr, out),
             Expression::Binary { op, left, right } => {
                 self.write_infix(alloc, scope, *op, *left, *right, out)
@@ -121,6 +121,12 @@ impl FunctionText<'_> {
             Expression::ArrayLength(_) => {
                 self.write_called(alloc, scope, handle, "arrayLength", out)
             }
+            Expression::CooperativeLoad {
+                columns,
+                rows,
+                role,
+                data_,
+            } => self.write_matrix_load(alloc, scope, handle, *columns, *rows, *role, *data_, out),
             Expression::CooperativeMultiplyAdd { .. } => {
                 self.write_called(alloc, scope, handle, "coopMultiplyAdd", out)
             }
@@ -231,7 +237,7 @@ impl FunctionText<'_> {
     /// A word that is called with the operands of the expression with this handle.
     #[cycle(expression)]
     #[tactic(auto, using(naga_words::proofs::Writing::writes_then, crate::proofs::ExpressionRows::called_row))]
-    fn write_called<W: TextSink>(
+    pub(crate) fn write_called<W: TextSink>(
         &self,
         alloc: Global,
         scope: &Scope,

@@ -12,6 +12,7 @@ pub mod functions;
 mod images;
 pub mod implemented;
 pub mod literal;
+mod loads;
 mod names;
 mod parts;
 pub mod sinks;

@@ -3,28 +3,47 @@
 ghost use Rattle.std.specs.Prelude.{◌++◌, IsTrue};
 ghost use Rattle.module_meaning.specs.Part.{is_written_literal};
 ghost use Rattle.naga_words.specs.Output.{Writes};
-ghost use Rattle.naga_wgsl_fns.specs.Literals.{integer_text, literal_text, long_text};
+ghost use Rattle.naga_wgsl_fns.specs.Literals.{integer_text, literal_text, long_text, short_text};
+ghost use Rattle.naga_wgsl_fns.specs.Literals.{unsigned_short_text};
 
 use itoa::{Buffer, Integer};
 use naga_ir::Literal;
 use naga_words::{Output, TextSink};
 
-/// Writes a literal as one expression: `5i`, `-5i`, `5u`, `5li`, `5lu`, `true`. The least `i32` and
+/// Writes a literal as one expression: `5i`, `-5i`, `5u`, `5li`, `5lu`, `true`, and those of 16 bits
+/// as `i16(-5)` and `u16(5)`. The least `i32` and
 /// the least `i64` have no literal in WGSL, whose `-` stands outside, and are written
 /// `i32(-2147483648)` and `i64(-9223372036854775807 - 1)`.
-#[tactic(auto, unfolding(crate::specs::Literals::literal_text, crate::specs::Literals::integer_text, crate::specs::Literals::long_text))]
+#[tactic(auto, unfolding(crate::specs::Literals::literal_text, crate::specs::Literals::integer_text, crate::specs::Literals::long_text, crate::specs::Literals::short_text, crate::specs::Literals::unsigned_short_text))]
 pub fn write_literal<W: TextSink>(literal: Literal, out: &mut Output<'_, W>)
     requires { IsTrue (is_written_literal literal) }
     ensures { Writes W.text W.failures out.old out.new (literal_text literal) }
 {
     match literal {
         Literal::Bool(value) => out.put(if value { "true" } else { "false" }),
+        Literal::I16(value) => write_i16(value, out),
+        Literal::U16(value) => write_u16(value, out),
         Literal::I32(value) => write_i32(value, out),
         Literal::U32(value) => write_number(value, "u", out),
         Literal::I64(value) => write_i64(value, out),
         Literal::U64(value) => write_number(value, "lu", out),
         _ => unreachable!(),
     }
+}
+
+fn write_i16<W: TextSink>(value: i16, out: &mut Output<'_, W>)
+    ensures { Writes W.text W.failures out.old out.new (short_text value) }
+{
+    out.put("i16(");
+    write_number(value, ")", out);
+}
+
+#[tactic(auto, using(naga_words::proofs::Writing::writes_then, crate::proofs::Literals::unsigned_short_row))]
+fn write_u16<W: TextSink>(value: u16, out: &mut Output<'_, W>)
+    ensures { Writes W.text W.failures out.old out.new (unsigned_short_text value) }
+{
+    out.put("u16(");
+    write_number(value, ")", out);
 }
 
 fn write_i32<W: TextSink>(value: i32, out: &mut Output<'_, W>)

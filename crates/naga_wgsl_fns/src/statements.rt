@@ -19,6 +19,7 @@ ghost use Rattle.naga_wgsl_fns.specs.FunctionText.{IsInText, around, bound};
 ghost use Rattle.naga_wgsl_fns.specs.FunctionText.{handles_in, naming};
 ghost use Rattle.naga_wgsl_fns.specs.Statements.{block_text, emitted_text, let_text, lets_text};
 ghost use Rattle.naga_wgsl_fns.specs.Statements.{line_start, return_text, return_value_text};
+ghost use Rattle.naga_wgsl_fns.specs.Statements.{assignment_text, atomic_store_text};
 ghost use Rattle.naga_wgsl_fns.specs.Statements.{statement_text, store_text};
 
 use crate::functions::FunctionText;
@@ -178,7 +179,7 @@ impl FunctionText<'_> {
         out.put(";\n");
     }
 
-    #[tactic(auto, using(naga_words::proofs::Writing::writes_then, crate::proofs::StatementRows::store_row))]
+    /// A store: to an atomic by `atomicStore`, else an assignment to what is pointed to.
     fn write_store<W: TextSink>(
         &self,
         alloc: Global,
@@ -193,6 +194,51 @@ impl FunctionText<'_> {
         requires value { IsInText self.now value }
         ensures { Writes W.text W.failures out.old out.new
             (store_text self.now scope.now.table level.0 pointer value) }
+    {
+        if self.points_to_atomic(pointer) {
+            self.write_atomic_store(alloc, level, scope, pointer, value, out);
+        } else {
+            self.write_assignment(alloc, level, scope, pointer, value, out);
+        }
+    }
+
+    fn write_atomic_store<W: TextSink>(
+        &self,
+        alloc: Global,
+        level: Level,
+        scope: &Scope,
+        pointer: Handle<Expression>,
+        value: Handle<Expression>,
+        out: &mut Output<'_, W>,
+    )
+        requires can { CanWrite self.now }
+        requires pointer { IsInText self.now pointer }
+        requires value { IsInText self.now value }
+        ensures { Writes W.text W.failures out.old out.new
+            (atomic_store_text self.now scope.now.table level.0 pointer value) }
+    {
+        write_line_start(level, "atomicStore(", out);
+        self.write_value(alloc, scope, pointer, out);
+        out.put(", ");
+        self.write_value(alloc, scope, value, out);
+        out.put(");\n");
+    }
+
+    #[tactic(auto, using(naga_words::proofs::Writing::writes_then, crate::proofs::StatementRows::assignment_row))]
+    fn write_assignment<W: TextSink>(
+        &self,
+        alloc: Global,
+        level: Level,
+        scope: &Scope,
+        pointer: Handle<Expression>,
+        value: Handle<Expression>,
+        out: &mut Output<'_, W>,
+    )
+        requires can { CanWrite self.now }
+        requires pointer { IsInText self.now pointer }
+        requires value { IsInText self.now value }
+        ensures { Writes W.text W.failures out.old out.new
+            (assignment_text self.now scope.now.table level.0 pointer value) }
     {
         write_line_start(level, "", out);
         self.write_reference(alloc, scope, pointer, out);

@@ -1,4 +1,5 @@
 pub mod Scopes
+pub mod ToldNames
 pub mod Functions
 pub mod GivenNames
 pub mod Names

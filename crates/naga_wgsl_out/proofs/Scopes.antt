@@ -62,7 +62,10 @@ use Rattle.naga_wgsl_out.specs.Refusals.{GivenAreFullIn, HasNamedBefore, IsError
 use Rattle.naga_wgsl_out.specs.Refusals.{IsOfPlan, IsPlanRefusal, IsRefusal, ItemsAreFull}
 use Rattle.naga_wgsl_out.specs.Refusals.{HasFormlessIn, NamesConversion, NamesExpression}
 use Rattle.naga_wgsl_out.specs.Refusals.{NamesFormlessType, NamesLacking, NamesType}
-use Rattle.naga_wgsl_out.specs.Refusals.{NamesFormless, NamesLiteral, converted}
+use Rattle.naga_wgsl_out.specs.Refusals.{NamesFormless, NamesLiteral, NamesMatrix, converted}
+use Rattle.naga_wgsl_out.specs.Refusals.{pointed_scalar}
+use Rattle.naga_ir.specs.declared.expression.Expression.TheVariants.{CooperativeLoad}
+use Rattle.naga_ir.specs.declared.types.Scalar.{Scalar}
 use Rattle.naga_wgsl_out.specs.Refusals.{TellsOfFunction, TellsOfModule, TellsPlanError}
 use Rattle.naga_wgsl_out.specs.Writing.{HasPlan, IsWritableAt}
 
@@ -267,6 +270,12 @@ names_no_sink types known es (Literal value) reason named = by value named
     by (literal.AbstractInt value) named = named
     by (literal.AbstractFloat bits) named = named
     by _ named = named
+names_no_sink types known es (CooperativeLoad columns rows role place) reason named =
+    by (pointed_scalar types known place.pointer) named
+  where
+    by : (o : Option Scalar) → NamesMatrix o (FmtError reason) → ⊥
+    by None named = named
+    by (Some s) named = named
 names_no_sink types known es (Math fun arg arg1 arg2 arg3) reason named = named
 names_no_sink types known es (Relational fun argument) reason named = absurd cc
 names_no_sink types known es (As operand kind convert) reason named =

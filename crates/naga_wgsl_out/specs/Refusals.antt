@@ -9,6 +9,14 @@ use Rattle.naga_ir.specs.declared.expression.Expression.TheVariants.{AccessIndex
 use Rattle.naga_ir.specs.declared.expression.Expression.TheVariants.{Literal, Math}
 use Rattle.naga_ir.specs.declared.expression.Expression.TheVariants.{ImageSample, ImageLoad}
 use Rattle.naga_ir.specs.declared.expression.Expression.TheVariants.{Relational, ZeroValue}
+use Rattle.naga_ir.specs.declared.expression.Expression.TheVariants.{CooperativeLoad, CallResult}
+use Rattle.naga_ir.specs.declared.expression.Expression.TheVariants.{AtomicResult}
+use Rattle.naga_ir.specs.declared.expression.Expression.TheVariants.{WorkGroupUniformLoadResult}
+use Rattle.naga_ir.specs.declared.expression.Expression.TheVariants.{SubgroupOperationResult}
+use Rattle.naga_ir.specs.declared.expression.Expression.TheVariants.{SubgroupBallotResult}
+use Rattle.naga_ir.specs.declared.expression.Expression.TheVariants.{RayQueryProceedResult}
+use Rattle.naga_ir.specs.declared.expression.Expression.TheVariants.{RayQueryGetIntersection}
+use Rattle.naga_ir.specs.declared.expression.Expression.TheVariants.{RayQueryVertexPositions}
 use Rattle.naga_ir.specs.declared.types.Scalar.{Scalar}
 use Rattle.naga_ir.specs.declared.types.ScalarKind.{ScalarKind}
 use Rattle.naga_ir.specs.declared.types.Type_.{Type_}
@@ -26,6 +34,7 @@ use Rattle.module_meaning.specs.LackingScalars.{lacking_scalar}
 use Rattle.module_meaning.specs.Written.{AllWrittenHaveForms, IsSpelledIn, IsWrittenIn}
 use Rattle.module_meaning.specs.AlikeTypes.{has_form}
 use Rattle.module_meaning.specs.Conversions.{conversion_target}
+use Rattle.module_meaning.specs.ExpressionOperators.{scalar_behind}
 use Rattle.naga_info.specs.declared.info.ExpressionInfo.{ExpressionInfo}
 use Rattle.naga_info.specs.declared.info.ModuleInfo.{ModuleInfo}
 use Rattle.naga_names.specs.Refusal.{SomeNameIsFull, SomeKeyIsFull}
@@ -139,6 +148,26 @@ converted types es operand kind convert =
     option_and_then (λ k. option_and_then (λ it. conversion_target it kind convert) (inner_of k.ty types))
     (slice_get es operand)
 
+-- What a pointer points to is of scalars that have no word; or it is of no scalars at all, as in no
+-- accepted module, so that a cooperative matrix of them has no type.
+abbrev pub NamesMatrix : (pointed : Option Scalar) → Error → Type 0
+NamesMatrix None error = IsCustom (codes "type without a WGSL form") error
+NamesMatrix (Some s) error = NamesScalar error
+
+-- the scalars that a pointer points to, by the types that are known
+abbrev pub pointed_scalar : List Type_ → List ExpressionInfo → (pointer : ℕ) → Option Scalar
+pointed_scalar types es pointer =
+    option_and_then (λ k. option_and_then (scalar_behind types) (inner_of k.ty types))
+    (slice_get es pointer)
+
+-- the result of a statement is out of scope where no statement gives one
+abbrev pub NamesResult : Error → Type 0
+NamesResult error = IsCustom (codes "operand out of scope") error
+
+-- what a ray query found
+abbrev pub NamesRayQuery : Error → Type 0
+NamesRayQuery error = IsUnimplemented (codes "ray query") error
+
 -- An image is sampled in a way that has no form, or with an offset that applies an operator; where both
 -- stand, either may be told.
 abbrev pub NamesSampling : (sampling_is_written offset_is_written : Bool) → Error → Type 0
@@ -165,6 +194,18 @@ NamesExpression types known es (ZeroValue ty) error = NamesType types (Handle ty
 NamesExpression types known es (Compose ty components) error = NamesType types (Handle ty) error
 NamesExpression types known es (AccessIndex base index) error =
     IsCustom (codes "cannot index") error
+NamesExpression types known es (CooperativeLoad columns rows role place) error =
+    NamesMatrix (pointed_scalar types known place.pointer) error
+NamesExpression types known es (CallResult function) error = NamesResult error
+NamesExpression types known es (AtomicResult ty comparison) error = NamesResult error
+NamesExpression types known es (WorkGroupUniformLoadResult ty) error = NamesResult error
+NamesExpression types known es (SubgroupOperationResult ty) error = NamesResult error
+NamesExpression types known es SubgroupBallotResult error = NamesResult error
+NamesExpression types known es RayQueryProceedResult error = NamesRayQuery error
+NamesExpression types known es (RayQueryGetIntersection query committed) error =
+    NamesRayQuery error
+NamesExpression types known es (RayQueryVertexPositions query committed) error =
+    NamesRayQuery error
 NamesExpression types known es _ error = ⊥
 
 -- an expression is written in the function with this handle that has no form, and is named

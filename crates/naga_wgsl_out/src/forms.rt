@@ -2,14 +2,16 @@
 
 ghost use Rattle.std.specs.Prelude.{Bool, IsFalse, IsTrue, List, ◌&&◌};
 ghost use Rattle.module_meaning.specs.Part.{expression_has_form, expression_is_of_part};
-ghost use Rattle.module_meaning.specs.Part.{is_written_literal, literal_is_of_part};
+ghost use Rattle.module_meaning.specs.Part.{is_written_literal};
+ghost use Rattle.module_meaning.specs.ExpressionOperators.{scalar_behind};
 ghost use Rattle.module_meaning.specs.Conversions.{conversion_target};
 ghost use Rattle.module_meaning.specs.Sampling.{sampling_is_written};
 ghost use Rattle.naga_ir.specs.declared.expression.Expression.{Expression};
 ghost use Rattle.naga_scope.specs.Forms.{AreKnownIn};
 ghost use Rattle.naga_wgsl_out.specs.Refusals.{NamesConversion, NamesExpression};
 ghost use Rattle.naga_wgsl_out.specs.Refusals.{NamesFunction, NamesLiteral, NamesSampling};
-ghost use Rattle.naga_wgsl_out.specs.Refusals.{NamesScalar, NamesType, converted};
+ghost use Rattle.naga_wgsl_out.specs.Refusals.{NamesMatrix, NamesScalar, NamesType, converted};
+ghost use Rattle.naga_wgsl_out.specs.Refusals.{pointed_scalar};
 
 use crate::lacking::lacking_scalar;
 use naga_info::{FunctionInfo, TypeResolution};
@@ -17,7 +19,7 @@ use naga_ir::{
     Expression, Handle, Literal, MathFunction, SampleLevel, Scalar, ScalarKind, SwizzleComponent,
     Type_, TypeInner, UniqueArena,
 };
-use naga_scope::{converted_scalar, sampling_has_form};
+use naga_scope::{converted_scalar, sampling_has_form, scalar_behind};
 use naga_wgsl_fns::Error;
 use naga_wgsl_fns::error::{custom, unimplemented};
 use std::alloc::Global;
@@ -61,6 +63,17 @@ pub(crate) fn without_form(
             type_without_form(alloc, types, &TypeResolution::Handle(*ty))
         }
         Expression::AccessIndex { .. } => custom(alloc, "cannot index"),
+        Expression::CooperativeLoad { data_, .. } => {
+            load_without_form(alloc, types, info, data_.pointer)
+        }
+        Expression::CallResult(_)
+        | Expression::AtomicResult { .. }
+        | Expression::WorkGroupUniformLoadResult { .. }
+        | Expression::SubgroupOperationResult { .. }
+        | Expression::SubgroupBallotResult => custom(alloc, "operand out of scope"),
+        Expression::RayQueryProceedResult
+        | Expression::RayQueryGetIntersection { .. }
+        | Expression::RayQueryVertexPositions { .. } => unimplemented(alloc, "ray query"),
         _ => unreachable!(),
     }
 }
@@ -115,6 +128,31 @@ fn type_without_conversion(
     }
 }
 
+/// What is told of the load of a cooperative matrix: its scalar has no word, or it has none.
+fn load_without_form(
+    alloc: Global,
+    types: &UniqueArena<Type_>,
+    info: &FunctionInfo,
+    pointer: Handle<Expression>,
+) -> Error
+    requires known { AreKnownIn types.now info.now }
+    ensures { NamesMatrix (pointed_scalar types.now info.now pointer) result }
+{
+    match info.expressions.get(pointer.index()) {
+        Some(known) => matrix_without_form(alloc, types, known.ty.inner_with(types)),
+        None => custom(alloc, "type without a WGSL form"),
+    }
+}
+
+fn matrix_without_form(alloc: Global, types: &UniqueArena<Type_>, pointer: &TypeInner) -> Error
+    ensures { NamesMatrix (scalar_behind types.now pointer.now) result }
+{
+    match scalar_behind(types, pointer) {
+        Some(scalar) => scalar_without_word(alloc, scalar),
+        None => custom(alloc, "type without a WGSL form"),
+    }
+}
+
 /// The scalar is told by its debug text.
 fn scalar_without_word(alloc: Global, scalar: Scalar) -> Error
     ensures { NamesScalar result }
@@ -148,7 +186,6 @@ fn sampling_without_form(
 }
 
 fn literal_without_form(alloc: Global, literal: &Literal) -> Error
-    requires part { IsTrue (literal_is_of_part literal.now) }
     requires formless { IsFalse (is_written_literal literal.now) }
     ensures { NamesLiteral literal.now result }
 {

@@ -97,7 +97,9 @@ impl<W: TextSink> Writer<W> {
     /// a sampling without a form as `Unimplemented`, `sampling form`, and one with an offset that
     /// applies an operator as `Custom`, `operator in a constant`; a load of a texel of both a sample
     /// and a level as `Custom`, `image load with sample and level`; a part at a known index of what has
-    /// no parts as `Custom`, `cannot index`. A type is spelled by an argument, the result, a local, a
+    /// no parts as `Custom`, `cannot index`; the load of a cooperative matrix of
+    /// scalars without a word as `Unsupported`, of the kind `scalar type`; what a ray query found as
+    /// `Unimplemented`, `ray query`. A type is spelled by an argument, the result, a local, a
     /// written zero value or composition, and, with `EXPLICIT_TYPES`, by a `let`: one with a scalar
     /// without a word is refused as `Unsupported`, of the kind `scalar type`, with its debug text, and
     /// any other without a form as `Custom`, `type without a WGSL form`.
@@ -110,16 +112,17 @@ impl<W: TextSink> Writer<W> {
     /// None of them is a failure of the sink.
     ///
     /// So far a module is refused as `Unimplemented`, `not yet written`, unless it declares nothing
-    /// but types and functions: types that enable no extension, but structs and atomics;
-    /// functions whose locals have a literal as first value or none, whose expressions are
-    /// arguments, locals, literals, zero values, values of a type composed of others, loads,
-    /// choices, operators with a sign, vectors of one value, swizzles, parts at an index,
-    /// conversions, derivatives, operations on images, lengths of arrays, products of
-    /// cooperative matrices, functions of mathematics, and relations, and
+    /// but types and functions: types that enable no extension, but structs; constants without names;
+    /// functions whose expressions are arguments, locals, constants, literals, zero values, values
+    /// of a type composed of others, loads, choices, operators with a sign, vectors of one value,
+    /// swizzles, parts at an index, conversions, derivatives, operations on images, lengths of arrays,
+    /// loads and products of cooperative matrices, functions of mathematics, relations, and, where
+    /// nothing uses them, results of statements and what ray queries found, and
     /// whose statements are `Emit`s, `Store`s and `Return`s.
     ///
     /// An emitted expression is bound by a `let` where a front end named it, or where it is an
-    /// operation on an image, a `Load` or a derivative that is used at all, or another operator, but
+    /// operation on an image, a `Load`, a derivative or the load of a cooperative matrix that is used
+    /// at all, or another operator, but
     /// no part at an index, that is used at least twice; `EXPLICIT_TYPES` has each `let` tell its type.
     /// What a front end named is bound under an identifier made of that label, the next one in the
     /// order of the text behind those of the module's items.

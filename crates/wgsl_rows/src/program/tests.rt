@@ -10,7 +10,9 @@ use std::io::Write;
 use std::process::Abort;
 use std::test::Fail;
 
+mod atomics;
 mod converted;
+mod cooperative;
 mod derived;
 mod formless;
 mod formless_types;
@@ -22,7 +24,9 @@ mod names;
 mod operators;
 mod parts;
 mod pointed;
+mod results;
 mod samplings;
+mod shorts;
 mod types;
 mod values;
 

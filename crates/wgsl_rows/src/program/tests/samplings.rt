@@ -486,7 +486,7 @@ fn build_idle(alloc: Global, sample: &mut Sample, case: Sampling) -> Result<(), 
     sample.end_with(zero)
 }
 
-fn is_unimplemented(refusal: &Option<Error>, name: &str) -> bool {
+pub(super) fn is_unimplemented(refusal: &Option<Error>, name: &str) -> bool {
     match refusal {
         Some(Error::Unimplemented(told)) => told.as_str() == name,
         _ => false,

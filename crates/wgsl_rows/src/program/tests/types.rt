@@ -369,16 +369,15 @@ fn what_is_pointed_at_is_stored_and_loaded(rt: HostRuntime) -> Result<(), Fail> 
     Ok(())
 }
 
-/// A type for which a module enables an extension, or one that is not written so far.
+/// A type for which a module enables an extension.
 #[derive(Clone, Copy, Debug)]
 enum Needed {
     Half,
     Short,
-    Atomic,
     Rays,
 }
 
-const NEEDED: [Needed; 4] = [Needed::Half, Needed::Short, Needed::Atomic, Needed::Rays];
+const NEEDED: [Needed; 3] = [Needed::Half, Needed::Short, Needed::Rays];
 
 fn is_refused_with(alloc: Global, needed: Needed) -> Result<bool, AllocError> {
     let mut sample = Sample::new(alloc);
@@ -396,7 +395,6 @@ fn add_needed(sample: &mut Sample, needed: Needed) -> Result<(), AllocError> {
             size: VectorSize::Bi,
             scalar: Scalar::U16,
         },
-        Needed::Atomic => TypeInner::Atomic(Scalar::U32),
         Needed::Rays => TypeInner::AccelerationStructure {
             vertex_return: false,
         },

@@ -31,7 +31,8 @@ use Rattle.naga_wgsl_fns.proofs.Wanted.{conversion_formed}
 use Rattle.naga_wgsl_fns.proofs.ImageRows.{query_called, texel_word}
 use Rattle.naga_wgsl_fns.proofs.Wanted.{IsOperand, argument_within, literal_is_written, local_within}
 use Rattle.naga_wgsl_fns.proofs.Wanted.{made_value, math_is_written, no_other_expression, operands_in}
-use Rattle.naga_wgsl_fns.proofs.Wanted.{relation_is_written}
+use Rattle.naga_wgsl_fns.proofs.Wanted.{matrix_load_formed, relation_is_written}
+use Rattle.naga_wgsl_fns.proofs.LoadRows.{atomic_loaded, matrix_row, other_loaded, own_matrix_load}
 use Rattle.naga_wgsl_fns.proofs.functions.FunctionText.+expression.Goals as goal
 
 pub write_own-write_literal-requires : goal.write_own-write_literal-requires
@@ -50,13 +51,64 @@ pub write_own-write_address-requires-clause-local : goal.write_own-write_address
 write_own-write_address-requires-clause-local g t c =
     local_within c.args.self.now c.requires.can c.args.handle c.index.result.now c.in-LocalVariable.local c.index.ensures c.in-LocalVariable.is
 
-pub write_own-write_reference-requires : goal.write_own-write_reference-requires
-write_own-write_reference-requires g t c κs within =
+pub write_own-write_load-requires : goal.write_own-write_load-requires
+write_own-write_load-requires g t c κs within =
+    let at = c.index.ensures ∙ ap Some c.in-Load.is in
+    (omega (arith, c.decreases), (within, (c.requires.can, (c.requires.handle, at))))
+
+pub write_load-points_to_atomic-requires-clause-handle : goal.write_load-points_to_atomic-requires-clause-handle
+write_load-points_to_atomic-requires-clause-handle g t c =
     let operand =
-    (operands_in c.args.self.now c.requires.can c.args.handle c.index.result.now _
-    c.index.ensures c.in-Load.is c.requires.handle).0 in
+    (operands_in c.args.self.now c.requires.can c.args.handle _ _ c.requires.load refl
+    c.requires.handle).0 in
+    known_within_infos c.args.self.now c.requires.can c.args.pointer operand.1.there
+
+pub write_load-write_reference-requires : goal.write_load-write_reference-requires
+write_load-write_reference-requires g t c κs within =
+    let operand =
+    (operands_in c.args.self.now c.requires.can c.args.handle _ _ c.requires.load refl
+    c.requires.handle).0 in
     let before = operand.0 in
     (omega (arith, before, c.decreases), (within, (c.requires.can, operand.1)))
+
+pub write_load-returns-then-points_to_atomic : goal.write_load-returns-then-points_to_atomic
+write_load-returns-then-points_to_atomic g t c =
+    writes_as
+    (atomic_loaded c.args.self.now c.args.scope.now.table c.args.handle c.args.pointer c.requires.load
+    (sym c.points_to_atomic.ensures ∙ c.if-points_to_atomic.true))
+    c.write_called.ensures
+
+pub write_load-returns-else-points_to_atomic : goal.write_load-returns-else-points_to_atomic
+write_load-returns-else-points_to_atomic g t c =
+    writes_as
+    (other_loaded c.args.self.now c.args.scope.now.table c.args.pointer
+    (sym c.points_to_atomic.ensures ∙ c.if-points_to_atomic.false))
+    c.write_reference.ensures
+
+pub write_own-write_matrix_load-requires : goal.write_own-write_matrix_load-requires
+write_own-write_matrix_load-requires g t c κs within =
+    let formed =
+    matrix_load_formed c.args.self.now c.requires.can c.args.handle c.index.result.now _ _ _ _
+    c.index.ensures c.requires.handle c.in-CooperativeLoad.is in
+    (omega (arith, c.decreases), (within, (c.requires.can, (c.requires.handle, formed))))
+
+pub write_matrix_load-returns : goal.write_matrix_load-returns
+write_matrix_load-returns g t c =
+    writes_as
+    (sym
+    (matrix_row c.args.self.now c.args.scope.now.table c.args.columns c.args.rows c.args.role
+    c.args.place c.args.handle))
+    (writes_then c.write_matrix_callee.ensures (writes_then c.put.ensures c.write_operands.ensures))
+
+pub write_own-returns-in-CooperativeLoad : goal.write_own-returns-in-CooperativeLoad
+write_own-returns-in-CooperativeLoad g t c =
+    let formed =
+    matrix_load_formed c.args.self.now c.requires.can c.args.handle c.index.result.now _ _ _ _
+    c.index.ensures c.requires.handle c.in-CooperativeLoad.is in
+    writes_as
+    (own_matrix_load c.args.self.now c.args.scope.now.table c.args.handle c.index.result.now _ _ _ _
+    c.requires.can formed c.index.ensures c.in-CooperativeLoad.is)
+    c.write_matrix_load.ensures
 
 pub write_own-write_swizzle-requires : goal.write_own-write_swizzle-requires
 write_own-write_swizzle-requires g t c κs within =
@@ -88,6 +140,7 @@ write_own-write_infix-requires g t c κs within =
 pub write_own-unreachable-requires : goal.write_own-unreachable-requires
 write_own-unreachable-requires g t c =
     no_other_expression c.args.self.now c.requires.can c.args.handle c.index.result.now c.index.ensures
+    c.requires.handle
     (record {
       literal = c.in_default.not-Literal;
       constant = c.in_default.not-Constant;
@@ -111,6 +164,7 @@ write_own-unreachable-requires g t c =
       loaded = c.in_default.not-ImageLoad;
       asked = c.in_default.not-ImageQuery;
       counted = c.in_default.not-ArrayLength;
+      matrix_load = c.in_default.not-CooperativeLoad;
       product = c.in_default.not-CooperativeMultiplyAdd;
     })
 

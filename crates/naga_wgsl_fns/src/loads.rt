@@ -1,0 +1,162 @@
+//! Loads: of atomics, of cooperative matrices, and of what else is behind a pointer.
+
+ghost use Rattle.std.specs.Prelude.{◌≡◌, ◌<◌, IsTrue, Some, length, slice_get};
+ghost use Rattle.std.specs.Option.{is_some};
+ghost use Rattle.module_meaning.specs.AlikeTypes.{has_form};
+ghost use Rattle.module_meaning.specs.ExpressionOperators.{points_to_atomic};
+ghost use Rattle.module_meaning.specs.Part.{expression_is_written};
+ghost use Rattle.module_meaning.specs.Ranges.{resolution_fits};
+ghost use Rattle.naga_form.specs.Expressions.{scalar_pointed};
+ghost use Rattle.naga_ir.specs.declared.expression.Expression.TheVariants.{CooperativeLoad, Load};
+ghost use Rattle.naga_wgsl_fns.specs.Expressions.{is_atomic_at, load_text, load_word, made_text};
+ghost use Rattle.naga_wgsl_fns.specs.Expressions.{matrix_callee, matrix_callee_text, taking_text};
+ghost use Rattle.naga_wgsl_fns.specs.FunctionText.{CanWrite, IsInText, around};
+ghost use Rattle.naga_words.specs.Output.{Writes};
+
+use crate::functions::FunctionText;
+use naga_info::TypeResolution;
+use naga_ir::{
+    CooperativeData, CooperativeRole, CooperativeSize, Expression, Handle, Scalar, Type_, TypeInner,
+};
+use naga_scope::{Scope, scalar_behind};
+use naga_words::{Output, TextSink};
+use std::alloc::Global;
+
+impl FunctionText<'_> {
+    /// What is behind a pointer: an atomic by `atomicLoad`, and anything else as the reference that the
+    /// pointer is.
+    #[cycle(expression)]
+    pub(crate) fn write_load<W: TextSink>(
+        &self,
+        alloc: Global,
+        scope: &Scope,
+        handle: Handle<Expression>,
+        pointer: Handle<Expression>,
+        out: &mut Output<'_, W>,
+    )
+        requires can { CanWrite self.now }
+        requires handle { IsInText self.now handle }
+        requires load { slice_get self.now.function.now.expressions handle ≡ Some (Load pointer) }
+        ensures { Writes W.text W.failures out.old out.new (load_text self.now scope.now.table pointer) }
+    {
+        if self.points_to_atomic(pointer) {
+            self.write_called(alloc, scope, handle, "atomicLoad", out);
+        } else {
+            self.write_reference(alloc, scope, pointer, out);
+        }
+    }
+
+    /// Whether an expression is a pointer to an atomic.
+    pub(crate) fn points_to_atomic(&self, handle: Handle<Expression>) -> bool
+        requires can { CanWrite self.now }
+        requires handle { handle < length self.now.info.now }
+        ensures { result ≡ points_to_atomic (around self.now) handle }
+    {
+        match self.type_of(handle) {
+            TypeInner::Pointer { base, .. } => self.is_atomic(*base),
+            _ => false,
+        }
+    }
+
+    fn is_atomic(&self, ty: Handle<Type_>) -> bool
+        requires { ty < length self.now.shader.now.types }
+        ensures { result ≡ is_atomic_at self.now.shader.now.types ty }
+    {
+        matches!(&self.shader.types[ty].inner, TypeInner::Atomic(_))
+    }
+
+    /// A cooperative matrix from memory: the operands of the expression with this handle behind the word
+    /// that loads a matrix of the type.
+    #[cycle(expression)]
+    pub(crate) fn write_matrix_load<W: TextSink>(
+        &self,
+        alloc: Global,
+        scope: &Scope,
+        handle: Handle<Expression>,
+        columns: CooperativeSize,
+        rows: CooperativeSize,
+        role: CooperativeRole,
+        place: CooperativeData,
+        out: &mut Output<'_, W>,
+    )
+        requires can { CanWrite self.now }
+        requires handle { IsInText self.now handle }
+        requires formed { IsTrue (expression_is_written self.now.shader.now.types self.now.info.now
+            (CooperativeLoad columns rows role place)) }
+        ensures { Writes W.text W.failures out.old out.new
+            (made_text self.now scope.now.table (matrix_callee self.now columns rows role place)
+            handle) }
+    {
+        self.write_matrix_callee(alloc, columns, rows, role, place, out);
+        out.put("(");
+        self.write_operands(alloc, scope, handle, out);
+    }
+
+    /// The word that loads a matrix, with the type of that.
+    fn write_matrix_callee<W: TextSink>(
+        &self,
+        alloc: Global,
+        columns: CooperativeSize,
+        rows: CooperativeSize,
+        role: CooperativeRole,
+        place: CooperativeData,
+        out: &mut Output<'_, W>,
+    )
+        requires can { CanWrite self.now }
+        requires formed { IsTrue (expression_is_written self.now.shader.now.types self.now.info.now
+            (CooperativeLoad columns rows role place)) }
+        ensures { Writes W.text W.failures out.old out.new
+            (matrix_callee_text self.now columns rows role place) }
+    {
+        let scalar = self.pointed_scalar(place.pointer);
+        let matrix = TypeResolution::Value(TypeInner::CooperativeMatrix {
+            columns,
+            rows,
+            scalar,
+            role,
+        });
+        self.write_taking(alloc, load_str(place.row_major), &matrix, out);
+        drop(matrix);
+    }
+
+    /// The scalars that an expression points to.
+    fn pointed_scalar(&self, pointer: Handle<Expression>) -> Scalar
+        requires can { CanWrite self.now }
+        requires handle { pointer < length self.now.info.now }
+        requires scalar { IsTrue (is_some (scalar_pointed (around self.now) pointer)) }
+        ensures { scalar_pointed (around self.now) pointer ≡ Some result }
+    {
+        match scalar_behind(&self.shader.types, self.type_of(pointer)) {
+            Some(scalar) => scalar,
+            None => unreachable!(),
+        }
+    }
+
+    /// A word that takes a type, with that.
+    #[tactic(auto, using(naga_words::proofs::Writing::writes_then, crate::proofs::LoadRows::taking_row))]
+    fn write_taking<W: TextSink>(
+        &self,
+        alloc: Global,
+        word: &str,
+        ty: &TypeResolution,
+        out: &mut Output<'_, W>,
+    )
+        requires can { CanWrite self.now }
+        requires formed { IsTrue (has_form self.now.shader.now.types ty.now) }
+        requires fits { IsTrue (resolution_fits (length self.now.shader.now.overrides)
+            (length self.now.shader.now.types) ty.now) }
+        ensures { Writes W.text W.failures out.old out.new (taking_text self.now word.now ty.now) }
+    {
+        out.put(word);
+        out.put("<");
+        self.write_type_of(alloc, ty, out);
+        out.put(">");
+    }
+}
+
+/// The word that loads a cooperative matrix, whose columns or rows lie one behind another.
+fn load_str(row_major: bool) -> &'static str
+    ensures { result.now ≡ load_word row_major }
+{
+    if row_major { "coopLoadT" } else { "coopLoad" }
+}

@@ -1,0 +1,135 @@
+-- Why the items of a module get no names is told by other texts than what is told of a function.
+use Rattle.std.proofs.Common.{◌≡◌, ◌∙◌, ℕ, Bool, true, false, List, None, Option, Some, ap, codes, inl}
+use Rattle.std.proofs.Common.{inr, nat_eq, refl, subst, sym}
+use Rattle.std.proofs.lemmas.Bool.{false≢true}
+use Rattle.std.specs.Prelude.{Err, IfErr, IsErrAnd, Ok, Result, get_or, string_bytes}
+use Rattle.naga_info.specs.declared.info.ExpressionInfo.{ExpressionInfo}
+use Rattle.naga_ir.specs.declared.expression.Expression.{Expression}
+use Rattle.naga_ir.specs.declared.expression.Expression.TheVariants as expression
+use Rattle.naga_ir.specs.declared.expression.Literal.{Literal as LiteralValue}
+use Rattle.naga_ir.specs.declared.expression.Literal.TheVariants as literal
+use Rattle.naga_ir.specs.declared.module.Module.{Module}
+use Rattle.naga_ir.specs.declared.types.Scalar.{Scalar}
+use Rattle.naga_ir.specs.declared.types.Type_.{Type_}
+use Rattle.naga_ir.specs.declared.types.TypeInner.{TypeInner}
+use Rattle.naga_wgsl_fns.specs.Errors.{IsCustom, IsUnimplemented}
+use Rattle.naga_wgsl_fns.specs.declared.error.Error.{Error}
+use Rattle.naga_wgsl_fns.specs.declared.error.Error.TheVariants.{Custom, Memory}
+use Rattle.naga_wgsl_out.specs.Refusals.{IsNamesRefusal, IsToldOfItems, NamesConversion}
+use Rattle.naga_wgsl_out.specs.Refusals.{NamesExpression, NamesFunction, NamesLiteral, NamesMatrix}
+use Rattle.naga_wgsl_out.specs.Refusals.{NamesScalar, TellsOfFunction, converted, pointed_scalar}
+
+-- the text begins with an `n`, as what is told of names does
+abbrev begins : List ℕ → Bool
+begins text = nat_eq (get_or text 0 0) 110
+
+abbrev is_of_names : Error → Bool
+is_of_names (Custom message) = begins (string_bytes message)
+is_of_names _ = false
+
+custom_other : (text : List ℕ) (error : Error) → IsCustom text error → begins text ≡ false →
+    is_of_names error ≡ false
+custom_other text (Custom message) is other = ap begins is ∙ other
+custom_other text _ is other = refl
+
+unimplemented_other : (text : List ℕ) (error : Error) → IsUnimplemented text error →
+    is_of_names error ≡ false
+unimplemented_other text (Custom message) is = absurd is
+unimplemented_other text _ is = refl
+
+function_other : (error : Error) → NamesFunction error → is_of_names error ≡ false
+function_other (Custom message) is = absurd is
+function_other _ is = refl
+
+scalar_other : (error : Error) → NamesScalar error → is_of_names error ≡ false
+scalar_other (Custom message) is = absurd is
+scalar_other _ is = refl
+
+literal_other : (value : LiteralValue) (error : Error) → NamesLiteral value error →
+    is_of_names error ≡ false
+literal_other (literal.F64 bits) error named = unimplemented_other (codes "float literal") error named
+literal_other (literal.F32 bits) error named = unimplemented_other (codes "float literal") error named
+literal_other (literal.F16 bits) error named = unimplemented_other (codes "float literal") error named
+literal_other (literal.AbstractInt value) error named = custom_other _ error named refl
+literal_other (literal.AbstractFloat bits) error named = custom_other _ error named refl
+literal_other _ error named = absurd named
+
+conversion_other : (o : Option TypeInner) (error : Error) → NamesConversion o error →
+    is_of_names error ≡ false
+conversion_other None error named =
+    unimplemented_other (codes "conversion of this type") error named
+conversion_other (Some new) error named = scalar_other error named
+
+matrix_other : (o : Option Scalar) (error : Error) → NamesMatrix o error → is_of_names error ≡ false
+matrix_other None error named = custom_other _ error named refl
+matrix_other (Some s) error named = scalar_other error named
+
+-- so does no refusal that names an expression
+expression_other : (types : List Type_) (known : List ExpressionInfo) (es : List Expression)
+    (e : Expression) (error : Error) → NamesExpression types known es e error →
+    is_of_names error ≡ false
+expression_other types known es (expression.Literal value) error named =
+    literal_other value error named
+expression_other types known es (expression.Math fun arg arg1 arg2 arg3) error named =
+    function_other error named
+expression_other types known es (expression.Relational fun argument) error named =
+    ap is_of_names named
+expression_other types known es (expression.As operand kind convert) error named =
+    conversion_other (converted types known operand kind convert) error named
+expression_other types known es
+    (expression.ImageSample
+    image sampler gather coordinate array_index offset level depth_ref clamp) error (inl named) =
+    unimplemented_other (codes "sampling form") error named.1
+expression_other types known es
+    (expression.ImageSample
+    image sampler gather coordinate array_index offset level depth_ref clamp) error (inr named) =
+    custom_other (codes "operator in a constant") error named.1 refl
+expression_other types known es
+    (expression.ImageLoad image coordinate array_index sample level) error named =
+    custom_other (codes "image load with sample and level") error named refl
+expression_other types known es (expression.CooperativeLoad columns rows role place) error named =
+    matrix_other (pointed_scalar types known place.pointer) error named
+expression_other types known es (expression.CallResult function) error named =
+    custom_other (codes "operand out of scope") error named refl
+expression_other types known es (expression.AtomicResult ty comparison) error named =
+    custom_other (codes "operand out of scope") error named refl
+expression_other types known es (expression.WorkGroupUniformLoadResult ty) error named =
+    custom_other (codes "operand out of scope") error named refl
+expression_other types known es (expression.SubgroupOperationResult ty) error named =
+    custom_other (codes "operand out of scope") error named refl
+expression_other types known es expression.SubgroupBallotResult error named =
+    custom_other (codes "operand out of scope") error named refl
+expression_other types known es expression.RayQueryProceedResult error named =
+    unimplemented_other (codes "ray query") error named
+expression_other types known es (expression.RayQueryGetIntersection query committed) error named =
+    unimplemented_other (codes "ray query") error named
+expression_other types known es (expression.RayQueryVertexPositions query committed) error named =
+    unimplemented_other (codes "ray query") error named
+expression_other types known es _ error named = absurd named
+
+told_begins : (m : Module) (message : List ℕ) → IsToldOfItems m message → begins message ≡ true
+told_begins m message (inl told) = ap begins told.0
+told_begins m message (inr told) = ap begins told.0
+
+-- why the items get no names tells of no function
+tells_of_none : (m : Module) (error : Error) → IsNamesRefusal m error → TellsOfFunction m error → ⊥
+tells_of_none m (Custom message) refusal (inl scope) =
+    false≢true (sym (ap begins scope) ∙ told_begins m (string_bytes message) refusal)
+tells_of_none m (Custom message) refusal (inr (inl form)) =
+    false≢true
+    (sym (expression_other form.1.0 form.1.1 form.1.2 form.1.3 (Custom message) form.1.4)
+    ∙ told_begins m (string_bytes message) refusal)
+tells_of_none m (Custom message) (inl told) (inr (inr full)) = full.1 told.1
+tells_of_none m (Custom message) (inr told) (inr (inr full)) =
+    false≢true (ap (λ text. nat_eq (get_or text 4 0) 32) (sym full.0 ∙ told.0))
+tells_of_none m (Memory e) refusal (inl scope) = scope
+tells_of_none m (Memory e) refusal (inr (inl form)) = form.0
+tells_of_none m (Memory e) refusal (inr (inr full)) = full.0
+tells_of_none m _ refusal of = absurd refusal
+
+pub names_tell_of_none : (m : Module) (P : Type 0) (r : Result Unit Error) (error : Error) →
+    IsErrAnd r (λ e. e ≡ error) → IsNamesRefusal m error →
+    IfErr r (λ e. TellsOfFunction m e → P)
+names_tell_of_none m P (Err e) error told refusal =
+    λ of. absurd (tells_of_none m e (subst (IsNamesRefusal m) (sym told) refusal) of)
+names_tell_of_none m P (Ok u) error told refusal = absurd told
