@@ -180,7 +180,7 @@ fn expression_is_of_part(expression: &Expression) -> bool
         | Expression::RayQueryProceedResult
         | Expression::RayQueryGetIntersection { .. }
         | Expression::RayQueryVertexPositions { .. } => true,
-        Expression::Constant(_) | Expression::Override(_) | Expression::GlobalVariable(_) => false,
+        Expression::Override(_) | Expression::GlobalVariable(_) => false,
     }
 }
 

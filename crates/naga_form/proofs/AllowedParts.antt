@@ -210,7 +210,7 @@ module _ (m : Module) (info : ModuleInfo) (es : List ExpressionInfo) where
 
   pub loaded_matrix : (columns rows : CooperativeSize) (role : CooperativeRole)
       (place : CooperativeData) →
-      expression_is_written m.types es (CooperativeLoad columns rows role place) ≡ true →
+      expression_is_written m es (CooperativeLoad columns rows role place) ≡ true →
       LoadedMatrix m d.around columns rows role place.pointer
   loaded_matrix columns rows role place may =
       let k = known_operand m es (loads_matrix m.types columns rows role) place.pointer may in

@@ -395,7 +395,7 @@ module _ (m : Module) (info : ModuleInfo) (values : IsTrue (list_all type_is_of_
     where
       by : (o : Option Selector) → WordFits p own (Some (part_shape base index o))
       by (Some x) = tt
-      by None = operates (run_word (WithoutForm (PartAt index))) (formless_free (PartAt index))
+      by None = operates (run_word (WithoutForm (PartAt index))) (formless_free (PartAt index) refl)
   words h (expression.FunctionArgument number) is range = tt
   words h (expression.LocalVariable handle) is range = tt
   words h (expression.Swizzle size vector pattern) is range = tt

@@ -117,6 +117,12 @@ module _ (m : Module) (info : ModuleInfo) where
         let item = map_some (λ c. Handle c.ty) (slice_get m.constants c) there.0 there.1 in
         (item.0, item.1)
 
+    -- each initialiser is one of the module's own expressions
+    pub initialiser_within : (c : ℕ) (k : Constant) → slice_get m.constants c ≡ Some k → k.init < length m.global_expressions
+    initialiser_within c k at =
+        let own = and_parts (nat_lt k.ty (length m.types)) (nat_lt k.init (length m.global_expressions)) (list_all_at (constant_in_range (length m.types) (length m.global_expressions)) m.constants c k own_parts.0 at) in
+        ltb-true k.init (length m.global_expressions) own.1
+
     -- its operands and the initialisers of the constants that it names stand before one of the
     -- module's own expressions, and what it names is there
     global_is_in_range : (h : ℕ) (e : Expression) → slice_get m.global_expressions h ≡ Some e → global_expression_in_range m h e ≡ true

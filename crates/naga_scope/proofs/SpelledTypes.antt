@@ -30,7 +30,7 @@ use Rattle.shader_runs.specs.Program.{binds}
 -- ---- searches
 module _ {X : Type 0} (p : X → Bool) where
   -- what finds nothing says of each
-  none_passes : (xs : List X) → find p xs ≡ None → (i : ℕ) (x : X) → slice_get xs i ≡ Some x → p x ≡ false
+  pub none_passes : (xs : List X) → find p xs ≡ None → (i : ℕ) (x : X) → slice_get xs i ≡ Some x → p x ≡ false
   none_passes [] none i x at = absurd cc
   none_passes (y ∷ ys) none i x at = by (p y) refl none (none_passes ys) i at
     where
@@ -42,7 +42,7 @@ module _ {X : Type 0} (p : X → Bool) where
       by false is none rest (suc i) at = rest none i x at
 
   -- what is found is there and passes
-  found_passes : (xs : List X) (x : X) → find p xs ≡ Some x → (i : ℕ) × (slice_get xs i ≡ Some x) × (p x ≡ true)
+  pub found_passes : (xs : List X) (x : X) → find p xs ≡ Some x → (i : ℕ) × (slice_get xs i ≡ Some x) × (p x ≡ true)
   found_passes [] x is = absurd cc
   found_passes (y ∷ ys) x is = by (p y) refl is (found_passes ys x)
     where
@@ -87,13 +87,13 @@ pub emits_end : (items : List Statement) (i : ℕ) → length items ≤ i →
 emits_end items i le = ap (λ xs. block_emits (block_of xs)) (drop_all i items le)
 
 -- the same by what is among a list
-there_among : {X : Type 0} (xs : List X) (x : X) → IsAmong xs x → (i : ℕ) × (slice_get xs i ≡ Some x)
+pub there_among : {X : Type 0} (xs : List X) (x : X) → IsAmong xs x → (i : ℕ) × (slice_get xs i ≡ Some x)
 there_among [] x is = absurd (omega (arith, is.1.0))
 there_among (y ∷ ys) x (zero, is) = (0, ap Some (sym is.1))
 there_among (y ∷ ys) x (suc i, is) =
     let rest = there_among ys x (i, (omega (arith, is.0), is.1)) in (suc rest.0, rest.1)
 
-among_there : {X : Type 0} (xs : List X) (i : ℕ) (x : X) → slice_get xs i ≡ Some x → IsAmong xs x
+pub among_there : {X : Type 0} (xs : List X) (i : ℕ) (x : X) → slice_get xs i ≡ Some x → IsAmong xs x
 among_there [] i x at = absurd cc
 among_there (y ∷ ys) zero x at = let same : y ≡ x = cc in (0, (omega arith, sym same))
 among_there (y ∷ ys) (suc i) x at =

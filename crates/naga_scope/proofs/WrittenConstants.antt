@@ -9,12 +9,13 @@ use Rattle.std.specs.Option.{option_map_or}
 use Rattle.std.proofs.lemmas.Bool.{ltb-false, ltb-true}
 use Rattle.std.proofs.lemmas.Grind.{get_or-set_at}
 use Rattle.std.proofs.lemmas.List.{get_or-set_other, get_or_past, length-set}
-use Rattle.std.proofs.lemmas.Option.{slice_get_past}
+use Rattle.std.proofs.lemmas.Option.{slice_get_past, slice_get_within}
 use Rattle.module_meaning.proofs.Stepwise.{by_those_before}
 use Rattle.module_meaning.specs.Accepted.{is_accepted}
 use Rattle.module_meaning.specs.Names.{TypesAreTold}
 use Rattle.naga_form.proofs.Ordered.{each_below}
-use Rattle.naga_form.proofs.WrittenOut.{initialiser_stands_before, own_is}
+use Rattle.naga_form.proofs.WrittenOut.{Own, constant_named, initialiser_stands_before}
+use Rattle.naga_form.proofs.WrittenOut.{initialiser_within, own_is}
 use Rattle.naga_info.specs.declared.info.ModuleInfo.{ModuleInfo}
 use Rattle.module_meaning.specs.AlikeTypes.{has_form}
 use Rattle.module_meaning.specs.Part.{constant_is_written, global_is_written}
@@ -154,4 +155,8 @@ pub globals_in_order : (m : Module) (info : ModuleInfo) → IsTrue (is_accepted 
 globals_in_order m info accepted told = record {
   operands = λ h e at. each_below h (expression_operands e) ((own_is m info accepted told).below h e at);
   initialisers = λ h c k at there. initialiser_stands_before m info accepted told h c at k there;
+  named = λ h c at.
+      let k = constant_named m info accepted told None (Own m info accepted told) (own_is m info accepted told) h c at in
+      slice_get_within m.constants c k.0 k.1;
+  initialised = initialiser_within m info accepted told;
 }

@@ -34,12 +34,16 @@ abbrev pub MarksGlobals : Module → List Bool → Type 0
 MarksGlobals m marks = (h : ℕ) → is_marked marks h ≡ global_is_written m h
 
 -- Among the module's own expressions operands stand before what they are operands of, and so do the
--- initialisers of the constants that an expression names.
+-- initialisers of the constants that an expression names, which are there, as are all initialisers.
 pub record GlobalsStandInOrder (m : Module) : Type 0 where
   pub operands : OperandsStandBefore m.global_expressions
   pub initialisers : (h c : ℕ) (k : Constant) →
       slice_get m.global_expressions h ≡ Some (expression.Constant c) →
       slice_get m.constants c ≡ Some k → k.init < h
+  pub named : (h c : ℕ) → slice_get m.global_expressions h ≡ Some (expression.Constant c) →
+      c < length m.constants
+  pub initialised : (c : ℕ) (k : Constant) → slice_get m.constants c ≡ Some k →
+      k.init < length m.global_expressions
 
 -- just what may be written out as a constant has a mark
 abbrev pub MarksConstants : List Expression → List Bool → Type 0

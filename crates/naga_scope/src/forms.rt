@@ -78,7 +78,7 @@ pub(crate) fn is_written(
             rows,
             role,
             data_,
-        } => is_loaded(types, info, *columns, *rows, *role, data_.pointer),
+        } => is_loaded(&module.types, info, *columns, *rows, *role, data_.pointer),
         Expression::Literal(literal) => literal_has_form(*literal),
         _ => false,
     }

@@ -40,6 +40,13 @@ impl GlobalExpressions {
         Ok(GlobalExpressions { marks })
     }
 
+    /// Whether the expression with this handle is written.
+    pub fn is_written(&self, handle: Handle<Expression>) -> bool
+        ensures { result ≡ is_marked self.now handle }
+    {
+        is_marked(&self.marks, handle)
+    }
+
     /// Whether a constant without a name is written.
     pub(crate) fn writes(&self, module: &Module, constant: Handle<Constant>) -> bool
         requires globals { MarksGlobals «module».now self.now }

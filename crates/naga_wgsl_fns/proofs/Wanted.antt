@@ -459,13 +459,13 @@ module _ (t : FunctionText) (can : CanWrite t) where
   pub matrix_load_formed : (h : ℕ) (e : Expression) (columns rows : CooperativeSize)
       (role : CooperativeRole) (place : CooperativeData) → slice_get f.expressions h ≡ Some e →
       IsInText t h → e ≡ expression.CooperativeLoad columns rows role place →
-      expression_is_written m.types es (expression.CooperativeLoad columns rows role place) ≡ true
+      expression_is_written m es (expression.CooperativeLoad columns rows role place) ≡ true
   matrix_load_formed h e columns rows role place here within is =
-      ap (expression_is_written m.types es) (sym is) ∙ expression_formed h e here within
+      ap (expression_is_written m es) (sym is) ∙ expression_formed h e here within
 
   pub matrix_loaded : (columns rows : CooperativeSize) (role : CooperativeRole)
       (place : CooperativeData) →
-      expression_is_written m.types es (expression.CooperativeLoad columns rows role place) ≡ true →
+      expression_is_written m es (expression.CooperativeLoad columns rows role place) ≡ true →
       LoadedMatrix m (around t) columns rows role place.pointer
   matrix_loaded columns rows role place may = loaded_matrix m info es columns rows role place may
 
@@ -481,7 +481,7 @@ module _ (t : FunctionText) (can : CanWrite t) where
   pub no_other_expression : (h : ℕ) (e : Expression) → slice_get f.expressions h ≡ Some e → IsInText t h → IsNoOther e → ⊥
   no_other_expression h e here within none = by e (expression_formed h e here within) none
     where
-      by : (e : Expression) → IsTrue (expression_is_written m.types es e) → IsNoOther e → ⊥
+      by : (e : Expression) → IsTrue (expression_is_written m es e) → IsNoOther e → ⊥
       by (expression.Literal v) is none = none.literal v refl
       by (expression.Constant c) is none = none.constant c refl
       by (expression.ZeroValue t) is none = none.zero_value t refl

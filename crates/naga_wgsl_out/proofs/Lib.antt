@@ -1,3 +1,4 @@
+pub mod Constants
 pub mod Scopes
 pub mod ToldNames
 pub mod Functions

@@ -63,7 +63,10 @@ use Rattle.naga_wgsl_out.specs.Refusals.{IsOfPlan, IsPlanRefusal, IsRefusal, Ite
 use Rattle.naga_wgsl_out.specs.Refusals.{HasFormlessIn, NamesConversion, NamesExpression}
 use Rattle.naga_wgsl_out.specs.Refusals.{NamesFormlessType, NamesLacking, NamesType}
 use Rattle.naga_wgsl_out.specs.Refusals.{NamesFormless, NamesLiteral, NamesMatrix, converted}
-use Rattle.naga_wgsl_out.specs.Refusals.{pointed_scalar}
+use Rattle.naga_wgsl_out.specs.Refusals.{NamesConstantsOf, NamesGlobal, OfConstant, OfLiteral}
+use Rattle.naga_wgsl_out.specs.Refusals.{OfOperand, OfOperation, OfType, pointed_scalar}
+use Rattle.naga_ir.specs.declared.expression.Expression.TheVariants.{Constant}
+use Rattle.naga_ir.specs.declared.module.Constant as constant
 use Rattle.naga_ir.specs.declared.expression.Expression.TheVariants.{CooperativeLoad}
 use Rattle.naga_ir.specs.declared.types.Scalar.{Scalar}
 use Rattle.naga_wgsl_out.specs.Refusals.{TellsOfFunction, TellsOfModule, TellsPlanError}
@@ -180,17 +183,17 @@ all_planned_formed explicit m info planned g f known at is =
 module _ (m : Module) (info : ModuleInfo) (i : ℕ) (error : Error)
     (n : NamesFormless m info i error) where
   named : (x : Expression) × (slice_get n.function.expressions n.expression ≡ Some x)
-      × IsFalse (expression_has_form m.types n.known n.function.expressions x)
-      × NamesExpression m.types n.known n.function.expressions x error
+      × IsFalse (expression_has_form m n.known n.function.expressions x)
+      × NamesExpression m n.known n.function.expressions x error
   named = by (slice_get n.function.expressions n.expression) refl n.named
     where
       by : (o : Option Expression) → slice_get n.function.expressions n.expression ≡ o →
           IsSomeAnd o
-          (λ e. IsFalse (expression_has_form m.types n.known n.function.expressions e)
-          × NamesExpression m.types n.known n.function.expressions e error) →
+          (λ e. IsFalse (expression_has_form m n.known n.function.expressions e)
+          × NamesExpression m n.known n.function.expressions e error) →
           (x : Expression) × (slice_get n.function.expressions n.expression ≡ Some x)
-          × IsFalse (expression_has_form m.types n.known n.function.expressions x)
-          × NamesExpression m.types n.known n.function.expressions x error
+          × IsFalse (expression_has_form m n.known n.function.expressions x)
+          × NamesExpression m n.known n.function.expressions x error
       by None at is = absurd is
       by (Some x) at is = (x, at, is.0, is.1)
 
@@ -202,7 +205,7 @@ module _ (m : Module) (info : ModuleInfo) (i : ℕ) (error : Error)
 
   expression_told : TellsOfModule error → TellsOfFunction m error
   expression_told tells =
-      inr (inl (tells, inl (m.types, n.known, n.function.expressions, named.0, named.3)))
+      inr (inl (tells, inl (m, n.known, n.function.expressions, named.0, named.3)))
 
 -- so does a type that is spelled
 module _ (explicit : Bool) (m : Module) (info : ModuleInfo) (i : ℕ) (error : Error) where
@@ -258,47 +261,62 @@ no_type_sink types r reason named = by (lacking_scalar types r) named
     by (Some s) named = named
     by None named = named
 
+-- nor one that names a literal, or one of the module's own expressions
+no_literal_sink : (value : LiteralValue) (reason : SinkError) → NamesLiteral value (FmtError reason) → ⊥
+no_literal_sink (literal.F64 bits) reason named = named
+no_literal_sink (literal.F32 bits) reason named = named
+no_literal_sink (literal.F16 bits) reason named = named
+no_literal_sink (literal.AbstractInt value) reason named = named
+no_literal_sink (literal.AbstractFloat bits) reason named = named
+no_literal_sink _ reason named = named
+
+no_global_sink : (m : Module) (reason : SinkError) (h : ℕ) → NamesGlobal m (FmtError reason) h → ⊥
+no_global_sink m reason h (OfLiteral _ value at formless named) = no_literal_sink value reason named
+no_global_sink m reason h (OfType _ ty e at is formless named) =
+    no_type_sink m.types (Handle ty) reason named
+no_global_sink m reason h (OfOperation _ e at is named) = named
+no_global_sink m reason h (OfOperand _ x e at among inside) = no_global_sink m reason x inside
+no_global_sink m reason h (OfConstant _ c k at there inside) = no_global_sink m reason k.init inside
+
 -- nor is one that names an expression
-names_no_sink : (types : List Type_) (known : List ExpressionInfo) (es : List Expression)
-    (e : Expression) (reason : SinkError) → NamesExpression types known es e (FmtError reason) → ⊥
-names_no_sink types known es (Literal value) reason named = by value named
+names_no_sink : (m : Module) (known : List ExpressionInfo) (es : List Expression)
+    (e : Expression) (reason : SinkError) → NamesExpression m known es e (FmtError reason) → ⊥
+names_no_sink m known es (Literal value) reason named = no_literal_sink value reason named
+names_no_sink m known es (Constant handle) reason named = by (slice_get m.constants handle) named
   where
-    by : (value : LiteralValue) → NamesLiteral value (FmtError reason) → ⊥
-    by (literal.F64 bits) named = named
-    by (literal.F32 bits) named = named
-    by (literal.F16 bits) named = named
-    by (literal.AbstractInt value) named = named
-    by (literal.AbstractFloat bits) named = named
-    by _ named = named
-names_no_sink types known es (CooperativeLoad columns rows role place) reason named =
-    by (pointed_scalar types known place.pointer) named
+    by : (o : Option constant.Constant) →
+        IsSomeAnd o (λ k. NamesGlobal m (FmtError reason) k.init) → ⊥
+    by None named = named
+    by (Some k) named = no_global_sink m reason k.init named
+names_no_sink m known es (CooperativeLoad columns rows role place) reason named =
+    by (pointed_scalar m.types known place.pointer) named
   where
     by : (o : Option Scalar) → NamesMatrix o (FmtError reason) → ⊥
     by None named = named
     by (Some s) named = named
-names_no_sink types known es (Math fun arg arg1 arg2 arg3) reason named = named
-names_no_sink types known es (Relational fun argument) reason named = absurd cc
-names_no_sink types known es (As operand kind convert) reason named =
-    by (converted types known operand kind convert) named
+names_no_sink m known es (Math fun arg arg1 arg2 arg3) reason named = named
+names_no_sink m known es (Relational fun argument) reason named = absurd cc
+names_no_sink m known es (As operand kind convert) reason named =
+    by (converted m.types known operand kind convert) named
   where
     by : (o : Option TypeInner) → NamesConversion o (FmtError reason) → ⊥
     by None named = named
     by (Some new) named = named
-names_no_sink types known es
+names_no_sink m known es
     (ImageSample image sampler gather coordinate array_index offset level depth_ref clamp) reason
     (inl named) =
     named.1
-names_no_sink types known es
+names_no_sink m known es
     (ImageSample image sampler gather coordinate array_index offset level depth_ref clamp) reason
     (inr named) =
     named.1
-names_no_sink types known es (ImageLoad image coordinate array_index sample level) reason named =
+names_no_sink m known es (ImageLoad image coordinate array_index sample level) reason named =
     named
-names_no_sink types known es (ZeroValue ty) reason named = no_type_sink types (Handle ty) reason named
-names_no_sink types known es (Compose ty components) reason named =
-    no_type_sink types (Handle ty) reason named
-names_no_sink types known es (AccessIndex base index) reason named = named
-names_no_sink types known es _ reason named = named
+names_no_sink m known es (ZeroValue ty) reason named = no_type_sink m.types (Handle ty) reason named
+names_no_sink m known es (Compose ty components) reason named =
+    no_type_sink m.types (Handle ty) reason named
+names_no_sink m known es (AccessIndex base index) reason named = named
+names_no_sink m known es _ reason named = named
 
 module _ (explicit : Bool) (m : Module) (info : ModuleInfo) (accepted : IsTrue (is_accepted m info))
     (written : IsTrue (is_written_so_far m)) (i : ℕ) (f : ir_function.Function)
@@ -334,7 +352,7 @@ module _ (explicit : Bool) (m : Module) (info : ModuleInfo) (accepted : IsTrue (
 
   pub is_of_plan : (es : List ExpressionInfo) → slice_get info.functions.items i ≡ Some es →
       (namer : Names) (error : PlanError) → IsRefusalToPlanOf explicit m info i namer error →
-      IsOfPlan m.types f es error
+      IsOfPlan m f es error
   is_of_plan es here namer OutOfScope refusal = tt
   is_of_plan es here namer (WithoutForm h) refusal = (refusal f es stands here).1
   is_of_plan es here namer (TypeWithoutForm ty) refusal = tt
@@ -354,7 +372,7 @@ module _ (explicit : Bool) (m : Module) (info : ModuleInfo) (accepted : IsTrue (
   for_form : (told : Error) → HasFormlessIn explicit m info i told → IsPlanRefusal explicit m info i told
   for_form (FmtError reason) (inl n) =
       let at = named m info i (FmtError reason) n in
-      absurd (names_no_sink m.types n.known n.function.expressions at.0 reason at.3)
+      absurd (names_no_sink m n.known n.function.expressions at.0 reason at.3)
   for_form (FmtError reason) (inr n) = absurd (no_type_sink m.types n.type reason n.named)
   for_form (Memory e) n = tt
   for_form _ n = (tt, inr (inl n))
@@ -406,7 +424,7 @@ module _ (explicit : Bool) (m : Module) (info : ModuleInfo) (accepted : IsTrue (
 
   pub plan_refusal : (es : List ExpressionInfo) → slice_get info.functions.items i ≡ Some es →
       (namer : Names) → HasNamedBefore m i namer → (error : PlanError) (told : Error) →
-      IsRefusalToPlanOf explicit m info i namer error → TellsPlanError m.types f es error told →
+      IsRefusalToPlanOf explicit m info i namer error → TellsPlanError m f es error told →
       IsPlanRefusal explicit m info i told
   plan_refusal es at namer before (Unnamed e) told refusal is =
       for_names namer before e told (refusal f es stands at (labels_before m i) before.labels) is
@@ -441,3 +459,19 @@ module _ (explicit : Bool) (m : Module) (info : ModuleInfo) (accepted : IsTrue (
       by (Some k) here is = for_form told (inr (type_named es at told k.ty here.0 here.1 is))
   plan_refusal es at namer before (plan_error.Memory e) told refusal is =
       subst (IsPlanRefusal explicit m info i) (sym is) tt
+
+-- each constant that an expression of an accepted function names is there
+pub constants_there : (m : Module) (info : ModuleInfo) → IsTrue (is_accepted m info) → (i : ℕ)
+    (f : ir_function.Function) → slice_get m.functions i ≡ Some f → (es : List ExpressionInfo) →
+    slice_get info.functions.items i ≡ Some es → (h : ℕ) (e : Expression) →
+    slice_get f.expressions h ≡ Some e → NamesConstantsOf m e
+constants_there m info accepted i f stands es known h e at =
+    let numbered = function_there m info accepted i f stands in
+    let is = accepted_at m info accepted i f numbered.0 numbered.1 in
+    by e at (names_are_in_range m is.callees f is.ranges h e at)
+  where
+    by : (e : Expression) → slice_get f.expressions h ≡ Some e →
+        names_in_range m _ (length f.arguments.items) (length f.local_variables) e ≡ true →
+        NamesConstantsOf m e
+    by (Constant c) at range = ltb-true c (length m.constants) range
+    by _ at range = tt

@@ -2,10 +2,13 @@
 --
 -- Throughout, m is the module, e an error of memory, and explicit says whether `let`s tell types.
 use Rattle.std.specs.Prelude.{◌≡◌, ⊤, ℕ, ◌<◌, List, ◌⊎◌, codes, string_bytes, IsTrue, IsFalse, Result}
-use Rattle.std.specs.Prelude.{Ok, Err, IsSomeAnd, Option, Some, None, length, slice_get, Bool}
+use Rattle.std.specs.Prelude.{Ok, Err, IsSomeAnd, Option, Some, None, length, slice_get, Bool, true, false}
+use Rattle.std.specs.List.{IsAmong}
 use Rattle.std.specs.Option.{is_some, option_and_then}
 use Rattle.naga_ir.specs.declared.expression.Expression.{Expression}
+use Rattle.naga_ir.specs.Operands.{expression_operands}
 use Rattle.naga_ir.specs.declared.expression.Expression.TheVariants.{AccessIndex, As, Compose}
+use Rattle.naga_ir.specs.declared.expression.Expression.TheVariants.{Constant, Splat}
 use Rattle.naga_ir.specs.declared.expression.Expression.TheVariants.{Literal, Math}
 use Rattle.naga_ir.specs.declared.expression.Expression.TheVariants.{ImageSample, ImageLoad}
 use Rattle.naga_ir.specs.declared.expression.Expression.TheVariants.{Relational, ZeroValue}
@@ -26,9 +29,10 @@ use Rattle.naga_info.specs.declared.info.TypeResolution.{TypeResolution}
 use Rattle.naga_info.specs.declared.info.TypeResolution.TheVariants.{Handle}
 use Rattle.naga_ir.specs.declared.expression.Literal.{Literal as LiteralValue}
 use Rattle.naga_ir.specs.declared.expression.Literal.TheVariants as literal
+use Rattle.naga_ir.specs.declared.module.Constant as constant
 use Rattle.naga_ir.specs.declared.module.Function.{Function}
 use Rattle.naga_ir.specs.declared.module.Module.{Module}
-use Rattle.module_meaning.specs.Part.{expression_has_form, is_written_so_far}
+use Rattle.module_meaning.specs.Part.{expression_has_form, is_written_literal, is_written_so_far}
 use Rattle.module_meaning.specs.Sampling.{offset_is_written, sampling_is_written}
 use Rattle.module_meaning.specs.LackingScalars.{lacking_scalar}
 use Rattle.module_meaning.specs.Written.{AllWrittenHaveForms, IsSpelledIn, IsWrittenIn}
@@ -175,38 +179,83 @@ NamesSampling sampling offset error =
     (IsFalse sampling × IsUnimplemented (codes "sampling form") error)
     ⊎ (IsFalse offset × IsCustom (codes "operator in a constant") error)
 
--- an expression among others, with these types and what is known of theirs
-abbrev pub NamesExpression : List Type_ → List ExpressionInfo → List Expression → Expression → Error →
+-- What no constant without a name is made of, so far: overrides stand in no module that is written.
+abbrev pub is_operation : Expression → Bool
+is_operation (Literal value) = false
+is_operation (Constant handle) = false
+is_operation (ZeroValue ty) = false
+is_operation (Compose ty components) = false
+is_operation (Splat size value) = false
+is_operation e = true
+
+-- the type of which an expression makes a value
+abbrev pub made_type : Expression → Option ℕ
+made_type (ZeroValue ty) = Some ty
+made_type (Compose ty components) = Some ty
+made_type e = None
+
+-- One of the module's own expressions has no form, and what is told names why: it is a literal without
+-- a form, it makes a value of a type without one, it applies an operator, or so it is with one of its
+-- operands or with the initialiser of the constant that it names.
+pub data NamesGlobal (m : Module) (error : Error) : (handle : ℕ) → Type 0 where
+  OfLiteral : (h : ℕ) (value : LiteralValue) →
+      slice_get m.global_expressions h ≡ Some (Literal value) →
+      IsFalse (is_written_literal value) → NamesLiteral value error → NamesGlobal m error h
+  OfType : (h ty : ℕ) (e : Expression) → slice_get m.global_expressions h ≡ Some e →
+      made_type e ≡ Some ty → IsFalse (has_form m.types (Handle ty)) →
+      NamesType m.types (Handle ty) error → NamesGlobal m error h
+  OfOperation : (h : ℕ) (e : Expression) → slice_get m.global_expressions h ≡ Some e →
+      IsTrue (is_operation e) → IsCustom (codes "operator in a constant") error →
+      NamesGlobal m error h
+  OfOperand : (h x : ℕ) (e : Expression) → slice_get m.global_expressions h ≡ Some e →
+      IsAmong (expression_operands e) x → NamesGlobal m error x → NamesGlobal m error h
+  OfConstant : (h c : ℕ) (k : constant.Constant) →
+      slice_get m.global_expressions h ≡ Some (Constant c) → slice_get m.constants c ≡ Some k →
+      NamesGlobal m error k.init → NamesGlobal m error h
+
+-- a constant that an expression names is there
+abbrev pub NamesConstantsOf : Module → Expression → Type 0
+NamesConstantsOf m (Constant handle) = handle < length m.constants
+NamesConstantsOf m e = ⊤
+
+-- so it is with the initialiser of a constant
+abbrev pub NamesConstant : Module → (handle : ℕ) → Error → Type 0
+NamesConstant m h error =
+    IsSomeAnd (slice_get m.constants h) (λ k. NamesGlobal m error k.init)
+
+-- an expression among others of a module, with what is known of their types
+abbrev pub NamesExpression : Module → List ExpressionInfo → List Expression → Expression → Error →
     Type 0
-NamesExpression types known es (Literal value) error = NamesLiteral value error
-NamesExpression types known es (Math fun arg arg1 arg2 arg3) error = NamesFunction error
-NamesExpression types known es (Relational fun argument) error =
+NamesExpression m known es (Literal value) error = NamesLiteral value error
+NamesExpression m known es (Constant handle) error = NamesConstant m handle error
+NamesExpression m known es (Math fun arg arg1 arg2 arg3) error = NamesFunction error
+NamesExpression m known es (Relational fun argument) error =
     error ≡ UnsupportedRelationalFunction fun
-NamesExpression types known es (As operand kind convert) error =
-    NamesConversion (converted types known operand kind convert) error
-NamesExpression types known es
+NamesExpression m known es (As operand kind convert) error =
+    NamesConversion (converted m.types known operand kind convert) error
+NamesExpression m known es
     (ImageSample image sampler gather coordinate array_index offset level depth_ref clamp) error =
     NamesSampling (sampling_is_written gather level (is_some depth_ref) clamp)
     (offset_is_written es offset) error
-NamesExpression types known es (ImageLoad image coordinate array_index sample level) error =
+NamesExpression m known es (ImageLoad image coordinate array_index sample level) error =
     IsCustom (codes "image load with sample and level") error
-NamesExpression types known es (ZeroValue ty) error = NamesType types (Handle ty) error
-NamesExpression types known es (Compose ty components) error = NamesType types (Handle ty) error
-NamesExpression types known es (AccessIndex base index) error =
+NamesExpression m known es (ZeroValue ty) error = NamesType m.types (Handle ty) error
+NamesExpression m known es (Compose ty components) error = NamesType m.types (Handle ty) error
+NamesExpression m known es (AccessIndex base index) error =
     IsCustom (codes "cannot index") error
-NamesExpression types known es (CooperativeLoad columns rows role place) error =
-    NamesMatrix (pointed_scalar types known place.pointer) error
-NamesExpression types known es (CallResult function) error = NamesResult error
-NamesExpression types known es (AtomicResult ty comparison) error = NamesResult error
-NamesExpression types known es (WorkGroupUniformLoadResult ty) error = NamesResult error
-NamesExpression types known es (SubgroupOperationResult ty) error = NamesResult error
-NamesExpression types known es SubgroupBallotResult error = NamesResult error
-NamesExpression types known es RayQueryProceedResult error = NamesRayQuery error
-NamesExpression types known es (RayQueryGetIntersection query committed) error =
+NamesExpression m known es (CooperativeLoad columns rows role place) error =
+    NamesMatrix (pointed_scalar m.types known place.pointer) error
+NamesExpression m known es (CallResult function) error = NamesResult error
+NamesExpression m known es (AtomicResult ty comparison) error = NamesResult error
+NamesExpression m known es (WorkGroupUniformLoadResult ty) error = NamesResult error
+NamesExpression m known es (SubgroupOperationResult ty) error = NamesResult error
+NamesExpression m known es SubgroupBallotResult error = NamesResult error
+NamesExpression m known es RayQueryProceedResult error = NamesRayQuery error
+NamesExpression m known es (RayQueryGetIntersection query committed) error =
     NamesRayQuery error
-NamesExpression types known es (RayQueryVertexPositions query committed) error =
+NamesExpression m known es (RayQueryVertexPositions query committed) error =
     NamesRayQuery error
-NamesExpression types known es _ error = ⊥
+NamesExpression m known es _ error = ⊥
 
 -- an expression is written in the function with this handle that has no form, and is named
 pub record NamesFormless (m : Module) (info : ModuleInfo) (handle : ℕ) (error : Error) : Type 0 where
@@ -217,8 +266,8 @@ pub record NamesFormless (m : Module) (info : ModuleInfo) (handle : ℕ) (error 
   pub expression : ℕ
   pub written : IsWrittenIn m info function known expression
   pub named : IsSomeAnd (slice_get function.expressions expression) (λ e.
-      IsFalse (expression_has_form m.types known function.expressions e)
-      × NamesExpression m.types known function.expressions e error)
+      IsFalse (expression_has_form m known function.expressions e)
+      × NamesExpression m known function.expressions e error)
 
 -- or a type without a form is spelled beside its expressions, and is named
 pub record NamesFormlessType (explicit : Bool) (m : Module) (info : ModuleInfo) (handle : ℕ)
@@ -275,8 +324,8 @@ TellsOfScope _ = ⊥
 -- the error names some expression or some type without a form, and is not want of memory
 abbrev pub TellsOfForm : Error → Type 0
 TellsOfForm error =
-    TellsOfModule error × (((types : List Type_) × (known : List ExpressionInfo)
-    × (es : List Expression) × (e : Expression) × NamesExpression types known es e error)
+    TellsOfModule error × (((m : Module) × (known : List ExpressionInfo)
+    × (es : List Expression) × (e : Expression) × NamesExpression m known es e error)
     ⊎ ((types : List Type_) × (r : TypeResolution) × NamesType types r error))
 
 -- the error tells that a name can't be told
@@ -311,23 +360,23 @@ IsPlanRefusal explicit m info handle error =
 
 -- the handle that an error of a plan tells of has an expression without a form, or one of which a
 -- type is known; and what is told is the name of that, or what else the error says
-abbrev pub IsOfPlan : List Type_ → Function → List ExpressionInfo → PlanError → Type 0
-IsOfPlan types f known (WithoutForm handle) =
+abbrev pub IsOfPlan : Module → Function → List ExpressionInfo → PlanError → Type 0
+IsOfPlan m f known (WithoutForm handle) =
     IsSomeAnd (slice_get f.expressions handle) (λ e.
-    IsFalse (expression_has_form types known f.expressions e))
-IsOfPlan types f known (LetWithoutForm handle) = handle < length known
-IsOfPlan types f known error = ⊤
+    IsFalse (expression_has_form m known f.expressions e))
+IsOfPlan m f known (LetWithoutForm handle) = handle < length known
+IsOfPlan m f known error = ⊤
 
-abbrev pub TellsPlanError : List Type_ → Function → List ExpressionInfo → PlanError → Error → Type 0
-TellsPlanError types f known OutOfScope told = IsCustom (codes "operand out of scope") told
-TellsPlanError types f known (WithoutForm handle) told =
+abbrev pub TellsPlanError : Module → Function → List ExpressionInfo → PlanError → Error → Type 0
+TellsPlanError m f known OutOfScope told = IsCustom (codes "operand out of scope") told
+TellsPlanError m f known (WithoutForm handle) told =
     IsSomeAnd (slice_get f.expressions handle) (λ e.
-    NamesExpression types known f.expressions e told)
-TellsPlanError types f known (TypeWithoutForm ty) told = NamesType types (Handle ty) told
-TellsPlanError types f known (LetWithoutForm handle) told =
-    IsSomeAnd (slice_get known handle) (λ k. NamesType types k.ty told)
-TellsPlanError types f known (Unnamed e) told = IsErrorOfNames e told
-TellsPlanError types f known (plan_error.Memory e) told = told ≡ Memory e
+    NamesExpression m known f.expressions e told)
+TellsPlanError m f known (TypeWithoutForm ty) told = NamesType m.types (Handle ty) told
+TellsPlanError m f known (LetWithoutForm handle) told =
+    IsSomeAnd (slice_get known handle) (λ k. NamesType m.types k.ty told)
+TellsPlanError m f known (Unnamed e) told = IsErrorOfNames e told
+TellsPlanError m f known (plan_error.Memory e) told = told ≡ Memory e
 
 -- no reason stands in the module
 pub record IsWritable (explicit : Bool) (m : Module) (info : ModuleInfo) : Type 0 where

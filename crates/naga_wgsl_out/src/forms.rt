@@ -8,18 +8,20 @@ ghost use Rattle.module_meaning.specs.Conversions.{conversion_target};
 ghost use Rattle.module_meaning.specs.Sampling.{sampling_is_written};
 ghost use Rattle.naga_ir.specs.declared.expression.Expression.{Expression};
 ghost use Rattle.naga_scope.specs.Forms.{AreKnownIn};
+ghost use Rattle.naga_scope.specs.Marks.{GlobalsStandInOrder, MarksGlobals};
 ghost use Rattle.naga_wgsl_out.specs.Refusals.{NamesConversion, NamesExpression};
 ghost use Rattle.naga_wgsl_out.specs.Refusals.{NamesFunction, NamesLiteral, NamesSampling};
 ghost use Rattle.naga_wgsl_out.specs.Refusals.{NamesMatrix, NamesScalar, NamesType, converted};
-ghost use Rattle.naga_wgsl_out.specs.Refusals.{pointed_scalar};
+ghost use Rattle.naga_wgsl_out.specs.Refusals.{NamesConstantsOf, pointed_scalar};
 
+use crate::constants::constant_without_form;
 use crate::lacking::lacking_scalar;
 use naga_info::{FunctionInfo, TypeResolution};
 use naga_ir::{
-    Expression, Handle, Literal, MathFunction, SampleLevel, Scalar, ScalarKind, SwizzleComponent,
+    Expression, Handle, Literal, MathFunction, Module, SampleLevel, Scalar, ScalarKind, SwizzleComponent,
     Type_, TypeInner, UniqueArena,
 };
-use naga_scope::{converted_scalar, sampling_has_form, scalar_behind};
+use naga_scope::{GlobalExpressions, converted_scalar, sampling_has_form, scalar_behind};
 use naga_wgsl_fns::Error;
 use naga_wgsl_fns::error::{custom, unimplemented};
 use std::alloc::Global;
@@ -29,19 +31,27 @@ use wgsl_words::TryToWgsl;
 /// memory where there is none for its text.
 pub(crate) fn without_form(
     alloc: Global,
-    types: &UniqueArena<Type_>,
+    module: &Module,
+    globals: &GlobalExpressions,
     info: &FunctionInfo,
     expression: &Expression,
 ) -> Error
     requires part { IsTrue (expression_is_of_part expression.now) }
-    requires known { AreKnownIn types.now info.now }
+    requires known { AreKnownIn «module».now.types info.now }
+    requires ordered { GlobalsStandInOrder «module».now }
+    requires globals { MarksGlobals «module».now globals.now }
+    requires named { NamesConstantsOf «module».now expression.now }
     requires formless { (es : List Expression) ×
-        IsFalse (expression_has_form types.now info.now es expression.now) }
+        IsFalse (expression_has_form «module».now info.now es expression.now) }
     ensures { (es : List Expression) →
-        IsFalse (expression_has_form types.now info.now es expression.now) →
-        NamesExpression types.now info.now es expression.now result }
+        IsFalse (expression_has_form «module».now info.now es expression.now) →
+        NamesExpression «module».now info.now es expression.now result }
 {
+    let types = &module.types;
     match expression {
+        Expression::Constant(constant) => {
+            constant_without_form(alloc, module, globals, *constant)
+        }
         Expression::Literal(literal) => literal_without_form(alloc, literal),
         Expression::Math { fun, .. } => function_without_word(alloc, *fun),
         Expression::Relational { fun, .. } => Error::UnsupportedRelationalFunction(*fun),
@@ -185,7 +195,7 @@ fn sampling_without_form(
     }
 }
 
-fn literal_without_form(alloc: Global, literal: &Literal) -> Error
+pub(crate) fn literal_without_form(alloc: Global, literal: &Literal) -> Error
     requires formless { IsFalse (is_written_literal literal.now) }
     ensures { NamesLiteral literal.now result }
 {

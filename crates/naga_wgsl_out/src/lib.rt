@@ -7,6 +7,7 @@
 #![tactic(auto)]
 
 pub mod back;
+mod constants;
 pub mod diagnostics;
 mod forms;
 pub mod info;

@@ -11,7 +11,9 @@ ghost use Rattle.naga_names.specs.Refusal.{IsResetRefusal};
 ghost use Rattle.module_meaning.specs.Names.{HasNamesOf, wgsl_names};
 ghost use Rattle.module_meaning.specs.Resolution.{ResolvesAs};
 ghost use Rattle.module_meaning.specs.Bindings.{BindsAs};
+ghost use Rattle.naga_ir.specs.declared.expression.Expression.{Expression};
 ghost use Rattle.naga_scope.specs.Forms.{AreKnownIn};
+ghost use Rattle.naga_scope.specs.Marks.{GlobalsStandInOrder, MarksGlobals};
 ghost use Rattle.naga_scope.specs.Plans.{AreGivenNames, IsPlanOf};
 ghost use Rattle.naga_wgsl_fns.specs.Appends.{Appends};
 ghost use Rattle.naga_wgsl_fns.specs.FunctionText.{tells_types};
@@ -20,7 +22,7 @@ ghost use Rattle.naga_wgsl_out.specs.Headline.{EachReading, FaithfulWriting, ans
 ghost use Rattle.naga_wgsl_out.specs.Refusals.{ComesBeforeText, HasAllNames, HasNamedBefore};
 ghost use Rattle.naga_wgsl_out.specs.Refusals.{IsErrorOfNames};
 ghost use Rattle.naga_wgsl_out.specs.Refusals.{IsNamesRefusal, IsPlanRefusal, IsOfPlan};
-ghost use Rattle.naga_wgsl_out.specs.Refusals.{TellsPlanError};
+ghost use Rattle.naga_wgsl_out.specs.Refusals.{NamesConstantsOf, TellsPlanError};
 ghost use Rattle.naga_wgsl_out.specs.Refusals.{TellsOfModule, TellsOfFunction};
 ghost use Rattle.naga_wgsl_out.specs.Writing.{IsNamedPlan, WritesFunctions, Writing};
 ghost use Rattle.naga_wgsl_out.specs.Writing.{WroteFunctionsBefore};
@@ -34,7 +36,7 @@ use naga_ir::{Expression, Function, Handle, Module, Place, Type_, UniqueArena};
 use naga_names::by_bytes::{builtin_words, reserved_words};
 use naga_names::keyword_set::CaseInsensitiveKeywordSet;
 use naga_names::namer::{NameKey, Namer, NamerError};
-use naga_scope::{Plan, PlanError};
+use naga_scope::{GlobalExpressions, Plan, PlanError};
 use naga_wgsl_fns::error::{custom, not_yet_written};
 use naga_wgsl_fns::{Error, put, tells_types, write_function};
 use naga_words::TextSink;
@@ -157,11 +159,13 @@ impl<W: TextSink> Writer<W> {
         if !is_written_so_far(module) {
             return Err(not_yet_written(self.alloc));
         }
+        let globals = GlobalExpressions::of(self.alloc, module)?;
         let (names, mut namer) = names_of(self.alloc, module)?;
         write_functions(
             self.alloc,
             module,
             info,
+            &globals,
             &names,
             &mut namer,
             self.flags,
@@ -177,6 +181,7 @@ fn write_functions<W: TextSink>(
     alloc: Global,
     module: &Module,
     info: &ModuleInfo,
+    globals: &GlobalExpressions,
     names: &HashMap<NameKey, String>,
     namer: &mut Namer,
     flags: WriterFlags,
@@ -184,6 +189,7 @@ fn write_functions<W: TextSink>(
 ) -> Result<(), Error>
     requires accepted { IsTrue (is_accepted «module».now info.now) }
     requires written { IsTrue (is_written_so_far «module».now) }
+    requires globals { MarksGlobals «module».now globals.now }
     requires names { HasNamesOf «module».now (names_in names.now) }
     requires namer { HasNamedBefore «module».now 0 namer.old }
     ensures { WritesFunctions «module».now info.now flags result (W.text out.old)
@@ -191,7 +197,7 @@ fn write_functions<W: TextSink>(
 {
     for index in 0..module.functions.len() {
         let handle = Place::from_index(index);
-        let plan = plan_of(alloc, module, info, handle, flags, namer)?;
+        let plan = plan_of(alloc, module, info, handle, globals, flags, namer)?;
         write_function_line(alloc, module, info, names, flags, handle, plan, out)?;
     }
     Ok(())
@@ -203,22 +209,25 @@ fn plan_of(
     module: &Module,
     info: &ModuleInfo,
     handle: Handle<Function>,
+    globals: &GlobalExpressions,
     flags: WriterFlags,
     namer: &mut Namer,
 ) -> Result<Plan, Error>
     requires accepted { IsTrue (is_accepted «module».now info.now) }
     requires written { IsTrue (is_written_so_far «module».now) }
     requires handle { handle < length «module».now.functions }
+    requires globals { MarksGlobals «module».now globals.now }
     requires namer { HasNamedBefore «module».now handle namer.old }
     ensures ok { IfOk result
         (IsNamedPlan (tells_types flags) «module».now info.now handle namer.new) }
     ensures err { IfErr result (IsPlanRefusal (tells_types flags) «module».now info.now handle) }
 {
-    match Plan::of(alloc, module, info, handle, tells_types(flags), namer) {
+    match Plan::of(alloc, module, info, handle, globals, tells_types(flags), namer) {
         Ok(plan) => Ok(plan),
         Err(error) => Err(error_of_plan(
             alloc,
-            &module.types,
+            module,
+            globals,
             &module.functions[handle],
             &info[handle],
             error,
@@ -229,26 +238,31 @@ fn plan_of(
 /// What is told of this function where there is no plan of it.
 fn error_of_plan(
     alloc: Global,
-    types: &UniqueArena<Type_>,
+    module: &Module,
+    globals: &GlobalExpressions,
     function: &Function,
     info: &FunctionInfo,
     error: PlanError,
 ) -> Error
     requires written { IsTrue (function_is_written function.now) }
-    requires known { AreKnownIn types.now info.now }
-    requires formless { IsOfPlan types.now function.now info.now error }
-    ensures { TellsPlanError types.now function.now info.now error result }
+    requires known { AreKnownIn «module».now.types info.now }
+    requires ordered { GlobalsStandInOrder «module».now }
+    requires globals { MarksGlobals «module».now globals.now }
+    requires named { (h : ℕ) (e : Expression) → slice_get function.now.expressions h ≡ Some e →
+        NamesConstantsOf «module».now e }
+    requires formless { IsOfPlan «module».now function.now info.now error }
+    ensures { TellsPlanError «module».now function.now info.now error result }
 {
     match error {
         PlanError::OutOfScope => custom(alloc, "operand out of scope"),
         PlanError::WithoutForm(handle) => {
-            without_form(alloc, types, info, &function.expressions[handle])
+            without_form(alloc, module, globals, info, &function.expressions[handle])
         }
         PlanError::TypeWithoutForm(ty) => {
-            type_without_form(alloc, types, &TypeResolution::Handle(ty))
+            type_without_form(alloc, &module.types, &TypeResolution::Handle(ty))
         }
         PlanError::LetWithoutForm(handle) => {
-            type_without_form(alloc, types, &info[handle].ty)
+            type_without_form(alloc, &module.types, &info[handle].ty)
         }
         PlanError::Unnamed(error) => names_error(alloc, error),
         PlanError::Memory(error) => Error::Memory(error),

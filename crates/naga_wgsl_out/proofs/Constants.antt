@@ -1,0 +1,135 @@
+-- What is told of a constant without a name that has no form.
+use Rattle.std.proofs.Common.{◌≡◌, ℕ, zero, suc, ◌<◌, ◌&&◌, Bool, true, false, List, [], ◌∷◌, Option, Some, None}
+use Rattle.std.proofs.Common.{refl, sym, ap, ap₂, ◌∙◌, arith, length, map, slice_get, subst}
+use Rattle.std.specs.Prelude.{IsSomeAnd, not}
+use Rattle.std.specs.List.{IsAmong, find, list_all}
+use Rattle.std.specs.Option.{option_map_or}
+use Rattle.module_meaning.proofs.Stepwise.{by_those_before}
+use Rattle.module_meaning.specs.AlikeTypes.{has_form}
+use Rattle.module_meaning.specs.Part.{constant_is_written, global_is_written, global_is_written_over}
+use Rattle.module_meaning.specs.Part.{global_is_written_within, is_written_literal}
+use Rattle.naga_info.specs.declared.info.TypeResolution.TheVariants.{Handle}
+use Rattle.naga_ir.specs.Operands.{expression_operands}
+use Rattle.naga_ir.specs.declared.expression.Expression.{Expression}
+use Rattle.naga_ir.specs.declared.expression.Expression.TheVariants as expression
+use Rattle.naga_ir.specs.declared.module.Constant.{Constant}
+use Rattle.naga_ir.specs.declared.module.Module.{Module}
+use Rattle.naga_scope.proofs.SpelledTypes.{among_there, found_passes, none_passes, there_among}
+use Rattle.naga_scope.proofs.WrittenConstants.{global_same}
+use Rattle.naga_scope.specs.Marks.{GlobalsStandInOrder, MarksGlobals, is_marked}
+use Rattle.naga_wgsl_fns.specs.declared.error.Error.{Error}
+use Rattle.shader_runs.specs.Premises.{AllBelow}
+use Rattle.naga_wgsl_out.specs.Refusals.{NamesConstant, NamesGlobal}
+
+pub as_it_is : (xs : List ℕ) → map (λ (x : ℕ). x) xs ≡ xs
+as_it_is [] = refl
+as_it_is (x ∷ xs) = ap (λ ys. x ∷ ys) (as_it_is xs)
+
+-- ---- marks
+module _ (m : Module) (marks : List Bool) (are : MarksGlobals m marks) where
+  abbrev unwritten : ℕ → Bool
+  unwritten h = not (is_marked marks h)
+
+  negated : (b : Bool) → not b ≡ false → b ≡ true
+  negated true is = refl
+  negated false is = absurd cc
+
+  affirmed : (b : Bool) → not b ≡ true → b ≡ false
+  affirmed true is = absurd cc
+  affirmed false is = refl
+
+  -- where none is found that is not written, all are
+  all_written : (xs : List ℕ) →
+      ((i x : ℕ) → slice_get xs i ≡ Some x → unwritten x ≡ false) →
+      list_all (global_is_written m) xs ≡ true
+  all_written [] each = refl
+  all_written (x ∷ xs) each =
+      ap₂ (λ a b. a && b) (sym (are x) ∙ negated (is_marked marks x) (each 0 x refl))
+      (all_written xs (λ i y at. each (suc i) y at))
+
+  pub none_unwritten : (xs : List ℕ) → None ≡ find unwritten xs →
+      list_all (global_is_written m) xs ≡ true
+  none_unwritten xs is = all_written xs (none_passes unwritten xs (sym is))
+
+  -- the one that is found is among these, and is not written
+  pub one_unwritten : (xs : List ℕ) (x : ℕ) → Some x ≡ find unwritten xs →
+      IsAmong xs x × (global_is_written m x ≡ false)
+  one_unwritten xs x is =
+      let found = found_passes unwritten xs x (sym is) in (
+        among_there xs found.0 x found.1,
+        sym (are x) ∙ affirmed (is_marked marks x) found.2,
+      )
+
+-- ---- what has no form
+module _ (m : Module) (ordered : GlobalsStandInOrder m) (h : ℕ)
+    (formless : global_is_written m h ≡ false) where
+  -- it is not written by what stands before it
+  fails_over : (e : Expression) → slice_get m.global_expressions h ≡ Some e →
+      global_is_written_over m (global_is_written m) e ≡ false
+  fails_over e at =
+      by_those_before false m.global_expressions (global_is_written_over m)
+      (λ k h. global_is_written_within k m h) (λ k h. refl) (global_same m ordered) h e at
+      (global_is_written m) (λ x lt. refl)
+      ∙ formless
+
+  pub literal_fails : (e : Expression) (value : _) → slice_get m.global_expressions h ≡ Some e →
+      e ≡ expression.Literal value → is_written_literal value ≡ false
+  literal_fails e value at same = fails_over (expression.Literal value) (at ∙ ap Some same)
+
+  pub zero_fails : (e : Expression) (ty : ℕ) → slice_get m.global_expressions h ≡ Some e →
+      e ≡ expression.ZeroValue ty → has_form m.types (Handle ty) ≡ false
+  zero_fails e ty at same = fails_over (expression.ZeroValue ty) (at ∙ ap Some same)
+
+  pub composed_fails : (e : Expression) (ty : ℕ) (parts : _) →
+      slice_get m.global_expressions h ≡ Some e → e ≡ expression.Compose ty parts →
+      list_all (global_is_written m) parts.items ≡ true → has_form m.types (Handle ty) ≡ false
+  composed_fails e ty parts at same all =
+      by (has_form m.types (Handle ty))
+      (ap (λ b. has_form m.types (Handle ty) && b) (sym all)
+      ∙ fails_over (expression.Compose ty parts) (at ∙ ap Some same))
+    where
+      by : (b : Bool) → (b && true) ≡ false → b ≡ false
+      by true is = is
+      by false is = refl
+
+  pub splat_fails : (e : Expression) (size : _) (value : ℕ) →
+      slice_get m.global_expressions h ≡ Some e → e ≡ expression.Splat size value →
+      global_is_written m value ≡ false
+  splat_fails e size value at same =
+      fails_over (expression.Splat size value) (at ∙ ap Some same)
+
+  -- the initialiser of the constant that it names stands before it, and is not written
+  pub constant_fails : (e : Expression) (c : ℕ) (k : Constant) →
+      slice_get m.global_expressions h ≡ Some e → e ≡ expression.Constant c →
+      slice_get m.constants c ≡ Some k → (k.init < h) × (global_is_written m k.init ≡ false)
+  constant_fails e c k at same there =
+      let here = at ∙ ap Some same in (
+        ordered.initialisers h c k here there,
+        sym (ap (λ o. option_map_or (λ k. global_is_written m k.init) o false) there)
+            ∙ fails_over (expression.Constant c) here,
+      )
+
+  -- an operand stands before it
+  pub operand_before : (e : Expression) (x : ℕ) → slice_get m.global_expressions h ≡ Some e →
+      IsAmong (expression_operands e) x → x < h
+  operand_before e x at among = by (expression_operands e) (ordered.operands h e at) among
+    where
+      by : (xs : List ℕ) → AllBelow h xs → IsAmong xs x → x < h
+      by xs below among = let place = there_among xs x among in inside xs below place.0 place.1
+        where
+          inside : (xs : List ℕ) → AllBelow h xs → (i : ℕ) → slice_get xs i ≡ Some x → x < h
+          inside [] below i at = absurd cc
+          inside (y ∷ ys) below zero at =
+              let same : y ≡ x = cc in subst (λ z. z < h) same below.0
+          inside (y ∷ ys) below (suc i) at = inside ys below.1 i at
+
+-- ---- constants
+pub constant_named : (m : Module) (error : Error) (c : ℕ) (k : Constant) →
+    slice_get m.constants c ≡ Some k → NamesGlobal m error k.init → NamesConstant m c error
+constant_named m error c k there is =
+    subst (λ o. IsSomeAnd o (λ k. NamesGlobal m error k.init)) (sym there) is
+
+pub initialiser_fails : (m : Module) (c : ℕ) (k : Constant) → slice_get m.constants c ≡ Some k →
+    constant_is_written m c ≡ false → global_is_written m k.init ≡ false
+initialiser_fails m c k there formless =
+    sym (ap (λ o. option_map_or (λ k. global_is_written m k.init) o false) there) ∙ formless

@@ -1,0 +1,79 @@
+//! The refusals of constants without names, by what has no form in their initialisers.
+
+ghost use Rattle.std.specs.Prelude.{◌≡◌, ◌<◌, IsFalse, length, not};
+ghost use Rattle.std.specs.List.{find};
+ghost use Rattle.module_meaning.specs.Part.{constant_is_written, global_is_written};
+ghost use Rattle.naga_scope.specs.Marks.{GlobalsStandInOrder, MarksGlobals, is_marked};
+ghost use Rattle.naga_wgsl_out.specs.Refusals.{NamesConstant, NamesGlobal};
+
+use crate::forms::{literal_without_form, type_without_form};
+use naga_info::TypeResolution;
+use naga_ir::{Constant, Expression, Handle, Module};
+use naga_scope::GlobalExpressions;
+use naga_wgsl_fns::Error;
+use naga_wgsl_fns::error::custom;
+use std::alloc::Global;
+
+/// The refusal that names a constant that has no form, by the first part of its initialiser that has
+/// none; want of memory where there is none for its text.
+pub(crate) fn constant_without_form(
+    alloc: Global,
+    module: &Module,
+    globals: &GlobalExpressions,
+    constant: Handle<Constant>,
+) -> Error
+    requires ordered { GlobalsStandInOrder «module».now }
+    requires globals { MarksGlobals «module».now globals.now }
+    requires there { constant < length «module».now.constants }
+    requires formless { IsFalse (constant_is_written «module».now constant) }
+    ensures { NamesConstant «module».now constant result }
+{
+    global_without_form(alloc, module, globals, module.constants[constant].init)
+}
+
+/// The refusal that names one of the module's own expressions.
+fn global_without_form(
+    alloc: Global,
+    module: &Module,
+    globals: &GlobalExpressions,
+    handle: Handle<Expression>,
+) -> Error
+    requires ordered { GlobalsStandInOrder «module».now }
+    requires globals { MarksGlobals «module».now globals.now }
+    requires there { handle < length «module».now.global_expressions }
+    requires formless { IsFalse (global_is_written «module».now handle) }
+    ensures { NamesGlobal «module».now result handle }
+{
+    match &module.global_expressions[handle] {
+        Expression::Literal(literal) => literal_without_form(alloc, literal),
+        Expression::Constant(constant) => {
+            global_without_form(alloc, module, globals, module.constants[*constant].init)
+        }
+        Expression::ZeroValue(ty) => {
+            type_without_form(alloc, &module.types, &TypeResolution::Handle(*ty))
+        }
+        Expression::Compose { ty, components } => {
+            match first_unwritten(globals, components.as_slice()) {
+                Some(component) => global_without_form(alloc, module, globals, component),
+                None => type_without_form(alloc, &module.types, &TypeResolution::Handle(*ty)),
+            }
+        }
+        Expression::Splat { value, .. } => global_without_form(alloc, module, globals, *value),
+        _ => custom(alloc, "operator in a constant"),
+    }
+}
+
+/// The first of these that is not written, if there is one.
+fn first_unwritten(
+    globals: &GlobalExpressions,
+    handles: &[Handle<Expression>],
+) -> Option<Handle<Expression>>
+    ensures { result ≡ find (λ h. not (is_marked globals.now h)) handles.now }
+{
+    for handle in handles {
+        if !globals.is_written(*handle) {
+            return Some(*handle);
+        }
+    }
+    None
+}
