@@ -81,7 +81,7 @@ impl FunctionText<'_> {
     )
         requires can { CanWrite self.now }
         requires handle { IsInText self.now handle }
-        requires formed { IsTrue (expression_is_written self.now.shader.now.types self.now.info.now
+        requires formed { IsTrue (expression_is_written self.now.shader.now self.now.info.now
             (CooperativeLoad columns rows role place)) }
         ensures { Writes W.text W.failures out.old out.new
             (made_text self.now scope.now.table (matrix_callee self.now columns rows role place)
@@ -103,7 +103,7 @@ impl FunctionText<'_> {
         out: &mut Output<'_, W>,
     )
         requires can { CanWrite self.now }
-        requires formed { IsTrue (expression_is_written self.now.shader.now.types self.now.info.now
+        requires formed { IsTrue (expression_is_written self.now.shader.now self.now.info.now
             (CooperativeLoad columns rows role place)) }
         ensures { Writes W.text W.failures out.old out.new
             (matrix_callee_text self.now columns rows role place) }
