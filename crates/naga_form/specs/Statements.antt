@@ -15,7 +15,8 @@ use Rattle.naga_ir.specs.StatementTree.{case}
 use Rattle.wgsl_text.specs.Expressions.{Expression, operands}
 use Rattle.wgsl_text.specs.Statements.{Label, DefaultLabel, SignedLabel, UnsignedLabel, Labels}
 use Rattle.wgsl_text.specs.Statements.{LastLabel, MoreLabels, Statement, Let, TypedLet, Assign}
-use Rattle.wgsl_text.specs.Statements.{CallStatement, Return, ReturnValue, Discard, Break, Continue, If, Loop}
+use Rattle.wgsl_text.specs.Statements.{CallStatement, Return, ReturnValue, Discard, Break}
+use Rattle.wgsl_text.specs.Statements.{Continue, If, Loop}
 use Rattle.wgsl_text.specs.Statements.{LoopBreakIf, Switch, Block, Statements, NoStatements, Then}
 use Rattle.wgsl_text.specs.Statements.{Cases, NoCases, Case}
 use Rattle.wgsl_text.specs.Types.{Named, TypeSpecifier}

@@ -151,8 +151,9 @@ fn is_asked_for(
 }
 
 /// Whether a `let` binds the expression with this handle where it is emitted: an operation on an
-/// image, a `Load`, a derivative or the load of a cooperative matrix with a use, or another operator, but no part at an index, with two,
-/// and whatever a front end named. It is for functions that are written so far.
+/// image, a `Load`, a derivative or the load of a cooperative matrix with a use, or another operator,
+/// but no part at an index, with two, and whatever a front end named. It is for functions that are
+/// written so far.
 pub fn binds(
     types: &UniqueArena<Type_>,
     function: &Function,

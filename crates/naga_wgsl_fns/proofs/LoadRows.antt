@@ -122,7 +122,7 @@ taking_row f word ty = refl
 pub own_matrix_load : (f : FunctionText) (table : List Standing) (handle : ℕ) (e : ir.Expression)
     (columns rows : CooperativeSize) (role : CooperativeRole) (place : CooperativeData) →
     CanWrite f →
-    expression_is_written f.shader.now.types f.info.now (CooperativeLoad columns rows role place) ≡
+    expression_is_written f.shader.now f.info.now (CooperativeLoad columns rows role place) ≡
     true →
     slice_get (expressions f) handle ≡ Some e → e ≡ CooperativeLoad columns rows role place →
     made_text f table (matrix_callee f columns rows role place) handle ≡ own_text f table handle
