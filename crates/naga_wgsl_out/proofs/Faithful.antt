@@ -4,7 +4,24 @@ use Rattle.std.proofs.Common.{ap, drop, inl, inr, length, subst, sym, None, Opti
 use Rattle.std.proofs.Common.{slice_get}
 use Rattle.std.proofs.lemmas.Option.{slice_get_within}
 use Rattle.naga_ir.specs.declared.module.Function.{Function}
-use Rattle.std.specs.Prelude.{IfErr, IsTrue, OnErr, OnOk, Result}
+use Rattle.std.specs.Prelude.{IfErr, IsErrAnd, IsTrue, OnErr, OnOk, Result, nat_eq}
+use Rattle.std.proofs.Common.{Global, codes, string_bytes}
+use Rattle.std.proofs.lemmas.Bool.{eqb-false}
+use Rattle.std.specs.declared.string.String.{String}
+use Rattle.naga_ir.specs.declared.expression.Expression.{Expression}
+use Rattle.naga_ir.specs.declared.expression.Expression.TheVariants.{AccessIndex, As, Compose}
+use Rattle.naga_ir.specs.declared.expression.Expression.TheVariants.{ImageSample, ImageLoad}
+use Rattle.naga_ir.specs.declared.expression.Expression.TheVariants.{Literal, Math}
+use Rattle.naga_ir.specs.declared.expression.Expression.TheVariants.{Relational, ZeroValue}
+use Rattle.naga_ir.specs.declared.expression.Literal.{Literal as LiteralValue}
+use Rattle.naga_ir.specs.declared.expression.Literal.TheVariants as literal
+use Rattle.naga_ir.specs.declared.types.Scalar.{Scalar}
+use Rattle.naga_ir.specs.declared.types.Type_.{Type_}
+use Rattle.naga_ir.specs.declared.types.TypeInner.{TypeInner}
+use Rattle.naga_info.specs.declared.info.ExpressionInfo.{ExpressionInfo}
+use Rattle.naga_info.specs.declared.info.TypeResolution.{TypeResolution}
+use Rattle.naga_info.specs.declared.info.TypeResolution.TheVariants.{Handle}
+use Rattle.module_meaning.specs.LackingScalars.{lacking_scalar}
 use Rattle.naga_ir.specs.declared.module.Module.{Module}
 use Rattle.module_meaning.specs.Accepted.{is_accepted}
 use Rattle.module_meaning.specs.Part.{is_written_so_far}
@@ -39,7 +56,9 @@ use Rattle.naga_wgsl_out.proofs.Functions.{lines_behind, lines_split, written_li
 use Rattle.naga_wgsl_out.proofs.Scopes.{all_planned_counted, all_planned_formed, all_planned_hold}
 use Rattle.naga_wgsl_out.proofs.Scopes.{fault_refuses, fault_told}
 use Rattle.naga_wgsl_out.specs.Refusals.{ComesBeforeText, HasAllNames, IsNamesRefusal, IsRefusal}
-use Rattle.naga_wgsl_out.specs.Refusals.{NamerIsFull, TellsOfModule, TellsOfFunction}
+use Rattle.naga_wgsl_out.specs.Refusals.{NamerIsFull, NamesConversion, NamesExpression}
+use Rattle.naga_wgsl_out.specs.Refusals.{NamesLacking, NamesLiteral, NamesType, TellsOfFunction}
+use Rattle.naga_wgsl_out.specs.Refusals.{TellsOfModule, converted}
 use Rattle.naga_wgsl_out.proofs.GivenNames.{none_past}
 use Rattle.naga_wgsl_out.specs.Headline.{EachReading, FaithfulWriting}
 
@@ -85,16 +104,110 @@ function_tells_of_module m error (inr (inl told)) = told.0
 function_tells_of_module m _ (inr (inr told)) = absurd told.0
 function_tells_of_module m _ (inl told) = absurd told
 
+-- ---- what names tell
+-- the message is none that is told of names
+abbrev IsOther : List ℕ → Type 0
+IsOther message =
+    (message ≡ codes "namer is full" → ⊥) × (message ≡ codes "name key out of range" → ⊥)
+
+apart : (a b : List ℕ) → nat_eq (length a) (length b) ≡ false → a ≡ b → ⊥
+apart a b differ same = eqb-false (length a) (length b) differ (ap length same)
+
+other : (told : List ℕ) → nat_eq (length told) 13 ≡ false → nat_eq (length told) 21 ≡ false →
+    (message : List ℕ) → message ≡ told → IsOther message
+other told one two message is =
+    (λ full. apart told (codes "namer is full") one (sym is ∙ full),
+    λ key. apart told (codes "name key out of range") two (sym is ∙ key))
+
+-- no message that names a type or an expression is one
+type_is_other : (types : List Type_) (r : TypeResolution) (message : String Global) →
+    NamesType types r (Custom message) → IsOther (string_bytes message)
+type_is_other types r message named = by (lacking_scalar types r) named
+  where
+    by : (o : Option Scalar) → NamesLacking o (Custom message) → IsOther (string_bytes message)
+    by (Some s) named = absurd named
+    by None named = other (codes "type without a WGSL form") refl refl (string_bytes message) named
+
+expression_is_other : (types : List Type_) (known : List ExpressionInfo) (es : List Expression)
+    (e : Expression) (message : String Global) → NamesExpression types known es e (Custom message) →
+    IsOther (string_bytes message)
+expression_is_other types known es (Literal value) message named = by value named
+  where
+    by : (value : LiteralValue) → NamesLiteral value (Custom message) → IsOther (string_bytes message)
+    by (literal.AbstractInt value) named =
+        other (codes "Abstract types should not appear in IR presented to backends") refl refl
+        (string_bytes message) named
+    by (literal.AbstractFloat bits) named =
+        other (codes "Abstract types should not appear in IR presented to backends") refl refl
+        (string_bytes message) named
+    by _ named = absurd named
+expression_is_other types known es (Math fun arg arg1 arg2 arg3) message named = absurd named
+expression_is_other types known es (Relational fun argument) message named = absurd cc
+expression_is_other types known es (As operand kind convert) message named =
+    by (converted types known operand kind convert) named
+  where
+    by : (o : Option TypeInner) → NamesConversion o (Custom message) → IsOther (string_bytes message)
+    by None named = absurd named
+    by (Some new) named = absurd named
+expression_is_other types known es
+    (ImageSample image sampler gather coordinate array_index offset level depth_ref clamp) message
+    (inl named) =
+    absurd named.1
+expression_is_other types known es
+    (ImageSample image sampler gather coordinate array_index offset level depth_ref clamp) message
+    (inr named) =
+    other (codes "operator in a constant") refl refl (string_bytes message) named.1
+expression_is_other types known es (ImageLoad image coordinate array_index sample level) message named =
+    other (codes "image load with sample and level") refl refl (string_bytes message) named
+expression_is_other types known es (ZeroValue ty) message named =
+    type_is_other types (Handle ty) message named
+expression_is_other types known es (Compose ty components) message named =
+    type_is_other types (Handle ty) message named
+expression_is_other types known es (AccessIndex base index) message named =
+    other (codes "cannot index") refl refl (string_bytes message) named
+expression_is_other types known es _ message named = absurd named
+
+-- names that the items of a module can't get tell of none of its functions
+names_tell_no_function : (m : Module) (error : Error) → IsNamesRefusal m error →
+    TellsOfFunction m error → ⊥
+names_tell_no_function m (Custom message) is told = by is told
+  where
+    differs : IsNamesRefusal m (Custom message) → IsOther (string_bytes message) → ⊥
+    differs (inl full) is_other = is_other.0 full.0
+    differs (inr key) is_other = is_other.1 key.0
+
+    by : IsNamesRefusal m (Custom message) → TellsOfFunction m (Custom message) → ⊥
+    by is (inl scope) =
+        differs is (other (codes "operand out of scope") refl refl (string_bytes message) scope)
+    by is (inr (inl (module_told, inl (types, known, es, e, named)))) =
+        differs is (expression_is_other types known es e message named)
+    by is (inr (inl (module_told, inr (types, r, named)))) =
+        differs is (type_is_other types r message named)
+    by (inl full) (inr (inr told)) = told.1 full.1
+    by (inr key) (inr (inr told)) =
+        apart (codes "namer is full") (codes "name key out of range") refl (sym told.0 ∙ key.0)
+names_tell_no_function m (Memory e) is (inl told) = told
+names_tell_no_function m (Memory e) is (inr (inl told)) = told.0
+names_tell_no_function m (Memory e) is (inr (inr told)) = told.0
+names_tell_no_function m _ is told = absurd is
+
+pub names_before_functions : (m : Module) (r : Result Unit Error) (error : Error) (P : Type 0) →
+    IsErrAnd r (λ e. e ≡ error) → IsNamesRefusal m error →
+    IfErr r (λ e. TellsOfFunction m e → P)
+names_before_functions m (Ok x) error P told is = absurd told
+names_before_functions m (Err e) error P told is =
+    λ tells. absurd (names_tell_no_function m error is (subst (TellsOfFunction m) told tells))
+
 -- a text that was appended
 module _ (m : Module) (info : ModuleInfo) (flags : WriterFlags)
     (accepted : IsTrue (is_accepted m info)) (written : IsTrue (is_written_so_far m))
     (names : NameMap) (has : HasAllNames m names) where
+  abbrev explicit : Bool
+  explicit = tells_types flags
+
   -- a plan of each function
   abbrev AllPlanned : Type 0
   AllPlanned = (i : ℕ) → i < length m.functions → HasPlan explicit m info i
-
-  abbrev explicit : Bool
-  explicit = tells_types flags
 
   abbrev program : Program
   program = written_program m info explicit

@@ -1,6 +1,6 @@
 use Rattle.std.proofs.Common.{◌≡◌, ◌∙◌, ap, subst, sym, true}
 use Rattle.module_meaning.specs.Part.{is_written_so_far}
-use Rattle.naga_wgsl_out.proofs.Faithful.{Concludes, concludes}
+use Rattle.naga_wgsl_out.proofs.Faithful.{Concludes, concludes, names_before_functions}
 use Rattle.naga_wgsl_out.proofs.writer.Writer.write.Goals as goal
 
 pub returns : goal.returns
@@ -32,3 +32,8 @@ returns g c =
       unfailed = ends.unfailed;
       flags = ap (λ w. w.flags) c.self.view_is;
     }
+
+pub returns-in_err-names-clause-written_before : goal.returns-in_err-names-clause-written_before
+returns-in_err-names-clause-written_before g c =
+    names_before_functions c.args.«module».now c.from_residual.result _ _ c.from_residual.ensures.1
+    c.in_err-names.ensures.err
