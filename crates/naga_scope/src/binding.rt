@@ -112,11 +112,7 @@ fn asks_an_image(expression: &Expression) -> bool
 }
 
 /// From how many uses on a `let` binds an expression. A part of what has no parts is an operator.
-fn uses_to_bind(
-    types: &UniqueArena<Type_>,
-    info: &FunctionInfo,
-    expression: &Expression,
-) -> usize
+fn uses_to_bind(types: &UniqueArena<Type_>, info: &FunctionInfo, expression: &Expression) -> usize
     ensures { result ≡ uses_to_bind types.now info.now expression.now }
 {
     match expression {

@@ -115,9 +115,10 @@ apart a b differ same = eqb-false (length a) (length b) differ (ap length same)
 
 other : (told : List ℕ) → nat_eq (length told) 13 ≡ false → nat_eq (length told) 21 ≡ false →
     (message : List ℕ) → message ≡ told → IsOther message
-other told one two message is =
-    (λ full. apart told (codes "namer is full") one (sym is ∙ full),
-    λ key. apart told (codes "name key out of range") two (sym is ∙ key))
+other told one two message is = (
+  λ full. apart told (codes "namer is full") one (sym is ∙ full),
+  λ key. apart told (codes "name key out of range") two (sym is ∙ key),
+)
 
 -- no message that names a type or an expression is one
 type_is_other : (types : List Type_) (r : TypeResolution) (message : String Global) →

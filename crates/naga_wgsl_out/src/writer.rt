@@ -244,9 +244,7 @@ fn error_of_plan(
         PlanError::TypeWithoutForm(ty) => {
             type_without_form(alloc, types, &TypeResolution::Handle(ty))
         }
-        PlanError::LetWithoutForm(handle) => {
-            type_without_form(alloc, types, &info[handle].ty)
-        }
+        PlanError::LetWithoutForm(handle) => { type_without_form(alloc, types, &info[handle].ty) }
         PlanError::Unnamed(error) => names_error(alloc, error),
         PlanError::Memory(error) => Error::Memory(error),
     }
