@@ -212,17 +212,19 @@ module _ (explicit : Bool) (m : Module) (info : ModuleInfo) (f : Function) (es :
           (of_answer f.result refl found.0 found.1, turned_true (has_form m.types (Handle ty)) found.2)
       inside (inr is) =
           let found = found_passes p (local_types f) ty is in
-          let here = at_map (λ l. l.ty) f.local_variables found.0 ty found.1 in
-          (subst (λ ty. IsSpelledIn explicit m info f es (Handle ty)) here.2 (OfLocal found.0 here.0 here.1),
-          turned_true (has_form m.types (Handle ty)) found.2)
+          let here = at_map (λ l. l.ty) f.local_variables found.0 ty found.1 in (
+            subst (λ ty. IsSpelledIn explicit m info f es (Handle ty)) here.2 (OfLocal found.0 here.0 here.1),
+            turned_true (has_form m.types (Handle ty)) found.2,
+          )
 
       by : (find p (argument_types f) ≡ Some ty) ⊎ (option_or (find p (answer_types f)) (find p (local_types f)) ≡ Some ty) →
           IsSpelledIn explicit m info f es (Handle ty) × IsFalse (has_form m.types (Handle ty))
       by (inl is) =
           let found = found_passes p (argument_types f) ty is in
-          let here = at_map (λ a. a.ty) f.arguments.items found.0 ty found.1 in
-          (subst (λ ty. IsSpelledIn explicit m info f es (Handle ty)) here.2 (OfArgument found.0 here.0 here.1),
-          turned_true (has_form m.types (Handle ty)) found.2)
+          let here = at_map (λ a. a.ty) f.arguments.items found.0 ty found.1 in (
+            subst (λ ty. IsSpelledIn explicit m info f es (Handle ty)) here.2 (OfArgument found.0 here.0 here.1),
+            turned_true (has_form m.types (Handle ty)) found.2,
+          )
       by (inr is) = inside (either_one _ _ ty is)
 
   -- so it is with what the second finds

@@ -114,11 +114,7 @@ fn asks_an_image(expression: &Expression) -> bool
 /// From how many uses on a `let` binds an expression: naga's number, but one for the load of a
 /// cooperative matrix too, since that reads memory, and two for a part of what has no parts, which is an
 /// operator.
-fn uses_to_bind(
-    types: &UniqueArena<Type_>,
-    info: &FunctionInfo,
-    expression: &Expression,
-) -> usize
+fn uses_to_bind(types: &UniqueArena<Type_>, info: &FunctionInfo, expression: &Expression) -> usize
     ensures { result ≡ uses_to_bind types.now info.now expression.now }
 {
     match expression {

@@ -56,10 +56,7 @@ fn result_without_form(
     }
 }
 
-fn local_without_form(
-    types: &UniqueArena<Type_>,
-    function: &Function,
-) -> Option<Handle<Type_>>
+fn local_without_form(types: &UniqueArena<Type_>, function: &Function) -> Option<Handle<Type_>>
     ensures { result
         ≡ find (is_formless types.now) (map (λ l. l.ty) function.now.local_variables) }
 {

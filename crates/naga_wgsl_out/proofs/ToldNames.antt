@@ -2,7 +2,12 @@
 use Rattle.std.proofs.Common.{◌≡◌, ◌∙◌, ℕ, Bool, true, false, List, None, Option, Some, ap, codes, inl}
 use Rattle.std.proofs.Common.{inr, nat_eq, refl, subst, sym}
 use Rattle.std.proofs.lemmas.Bool.{false≢true}
-use Rattle.std.specs.Prelude.{Err, IfErr, IsErrAnd, Ok, Result, get_or, string_bytes}
+use Rattle.std.specs.Prelude.{Err, IfErr, IsErrAnd, IsSomeAnd, Ok, Result, get_or, slice_get}
+use Rattle.std.specs.Prelude.{string_bytes}
+use Rattle.module_meaning.specs.LackingScalars.{lacking_scalar}
+use Rattle.naga_info.specs.declared.info.TypeResolution.{TypeResolution}
+use Rattle.naga_info.specs.declared.info.TypeResolution.TheVariants.{Handle}
+use Rattle.naga_ir.specs.declared.module.Constant.{Constant}
 use Rattle.naga_info.specs.declared.info.ExpressionInfo.{ExpressionInfo}
 use Rattle.naga_ir.specs.declared.expression.Expression.{Expression}
 use Rattle.naga_ir.specs.declared.expression.Expression.TheVariants as expression
@@ -17,7 +22,9 @@ use Rattle.naga_wgsl_fns.specs.declared.error.Error.{Error}
 use Rattle.naga_wgsl_fns.specs.declared.error.Error.TheVariants.{Custom, Memory}
 use Rattle.naga_wgsl_out.specs.Refusals.{IsNamesRefusal, IsToldOfItems, NamesConversion}
 use Rattle.naga_wgsl_out.specs.Refusals.{NamesExpression, NamesFunction, NamesLiteral, NamesMatrix}
-use Rattle.naga_wgsl_out.specs.Refusals.{NamesScalar, TellsOfFunction, converted, pointed_scalar}
+use Rattle.naga_wgsl_out.specs.Refusals.{NamesGlobal, NamesLacking, NamesScalar, NamesType}
+use Rattle.naga_wgsl_out.specs.Refusals.{OfConstant, OfLiteral, OfOperand, OfOperation, OfType}
+use Rattle.naga_wgsl_out.specs.Refusals.{TellsOfFunction, converted, pointed_scalar}
 
 -- the text begins with an `n`, as what is told of names does
 abbrev begins : List ℕ → Bool
@@ -64,48 +71,78 @@ matrix_other : (o : Option Scalar) (error : Error) → NamesMatrix o error → i
 matrix_other None error named = custom_other _ error named refl
 matrix_other (Some s) error named = scalar_other error named
 
--- so does no refusal that names an expression
-expression_other : (types : List Type_) (known : List ExpressionInfo) (es : List Expression)
-    (e : Expression) (error : Error) → NamesExpression types known es e error →
+type_other : (types : List Type_) (r : TypeResolution) (error : Error) → NamesType types r error →
     is_of_names error ≡ false
-expression_other types known es (expression.Literal value) error named =
+type_other types r error named = by (lacking_scalar types r) named
+  where
+    by : (o : Option Scalar) → NamesLacking o error → is_of_names error ≡ false
+    by None named = custom_other (codes "type without a WGSL form") error named refl
+    by (Some s) named = scalar_other error named
+
+global_other : (m : Module) (error : Error) (h : ℕ) → NamesGlobal m error h →
+    is_of_names error ≡ false
+global_other m error h (OfLiteral _ value at formless named) = literal_other value error named
+global_other m error h (OfType _ ty e at is formless named) = type_other m.types (Handle ty) error named
+global_other m error h (OfOperation _ e at is named) =
+    custom_other (codes "operator in a constant") error named refl
+global_other m error h (OfOperand _ x e at among inside) = global_other m error x inside
+global_other m error h (OfConstant _ c k at there inside) = global_other m error k.init inside
+
+-- so does no refusal that names an expression
+expression_other : (m : Module) (known : List ExpressionInfo) (es : List Expression)
+    (e : Expression) (error : Error) → NamesExpression m known es e error →
+    is_of_names error ≡ false
+expression_other m known es (expression.Literal value) error named =
     literal_other value error named
-expression_other types known es (expression.Math fun arg arg1 arg2 arg3) error named =
+expression_other m known es (expression.Math fun arg arg1 arg2 arg3) error named =
     function_other error named
-expression_other types known es (expression.Relational fun argument) error named =
+expression_other m known es (expression.Relational fun argument) error named =
     ap is_of_names named
-expression_other types known es (expression.As operand kind convert) error named =
-    conversion_other (converted types known operand kind convert) error named
-expression_other types known es
+expression_other m known es (expression.As operand kind convert) error named =
+    conversion_other (converted m.types known operand kind convert) error named
+expression_other m known es
     (expression.ImageSample
     image sampler gather coordinate array_index offset level depth_ref clamp) error (inl named) =
     unimplemented_other (codes "sampling form") error named.1
-expression_other types known es
+expression_other m known es
     (expression.ImageSample
     image sampler gather coordinate array_index offset level depth_ref clamp) error (inr named) =
     custom_other (codes "operator in a constant") error named.1 refl
-expression_other types known es
+expression_other m known es
     (expression.ImageLoad image coordinate array_index sample level) error named =
     custom_other (codes "image load with sample and level") error named refl
-expression_other types known es (expression.CooperativeLoad columns rows role place) error named =
-    matrix_other (pointed_scalar types known place.pointer) error named
-expression_other types known es (expression.CallResult function) error named =
+expression_other m known es (expression.CooperativeLoad columns rows role place) error named =
+    matrix_other (pointed_scalar m.types known place.pointer) error named
+expression_other m known es (expression.CallResult function) error named =
     custom_other (codes "operand out of scope") error named refl
-expression_other types known es (expression.AtomicResult ty comparison) error named =
+expression_other m known es (expression.AtomicResult ty comparison) error named =
     custom_other (codes "operand out of scope") error named refl
-expression_other types known es (expression.WorkGroupUniformLoadResult ty) error named =
+expression_other m known es (expression.WorkGroupUniformLoadResult ty) error named =
     custom_other (codes "operand out of scope") error named refl
-expression_other types known es (expression.SubgroupOperationResult ty) error named =
+expression_other m known es (expression.SubgroupOperationResult ty) error named =
     custom_other (codes "operand out of scope") error named refl
-expression_other types known es expression.SubgroupBallotResult error named =
+expression_other m known es expression.SubgroupBallotResult error named =
     custom_other (codes "operand out of scope") error named refl
-expression_other types known es expression.RayQueryProceedResult error named =
+expression_other m known es expression.RayQueryProceedResult error named =
     unimplemented_other (codes "ray query") error named
-expression_other types known es (expression.RayQueryGetIntersection query committed) error named =
+expression_other m known es (expression.RayQueryGetIntersection query committed) error named =
     unimplemented_other (codes "ray query") error named
-expression_other types known es (expression.RayQueryVertexPositions query committed) error named =
+expression_other m known es (expression.RayQueryVertexPositions query committed) error named =
     unimplemented_other (codes "ray query") error named
-expression_other types known es _ error named = absurd named
+expression_other m known es (expression.ZeroValue ty) error named =
+    type_other m.types (Handle ty) error named
+expression_other m known es (expression.Compose ty components) error named =
+    type_other m.types (Handle ty) error named
+expression_other m known es (expression.AccessIndex base index) error named =
+    custom_other (codes "cannot index") error named refl
+expression_other m known es (expression.Constant handle) error named =
+    by (slice_get m.constants handle) named
+  where
+    by : (o : Option Constant) → IsSomeAnd o (λ k. NamesGlobal m error k.init) →
+        is_of_names error ≡ false
+    by None named = absurd named
+    by (Some k) named = global_other m error k.init named
+expression_other m known es _ error named = absurd named
 
 told_begins : (m : Module) (message : List ℕ) → IsToldOfItems m message → begins message ≡ true
 told_begins m message (inl told) = ap begins told.0
@@ -115,9 +152,13 @@ told_begins m message (inr told) = ap begins told.0
 tells_of_none : (m : Module) (error : Error) → IsNamesRefusal m error → TellsOfFunction m error → ⊥
 tells_of_none m (Custom message) refusal (inl scope) =
     false≢true (sym (ap begins scope) ∙ told_begins m (string_bytes message) refusal)
-tells_of_none m (Custom message) refusal (inr (inl form)) =
+tells_of_none m (Custom message) refusal (inr (inl (tells, inl (other, known, es, e, named)))) =
     false≢true
-    (sym (expression_other form.1.0 form.1.1 form.1.2 form.1.3 (Custom message) form.1.4)
+    (sym (expression_other other known es e (Custom message) named)
+    ∙ told_begins m (string_bytes message) refusal)
+tells_of_none m (Custom message) refusal (inr (inl (tells, inr (types, r, named)))) =
+    false≢true
+    (sym (type_other types r (Custom message) named)
     ∙ told_begins m (string_bytes message) refusal)
 tells_of_none m (Custom message) (inl told) (inr (inr full)) = full.1 told.1
 tells_of_none m (Custom message) (inr told) (inr (inr full)) =

@@ -4,6 +4,8 @@ use Rattle.naga_form.proofs.AcceptedGroups.{fits_in_range, known_is_fit}
 use Rattle.naga_wgsl_fns.specs.FunctionText.{tells_types}
 use Rattle.naga_wgsl_out.proofs.Scopes.{function_written, is_of_plan, plan_refusal}
 use Rattle.naga_wgsl_out.proofs.GivenNames.{named_plan}
+use Rattle.naga_wgsl_out.specs.Refusals.{IsPlanRefusal}
+use Rattle.naga_wgsl_out.specs.Writing.{IsNamedPlan}
 use Rattle.naga_wgsl_out.proofs.writer.plan_of.Goals as goal
 
 pub index-requires-in-Err : goal.index-requires-in-Err
@@ -27,18 +29,26 @@ error_of_plan-requires-clause-known c =
 
 pub error_of_plan-requires-clause-formless : goal.error_of_plan-requires-clause-formless
 error_of_plan-requires-clause-formless c =
-    is_of_plan (tells_types c.args.flags) c.args.«module».now c.args.info.now c.requires.accepted c.requires.written
+    is_of_plan c.tells_types.result c.args.«module».now c.args.info.now c.requires.accepted c.requires.written
     c.args.handle c.index.result.now c.index.ensures c.index-in-Err.result.now c.index-in-Err.ensures
     _ c.in-Err.error c.in-Err.ensures.err
 
 pub returns-in-Err-clause-err : goal.returns-in-Err-clause-err
 returns-in-Err-clause-err c =
-    plan_refusal (tells_types c.args.flags) c.args.«module».now c.args.info.now c.requires.accepted c.requires.written
+    let m = c.args.«module».now in
+    let info = c.args.info.now in
+    subst (λ explicit. IsPlanRefusal explicit m info c.args.handle c.error_of_plan.result)
+    c.tells_types.ensures
+    (plan_refusal c.tells_types.result m info c.requires.accepted c.requires.written
     c.args.handle c.index.result.now c.index.ensures c.index-in-Err.result.now c.index-in-Err.ensures
     _ c.requires.namer c.in-Err.error c.error_of_plan.result
-    c.in-Err.ensures.err c.error_of_plan.ensures
+    c.in-Err.ensures.err c.error_of_plan.ensures)
 
 pub returns-in-Ok-clause-ok : goal.returns-in-Ok-clause-ok
 returns-in-Ok-clause-ok c =
-    named_plan c.args.«module».now (tells_types c.args.flags) c.args.info.now c.args.handle _ _ c.in-Ok.plan
-    c.requires.handle c.requires.namer c.in-Ok.ensures.ok c.in-Ok.ensures.named
+    let m = c.args.«module».now in
+    let info = c.args.info.now in
+    subst (λ explicit. IsNamedPlan explicit m info c.args.handle c.of.new.namer c.in-Ok.plan)
+    c.tells_types.ensures
+    (named_plan m c.tells_types.result info c.args.handle _ _ c.in-Ok.plan
+    c.requires.handle c.requires.namer c.in-Ok.ensures.ok c.in-Ok.ensures.named)

@@ -140,7 +140,8 @@ fn build_idle(sample: &mut Sample, odd: Odd) -> Result<(), AllocError> {
 
 fn names_scalar(refusal: &Option<Error>, told: &str) -> bool {
     match refusal {
-        Some(Error::Unsupported { kind, value }) => *kind == "scalar type" && value.as_str() == told,
+        Some(Error::Unsupported { kind, value }) => *kind == "scalar type"
+            && value.as_str() == told,
         _ => false,
     }
 }
