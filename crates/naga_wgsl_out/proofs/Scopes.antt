@@ -1,4 +1,7 @@
 -- The rules of scope in the functions of a module, one by one and in all.
+use Rattle.naga_form.proofs.AcceptedFunctions.{accepted_at, function_there, names_are_in_range}
+use Rattle.module_meaning.specs.Ranges.{names_in_range}
+use Rattle.std.proofs.lemmas.Bool.{ltb-true}
 use Rattle.std.proofs.Common.{◌≡◌, ◌<◌, ◌^◌, ◌∙◌, ℕ, Bool, true, zero, suc, List, [], ◌∷◌}
 use Rattle.std.proofs.Common.{None, Option, Some, ap, arith, inl, inr, length, nat_le, refl, subst}
 use Rattle.std.proofs.Common.{codes, sym, ◌++◌}

@@ -2,8 +2,8 @@
 
 use naga_info::{ExpressionInfo, FunctionInfo, ModuleInfo, TypeResolution};
 use naga_ir::{
-    AddressSpace, BinaryOperator, Expression, Function, FunctionArgument, FunctionResult, Handle,
-    Literal, LocalVariable, Module, Range, Scalar, Statement, Type_, TypeInner,
+    AddressSpace, BinaryOperator, Constant, Expression, Function, FunctionArgument, FunctionResult,
+    Handle, Literal, LocalVariable, Module, Range, Scalar, Statement, Type_, TypeInner,
 };
 use std::alloc::{AllocError, Global};
 use std::mem;
@@ -44,6 +44,31 @@ impl Sample {
     /// The unnamed scalar type.
     pub fn scalar(&mut self, scalar: Scalar) -> Result<Handle<Type_>, AllocError> {
         self.inner(TypeInner::Scalar(scalar))
+    }
+
+    /// Adds an expression of this type to the module's own.
+    pub fn global(
+        &mut self,
+        expression: Expression,
+        ty: Handle<Type_>,
+    ) -> Result<Handle<Expression>, AllocError> {
+        self.info
+            .const_expression_types
+            .push(TypeResolution::Handle(ty))?;
+        self.module.global_expressions.append(expression)
+    }
+
+    /// Adds a constant without a name to the module.
+    pub fn constant(
+        &mut self,
+        ty: Handle<Type_>,
+        init: Handle<Expression>,
+    ) -> Result<Handle<Constant>, AllocError> {
+        self.module.constants.append(Constant {
+            name: None,
+            ty,
+            init,
+        })
     }
 
     /// Begins a function of this label with a result of the type `i32`, which it gives.

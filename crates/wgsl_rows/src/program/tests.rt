@@ -11,6 +11,7 @@ use std::process::Abort;
 use std::test::Fail;
 
 mod atomics;
+mod constants;
 mod converted;
 mod cooperative;
 mod derived;

@@ -2,7 +2,9 @@ use Rattle.std.proofs.Common.{◌≡◌, ◌<◌, ◌∙◌, length, subst, sym}
 use Rattle.naga_form.proofs.AcceptedFunctions.{functions_counted}
 use Rattle.naga_form.proofs.AcceptedGroups.{fits_in_range, known_is_fit}
 use Rattle.naga_wgsl_fns.specs.FunctionText.{tells_types}
-use Rattle.naga_wgsl_out.proofs.Scopes.{function_written, is_of_plan, plan_refusal}
+use Rattle.naga_wgsl_out.proofs.Scopes.{constants_there, function_written, is_of_plan, plan_refusal}
+use Rattle.naga_form.proofs.ToldItems.{written_are_told}
+use Rattle.naga_scope.proofs.WrittenConstants.{globals_in_order}
 use Rattle.naga_wgsl_out.proofs.GivenNames.{named_plan}
 use Rattle.naga_wgsl_out.specs.Refusals.{IsPlanRefusal}
 use Rattle.naga_wgsl_out.specs.Writing.{IsNamedPlan}
@@ -52,3 +54,13 @@ returns-in-Ok-clause-ok c =
     c.tells_types.ensures
     (named_plan m c.tells_types.result info c.args.handle _ _ c.in-Ok.plan
     c.requires.handle c.requires.namer c.in-Ok.ensures.ok c.in-Ok.ensures.named)
+
+pub error_of_plan-requires-clause-ordered : goal.error_of_plan-requires-clause-ordered
+error_of_plan-requires-clause-ordered c =
+    globals_in_order c.args.«module».now c.args.info.now c.requires.accepted
+    (written_are_told c.args.«module».now c.requires.written).types
+
+pub error_of_plan-requires-clause-named : goal.error_of_plan-requires-clause-named
+error_of_plan-requires-clause-named c =
+    constants_there c.args.«module».now c.args.info.now c.requires.accepted c.args.handle
+    c.index.result.now c.index.ensures c.index-in-Err.result.now c.index-in-Err.ensures

@@ -1,5 +1,7 @@
 use Rattle.std.proofs.Common.{◌≡◌, ◌∙◌, ap, subst, sym, true}
 use Rattle.module_meaning.specs.Part.{is_written_so_far}
+use Rattle.naga_form.proofs.ToldItems.{written_are_told}
+use Rattle.naga_scope.proofs.WrittenConstants.{globals_in_order}
 use Rattle.naga_wgsl_out.proofs.Faithful.{Concludes, concludes}
 use Rattle.naga_wgsl_out.proofs.ToldNames.{names_tell_of_none}
 use Rattle.naga_wgsl_out.proofs.writer.Writer.write.Goals as goal
@@ -38,3 +40,8 @@ pub returns-in_err-names-clause-written_before : goal.returns-in_err-names-claus
 returns-in_err-names-clause-written_before g c =
     names_tell_of_none c.args.«module».now _ c.from_residual.result _ c.from_residual.ensures.1
     c.in_err-names.ensures.err
+
+pub of-requires : goal.of-requires
+of-requires g c =
+    globals_in_order c.args.«module».now c.args.info.now c.requires.accepted
+    (written_are_told c.args.«module».now (sym c.is_written_so_far.ensures ∙ c.if-not-is_written_so_far.false)).types
