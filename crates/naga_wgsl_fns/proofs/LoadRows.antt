@@ -31,7 +31,7 @@ use Rattle.naga_wgsl_fns.proofs.ExpressionRows.{own_typed}
 use Rattle.naga_wgsl_fns.specs.Expressions.{applied_text, called_text, form_at, load_text, load_word}
 use Rattle.naga_wgsl_fns.specs.Expressions.{made_text, matrix_callee, matrix_callee_text, operands_at}
 use Rattle.naga_wgsl_fns.specs.Expressions.{operands_text, own_text, reference_text, taking_text}
-use Rattle.naga_wgsl_fns.specs.FunctionText.{CanWrite, around, expressions, type_names_of}
+use Rattle.naga_wgsl_fns.specs.FunctionText.{CanWrite, IsInText, around, expressions, type_names_of}
 use Rattle.naga_wgsl_fns.specs.Types.{resolution_text}
 use Rattle.naga_wgsl_fns.specs.declared.functions.FunctionText.{FunctionText}
 use Rattle.wgsl_text.proofs.Expressions.{call_text as call_row_text}
@@ -121,12 +121,11 @@ taking_row f word ty = refl
 -- what an expression is made of that loads a matrix
 pub own_matrix_load : (f : FunctionText) (table : List Standing) (handle : ℕ) (e : ir.Expression)
     (columns rows : CooperativeSize) (role : CooperativeRole) (place : CooperativeData) →
-    CanWrite f →
-    expression_is_written f.shader.now f.info.now (CooperativeLoad columns rows role place) ≡
-    true →
+    CanWrite f → IsInText f handle →
+    expression_is_written f.shader.now f.info.now (CooperativeLoad columns rows role place) ≡ true →
     slice_get (expressions f) handle ≡ Some e → e ≡ CooperativeLoad columns rows role place →
     made_text f table (matrix_callee f columns rows role place) handle ≡ own_text f table handle
-own_matrix_load f table handle e columns rows role place can may here is =
+own_matrix_load f table handle e columns rows role place can within may here is =
     let c =
     loaded_matrix f.shader.now f.module_info.now f.info.now columns rows role place may in
     let called =
@@ -134,4 +133,4 @@ own_matrix_load f table handle e columns rows role place can may here is =
     let op = load_called (around f) columns rows role place in
     ap (λ o. made_text f table (unwrap_or o (NamedType [])) handle) called
     ∙ own_typed f table handle e (CooperativeLoad columns rows role place)
-    (load_tree place.row_major c.tree) _ can (typed_notation _ op _ _ called) here is refl
+    (load_tree place.row_major c.tree) _ can within (typed_notation _ op _ _ called) here is refl

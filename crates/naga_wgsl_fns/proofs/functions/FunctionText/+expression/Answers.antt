@@ -107,7 +107,7 @@ write_own-returns-in-CooperativeLoad g t c =
     c.index.ensures c.requires.handle c.in-CooperativeLoad.is in
     writes_as
     (own_matrix_load c.args.self.now c.args.scope.now.table c.args.handle c.index.result.now _ _ _ _
-    c.requires.can formed c.index.ensures c.in-CooperativeLoad.is)
+    c.requires.can c.requires.handle formed c.index.ensures c.in-CooperativeLoad.is)
     c.write_matrix_load.ensures
 
 pub write_own-write_swizzle-requires : goal.write_own-write_swizzle-requires
