@@ -353,13 +353,17 @@ fn build_partless(sample: &mut Sample, case: Partless) -> Result<(), AllocError>
     }
 }
 
+fn names_index(refusal: &Option<Error>) -> bool {
+    match refusal {
+        Some(Error::Custom(told)) => told.as_str() == "cannot index",
+        _ => false,
+    }
+}
+
 fn partless_is_refused(alloc: Global, case: Partless) -> Result<bool, AllocError> {
     let mut sample = Sample::new(alloc);
     let built = build_partless(&mut sample, case);
-    let refused = match refusal_of(alloc, &sample) {
-        Some(Error::Custom(told)) => told.as_str() == "cannot index",
-        _ => false,
-    };
+    let refused = names_index(&refusal_of(alloc, &sample));
     drop(sample);
     built?;
     Ok(refused)
