@@ -1,4 +1,4 @@
-pub mod Constants
+pub mod FormlessConstants
 pub mod Scopes
 pub mod ToldNames
 pub mod Functions

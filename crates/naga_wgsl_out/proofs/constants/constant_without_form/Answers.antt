@@ -1,4 +1,4 @@
-use Rattle.naga_wgsl_out.proofs.Constants.{constant_named, initialiser_fails}
+use Rattle.naga_wgsl_out.proofs.FormlessConstants.{constant_named, initialiser_fails}
 use Rattle.naga_wgsl_out.proofs.constants.constant_without_form.Goals as goal
 
 pub global_without_form-requires-clause-there : goal.global_without_form-requires-clause-there
