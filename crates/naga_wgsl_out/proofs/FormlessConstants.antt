@@ -19,7 +19,7 @@ use Rattle.naga_scope.proofs.WrittenConstants.{global_same}
 use Rattle.naga_scope.specs.Marks.{GlobalsStandInOrder, MarksGlobals, is_marked}
 use Rattle.naga_wgsl_fns.specs.declared.error.Error.{Error}
 use Rattle.shader_runs.specs.Premises.{AllBelow}
-use Rattle.naga_wgsl_out.specs.Refusals.{NamesConstant, NamesGlobal}
+use Rattle.naga_wgsl_out.specs.Refusals.{NamesConstant, NamesGlobal, is_operation}
 
 pub as_it_is : (xs : List ℕ) → map (λ (x : ℕ). x) xs ≡ xs
 as_it_is [] = refl
@@ -122,6 +122,21 @@ module _ (m : Module) (ordered : GlobalsStandInOrder m) (h : ℕ)
           inside (y ∷ ys) below zero at =
               let same : y ≡ x = cc in subst (λ z. z < h) same below.0
           inside (y ∷ ys) below (suc i) at = inside ys below.1 i at
+
+-- what none of the other arms takes applies an operator
+pub applies_operator : (e : Expression) →
+    ((value : _) → e ≡ expression.Literal value → ⊥) →
+    ((handle : _) → e ≡ expression.Constant handle → ⊥) →
+    ((ty : _) → e ≡ expression.ZeroValue ty → ⊥) →
+    ((ty : _) (components : _) → e ≡ expression.Compose ty components → ⊥) →
+    ((size : _) (value : _) → e ≡ expression.Splat size value → ⊥) →
+    is_operation e ≡ true
+applies_operator (expression.Literal value) l c z p s = absurd (l value refl)
+applies_operator (expression.Constant handle) l c z p s = absurd (c handle refl)
+applies_operator (expression.ZeroValue ty) l c z p s = absurd (z ty refl)
+applies_operator (expression.Compose ty components) l c z p s = absurd (p ty components refl)
+applies_operator (expression.Splat size value) l c z p s = absurd (s size value refl)
+applies_operator _ l c z p s = refl
 
 -- ---- constants
 pub constant_named : (m : Module) (error : Error) (c : ℕ) (k : Constant) →

@@ -1,46 +1,114 @@
-use Rattle.std.proofs.Common.{rules, ◌≡◌, ◌<◌, IsFalse, length, not, ℕ, ◌+◌, ◌-◌, ◌*◌, ◌≤◌, ◌/◌, ◌%◌, Bool, true, false, nat_eq, nat_lt, List, [], ◌∷◌, ◌++◌, slice_index_or, slice_set, bit_and, bit_or, Fits, w8, w32, w64, Bor, MutBor}
+use Rattle.std.proofs.Common.{arith, ap, sym, ◌∙◌, Some, refl}
 use Rattle.std.specs.List.{find}
-use Rattle.module_meaning.specs.Part.{constant_is_written, global_is_written}
-use Rattle.naga_scope.specs.Marks.{GlobalsStandInOrder, MarksGlobals, is_marked}
-use Rattle.naga_wgsl_out.specs.Refusals.{NamesConstant, NamesGlobal}
+use Rattle.std.specs.Prelude.{List, Bool, ℕ, not}
+use Rattle.naga_ir.specs.declared.expression.Expression.TheVariants as expression
+use Rattle.naga_scope.specs.Marks.{is_marked}
+use Rattle.naga_wgsl_out.proofs.FormlessConstants as formless
+use Rattle.naga_wgsl_out.specs.Refusals.NamesGlobal.{OfConstant, OfLiteral, OfOperand, OfOperation, OfType}
 use Rattle.naga_wgsl_out.proofs.constants.+global_without_form.Goals as goal
 
--- src/constants.rt:50:13
-pub global_without_form-requires : goal.global_without_form-requires
-global_without_form-requires t c = ?
+abbrev unwritten : List Bool → ℕ → Bool
+unwritten marks h = not (is_marked marks h)
 
--- src/constants.rt:57:36
-pub global_without_form-requires-in-Some : goal.global_without_form-requires-in-Some
-global_without_form-requires-in-Some t c = ?
-
--- src/constants.rt:61:44
-pub global_without_form-requires-in-Splat : goal.global_without_form-requires-in-Splat
-global_without_form-requires-in-Splat t c = ?
-
--- src/constants.rt:35:1
+-- ---- a literal
 pub returns-in-Literal : goal.returns-in-Literal
-returns-in-Literal t c = ?
+returns-in-Literal t c =
+    OfLiteral c.args.handle c.in-Literal.literal (c.index.ensures ∙ ap Some c.in-Literal.is)
+    (formless.literal_fails c.args.«module».now c.requires.ordered c.args.handle c.requires.formless
+    c.index.result.now c.in-Literal.literal c.index.ensures c.in-Literal.is)
+    c.literal_without_form.ensures
 
--- src/constants.rt:35:1
+-- ---- the initialiser of a constant
+pub global_without_form-requires : goal.global_without_form-requires
+global_without_form-requires t c =
+    let before =
+        formless.constant_fails c.args.«module».now c.requires.ordered c.args.handle
+        c.requires.formless c.index.result.now c.in-Constant.constant c.index-in-Constant.result.now
+        c.index.ensures c.in-Constant.is c.index-in-Constant.ensures in
+    let within = c.requires.there in (
+      omega (arith, before.0, c.decreases),
+      (c.requires.ordered, (c.requires.globals, (omega (arith, before.0, within), before.1))),
+    )
+
 pub returns-in-Constant : goal.returns-in-Constant
-returns-in-Constant t c = ?
+returns-in-Constant t c =
+    OfConstant c.args.handle c.in-Constant.constant c.index-in-Constant.result.now
+    (c.index.ensures ∙ ap Some c.in-Constant.is) c.index-in-Constant.ensures
+    c.global_without_form.ensures
 
--- src/constants.rt:35:1
+-- ---- values of a type
 pub returns-in-ZeroValue : goal.returns-in-ZeroValue
-returns-in-ZeroValue t c = ?
+returns-in-ZeroValue t c =
+    OfType c.args.handle c.in-ZeroValue.ty (expression.ZeroValue c.in-ZeroValue.ty)
+    (c.index.ensures ∙ ap Some c.in-ZeroValue.is) refl
+    (formless.zero_fails c.args.«module».now c.requires.ordered c.args.handle c.requires.formless
+    c.index.result.now c.in-ZeroValue.ty c.index.ensures c.in-ZeroValue.is)
+    c.type_without_form.ensures
 
--- src/constants.rt:35:1
-pub returns-in-Some : goal.returns-in-Some
-returns-in-Some t c = ?
-
--- src/constants.rt:35:1
 pub returns-in-None : goal.returns-in-None
-returns-in-None t c = ?
+returns-in-None t c =
+    let parts = c.in-Compose.components in
+    OfType c.args.handle c.in-Compose.ty (expression.Compose c.in-Compose.ty parts)
+    (c.index.ensures ∙ ap Some c.in-Compose.is) refl
+    (formless.composed_fails c.args.«module».now c.requires.ordered c.args.handle
+    c.requires.formless c.index.result.now c.in-Compose.ty parts c.index.ensures c.in-Compose.is
+    (formless.none_unwritten c.args.«module».now c.args.globals.now c.requires.globals parts.items
+    (sym c.in-None.is ∙ c.first_unwritten.ensures
+    ∙ ap (find (unwritten c.args.globals.now)) c.as_slice.ensures.value)))
+    c.type_without_form-in-None.ensures
 
--- src/constants.rt:35:1
+-- ---- operands
+pub global_without_form-requires-in-Some : goal.global_without_form-requires-in-Some
+global_without_form-requires-in-Some t c =
+    let parts = c.in-Compose.components in
+    let found =
+        formless.one_unwritten c.args.«module».now c.args.globals.now c.requires.globals parts.items
+        c.in-Some.component (sym c.in-Some.is ∙ c.first_unwritten.ensures
+        ∙ ap (find (unwritten c.args.globals.now)) c.as_slice.ensures.value) in
+    let before =
+        formless.operand_before c.args.«module».now c.requires.ordered c.args.handle
+        c.requires.formless (expression.Compose c.in-Compose.ty parts) c.in-Some.component
+        (c.index.ensures ∙ ap Some c.in-Compose.is) found.0 in
+    let within = c.requires.there in (
+      omega (arith, before, c.decreases),
+      (c.requires.ordered, (c.requires.globals, (omega (arith, before, within), found.1))),
+    )
+
+pub returns-in-Some : goal.returns-in-Some
+returns-in-Some t c =
+    let parts = c.in-Compose.components in
+    let found =
+        formless.one_unwritten c.args.«module».now c.args.globals.now c.requires.globals parts.items
+        c.in-Some.component (sym c.in-Some.is ∙ c.first_unwritten.ensures
+        ∙ ap (find (unwritten c.args.globals.now)) c.as_slice.ensures.value) in
+    OfOperand c.args.handle c.in-Some.component (expression.Compose c.in-Compose.ty parts)
+    (c.index.ensures ∙ ap Some c.in-Compose.is) found.0 c.global_without_form-in-Some.ensures
+
+pub global_without_form-requires-in-Splat : goal.global_without_form-requires-in-Splat
+global_without_form-requires-in-Splat t c =
+    let value = c.in-Splat.value in
+    let before =
+        formless.operand_before c.args.«module».now c.requires.ordered c.args.handle
+        c.requires.formless (expression.Splat c.in-Splat.size value) value
+        (c.index.ensures ∙ ap Some c.in-Splat.is) (0, (omega arith, refl)) in
+    let within = c.requires.there in (
+      omega (arith, before, c.decreases),
+      (c.requires.ordered, (c.requires.globals, (omega (arith, before, within),
+      formless.splat_fails c.args.«module».now c.requires.ordered c.args.handle c.requires.formless
+      c.index.result.now c.in-Splat.size value c.index.ensures c.in-Splat.is))),
+    )
+
 pub returns-in-Splat : goal.returns-in-Splat
-returns-in-Splat t c = ?
+returns-in-Splat t c =
+    let value = c.in-Splat.value in
+    OfOperand c.args.handle value (expression.Splat c.in-Splat.size value)
+    (c.index.ensures ∙ ap Some c.in-Splat.is) (0, (omega arith, refl))
+    c.global_without_form-in-Splat.ensures
 
--- src/constants.rt:35:1
+-- ---- an operator
 pub returns-in_default : goal.returns-in_default
-returns-in_default t c = ?
+returns-in_default t c =
+    OfOperation c.args.handle c.index.result.now c.index.ensures
+    (formless.applies_operator c.index.result.now c.in_default.not-Literal c.in_default.not-Constant
+    c.in_default.not-ZeroValue c.in_default.not-Compose c.in_default.not-Splat)
+    c.custom.ensures
