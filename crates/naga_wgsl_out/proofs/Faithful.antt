@@ -89,12 +89,12 @@ function_tells_of_module m _ (inl told) = absurd told
 module _ (m : Module) (info : ModuleInfo) (flags : WriterFlags)
     (accepted : IsTrue (is_accepted m info)) (written : IsTrue (is_written_so_far m))
     (names : NameMap) (has : HasAllNames m names) where
+  abbrev explicit : Bool
+  explicit = tells_types flags
+
   -- a plan of each function
   abbrev AllPlanned : Type 0
   AllPlanned = (i : ℕ) → i < length m.functions → HasPlan explicit m info i
-
-  abbrev explicit : Bool
-  explicit = tells_types flags
 
   abbrev program : Program
   program = written_program m info explicit

@@ -468,13 +468,13 @@ pub constants_there : (m : Module) (info : ModuleInfo) → IsTrue (is_accepted m
     (f : ir_function.Function) → slice_get m.functions i ≡ Some f → (es : List ExpressionInfo) →
     slice_get info.functions.items i ≡ Some es → (h : ℕ) (e : Expression) →
     slice_get f.expressions h ≡ Some e → NamesConstantsOf m e
-constants_there m info accepted i f stands es known h e at =
+constants_there m info accepted i f stands es stand h e at =
     let numbered = function_there m info accepted i f stands in
     let is = accepted_at m info accepted i f numbered.0 numbered.1 in
-    by e at (names_are_in_range m is.callees f is.ranges h e at)
+    by e (names_are_in_range m i f is.ranges h e at)
   where
-    by : (e : Expression) → slice_get f.expressions h ≡ Some e →
-        names_in_range m _ (length f.arguments.items) (length f.local_variables) e ≡ true →
+    by : (e : Expression) →
+        names_in_range m i (length f.arguments.items) (length f.local_variables) e ≡ true →
         NamesConstantsOf m e
-    by (Constant c) at range = ltb-true c (length m.constants) range
-    by _ at range = tt
+    by (Constant c) range = ltb-true c (length m.constants) range
+    by _ range = tt

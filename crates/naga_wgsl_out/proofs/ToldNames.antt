@@ -1,4 +1,5 @@
--- Why the items of a module get no names is told by other texts than what is told of a function.
+-- Why the items of a module get no names, and that it is not yet written, is told by other texts than
+-- what is told of a function.
 use Rattle.std.proofs.Common.{◌≡◌, ◌∙◌, ℕ, Bool, true, false, List, None, Option, Some, ap, codes, inl}
 use Rattle.std.proofs.Common.{inr, nat_eq, refl, subst, sym}
 use Rattle.std.proofs.lemmas.Bool.{false≢true}
@@ -19,19 +20,20 @@ use Rattle.naga_ir.specs.declared.types.Type_.{Type_}
 use Rattle.naga_ir.specs.declared.types.TypeInner.{TypeInner}
 use Rattle.naga_wgsl_fns.specs.Errors.{IsCustom, IsUnimplemented}
 use Rattle.naga_wgsl_fns.specs.declared.error.Error.{Error}
-use Rattle.naga_wgsl_fns.specs.declared.error.Error.TheVariants.{Custom, Memory}
+use Rattle.naga_wgsl_fns.specs.declared.error.Error.TheVariants.{Custom, Memory, Unimplemented}
 use Rattle.naga_wgsl_out.specs.Refusals.{IsNamesRefusal, IsToldOfItems, NamesConversion}
 use Rattle.naga_wgsl_out.specs.Refusals.{NamesExpression, NamesFunction, NamesLiteral, NamesMatrix}
 use Rattle.naga_wgsl_out.specs.Refusals.{NamesGlobal, NamesLacking, NamesScalar, NamesType}
 use Rattle.naga_wgsl_out.specs.Refusals.{OfConstant, OfLiteral, OfOperand, OfOperation, OfType}
 use Rattle.naga_wgsl_out.specs.Refusals.{TellsOfFunction, converted, pointed_scalar}
 
--- the text begins with an `n`, as what is told of names does
+-- the text begins with an `n`, as what is told of names does, and `not yet written`
 abbrev begins : List ℕ → Bool
 begins text = nat_eq (get_or text 0 0) 110
 
 abbrev is_of_names : Error → Bool
 is_of_names (Custom message) = begins (string_bytes message)
+is_of_names (Unimplemented message) = begins (string_bytes message)
 is_of_names _ = false
 
 custom_other : (text : List ℕ) (error : Error) → IsCustom text error → begins text ≡ false →
@@ -40,23 +42,26 @@ custom_other text (Custom message) is other = ap begins is ∙ other
 custom_other text _ is other = refl
 
 unimplemented_other : (text : List ℕ) (error : Error) → IsUnimplemented text error →
-    is_of_names error ≡ false
-unimplemented_other text (Custom message) is = absurd is
-unimplemented_other text _ is = refl
+    begins text ≡ false → is_of_names error ≡ false
+unimplemented_other text (Unimplemented message) is other = ap begins is ∙ other
+unimplemented_other text (Custom message) is other = absurd is
+unimplemented_other text _ is other = refl
 
 function_other : (error : Error) → NamesFunction error → is_of_names error ≡ false
 function_other (Custom message) is = absurd is
+function_other (Unimplemented message) is = absurd is
 function_other _ is = refl
 
 scalar_other : (error : Error) → NamesScalar error → is_of_names error ≡ false
 scalar_other (Custom message) is = absurd is
+scalar_other (Unimplemented message) is = absurd is
 scalar_other _ is = refl
 
 literal_other : (value : LiteralValue) (error : Error) → NamesLiteral value error →
     is_of_names error ≡ false
-literal_other (literal.F64 bits) error named = unimplemented_other (codes "float literal") error named
-literal_other (literal.F32 bits) error named = unimplemented_other (codes "float literal") error named
-literal_other (literal.F16 bits) error named = unimplemented_other (codes "float literal") error named
+literal_other (literal.F64 bits) error named = unimplemented_other (codes "float literal") error named refl
+literal_other (literal.F32 bits) error named = unimplemented_other (codes "float literal") error named refl
+literal_other (literal.F16 bits) error named = unimplemented_other (codes "float literal") error named refl
 literal_other (literal.AbstractInt value) error named = custom_other _ error named refl
 literal_other (literal.AbstractFloat bits) error named = custom_other _ error named refl
 literal_other _ error named = absurd named
@@ -64,7 +69,7 @@ literal_other _ error named = absurd named
 conversion_other : (o : Option TypeInner) (error : Error) → NamesConversion o error →
     is_of_names error ≡ false
 conversion_other None error named =
-    unimplemented_other (codes "conversion of this type") error named
+    unimplemented_other (codes "conversion of this type") error named refl
 conversion_other (Some new) error named = scalar_other error named
 
 matrix_other : (o : Option Scalar) (error : Error) → NamesMatrix o error → is_of_names error ≡ false
@@ -103,7 +108,7 @@ expression_other m known es (expression.As operand kind convert) error named =
 expression_other m known es
     (expression.ImageSample
     image sampler gather coordinate array_index offset level depth_ref clamp) error (inl named) =
-    unimplemented_other (codes "sampling form") error named.1
+    unimplemented_other (codes "sampling form") error named.1 refl
 expression_other m known es
     (expression.ImageSample
     image sampler gather coordinate array_index offset level depth_ref clamp) error (inr named) =
@@ -124,11 +129,11 @@ expression_other m known es (expression.SubgroupOperationResult ty) error named 
 expression_other m known es expression.SubgroupBallotResult error named =
     custom_other (codes "operand out of scope") error named refl
 expression_other m known es expression.RayQueryProceedResult error named =
-    unimplemented_other (codes "ray query") error named
+    unimplemented_other (codes "ray query") error named refl
 expression_other m known es (expression.RayQueryGetIntersection query committed) error named =
-    unimplemented_other (codes "ray query") error named
+    unimplemented_other (codes "ray query") error named refl
 expression_other m known es (expression.RayQueryVertexPositions query committed) error named =
-    unimplemented_other (codes "ray query") error named
+    unimplemented_other (codes "ray query") error named refl
 expression_other m known es (expression.ZeroValue ty) error named =
     type_other m.types (Handle ty) error named
 expression_other m known es (expression.Compose ty components) error named =
@@ -174,3 +179,20 @@ pub names_tell_of_none : (m : Module) (P : Type 0) (r : Result Unit Error) (erro
 names_tell_of_none m P (Err e) error told refusal =
     λ of. absurd (tells_of_none m e (subst (IsNamesRefusal m) (sym told) refusal) of)
 names_tell_of_none m P (Ok u) error told refusal = absurd told
+
+-- neither does that a module is not yet written
+pub not_written_tells_of_none : (m : Module) (error : Error) →
+    IsUnimplemented (codes "not yet written") error → TellsOfFunction m error → ⊥
+not_written_tells_of_none m (Unimplemented message) told (inl scope) = scope
+not_written_tells_of_none m (Unimplemented message) told
+    (inr (inl (tells, inl (other, known, es, e, named)))) =
+    false≢true
+    (sym (expression_other other known es e (Unimplemented message) named) ∙ ap begins told)
+not_written_tells_of_none m (Unimplemented message) told
+    (inr (inl (tells, inr (types, r, named)))) =
+    false≢true (sym (type_other types r (Unimplemented message) named) ∙ ap begins told)
+not_written_tells_of_none m (Unimplemented message) told (inr (inr full)) = full.0
+not_written_tells_of_none m (Memory e) told (inl scope) = scope
+not_written_tells_of_none m (Memory e) told (inr (inl form)) = form.0
+not_written_tells_of_none m (Memory e) told (inr (inr full)) = full.0
+not_written_tells_of_none m _ told of = absurd told

@@ -2,7 +2,7 @@ use naga_acceptance::{accepts, is_written_so_far};
 use naga_info::ModuleInfo;
 use naga_ir::{BinaryOperator, Expression, Handle, Literal, Module, Place, Scalar, Type_};
 use naga_names::namer::Namer;
-use naga_scope::{Plan, PlanError};
+use naga_scope::{GlobalExpressions, Plan, PlanError};
 use sample_modules::Sample;
 use std::alloc::{AllocError, Global};
 use std::process::Abort;
@@ -146,8 +146,9 @@ fn first_holds(
     if !accepts(module, info) || !is_written_so_far(module) || module.functions.len() != 1 {
         return Ok(None);
     }
+    let globals = GlobalExpressions::of(alloc, module)?;
     let mut namer = Namer::default(alloc);
-    match Plan::of(alloc, module, info, Place::from_index(0), false, &mut namer) {
+    match Plan::of(alloc, module, info, Place::from_index(0), &globals, false, &mut namer) {
         Ok(_) => Ok(Some(true)),
         Err(PlanError::OutOfScope) => Ok(Some(false)),
         Err(PlanError::WithoutForm(_))

@@ -320,8 +320,12 @@ const INVALID: &str = "refused: invalid module\n";
 
 /// Cases with their texts, or with the words that refuse them.
 const CASES: &[(Case, &str, &str)] = &[
-    // First values that are no literals are not yet written.
-    (Case::LocalOfArgument, "", "refused: not yet written\n"),
+    // First values may be arguments, which are in scope everywhere.
+    (
+        Case::LocalOfArgument,
+        "fn g(x: i32) -> i32 {\n    var a: i32 = x;\n\n    return x;\n}\n\n",
+        "",
+    ),
     // Loads that were not emitted are out of scope.
     (Case::LoadWithoutEmit, "", "refused: operand out of scope\n"),
     // Arguments past the list are invalid.

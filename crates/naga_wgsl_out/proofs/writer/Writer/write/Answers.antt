@@ -3,7 +3,7 @@ use Rattle.module_meaning.specs.Part.{is_written_so_far}
 use Rattle.naga_form.proofs.ToldItems.{written_are_told}
 use Rattle.naga_scope.proofs.WrittenConstants.{globals_in_order}
 use Rattle.naga_wgsl_out.proofs.Faithful.{Concludes, concludes}
-use Rattle.naga_wgsl_out.proofs.ToldNames.{names_tell_of_none}
+use Rattle.naga_wgsl_out.proofs.ToldNames.{names_tell_of_none, not_written_tells_of_none}
 use Rattle.naga_wgsl_out.proofs.writer.Writer.write.Goals as goal
 
 pub returns : goal.returns
@@ -38,10 +38,19 @@ returns g c =
 
 pub returns-in_err-names-clause-written_before : goal.returns-in_err-names-clause-written_before
 returns-in_err-names-clause-written_before g c =
-    names_tell_of_none c.args.«module».now _ c.from_residual.result _ c.from_residual.ensures.1
+    names_tell_of_none c.args.«module».now _ c.from_residual-in_err-names.result _
+    c.from_residual-in_err-names.ensures.1
     c.in_err-names.ensures.err
 
 pub of-requires : goal.of-requires
-of-requires g c =
-    globals_in_order c.args.«module».now c.args.info.now c.requires.accepted
-    (written_are_told c.args.«module».now (sym c.is_written_so_far.ensures ∙ c.if-not-is_written_so_far.false)).types
+of-requires g c = record {
+  ordered =
+      globals_in_order c.args.«module».now c.args.info.now c.requires.accepted
+      (written_are_told c.args.«module».now
+      (sym c.is_written_so_far.ensures ∙ c.if-not-is_written_so_far.false)).types;
+}
+
+pub returns-then-not-is_written_so_far-clause-written_before :
+    goal.returns-then-not-is_written_so_far-clause-written_before
+returns-then-not-is_written_so_far-clause-written_before g c =
+    λ of. absurd (not_written_tells_of_none c.args.«module».now _ c.not_yet_written.ensures of)
