@@ -471,10 +471,10 @@ pub constants_there : (m : Module) (info : ModuleInfo) → IsTrue (is_accepted m
 constants_there m info accepted i f stands es stand h e at =
     let numbered = function_there m info accepted i f stands in
     let is = accepted_at m info accepted i f numbered.0 numbered.1 in
-    by e (names_are_in_range m i f is.ranges h e at)
+    by is.callees e (names_are_in_range m is.callees f is.ranges h e at)
   where
-    by : (e : Expression) →
-        names_in_range m i (length f.arguments.items) (length f.local_variables) e ≡ true →
+    by : (callees : ℕ) (e : Expression) →
+        names_in_range m callees (length f.arguments.items) (length f.local_variables) e ≡ true →
         NamesConstantsOf m e
-    by (Constant c) range = ltb-true c (length m.constants) range
-    by _ range = tt
+    by callees (Constant c) range = ltb-true c (length m.constants) range
+    by callees _ range = tt

@@ -39,6 +39,7 @@ is_of_names _ = false
 custom_other : (text : List ℕ) (error : Error) → IsCustom text error → begins text ≡ false →
     is_of_names error ≡ false
 custom_other text (Custom message) is other = ap begins is ∙ other
+custom_other text (Unimplemented message) is other = absurd is
 custom_other text _ is other = refl
 
 unimplemented_other : (text : List ℕ) (error : Error) → IsUnimplemented text error →

@@ -1,7 +1,7 @@
 //! The writer of modules.
 
 ghost use Rattle.std.specs.Prelude.{◌≡◌, ◌<◌, ◌++◌, [], ℕ, IfErr, IfOk, IsTrue, OnErr, OnOk};
-ghost use Rattle.std.specs.Prelude.{codes, length, string_bytes};
+ghost use Rattle.std.specs.Prelude.{codes, length, slice_get, string_bytes};
 ghost use Rattle.module_meaning.specs.Accepted.{is_accepted};
 ghost use Rattle.module_meaning.specs.Part.{function_is_written};
 ghost use Rattle.module_meaning.specs.Part.{is_written_so_far};
