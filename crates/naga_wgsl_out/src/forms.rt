@@ -18,8 +18,8 @@ use crate::constants::constant_without_form;
 use crate::lacking::lacking_scalar;
 use naga_info::{FunctionInfo, TypeResolution};
 use naga_ir::{
-    Expression, Handle, Literal, MathFunction, Module, SampleLevel, Scalar, ScalarKind, SwizzleComponent,
-    Type_, TypeInner, UniqueArena,
+    Expression, Handle, Literal, MathFunction, Module, SampleLevel, Scalar, ScalarKind,
+    SwizzleComponent, Type_, TypeInner, UniqueArena,
 };
 use naga_scope::{GlobalExpressions, converted_scalar, sampling_has_form, scalar_behind};
 use naga_wgsl_fns::Error;

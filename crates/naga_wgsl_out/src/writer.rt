@@ -222,7 +222,15 @@ fn plan_of(
         (IsNamedPlan (tells_types flags) «module».now info.now handle namer.new) }
     ensures err { IfErr result (IsPlanRefusal (tells_types flags) «module».now info.now handle) }
 {
-    match Plan::of(alloc, module, info, handle, globals, tells_types(flags), namer) {
+    match Plan::of(
+        alloc,
+        module,
+        info,
+        handle,
+        globals,
+        tells_types(flags),
+        namer,
+    ) {
         Ok(plan) => Ok(plan),
         Err(error) => Err(error_of_plan(
             alloc,

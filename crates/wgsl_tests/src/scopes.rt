@@ -148,7 +148,15 @@ fn first_holds(
     }
     let globals = GlobalExpressions::of(alloc, module)?;
     let mut namer = Namer::default(alloc);
-    match Plan::of(alloc, module, info, Place::from_index(0), &globals, false, &mut namer) {
+    match Plan::of(
+        alloc,
+        module,
+        info,
+        Place::from_index(0),
+        &globals,
+        false,
+        &mut namer,
+    ) {
         Ok(_) => Ok(Some(true)),
         Err(PlanError::OutOfScope) => Ok(Some(false)),
         Err(PlanError::WithoutForm(_))

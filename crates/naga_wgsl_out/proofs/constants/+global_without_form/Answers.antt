@@ -22,9 +22,9 @@ returns-in-Literal t c =
 pub global_without_form-requires : goal.global_without_form-requires
 global_without_form-requires t c =
     let before =
-        formless.constant_fails c.args.«module».now c.requires.ordered c.args.handle
-        c.requires.formless c.index.result.now c.in-Constant.constant c.index-in-Constant.result.now
-        c.index.ensures c.in-Constant.is c.index-in-Constant.ensures in
+    formless.constant_fails c.args.«module».now c.requires.ordered c.args.handle
+    c.requires.formless c.index.result.now c.in-Constant.constant c.index-in-Constant.result.now
+    c.index.ensures c.in-Constant.is c.index-in-Constant.ensures in
     let within = c.requires.there in (
       omega (arith, before.0, c.decreases),
       (c.requires.ordered, (c.requires.globals, (omega (arith, before.0, within), before.1))),
@@ -62,13 +62,13 @@ pub global_without_form-requires-in-Some : goal.global_without_form-requires-in-
 global_without_form-requires-in-Some t c =
     let parts = c.in-Compose.components in
     let found =
-        formless.one_unwritten c.args.«module».now c.args.globals.now c.requires.globals parts.items
-        c.in-Some.component (sym c.in-Some.is ∙ c.first_unwritten.ensures
-        ∙ ap (find (unwritten c.args.globals.now)) c.as_slice.ensures.value) in
+    formless.one_unwritten c.args.«module».now c.args.globals.now c.requires.globals parts.items
+    c.in-Some.component (sym c.in-Some.is ∙ c.first_unwritten.ensures
+    ∙ ap (find (unwritten c.args.globals.now)) c.as_slice.ensures.value) in
     let before =
-        formless.operand_before c.args.«module».now c.requires.ordered c.args.handle
-        c.requires.formless (expression.Compose c.in-Compose.ty parts) c.in-Some.component
-        (c.index.ensures ∙ ap Some c.in-Compose.is) found.0 in
+    formless.operand_before c.args.«module».now c.requires.ordered c.args.handle
+    c.requires.formless (expression.Compose c.in-Compose.ty parts) c.in-Some.component
+    (c.index.ensures ∙ ap Some c.in-Compose.is) found.0 in
     let within = c.requires.there in (
       omega (arith, before, c.decreases),
       (c.requires.ordered, (c.requires.globals, (omega (arith, before, within), found.1))),
@@ -78,9 +78,9 @@ pub returns-in-Some : goal.returns-in-Some
 returns-in-Some t c =
     let parts = c.in-Compose.components in
     let found =
-        formless.one_unwritten c.args.«module».now c.args.globals.now c.requires.globals parts.items
-        c.in-Some.component (sym c.in-Some.is ∙ c.first_unwritten.ensures
-        ∙ ap (find (unwritten c.args.globals.now)) c.as_slice.ensures.value) in
+    formless.one_unwritten c.args.«module».now c.args.globals.now c.requires.globals parts.items
+    c.in-Some.component (sym c.in-Some.is ∙ c.first_unwritten.ensures
+    ∙ ap (find (unwritten c.args.globals.now)) c.as_slice.ensures.value) in
     OfOperand c.args.handle c.in-Some.component (expression.Compose c.in-Compose.ty parts)
     (c.index.ensures ∙ ap Some c.in-Compose.is) found.0 c.global_without_form-in-Some.ensures
 
@@ -88,14 +88,22 @@ pub global_without_form-requires-in-Splat : goal.global_without_form-requires-in
 global_without_form-requires-in-Splat t c =
     let value = c.in-Splat.value in
     let before =
-        formless.operand_before c.args.«module».now c.requires.ordered c.args.handle
-        c.requires.formless (expression.Splat c.in-Splat.size value) value
-        (c.index.ensures ∙ ap Some c.in-Splat.is) (0, (omega arith, refl)) in
+    formless.operand_before c.args.«module».now c.requires.ordered c.args.handle
+    c.requires.formless (expression.Splat c.in-Splat.size value) value
+    (c.index.ensures ∙ ap Some c.in-Splat.is) (0, (omega arith, refl)) in
     let within = c.requires.there in (
       omega (arith, before, c.decreases),
-      (c.requires.ordered, (c.requires.globals, (omega (arith, before, within),
-      formless.splat_fails c.args.«module».now c.requires.ordered c.args.handle c.requires.formless
-      c.index.result.now c.in-Splat.size value c.index.ensures c.in-Splat.is))),
+      (
+        c.requires.ordered,
+        (
+          c.requires.globals,
+          (
+            omega (arith, before, within),
+            formless.splat_fails c.args.«module».now c.requires.ordered c.args.handle c.requires.formless
+                c.index.result.now c.in-Splat.size value c.index.ensures c.in-Splat.is,
+          ),
+        ),
+      ),
     )
 
 pub returns-in-Splat : goal.returns-in-Splat

@@ -289,10 +289,19 @@ fn tells_of_scalar(refusal: &Option<Error>) -> bool {
 fn constants_without_a_form_are_refused_where_they_are_written(
     rt: HostRuntime,
 ) -> Result<(), Fail> {
-    assert!(rt; tells_of_operator(&told(rt.alloc(), Made::Negated)?), "negated");
-    assert!(rt; tells_of_operator(&told(rt.alloc(), Made::OfSum)?), "of a sum");
+    assert!(rt;
+        tells_of_operator(&told(rt.alloc(), Made::Negated)?),
+        "negated"
+    );
+    assert!(rt;
+        tells_of_operator(&told(rt.alloc(), Made::OfSum)?),
+        "of a sum"
+    );
     assert!(rt; tells_of_float(&told(rt.alloc(), Made::Float)?), "a float");
-    assert!(rt; tells_of_scalar(&told(rt.alloc(), Made::Wide)?), "of 128 bits");
+    assert!(rt;
+        tells_of_scalar(&told(rt.alloc(), Made::Wide)?),
+        "of 128 bits"
+    );
     for made in FORMLESS {
         assert!(rt; idle_is_let_be(rt.alloc(), made)?, "{made:?}");
     }
