@@ -229,7 +229,6 @@ expression_is_of_part (RayQueryGetIntersection query committed) = true
 expression_is_of_part (RayQueryVertexPositions query committed) = true
 expression_is_of_part _ = false
 
-
 abbrev pub statement_is_written : StatementTree → Bool
 statement_is_written (simple (emit first last)) = true
 statement_is_written (simple (store pointer value)) = true
