@@ -63,7 +63,7 @@ def compare(module, number, texts, tally):
             tally.run(number, module, text)
     if is_written:
         tally.add_written(module)
-    else:
+    elif "refused: " in text:
         before, name = text.split("refused: ")
         tally.add("refused: " + name.strip())
         tally.add("refused, behind functions", before != "")
@@ -118,6 +118,9 @@ class Tally:
         self.add("written, with arrays", any(ty[0] == "array" for ty in module.types))
         for kind in (*EVENTS, "array length"):
             self.add(f"written, with {kind}", any(f.expressions[h].kind == kind for f, h in emitted))
+        self.add("written, with constants without names", any(e.kind == "constant" for e in expressions))
+        firsts = [f.expressions[h].kind for f in module.functions for _, _, h in f.locals if h is not None]
+        self.add("written, with first values that are no literals", any(kind != "literal" for kind in firsts))
 
 
 def emitted_in(f):

@@ -9,15 +9,26 @@ from spelling import (
 
 def is_accepted(module):
     return (
-        all(map(ranges_fit, module.functions))
+        own_ranges_fit(module)
+        and all(map(ranges_fit, module.functions))
         and not any(has_pointer_to_handle(ty) for ty in types_of(module))
-        and all(function_is_sound(f) for f in module.functions)
+        and all(function_is_sound(f) for f in module.groups())
+        and all(alike(module.own.type_of(init), ty) for ty, init in module.constants)
         and operators_agree(module))
 
 
 def types_of(module):
     """The types of the module and those that are known of its expressions."""
-    return module.types + [e.type for f in module.functions for e in f.expressions]
+    return module.types + [e.type for f in module.groups() for e in f.expressions]
+
+
+def own_ranges_fit(module):
+    """Initialisers are there, and stand before the expressions that name their constants."""
+    own = module.own
+    return (
+        ranges_fit(own)
+        and all(init < len(own.expressions) for _, init in module.constants)
+        and all(module.constants[e.what[0]][1] < h for h, e in enumerate(own.expressions) if e.kind == "constant"))
 
 
 def ranges_fit(f):
@@ -26,6 +37,7 @@ def ranges_fit(f):
     return (
         all(operand < h for h, e in enumerate(f.expressions) for operand in e.operands)
         and all(e.what[0] < len(f.arguments) for e in f.expressions if e.kind == "argument")
+        and all(e.what[0] < len(f.module.constants) for e in f.expressions if e.kind == "constant")
         and all(h is None or h < count for _, *handles in f.body for h in handles)
         # a range may be empty, and begins no further than behind its end
         and all(s[1] <= s[2] + 1 for s in f.body if s[0] == "emit"))
@@ -50,6 +62,8 @@ def expression_is_sound(f, e):
         wanted = f.arguments[e.what[0]][1]
     elif e.kind == "local":
         wanted = pointer_to(f.locals[e.what[0]][1], FUNCTION)
+    elif e.kind == "constant":
+        wanted = f.module.constants[e.what[0]][0]
     elif e.kind in ("zero", "compose"):
         wanted = e.what[0]
     elif e.kind == "load":
@@ -96,10 +110,10 @@ def statement_is_sound(f, s):
 def operators_agree(module):
     """Operators of one word over operands of types alike have types alike."""
     seen = {}
-    for f in module.functions:
+    for f in module.groups():
         for e in f.expressions:
             # what the world answers need not agree
-            if e.kind in (*EVENTS, "literal", "argument", "local"):
+            if e.kind in (*EVENTS, "literal", "argument", "local", "constant"):
                 continue
             use = (operator_of(f, e), tuple(identity(f.type_of(h)) for h in e.operands))
             if seen.setdefault(use, identity(e.type)) != identity(e.type):

@@ -4,11 +4,13 @@ from chance import some_label, some_scalar, some_type
 from modules import LEAVES, Expression, Function, Module, Sampling
 from operators import LITERALS, conversion_word, wanted_scalar
 from spelling import (
-    BOOL, F32, F64, FUNCTION, HALVES, I32, I64, INTEGERS, SCALAR_KINDS, U32, U64, alike, bases_of, count_of_parts,
+    BOOL, F32, F64, FUNCTION, HALVES, I16, I32, I64, INTEGERS, SCALAR_KINDS, U16, U32, U64, alike, bases_of, count_of_parts,
     held, part_of, pointed_at, pointer_to, points, scalar_of, with_scalar)
 from words import MATH, QUERIES, RELATIONAL
 
-RANGES = {I32: (-2**31, 2**31 - 1), U32: (0, 2**32 - 1), I64: (-2**63, 2**63 - 1), U64: (0, 2**63 - 1)}
+RANGES = {
+    I32: (-2**31, 2**31 - 1), U32: (0, 2**32 - 1), I64: (-2**63, 2**63 - 1), U64: (0, 2**63 - 1),
+    I16: (-2**15, 2**15 - 1), U16: (0, 2**16 - 1)}
 COMPARISONS = range(5, 11)
 LOGICAL = (14, 15)
 # kinds of images' types, with what is sampled with them
@@ -21,6 +23,8 @@ def generate(r):
     if r.random() < 0.35:
         types += [("image", 1, r.random() < 0.3, r.choice([("sampled", "float", False), ("depth", False)]))]
         types += [("sampler", r.random() < 0.3), ("vector", 2, F32), ("scalar", r.choice([I32, F32]))]
+    if r.random() < 0.4:
+        OwnMaker(r, module, types).make_own()
     for _ in range(r.choice([1, 1, 1, 2, 3])):
         # functions of one module share some of their types
         own = [ty for ty in types if r.random() < 0.8] or types
@@ -29,12 +33,12 @@ def generate(r):
 
 
 class FunctionMaker:
-    def __init__(self, r, module, types):
+    def __init__(self, r, module, types, f=None):
         self.r, self.module, self.types = r, module, types
         for ty in types:
             module.handle_of(ty, some_label(r) if self.chance(0.05) else None)
         self.has_hard_labels = r.random() < 0.6
-        self.f = Function(self.label("f"))
+        self.f = f or Function(self.label("f"), module)
 
     # ---- labels
     def label(self, usual):
@@ -81,11 +85,13 @@ class FunctionMaker:
             if self.chance(0.9):
                 self.put("argument", ty, [number])
         self.make_literals()
-        self.make_locals()
         for _ in range(r.choice([0, 0, 1, 2])):
             self.put_typed("zero", r.choice(self.types))
+        for _ in range(r.choice([0, 1, 2])):
+            self.put_constant()
         if self.chance(0.3):
             self.make_constants()
+        self.make_locals()
         for _ in range(r.randint(0, 14)):
             self.make_expression()
         self.give_labels()
@@ -119,7 +125,7 @@ class FunctionMaker:
     def make_literals(self):
         r = self.r
         for _ in range(r.randint(0, 3)):
-            number = r.randrange(5) if self.chance(0.97) else r.choice([5, 6])
+            number = r.randrange(5) if self.chance(0.95) else r.choice([5, 6, 7, 8])
             value = r.randint(0, 1)
             if LITERALS[number] in RANGES:
                 low, high = RANGES[LITERALS[number]]
@@ -129,17 +135,29 @@ class FunctionMaker:
     def make_locals(self):
         for _ in range(self.r.randint(0, 3)):
             ty = self.r.choice(self.types)
-            # a first value that is no literal is not written so far
-            inits = self.handles(lambda e: (e.kind == "literal" or self.chance(0.02)) and alike(e.type, ty))
-            init = self.some_of(inits) if self.chance(0.6) else None
+            init = self.some_of(self.of_type(ty)) if self.chance(0.6) else None
             self.f.locals.append((self.label("a"), ty, init))
         for local, (_, ty, _) in enumerate(self.f.locals):
             self.put("local", pointer_to(ty, FUNCTION), [local])
+        self.make_pointing_locals()
+
+    def make_pointing_locals(self):
+        """Now and then a first value that is a pointer to a local, which may stand behind it."""
+        for at, (label, ty, _) in enumerate(self.f.locals):
+            if points(ty) and self.chance(0.5):
+                self.f.locals[at] = (label, ty, self.some_of(self.of_type(ty)))
+
+    def put_constant(self):
+        """A constant of the module, if it has any."""
+        if self.module.constants:
+            number = self.r.randrange(len(self.module.constants))
+            self.put("constant", self.module.constants[number][0], [number])
 
     def make_constants(self):
-        """Trees over literals, some of which apply an operator, as an offset may not."""
+        """Trees over literals and constants, some of which apply an operator, as an offset may not."""
         for _ in range(self.r.randint(1, 4)):
-            leaves = self.handles(lambda e: e.kind in ("literal", "compose", "splat") and e.type[0] == "scalar")
+            leaves = self.handles(
+                lambda e: e.kind in ("literal", "constant", "compose", "splat") and e.type[0] == "scalar")
             x = self.some_of(leaves)
             if x is None:
                 self.put("literal", ("scalar", I32), [1, self.r.randint(-8, 7)])
@@ -254,7 +272,7 @@ class FunctionMaker:
             kind, width = self.r.choice([*HALVES, ("float", 3), ("sint", 3), ("abstract", 8), ("bool", 4)])
         what = (SCALAR_KINDS.index(kind), 0 if self.chance(0.4) else width)
         ty = self.f.type_of(x)
-        if conversion_word(ty, what) and wanted_scalar(ty, what) not in HALVES:
+        if conversion_word(ty, what) and (wanted_scalar(ty, what) not in HALVES or self.chance(0.5)):
             ty = with_scalar(ty, wanted_scalar(ty, what))
         # what is known of the type of a conversion is asked by no clause but that operators agree
         self.put("conversion", some_type(self.r) if self.chance(0.004) else ty, what, [x])
@@ -315,7 +333,7 @@ class FunctionMaker:
         self.put("sample", self.some_given(), [how], operands + ([offset] if how.offset else []))
 
     def some_offset(self):
-        constants = self.handles(lambda e: e.kind in ("literal", "zero"))
+        constants = self.handles(lambda e: e.kind in ("literal", "zero", "constant"))
         for h, e in enumerate(self.f.expressions):
             if e.kind in ("compose", "splat", "unary") and all(k in constants for k in e.operands):
                 constants.append(h)
@@ -411,3 +429,46 @@ class FunctionMaker:
             at = self.r.randrange(len(f.body))
             kind, *handles = f.body[at]
             f.body[at] = (kind, *handles[:-1], other)
+
+
+class OwnMaker(FunctionMaker):
+    """The module's own expressions, and constants of which these are the initialisers."""
+
+    def __init__(self, r, module, types):
+        super().__init__(r, module, types, module.own)
+
+    def make_own(self):
+        r, f = self.r, self.f
+        for _ in range(r.randint(1, 6)):
+            what = r.random()
+            if what < 0.2:
+                self.put_typed("zero", r.choice(self.types))
+            elif what < 0.4:
+                self.put_constant()
+            elif what < 0.7:
+                self.make_constants()
+            elif what < 0.73:
+                self.make_binary()
+            else:
+                self.make_literals()
+            if f.expressions and self.chance(0.7):
+                self.declare(r.randrange(len(f.expressions)))
+        if f.expressions and self.chance(0.02):
+            self.make_own_fault()
+
+    def declare(self, init):
+        ty = self.f.type_of(init) if self.chance(0.995) else self.r.choice(self.types)
+        self.module.handle_of(ty)
+        self.module.constants.append((ty, init))
+
+    def make_own_fault(self):
+        """Another initialiser or another operand, which may stand behind, or nowhere."""
+        f, r = self.f, self.r
+        other = r.randrange(len(f.expressions) + 1)
+        with_operands = self.handles(lambda e: e.operands)
+        if with_operands and self.chance(0.5):
+            e = f.expressions[r.choice(with_operands)]
+            e.operands[r.randrange(len(e.operands))] = other
+        elif self.module.constants:
+            at = r.randrange(len(self.module.constants))
+            self.module.constants[at] = (self.module.constants[at][0], other)

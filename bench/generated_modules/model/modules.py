@@ -5,10 +5,10 @@ from spelling import bases_of, type_numbers
 KINDS = [
     "literal", "argument", "local", "load", "unary", "binary", "select", "math", "relational", "splat", "compose",
     "zero", "swizzle", "access", "access index", "conversion", "derivative", "sample", "image load", "image query",
-    "array length", "multiply add"]
+    "array length", "multiply add", "constant"]
 
 # these are not emitted
-LEAVES = ("literal", "argument", "local", "zero")
+LEAVES = ("literal", "argument", "local", "zero", "constant")
 PARTS = ("access", "access index")
 IMAGES = ("sample", "image load", "image query")
 # these are events where they are used at all, and the images' anyhow
@@ -45,8 +45,9 @@ class Function:
     statements: `emit` with the first and the last handle, `store` with pointer and value, `return` with a value or
     none."""
 
-    def __init__(self, label):
-        self.label, self.arguments, self.result, self.locals = label, [], None, []
+    def __init__(self, label, module=None):
+        self.label, self.module = label, module
+        self.arguments, self.result, self.locals = [], None, []
         self.expressions, self.labels, self.body = [], {}, []
 
     def add(self, expression):
@@ -58,10 +59,16 @@ class Function:
 
 
 class Module:
-    """Types with their labels, and functions."""
+    """Types with their labels; constants without names, by type and initialiser, which is one of the module's own
+    expressions; and functions."""
 
     def __init__(self):
         self.types, self.labels, self.functions = [], [], []
+        self.own, self.constants = Function(None, self), []
+
+    def groups(self):
+        """What expressions stand together in: the module's own, and each function."""
+        return [self.own, *self.functions]
 
     def handle_of(self, ty, label=None):
         """The type's handle; the type is put behind those that it is made of, if it is not there."""
@@ -77,7 +84,11 @@ class Module:
         types = []
         for label, ty in zip(self.labels, self.types):
             types += [*label_numbers(label), *type_numbers(ty, self.types.index)]
-        return [len(self.types), *types, len(self.functions), *functions]
+        own = [n for e in self.own.expressions for n in self.expression_numbers(e)]
+        constants = [n for ty, init in self.constants for n in (self.types.index(ty), init)]
+        return [
+            len(self.types), *types, len(self.own.expressions), *own, len(self.constants), *constants,
+            len(self.functions), *functions]
 
     def function_numbers(self, f):
         handle = self.types.index

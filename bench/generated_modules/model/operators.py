@@ -1,11 +1,12 @@
 """The words of operators and of what is asked of the world."""
 
 from spelling import (
-    BOOL, F32, F64, I32, I64, SCALAR_KINDS, SCALARS, U32, U64, pointed_at, scalar_of, spelled, with_scalar)
+    BOOL, F32, F64, I16, I32, I64, SCALAR_KINDS, SCALARS, U16, U32, U64, pointed_at, scalar_of, spelled,
+    with_scalar)
 from words import AXES, BINARY, CONTROLS, MATH, QUERIES, RELATIONAL, UNARY
 
 # the scalars of literals, by the builder's numbers
-LITERALS = [BOOL, I32, U32, I64, U64, F32, F64]
+LITERALS = [BOOL, I32, U32, I64, U64, F32, F64, I16, U16]
 SUFFIX = {I32: "i", U32: "u", I64: "li", U64: "lu"}
 LEVEL_ZERO = "0.0"
 
@@ -18,6 +19,8 @@ def literal_text(number, value):
         return "i32(-2147483648)"
     if scalar == I64 and value == -2**63:
         return "i64(-9223372036854775807 - 1)"
+    if scalar in (I16, U16):
+        return f"{SCALARS[scalar]}({value})"
     # a float has no text
     return f"{value}{SUFFIX[scalar]}" if scalar in SUFFIX else f" float {value}"
 

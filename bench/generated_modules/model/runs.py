@@ -5,6 +5,8 @@ result. A place is a local, what an argument or another value points at, or a pa
 gives is told by the number of events before it.
 """
 
+import re
+
 from modules import EVENTS, READS
 from operators import LEAST, literal_text, numbers_around, offset_of, word_of
 from spelling import points_to_atomic, spelled
@@ -65,12 +67,24 @@ class ModuleRun:
             return (e.kind, e.what[0])
         if e.kind == "zero":
             return (spelled(e.what[0]),)
+        if e.kind == "constant":
+            return self.own_value(self.f.module.constants[e.what[0]][1])
         if h in self.values:
             return self.values[h]
         # what no `Emit` gave is a tree of constants, or is never used
         if e.kind in EVENTS:
             raise NoValue
         return self.applied(h)
+
+    def own_value(self, h):
+        """The value of one of the module's own expressions."""
+        own = self.f.module.own
+        e = own.expressions[h]
+        if e.kind == "literal":
+            return ("literal", literal_text(*e.what))
+        if e.kind == "constant":
+            return self.own_value(self.f.module.constants[e.what[0]][1])
+        return (word_of(own, e), *map(self.own_value, e.operands))
 
     def applied(self, h):
         e = self.f.expressions[h]
@@ -169,7 +183,8 @@ class TextRun:
             return place, closed(rest)
         if s[0] == "(":
             return self.read_in_parentheses(s[1:])
-        for text in [*LEAST, "0.0"]:
+        short = re.match(r"[iu]16\(-?[0-9]+\)", s)
+        for text in [*LEAST, "0.0", *([short[0]] if short else [])]:
             if s.startswith(text):
                 return ("literal", text), s[len(text):]
         word = type_at(s)

@@ -15,7 +15,8 @@ SCALAR_KINDS = ["sint", "uint", "float", "bool", "abstract"]
 BOOL, I32, U32, I64, U64, F32, F64 = [
     ("bool", 1), ("sint", 4), ("uint", 4), ("sint", 8), ("uint", 8), ("float", 4), ("float", 8)]
 # types of these are for an extension
-HALVES = {("sint", 2): "i16", ("uint", 2): "u16", ("float", 2): "f16"}
+I16, U16, F16 = [("sint", 2), ("uint", 2), ("float", 2)]
+HALVES = {I16: "i16", U16: "u16", F16: "f16"}
 SCALARS = {BOOL: "bool", I32: "i32", U32: "u32", I64: "i64", U64: "u64", F32: "f32", F64: "f64", **HALVES}
 INTEGERS = [("scalar", s) for s in (I32, U32, I64, U64)]
 DIMENSIONS = ["1d", "2d", "3d", "cube"]

@@ -11,7 +11,7 @@ from words import MATH, RELATIONAL
 NOT_YET_WRITTEN = "not yet written"
 OUT_OF_SCOPE = "operand out of scope"
 # what an offset may be made of
-CONSTANTS = ("literal", "zero", "compose", "splat")
+CONSTANTS = ("literal", "zero", "constant", "compose", "splat")
 
 
 class Refused(Exception):
@@ -47,11 +47,11 @@ def is_partless(f, e):
 
 
 def constants_of(f):
-    """Whether each expression is a tree of operators over literals and zero values."""
+    """Whether each expression is a tree of operators over literals, zero values and constants."""
     constants = []
     for e in f.expressions:
         is_operator = e.kind not in (*LEAVES, *EVENTS)
-        constants.append(e.kind in ("literal", "zero") or (is_operator and all(constants[h] for h in e.operands)))
+        constants.append(e.kind in ("literal", "zero", "constant") or (is_operator and all(constants[h] for h in e.operands)))
     return constants
 
 
@@ -82,12 +82,8 @@ def answers_of(module, explicit):
 
 
 def is_of_part(module):
-    """No type waits, and first values are literals."""
-    expressions = [e for f in module.functions for e in f.expressions]
-    inits = [f.expressions[init] for f in module.functions for _, _, init in f.locals if init is not None]
-    return (
-        not any(map(waits, module.types + [e.type for e in expressions]))
-        and all(e.kind == "literal" for e in inits))
+    """No type that is declared waits."""
+    return not any(map(waits, module.types))
 
 
 def written_of(f):
@@ -139,6 +135,8 @@ def formless(f, h):
         return "Unsupported relational function: " + RELATIONAL[e.what[0]]
     if e.kind in ("zero", "compose"):
         return formless_type(e.type)
+    if e.kind == "constant":
+        return formless_own(f.module, f.module.constants[e.what[0]][1])
     if is_partless(f, e):
         return "cannot index"
     if e.kind == "conversion":
@@ -148,6 +146,26 @@ def formless(f, h):
     if e.kind == "image load" and e.what[1] and e.what[2]:
         return "image load with sample and level"
     return None
+
+
+def formless_own(module, h):
+    """How one of the module's own expressions without a form is named, by the first of its parts that has none."""
+    e = module.own.expressions[h]
+    if e.kind not in CONSTANTS:
+        return "operator in a constant"
+    own = formless(module.own, h)
+    parts = [formless_own(module, k) for k in e.operands]
+    return next((name for name in parts if name is not None), own)
+
+
+def own_text(module, h):
+    """One of the module's own expressions, written out; one without a form is told elsewhere."""
+    e = module.own.expressions[h]
+    if e.kind == "literal":
+        return literal_text(*e.what)
+    if e.kind == "constant":
+        return own_text(module, module.constants[e.what[0]][1])
+    return f"{word_of(module.own, e)}({', '.join(own_text(module, k) for k in e.operands)})"
 
 
 def formless_conversion(ty, what):
@@ -244,6 +262,8 @@ class Writer:
             return self.names.arguments[e.what[0]]
         if e.kind == "local":
             return self.names.locals[e.what[0]]
+        if e.kind == "constant":
+            return own_text(self.f.module, self.f.module.constants[e.what[0]][1])
         if e.kind == "load":
             p = e.operands[0]
             if points_to_atomic(self.f.type_of(p)):
@@ -284,8 +304,8 @@ class Writer:
     def constant(self, h):
         """A constant, written out whether it has a name or not."""
         e = self.f.expressions[h]
-        if e.kind == "literal":
-            return literal_text(*e.what)
+        if e.kind in ("literal", "constant"):
+            return self.plain(h)
         return f"{word_of(self.f, e)}({', '.join(map(self.constant, e.operands))})"
 
     def write(self):
@@ -293,14 +313,21 @@ class Writer:
         head = ", ".join(f"{x}: {spelled(ty)}" for x, (_, ty) in zip(self.names.arguments, f.arguments))
         arrow = f" -> {spelled(f.result)}" if f.result is not None else ""
         lines = [f"fn {self.names.function}({head}){arrow} {{"]
-        for x, (_, ty, init) in zip(self.names.locals, f.locals):
-            first = f" = {self.operand(init)}" if init is not None else ""
-            lines.append(f"    var {x}: {spelled(ty)}{first};")
+        for number, (_, ty, init) in enumerate(f.locals):
+            first = f" = {self.first_value(number, init)}" if init is not None else ""
+            lines.append(f"    var {self.names.locals[number]}: {spelled(ty)}{first};")
         if f.locals:
             lines.append("")
         for s in f.body:
             self.statement(s, lines)
         return "\n".join(lines) + "\n}\n\n"
+
+    def first_value(self, number, h):
+        """A first value of the local of this number, which names no local but those before it."""
+        e = self.f.expressions[h]
+        if e.kind == "local" and e.what[0] >= number:
+            raise Refused
+        return self.operand(h)
 
     def statement(self, s, lines):
         if s[0] == "emit":
