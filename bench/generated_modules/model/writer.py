@@ -51,7 +51,8 @@ def constants_of(f):
     constants = []
     for e in f.expressions:
         is_operator = e.kind not in (*LEAVES, *EVENTS)
-        constants.append(e.kind in ("literal", "zero", "constant") or (is_operator and all(constants[h] for h in e.operands)))
+        is_leaf = e.kind in ("literal", "zero", "constant")
+        constants.append(is_leaf or (is_operator and all(constants[h] for h in e.operands)))
     return constants
 
 
@@ -198,7 +199,8 @@ class Writer:
         self.f, self.names, self.namer, self.explicit = f, names, namer, explicit
         self.uses = uses_of(f)
         self.constants = constants_of(f)
-        # where an emitted expression stands: a `let`'s name, written where it is used, or never
+        # where an emitted expression stands: a `let`'s name, written where it is used, or never, as an operand was
+        # out of scope
         self.bound, self.inline, self.never = {}, set(), set()
 
     def is_usable(self, h):
@@ -219,7 +221,10 @@ class Writer:
             told = f": {spelled(e.type)}" if self.explicit else ""
             lines.append(f"    let {name}{told} = {text};")
             self.bound[h] = name
-        elif is_ready and e.kind not in READS:
+        elif e.kind in READS:
+            # it stays as it was, so that it may be emitted again
+            pass
+        elif is_ready:
             self.inline.add(h)
         else:
             self.never.add(h)
