@@ -130,8 +130,10 @@ const ACCESSES: &[(Place, &str, &str, &str)] = &[
     ),
     (
         Place::Element,
-        "fn f() {\n    var a: array<atomic<u32>, 4>;\n\n    let _e2 = atomicLoad((&a[1]));\n    atomicStore((&a[1]), _e2);\n}\n\n",
-        "fn f() {\n    var a: array<atomic<u32>, 4>;\n\n    let _e2: u32 = atomicLoad((&a[1]));\n    atomicStore((&a[1]), _e2);\n}\n\n",
+        "fn f() {\n    var a: array<atomic<u32>, 4>;\n\n    let _e2 = atomicLoad((&a[1]));\n    \
+atomicStore((&a[1]), _e2);\n}\n\n",
+        "fn f() {\n    var a: array<atomic<u32>, 4>;\n\n    \
+let _e2: u32 = atomicLoad((&a[1]));\n    atomicStore((&a[1]), _e2);\n}\n\n",
         "fn f() {\n    var a: array<atomic<u32>, 4>;\n\n    atomicStore((&a[1]), 5u);\n}\n\n",
     ),
     (

@@ -239,8 +239,11 @@ fn build_product(sample: &mut Sample) -> Result<(), AllocError> {
     sample.end_function()
 }
 
-const PRODUCT: &str =
-    "fn f(n: u32, p: ptr<function, f32>) {\n    let _e2 = (n + n);\n    let _e3 = coopLoad<coop_mat8x8<f32,A>>(p, _e2);\n    let _e4 = coopLoadT<coop_mat8x8<f32,B>>(p, _e2);\n    let _e5 = coopLoad<coop_mat8x8<f32,C>>(p, n);\n    let _e6 = coopMultiplyAdd(_e3, _e4, _e5);\n}\n\n";
+const PRODUCT: &str = "fn f(n: u32, p: ptr<function, f32>) {\n    let _e2 = (n + n);\n    \
+let _e3 = coopLoad<coop_mat8x8<f32,A>>(p, _e2);\n    \
+let _e4 = coopLoadT<coop_mat8x8<f32,B>>(p, _e2);\n    \
+let _e5 = coopLoad<coop_mat8x8<f32,C>>(p, n);\n    \
+let _e6 = coopMultiplyAdd(_e3, _e4, _e5);\n}\n\n";
 
 fn product_gives(alloc: Global) -> Result<bool, AllocError> {
     let mut sample = Sample::new(alloc);

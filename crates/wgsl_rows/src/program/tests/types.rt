@@ -96,10 +96,12 @@ const SPELLED: &[(Kind, &str)] = &[
     ),
 ];
 
+/// A type without a name, which is put into the module if it is not there.
 pub fn add_inner(sample: &mut Sample, inner: TypeInner) -> Result<Handle<Type_>, AllocError> {
     sample.module.types.insert(Type_ { name: None, inner })
 }
 
+/// An image's type, by its dimensions, whether it has layers, and its class.
 pub fn image(dim: ImageDimension, arrayed: bool, class: ImageClass) -> TypeInner {
     TypeInner::Image {
         dim,
@@ -118,6 +120,8 @@ fn length(count: Option<u32>) -> ArraySize {
     }
 }
 
+/// An array of so many elements of the type `base`, or of a number that is told when the shader runs; an
+/// element takes four bytes.
 pub fn add_array(
     sample: &mut Sample,
     base: Handle<Type_>,
