@@ -1,7 +1,8 @@
 -- The functions of a module as shapes, with the names that their texts use.
 --
 -- Throughout, names are those of the module m, info is what is known of it, f a function with the
--- handle g, and es is what is known of its expressions.
+-- handle g, es is what is known of its expressions, and given tells the names that front ends gave in
+-- it, in the order of its text.
 use Rattle.std.specs.Prelude.{ℕ, ◌+◌, List, [], ◌∷◌, reverse}
 use Rattle.naga_ir.specs.declared.module.Function as ir_function
 use Rattle.naga_ir.specs.declared.module.Module as ir_module
@@ -26,29 +27,30 @@ outer_names names =
     }
 
 -- the names that the text of the function with this handle uses
-abbrev pub inner_names : NameMap → ir_module.Module → ℕ → Names
-inner_names names m g =
+abbrev pub inner_names : NameMap → (given : ℕ → List ℕ) → ℕ → Names
+inner_names names given g =
     record {
       outer = outer_names names;
       argument = argument_name names g;
       local_ = local_name names g;
-      given = given_name m g;
+      given = given;
       numbered = numbered_name;
       earlier = g;
     }
 
 -- the function with this handle, under its names
 abbrev pub function_naming :
-    NameMap → ir_module.Module → ModuleInfo → ℕ → ir_function.Function → List ExpressionInfo →
-    Naming
-function_naming names m info g f es =
-    record { function = function_shape m info f es; names = inner_names names m g }
+    NameMap → (given : ℕ → List ℕ) → ir_module.Module → ModuleInfo → ℕ → ir_function.Function →
+    List ExpressionInfo → Naming
+function_naming names given m info g f es =
+    record { function = function_shape m info f es; names = inner_names names given g }
 
--- the functions with their names, from this handle on
+-- the functions with their names, from this handle on, in a text of the whole module
 abbrev pub namings_from : NameMap → ir_module.Module → ℕ → List Function → List Naming
 namings_from names m g [] = []
 namings_from names m g (f ∷ fs) =
-    record { function = f; names = inner_names names m g } ∷ namings_from names m (g + 1) fs
+    record { function = f; names = inner_names names (given_name m g) g }
+    ∷ namings_from names m (g + 1) fs
 
 -- the functions with their names, the last one first; so far a module has no entry points
 abbrev pub namings : NameMap → ir_module.Module → ModuleInfo → List Naming

@@ -483,9 +483,9 @@ standing_reads : (s : Standing) (p : PlainForm) (q : Plain) → plain_read p ≡
 standing_reads (Named x) p q e = refl
 standing_reads _ p q e = e
 
-module _ (names : NameMap) (m : Module) (info : ModuleInfo) (g : ℕ) (f : ir_function.Function) (es : List ExpressionInfo) (values : IsTrue (list_all type_is_of_part m.types)) (size : length f.expressions ≡ length es) (W : ℕ → Type 0) (closed : AreClosed W (binds (function_shape m info f es)) f) (written : AreWritten W m f es) (constants : ConstantsAreRead names m info) where
+module _ (names : NameMap) (given : ℕ → List ℕ) (m : Module) (info : ModuleInfo) (g : ℕ) (f : ir_function.Function) (es : List ExpressionInfo) (values : IsTrue (list_all type_is_of_part m.types)) (size : length f.expressions ≡ length es) (W : ℕ → Type 0) (closed : AreClosed W (binds (function_shape m info f es)) f) (written : AreWritten W m f es) (constants : ConstantsAreRead names m info) where
   abbrev own : Naming
-  own = function_naming names m info g f es
+  own = function_naming names given m info g f es
 
   abbrev source : Source
   source = function_source m info f es
@@ -701,9 +701,9 @@ pointer_reads m ty t at =
     (inner_tree_row text-append (type_names m) (λ handle. true) (inner.Pointer ty space.Function)
     ∙ ap (λ o. option_map type_layout (option_map (pointer_tree (codes "function") None) o)) at))
 
-module _ (m : Module) (info : ModuleInfo) (g : ℕ) (f : ir_function.Function) (es : List ExpressionInfo) (values : IsTrue (list_all type_is_of_part m.types)) (size : length f.expressions ≡ length es) (W : ℕ → Type 0) (closed : AreClosed W (binds (function_shape m info f es)) f) (written : AreWritten W m f es) (constants : ConstantsAreRead (module_names m) m info) where
+module _ (given : ℕ → List ℕ) (m : Module) (info : ModuleInfo) (g : ℕ) (f : ir_function.Function) (es : List ExpressionInfo) (values : IsTrue (list_all type_is_of_part m.types)) (size : length f.expressions ≡ length es) (W : ℕ → Type 0) (closed : AreClosed W (binds (function_shape m info f es)) f) (written : AreWritten W m f es) (constants : ConstantsAreRead (module_names m) m info) where
   abbrev own_names : Naming
-  own_names = function_naming (module_names m) m info g f es
+  own_names = function_naming (module_names m) given m info g f es
 
   locals_read : LocalsHaveForms (type_names m) f.local_variables → (l : ℕ) (vs : List LocalVariable) → ((k : ℕ) → slice_get vs k ≡ slice_get f.local_variables (k + l)) → map variable_read (locals_form own_names (type_names m) (function_source m info f es) l vs) ≡ variables_from own_names l (map (λ v. v.init) vs)
   locals_read formed l [] at = refl
@@ -713,7 +713,7 @@ module _ (m : Module) (info : ModuleInfo) (g : ℕ) (f : ir_function.Function) (
       let pointer = pointer_reads m v.ty t.0 t.1 ∙ sym (mapped_at (λ l. local_pointer m l.ty) [] f.local_variables l v here) in
       let rest = locals_read formed (l + 1) vs later in
       λ i.
-      record { name = own_names.names.local_ l; pointer = pointer i; first_value = value_if_reads (module_names m) m info g f es values size W closed written constants (at_start own_names.function) v.init (closed.firsts l v here) i }
+      record { name = own_names.names.local_ l; pointer = pointer i; first_value = value_if_reads (module_names m) given m info g f es values size W closed written constants (at_start own_names.function) v.init (closed.firsts l v here) i }
       ∷ (rest ∙ ap (λ k. variables_from own_names k (map (λ v. v.init) vs)) (add-one l)) i
     where
       later : (k : ℕ) → slice_get vs k ≡ slice_get f.local_variables (k + (l + 1))
@@ -726,22 +726,22 @@ pub locals_have_forms : (explicit : Bool) (m : Module) (info : ModuleInfo) (f : 
 locals_have_forms explicit m info f es have l v at = tree_there (type_names m) (Handle v.ty) (have.types (Handle v.ty) (OfLocal l v at))
 
 -- whatever is written of a function is read as its shape is
-pub written_reads : (explicit : Bool) (m : Module) (info : ModuleInfo) (g : ℕ) (f : ir_function.Function) (es : List ExpressionInfo) → IsTrue (list_all type_is_of_part m.types) → have_forms f.body ≡ true → length f.expressions ≡ length es → LocalsHaveForms (type_names m) f.local_variables → (W : ℕ → Type 0) → AreClosed W (binds (function_shape m info f es)) f → AreWritten W m f es → ConstantsAreRead (module_names m) m info → function_read (function_form explicit (module_names m) m info g f es) ≡ form_function (function_naming (module_names m) m info g f es)
-written_reads explicit m info g f es values have size formed W closed written constants =
+pub written_reads : (explicit : Bool) (given : ℕ → List ℕ) (m : Module) (info : ModuleInfo) (g : ℕ) (f : ir_function.Function) (es : List ExpressionInfo) → IsTrue (list_all type_is_of_part m.types) → have_forms f.body ≡ true → length f.expressions ≡ length es → LocalsHaveForms (type_names m) f.local_variables → (W : ℕ → Type 0) → AreClosed W (binds (function_shape m info f es)) f → AreWritten W m f es → ConstantsAreRead (module_names m) m info → function_read (function_form explicit (module_names m) given m info g f es) ≡ form_function (function_naming (module_names m) given m info g f es)
+written_reads explicit given m info g f es values have size formed W closed written constants =
     let names = module_names m in
-    let locals = locals_read m info g f es values size W closed written constants formed 0 f.local_variables (λ k. ap (slice_get f.local_variables) (sym (add-zero k))) in
+    let locals = locals_read given m info g f es values size W closed written constants formed 0 f.local_variables (λ k. ap (slice_get f.local_variables) (sym (add-zero k))) in
     λ i. record {
       name = function_name names g;
       parameters = (names_counted names m.types g 0 f.arguments.items ∙ ap (names_from (argument_name names g) 0) (sym (mapped_length (λ a. declared_type m a.ty) f.arguments.items))) i;
       variables = locals i;
-      lines = lines_read names m info g f es values size W closed written constants (told_type explicit (type_names m) es) 0 f.body (at_start (function_shape m info f es)) have closed.body i;
+      lines = lines_read names given m info g f es values size W closed written constants (told_type explicit (type_names m) es) 0 f.body (at_start (function_shape m info f es)) have closed.body i;
     }
 
-pub function_reads : (explicit : Bool) (m : Module) (info : ModuleInfo) (g : ℕ) (f : ir_function.Function) (es : List ExpressionInfo) → IsTrue (list_all type_is_of_part m.types) → IsTrue (declares_functions m) → length m.global_expressions ≡ length info.const_expression_types.items → IsTrue (function_is_written f) → WrittenHaveForms explicit m info f es → length f.expressions ≡ length es → function_read (function_form explicit (module_names m) m info g f es) ≡ form_function (function_naming (module_names m) m info g f es)
-function_reads explicit m info g f es values declares own_size written have size =
+pub function_reads : (explicit : Bool) (given : ℕ → List ℕ) (m : Module) (info : ModuleInfo) (g : ℕ) (f : ir_function.Function) (es : List ExpressionInfo) → IsTrue (list_all type_is_of_part m.types) → IsTrue (declares_functions m) → length m.global_expressions ≡ length info.const_expression_types.items → IsTrue (function_is_written f) → WrittenHaveForms explicit m info f es → length f.expressions ≡ length es → function_read (function_form explicit (module_names m) given m info g f es) ≡ form_function (function_naming (module_names m) given m info g f es)
+function_reads explicit given m info g f es values declares own_size written have size =
     let parts = function_parts f written in
     let unnamed = (and_parts (list_all (λ c. is_none c.name) m.constants) _ declares).0 in
-    written_reads explicit m info g f es values (written_have_forms f.body parts.body) size
+    written_reads explicit given m info g f es values (written_have_forms f.body parts.body) size
     (locals_have_forms explicit m info f es have)
     (IsWrittenIn m info f es) (written_are_closed m info f es) have.expressions
     (constants_read (outer_names (module_names m)) m info (type_names m)

@@ -39,7 +39,7 @@ use Rattle.naga_info.specs.declared.info.TypeResolution.{TypeResolution}
 use Rattle.naga_form.specs.TypeTrees.{resolution_tree}
 use Rattle.naga_form.specs.Types.{told_type}
 use Rattle.module_meaning.specs.Types.{told_spelling, spelled_resolution}
-use Rattle.module_meaning.specs.Names.{module_names}
+use Rattle.module_meaning.specs.Names.{given_name, module_names}
 use Rattle.module_meaning.specs.ExpressionOperators.{points_to_atomic}
 use Rattle.module_meaning.specs.FunctionShapes.{statement_shape, statements_shape, cases_shape}
 use Rattle.module_meaning.specs.FunctionShapes.{function_shapes}
@@ -163,7 +163,7 @@ functions_tell explicit names m info g [] ess written = refl
 functions_tell explicit names m info g (f ∷ fs) [] written = refl
 functions_tell explicit names m info g (f ∷ fs) (es ∷ ess) written =
     let parts = and_parts (function_is_written f) (list_all function_is_written fs) written in
-    let n = function_naming names m info g f es in
+    let n = function_naming names (given_name m g) m info g f es in
     let t = names_of m.types names in
     let line = lines_tell n (told_type explicit t es) (function_source m info f es) 0 f.body (written_have_forms f.body (function_parts f parts.0).body) (at_start n.function)
     ∙ (λ i. map (λ b. told_spells explicit t es b.handle i) (function_bindings n)) in

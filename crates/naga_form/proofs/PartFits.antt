@@ -65,7 +65,7 @@ use Rattle.naga_form.proofs.Names.{function_there, argument_there}
 use Rattle.naga_names.proofs.Refusal.{element}
 use Rattle.module_meaning.specs.Names.{argument_name, numbered_name, wgsl_names, module_names}
 use Rattle.module_meaning.specs.Names.{name_in, function_name, local_name, numbered_text}
-use Rattle.module_meaning.specs.Names.{NamesAreCounted}
+use Rattle.module_meaning.specs.Names.{NamesAreCounted, given_name}
 use Rattle.module_meaning.specs.Types.{declared_type}
 use Rattle.module_meaning.specs.FunctionShapes.{function_shape, statement_shape, statements_shape}
 use Rattle.module_meaning.specs.Namings.{outer_names, function_naming}
@@ -167,7 +167,7 @@ none_listed i ts e lt = let none : i < 0 = subst (λ ts. i < length ts) e lt in 
 -- ---- one function
 module _ (m : Module) (info : ModuleInfo) (values : IsTrue (list_all type_is_of_part m.types)) (are : TypesAreCounted m) (g : ℕ) (f : ir_function.Function) (found : slice_get m.functions g ≡ Some f) (es : List ExpressionInfo) (callees : ℕ) (ranges : function_in_range m callees f ≡ true) (written : IsTrue (function_is_written f)) (p : shapes.Module) (constants : p.constant_types ≡ []) (globals : p.global_types ≡ []) (counted : length p.functions ≡ length m.functions) where
   abbrev own : Naming
-  own = function_naming (module_names m) m info g f es
+  own = function_naming (module_names m) (given_name m g) m info g f es
 
   abbrev shape : shapes.Function
   shape = function_shape m info f es

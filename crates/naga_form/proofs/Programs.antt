@@ -288,9 +288,9 @@ statements_fit (statement st b) is =
 abbrev ArePlain : (operand : ℕ → PlainForm) → List ℕ → Type 0
 ArePlain operand hs = AllByRecursion (λ x. IsPlainForm (operand x)) hs
 
-module _ (m : Module) (info : ModuleInfo) (g : ℕ) (f : ir_function.Function) (found : slice_get m.functions g ≡ Some f) (es : List ExpressionInfo) (callees : ℕ) (ranges : function_in_range m callees f ≡ true) (W : ℕ → Type 0) (closed : AreClosed W (binds (function_shape m info f es)) f) (written : AreWritten W m f es) (are : TypesAreCounted m) (fits : (h : ℕ) (k : ExpressionInfo) → slice_get es h ≡ Some k → IsFit m k.ty) (values : list_all type_is_of_part m.types ≡ true) (explicit : Bool) (spelled : (r : TypeResolution) → IsSpelledIn explicit m info f es r → type_has_form m.types r ≡ true) (few : length f.expressions ≤ 2 ^ 64) (constants : (c : ℕ) → constant_is_written m c ≡ true → IsExpression (written_constant_form m (type_names m) c)) where
+module _ (m : Module) (info : ModuleInfo) (g : ℕ) (f : ir_function.Function) (found : slice_get m.functions g ≡ Some f) (es : List ExpressionInfo) (callees : ℕ) (ranges : function_in_range m callees f ≡ true) (W : ℕ → Type 0) (closed : AreClosed W (binds (function_shape m info f es)) f) (written : AreWritten W m f es) (are : TypesAreCounted m) (fits : (h : ℕ) (k : ExpressionInfo) → slice_get es h ≡ Some k → IsFit m k.ty) (values : list_all type_is_of_part m.types ≡ true) (explicit : Bool) (spelled : (r : TypeResolution) → IsSpelledIn explicit m info f es r → type_has_form m.types r ≡ true) (few : length f.expressions ≤ 2 ^ 64) (given : ℕ → List ℕ) (identifiers : (k : ℕ) → k < length (given_labels f) → IsIdentifier (given k)) (constants : (c : ℕ) → constant_is_written m c ≡ true → IsExpression (written_constant_form m (type_names m) c)) where
   abbrev own : Naming
-  own = function_naming (module_names m) m info g f es
+  own = function_naming (module_names m) given m info g f es
 
   abbrev source : Source
   source = function_source m info f es
@@ -474,14 +474,14 @@ module _ (m : Module) (info : ModuleInfo) (g : ℕ) (f : ir_function.Function) (
 
   -- a bound handle's name
   bound_is : (k h : ℕ) → binds own.function h ≡ true → HasRoom k (option_to_list (label_of f h)) → IsIdentifier (bound_name own k h)
-  bound_is k h bound room = subst (λ b. IsIdentifier (cond b (given_name m g k) (numbered_name h))) (sym (given_is m info f es h)) (by (label_of f h) room)
+  bound_is k h bound room = subst (λ b. IsIdentifier (cond b (given k) (numbered_name h))) (sym (given_is m info f es h)) (by (label_of f h) room)
     where
       within : (o : Option ir.Expression) → slice_get f.expressions h ≡ o → h < 2 ^ 64
       within (Some e) at = let lt = slice_get_within f.expressions h e at in omega (arith, lt, few)
       within None at = absurd (true≢false (sym bound ∙ ap (binds_as own.function h) (expression_is m info f es h ∙ ap (option_map (shape_of d f.expressions h)) at)))
 
-      by : (o : Option (List ℕ)) → HasRoom k (option_to_list o) → IsIdentifier (cond (is_some o) (given_name m g k) (numbered_name h))
-      by (Some label) room = given_is_identifier m g f found k (omega (arith, room))
+      by : (o : Option (List ℕ)) → HasRoom k (option_to_list o) → IsIdentifier (cond (is_some o) (given k) (numbered_name h))
+      by (Some label) room = identifiers k (omega (arith, room))
       by None room = numbered_is h (within (slice_get f.expressions h) refl)
 
   -- one more handle
@@ -720,7 +720,7 @@ module _ (m : Module) (info : ModuleInfo) (g : ℕ) (f : ir_function.Function) (
   result_is None at = tt
   result_is (Some r) at = (tt, refl, is_type_at m are r.ty (spelled (Handle r.ty) (OfResult r at)))
 
-  function_is : AllFit f.body → IsFunction (function_form explicit (module_names m) m info g f es)
+  function_is : AllFit f.body → IsFunction (function_form explicit (module_names m) given m info g f es)
   function_is fit =
       let all : 0 + length f.arguments.items ≡ length f.arguments.items = omega arith in
       let all_labels : HasRoom 0 (given_labels f) = omega arith in
@@ -745,13 +745,13 @@ module _ (explicit : Bool) (m : Module) (info : ModuleInfo) (accepted : IsTrue (
       (λ h value at is. literal_is value is (global_names_in_range m info accepted told h (expression.Literal value) at))
       (λ ty is. let t = tree_there (type_names m) (Handle ty) is in (t.0, t.1, tree_is m are (Handle ty) tt t.0 t.1))
 
-  one_is : (g : ℕ) (f : ir_function.Function) (found : slice_get m.functions g ≡ Some f) (es : List ExpressionInfo) → slice_get info.functions.items g ≡ Some es → (callees : ℕ) → function_in_range m callees f ≡ true → IsTrue (function_is_written f) → WrittenHaveForms explicit m info f es → length f.expressions ≤ 2 ^ 64 → IsFunction (function_form explicit (module_names m) m info g f es)
+  one_is : (g : ℕ) (f : ir_function.Function) (found : slice_get m.functions g ≡ Some f) (es : List ExpressionInfo) → slice_get info.functions.items g ≡ Some es → (callees : ℕ) → function_in_range m callees f ≡ true → IsTrue (function_is_written f) → WrittenHaveForms explicit m info f es → length f.expressions ≤ 2 ^ 64 → IsFunction (function_form explicit (module_names m) (given_name m g) m info g f es)
   one_is g f found es here callees ranges written have few =
       let parts = function_parts f written in
       function_is m info g f found es callees ranges (IsWrittenIn m info f es)
       (written_are_closed m info f es) have.expressions
       are (known_fits m info accepted g es here) (written_so_far_parts m of_part).1 explicit
-      have.types few written_constants (statements_fit f.body parts.body)
+      have.types few (given_name m g) (given_is_identifier m g f found) written_constants (statements_fit f.body parts.body)
 
   functions_are : (g : ℕ) (fs : List ir_function.Function) (ess : List (List ExpressionInfo)) → ((i : ℕ) (f : ir_function.Function) → slice_get fs i ≡ Some f → slice_get m.functions (g + i) ≡ Some f) → ((i : ℕ) (es : List ExpressionInfo) → slice_get ess i ≡ Some es → slice_get info.functions.items (g + i) ≡ Some es) → IsTrue (list_all function_is_written fs) → ((i : ℕ) (f : ir_function.Function) (es : List ExpressionInfo) → slice_get fs i ≡ Some f → slice_get ess i ≡ Some es → WrittenHaveForms explicit m info f es) →
       IsTrue (list_all (λ f. nat_le (length f.expressions) (2 ^ 64)) fs) → Each IsFunction (functions_form explicit (module_names m) m info g fs ess)

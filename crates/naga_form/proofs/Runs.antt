@@ -43,7 +43,7 @@ use Rattle.shader_runs.proofs.Names.{length-functions_of}
 use Rattle.shader_runs.proofs.Update.{and_left, and_right}
 use Rattle.module_meaning.specs.Premises.{scope_holds, ScopesHold}
 use Rattle.module_meaning.specs.Names.{NamesAreCounted, TypesAreTold, module_names}
-use Rattle.module_meaning.specs.Names.{function_name}
+use Rattle.module_meaning.specs.Names.{function_name, given_name}
 use Rattle.module_meaning.specs.FunctionShapes.{function_shapes}
 use Rattle.module_meaning.specs.Namings.{namings_from, namings, outer_names, function_naming}
 use Rattle.text_meaning.specs.Abstraction.{function_read, program_read}
@@ -89,7 +89,7 @@ functions_read explicit m info values declares own g (f ∷ fs) [] is have sizes
 functions_read explicit m info values declares own g (f ∷ fs) (es ∷ ess) is have sizes =
     let all = and_parts (function_is_written f) (list_all function_is_written fs) is in
     let size = sizes 0 f es refl refl in
-    λ i. function_reads explicit m info g f es values declares own all.0 (have 0 f es refl refl) size i ∷ functions_read explicit m info values declares own (g + 1) fs ess all.1 (λ i f es here known. have (suc i) f es here known) (λ i f es here known. sizes (suc i) f es here known) i
+    λ i. function_reads explicit (given_name m g) m info g f es values declares own all.0 (have 0 f es refl refl) size i ∷ functions_read explicit m info values declares own (g + 1) fs ess all.1 (λ i f es here known. have (suc i) f es here known) (λ i f es here known. sizes (suc i) f es here known) i
 
 -- what holds of all of a list that is turned round onto another holds of all of both
 behind_all : {X : Type 0} (test : X → Bool) (xs behind : List X) → IsTrue (list_all test (reverse_aux xs behind)) → IsTrue (list_all test behind)
@@ -177,7 +177,7 @@ module _ (m : Module) (info : ModuleInfo) (accepted : IsTrue (is_accepted m info
     all_left g (f ∷ fs) (es ∷ ess) there is scoped behind at so_far =
         let here : g + 0 ≡ g = omega arith in
         let found = subst (λ h. slice_get m.functions h ≡ Some f) here (there 0 f refl) in
-        let own = function_naming (module_names m) m info g f es in
+        let own = function_naming (module_names m) (given_name m g) m info g f es in
         let all = and_parts (function_is_written f) (list_all function_is_written fs) is in
         let scopes = and_parts (fits_function own) (list_all fits_function (namings_from (module_names m) m (g + 1) (function_shapes m info fs ess))) scoped in
         let at_function = function_there_known m info accepted g f found in

@@ -11,7 +11,7 @@ use Rattle.naga_ir.specs.declared.module.Module.{Module}
 use Rattle.naga_ir.specs.declared.types.Type_.{Type_}
 use Rattle.naga_names.specs.Keys.{NameMap}
 use Rattle.wgsl_text.specs.Functions.{Parameter, Result, NoResult, ResultOf, Local, Function}
-use Rattle.module_meaning.specs.Names.{function_name, argument_name}
+use Rattle.module_meaning.specs.Names.{function_name, argument_name, given_name}
 use Rattle.naga_words.specs.Contexts.{names_of, Names as TypeNames}
 use Rattle.naga_form.specs.Types.{type_form, told_type}
 use Rattle.naga_ir.specs.declared.module.LocalVariable.{LocalVariable}
@@ -51,12 +51,12 @@ abbrev pub result_form : TypeNames → Option FunctionResult → Result
 result_form t None = NoResult
 result_form t (Some r) = ResultOf [] (type_form t r.ty)
 
--- a function, with what is known of its expressions
+-- a function, with what is known of its expressions; given tells the names that front ends gave in it
 abbrev pub function_form :
-    (explicit : Bool) → NameMap → Module → ModuleInfo → ℕ → ir_function.Function →
-    List ExpressionInfo → Function
-function_form explicit names m info g f es =
-    let n : Naming = function_naming names m info g f es in
+    (explicit : Bool) → NameMap → (given : ℕ → List ℕ) → Module → ModuleInfo → ℕ →
+    ir_function.Function → List ExpressionInfo → Function
+function_form explicit names given m info g f es =
+    let n : Naming = function_naming names given m info g f es in
     let source : Source = function_source m info f es in
     let t : TypeNames = names_of m.types names in
     record {
@@ -67,10 +67,12 @@ function_form explicit names m info g f es =
       body = lines_form n (told_type explicit t es) source 0 f.body (at_start n.function);
     }
 
--- the functions from this handle on, each with what is known of its expressions
+-- the functions from this handle on, each with what is known of its expressions, in a text of the whole
+-- module
 abbrev pub functions_form :
     (explicit : Bool) → NameMap → Module → ModuleInfo → ℕ → List ir_function.Function →
     List (List ExpressionInfo) → List Function
 functions_form explicit names m info g (f ∷ fs) (es ∷ ess) =
-    function_form explicit names m info g f es ∷ functions_form explicit names m info (g + 1) fs ess
+    function_form explicit names (given_name m g) m info g f es
+    ∷ functions_form explicit names m info (g + 1) fs ess
 functions_form explicit names m info g _ _ = []

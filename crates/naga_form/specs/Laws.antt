@@ -96,17 +96,17 @@ BindsAsCounted =
 
 -- what is written of a function that is written so far, of which what is written has a form, in a
 -- module of types of the part that declares nothing else, is read as its shape is written, whatever
--- type is known of each of its expressions and of the module's
+-- type is known of each of its expressions and of the module's, and under whatever names front ends gave
 abbrev pub FunctionsAreRead : Type 0
 FunctionsAreRead =
-    (explicit : Bool) (m : Module) (info : ModuleInfo) (g : ℕ) (f : Function) →
+    (explicit : Bool) (given : ℕ → List ℕ) (m : Module) (info : ModuleInfo) (g : ℕ) (f : Function) →
     (es : List ExpressionInfo) → IsTrue (list_all type_is_of_part m.types) →
     IsTrue (declares_functions m) →
     length m.global_expressions ≡ length info.const_expression_types.items →
     IsTrue (function_is_written f) → WrittenHaveForms explicit m info f es →
     length f.expressions ≡ length es →
-    function_read (function_form explicit (module_names m) m info g f es)
-    ≡ form_function (function_naming (module_names m) m info g f es)
+    function_read (function_form explicit (module_names m) given m info g f es)
+    ≡ form_function (function_naming (module_names m) given m info g f es)
 
 -- what the program does is what the program of shapes says that is written for the module
 abbrev pub IsReadAsItsShapes : Type 0

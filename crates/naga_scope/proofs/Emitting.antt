@@ -126,15 +126,15 @@ module _ (m : Module) (info : ModuleInfo) (f : ir_function.Function) (es : List 
   allowed_by ordered h s held b u new kind bound operands =
       λ i. sym new i && (sym (emittable_at m info f es h ∙ kind) i && (not (bound i) || (operands ∙ sym (usable_operands m info f es ordered s held h)) i))
 
-module _ (names : NameMap) (m : Module) (info : ModuleInfo) (g : ℕ) (f : ir_function.Function) (es : List ExpressionInfo) where
+module _ (names : NameMap) (m : Module) (info : ModuleInfo) (given : ℕ → List ℕ) (g : ℕ) (f : ir_function.Function) (es : List ExpressionInfo) where
   abbrev own : Naming
-  own = function_naming names m info g f es
+  own = function_naming names given m info g f es
 
   abbrev shape : Function
   shape = function_shape m info f es
 
   abbrev handles : List Standing → Handles
-  handles table = handles_of (given_name m g) table
+  handles table = handles_of given table
 
   -- an Emit of a handle gives it the cell that stands behind one
   pub emitted_is : (h k : ℕ) (table : List Standing) (cell : Standing) → h < length table →
@@ -149,10 +149,10 @@ module _ (names : NameMap) (m : Module) (info : ModuleInfo) (g : ℕ) (f : ir_fu
       let u = usable_all shape s (operands_of (expression_of shape h)) in
       let name = next_name (is_some (label_of f h)) k in
       ap (λ c. handles (slice_set table h c)) is
-      ∙ (cell_emitted (given_name m g) b o u name table h lt
+      ∙ (cell_emitted given b o u name table h lt
       ∙ ap (λ x. with_emitted_handle b o u x s h)
-      (next_is (given_name m g) (numbered_name h) (is_some (label_of f h)) k
-      ∙ ap (λ b. cond b (given_name m g k) (numbered_name h)) (sym (given_is m info f es h))))
+      (next_is given (numbered_name h) (is_some (label_of f h)) k
+      ∙ ap (λ b. cond b (given k) (numbered_name h)) (sym (given_is m info f es h))))
 
   -- an Emit of a handle past the expressions changes nothing
   pub past_emitted : (k h : ℕ) (table : List Standing) → length table ≤ h → length table ≡ length f.expressions → handles table ≡ after_one own k h (handles table)

@@ -81,9 +81,9 @@ store_after n a p v k s = by (points_to_atomic a p)
     by true = refl
     by false = refl
 
-module _ (names : NameMap) (m : Module) (info : ModuleInfo) (g : ℕ) (f : ir_function.Function) (es : List ExpressionInfo) where
+module _ (names : NameMap) (m : Module) (info : ModuleInfo) (given : ℕ → List ℕ) (g : ℕ) (f : ir_function.Function) (es : List ExpressionInfo) where
   abbrev own : Naming
-  own = function_naming names m info g f es
+  own = function_naming names given m info g f es
 
   abbrev around : Surroundings
   around = (declared m info (types_known es)).around

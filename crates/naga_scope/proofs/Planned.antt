@@ -22,10 +22,10 @@ use Rattle.naga_scope.specs.Plans.{IsPlan, IsPlanOf, OfFunctionAt, Planned}
 -- the check of a function decides whether the rules of scope hold in it
 pub check_is_the_rules : (m : Module) (info : ModuleInfo) (f : ir_function.Function) (es : List ExpressionInfo) →
     OperandsStandBefore f.expressions →
-    (IsTrue (fits_function (function_naming (λ key. None) m info 0 f es))
+    (IsTrue (fits_function (function_naming (λ key. None) (λ number. []) m info 0 f es))
     ↔ ScopeHolds (function_shape m info f es))
 check_is_the_rules m info f es ordered =
-    scope_check_is_the_rules (function_naming (λ key. None) m info 0 f es)
+    scope_check_is_the_rules (function_naming (λ key. None) (λ number. []) m info 0 f es)
     (λ h. any_shape m info f es h (λ o. AllBelow h (operands_of o)) tt
     (λ e at. shape_ordered (declared m info (types_known es)) f.expressions h e (ordered h e at)))
 

@@ -103,17 +103,19 @@ fn emit_holds(
     requires size { length scope.old.table ≡ length function.now.expressions }
     requires room { scope.old.given
         + length (labels_of_each function.now (from range.first (range.end - range.first))) < 2 ^ 64 }
-    ensures fits { (names : NameMap) (m : Module) (known : ModuleInfo) (g : ℕ) →
+    ensures fits { (names : NameMap) (m : Module) (known : ModuleInfo)
+        (given : ℕ → List ℕ) (g : ℕ) →
         m.types ≡ types.now →
-        let n = function_naming names m known g function.now info.now in
+        let n = function_naming names given m known g function.now info.now in
         result ≡ may_emit_all n scope.old.given (from range.first (range.end - range.first))
-        (handles_of (given_name m g) scope.old.table) }
-    ensures after { (names : NameMap) (m : Module) (known : ModuleInfo) (g : ℕ) →
+        (handles_of given scope.old.table) }
+    ensures after { (names : NameMap) (m : Module) (known : ModuleInfo)
+        (given : ℕ → List ℕ) (g : ℕ) →
         m.types ≡ types.now → IsTrue result →
-        let n = function_naming names m known g function.now info.now in
-        handles_of (given_name m g) scope.new.table
+        let n = function_naming names given m known g function.now info.now in
+        handles_of given scope.new.table
         ≡ after_emit n scope.old.given (from range.first (range.end - range.first))
-        (handles_of (given_name m g) scope.old.table) }
+        (handles_of given scope.old.table) }
     ensures given { IsTrue result → scope.new.given ≡ scope.old.given
         + length (labels_of_each function.now (from range.first (range.end - range.first))) }
     ensures size { length scope.new.table ≡ length scope.old.table }
@@ -147,19 +149,21 @@ fn statement_holds(
     requires size { length scope.old.table ≡ length function.now.expressions }
     requires room { scope.old.given
         + length (labels_in function.now (tree_of statement.now)) < 2 ^ 64 }
-    ensures fits { (names : NameMap) (m : Module) (known : ModuleInfo) (g : ℕ) →
+    ensures fits { (names : NameMap) (m : Module) (known : ModuleInfo)
+        (given : ℕ → List ℕ) (g : ℕ) →
         m.types ≡ types.now →
-        let n = function_naming names m known g function.now info.now in
+        let n = function_naming names given m known g function.now info.now in
         let around = (declared m known (types_known info.now)).around in
         result ≡ fits n scope.old.given (statement_shape around (tree_of statement.now))
-        (handles_of (given_name m g) scope.old.table) }
-    ensures after { (names : NameMap) (m : Module) (known : ModuleInfo) (g : ℕ) →
+        (handles_of given scope.old.table) }
+    ensures after { (names : NameMap) (m : Module) (known : ModuleInfo)
+        (given : ℕ → List ℕ) (g : ℕ) →
         m.types ≡ types.now → IsTrue result →
-        let n = function_naming names m known g function.now info.now in
+        let n = function_naming names given m known g function.now info.now in
         let around = (declared m known (types_known info.now)).around in
-        handles_of (given_name m g) scope.new.table
+        handles_of given scope.new.table
         ≡ after n scope.old.given (statement_shape around (tree_of statement.now))
-        (handles_of (given_name m g) scope.old.table) }
+        (handles_of given scope.old.table) }
     ensures given { IsTrue result → scope.new.given
         ≡ scope.old.given + length (labels_in function.now (tree_of statement.now)) }
     ensures size { length scope.new.table ≡ length scope.old.table }
@@ -189,9 +193,10 @@ pub(crate) fn function_holds(
     requires given { scope.old.given ≡ 0 }
     requires size { length scope.old.table ≡ length function.now.expressions }
     requires room { length (given_labels function.now) < 2 ^ 64 }
-    ensures scope { (names : NameMap) (m : Module) (known : ModuleInfo) (g : ℕ) →
+    ensures scope { (names : NameMap) (m : Module) (known : ModuleInfo)
+        (given : ℕ → List ℕ) (g : ℕ) →
         m.types ≡ types.now →
-        result ≡ fits_function (function_naming names m known g function.now info.now) }
+        result ≡ fits_function (function_naming names given m known g function.now info.now) }
     ensures size { length scope.new.table ≡ length scope.old.table }
 {
     if !first_values_hold(scope, function) {

@@ -362,11 +362,13 @@ impl Scope {
         requires size { length self.old.table ≡ length function.now.expressions }
         requires room { self.old.given + length (option_to_list (label_of function.now handle))
             < 2 ^ 64 }
-        ensures handles { (names : NameMap) (m : Module) (known : ModuleInfo) (g : ℕ) →
+        ensures handles { (names : NameMap) (m : Module) (known : ModuleInfo)
+            (given : ℕ → List ℕ) (g : ℕ) →
             m.types ≡ types.now →
-            handles_of (given_name m g) self.new.table ≡
-            after_one (function_naming names m known g function.now info.now) self.old.given handle
-            (handles_of (given_name m g) self.old.table) }
+            handles_of given self.new.table ≡
+            after_one (function_naming names given m known g function.now info.now) self.old.given
+            handle
+            (handles_of given self.old.table) }
         ensures given { self.new.given
             ≡ self.old.given + length (option_to_list (label_of function.now handle)) }
         ensures size { length self.new.table ≡ length self.old.table }

@@ -24,7 +24,7 @@ use Rattle.shader_runs.specs.Scope.{Handles, Naming}
 use Rattle.wgsl_words.specs.Words.{operator_text, unary_text}
 use Rattle.naga_form.proofs.Operators.{constructor_called, operator_row, typed_notation}
 use Rattle.naga_form.proofs.Operators.{unary_row}
-use Rattle.module_meaning.specs.Names.{given_name, numbered_name}
+use Rattle.module_meaning.specs.Names.{numbered_name}
 use Rattle.module_meaning.specs.ExpressionOperators.{applied_operator, constructor}
 use Rattle.module_meaning.specs.ExpressionOperators.{load_operator}
 use Rattle.module_meaning.specs.AlikeTypes.{has_form}
@@ -37,6 +37,7 @@ use Rattle.wgsl_text.specs.Types.{TypeSpecifier}
 use Rattle.wgsl_text.specs.Expressions.{Call}
 use Rattle.naga_wgsl_fns.specs.Types.{type_text}
 use Rattle.naga_wgsl_fns.specs.Expressions.{made_text, made_type}
+use Rattle.naga_wgsl_fns.specs.FunctionText.{given_in}
 use Rattle.naga_wgsl_fns.specs.FunctionText.{type_names_of}
 use Rattle.module_meaning.specs.ExpressionOperators.{points_to_atomic}
 use Rattle.module_meaning.specs.OperatorTable.{AtomicLoad, Operator, run_word}
@@ -196,7 +197,7 @@ module _ (n : Naming) (code : Source) (before : OperandsStandBefore code.express
 -- ---- rows
 -- a handle's form, by its cell in the table
 pub cell_form : (f : FunctionText) (table : List Standing) (handle : ℕ) → CanWrite f → handle < length (expressions f)
-    → plain_form (naming f) (source f) (handles_in f table) handle ≡ standing_plain (standing_of (given_name f.shader.now f.handle) (numbered_name handle) (get_or table handle Absent)) (own_form f table handle)
+    → plain_form (naming f) (source f) (handles_in f table) handle ≡ standing_plain (standing_of (given_in f) (numbered_name handle) (get_or table handle Absent)) (own_form f table handle)
 cell_form f table handle can lt = plain_level (naming f) (source f) (ordered f can) (handles_in f table) handle lt
 
 -- a value, by its cell
@@ -208,7 +209,7 @@ pub value_row : (f : FunctionText) (table : List Standing) (handle : ℕ) → Ca
 unfolding value_text own_text bound_text
 value_row f table handle can lt = ap (λ form. expression_layout (as_value form)) (cell_form f table handle can lt) ∙ by (get_or table handle Absent)
   where
-    by : (cell : Standing) → expression_layout (as_value (standing_plain (standing_of (given_name f.shader.now f.handle) (numbered_name handle) cell) (own_form f table handle))) ≡ value_at f table handle cell
+    by : (cell : Standing) → expression_layout (as_value (standing_plain (standing_of (given_in f) (numbered_name handle) cell) (own_form f table handle))) ≡ value_at f table handle cell
     by (Named name) = name_text (bound_text f handle name)
     by Absent = refl
     by Barred = refl
@@ -346,7 +347,7 @@ reference_row f table handle can within =
     e = slice_get (expressions f) handle
 
     form : Standing → PlainForm
-    form c = standing_plain (standing_of (given_name f.shader.now f.handle) (numbered_name handle) c) (own e)
+    form c = standing_plain (standing_of (given_in f) (numbered_name handle) c) (own e)
 
     is : plain_form (naming f) (source f) (handles_in f table) handle ≡ form cell
     is = cell_form f table handle can within.there

@@ -41,7 +41,7 @@ use Rattle.wgsl_text.proofs.Functions.{function_text as function_row_text}
 use Rattle.naga_names.specs.Keys.{names_in}
 use Rattle.shader_runs.specs.Scope.{Handles}
 use Rattle.module_meaning.specs.GivenLabels.{given_labels}
-use Rattle.module_meaning.specs.Names.{HasNamesOf, given_name, module_names}
+use Rattle.module_meaning.specs.Names.{HasNamesOf, module_names}
 use Rattle.module_meaning.specs.Written.{WrittenHaveForms}
 use Rattle.module_meaning.proofs.Part.{written_so_far_parts}
 use Rattle.naga_scope.specs.Standings.{TextPoint}
@@ -55,6 +55,7 @@ use Rattle.naga_wgsl_fns.specs.declared.error.Error.{Error}
 use Rattle.wgsl_text.specs.Reading.{expression_layout, type_layout}
 use Rattle.wgsl_text.specs.Text.{text}
 use Rattle.naga_wgsl_fns.specs.declared.functions.FunctionText.{FunctionText}
+use Rattle.naga_wgsl_fns.specs.FunctionText.{given_in}
 use Rattle.naga_wgsl_fns.specs.FunctionText.{CanWrite, source, naming, tells_types}
 use Rattle.naga_wgsl_fns.specs.FunctionText.{let_annotation}
 use Rattle.naga_wgsl_fns.specs.FunctionText.{type_names_of}
@@ -68,7 +69,7 @@ use Rattle.naga_wgsl_fns.specs.Functions.{body_text, first_form, first_text, fir
 use Rattle.naga_wgsl_fns.specs.Functions.{form_of, function_text, group_end_text, head_text}
 use Rattle.naga_wgsl_fns.specs.Functions.{known_of, local_form, local_text, local_text_of}
 use Rattle.naga_wgsl_fns.specs.Functions.{locals_text, next_argument_text, result_text, separator}
-use Rattle.naga_wgsl_fns.specs.Functions.{text_of_function}
+use Rattle.naga_wgsl_fns.specs.Functions.{text_under}
 
 -- ---- what is wanted
 -- what is known of a function is what is known of its handle
@@ -99,8 +100,8 @@ one_is_known m info accepted g f es here known =
     (accepted_at m info accepted g f es (in_left (zip m.functions info.functions.items) (entry_points_known m info) g (f, es) both)).size
 
 pub can_write : (t : FunctionText) → IsTrue (is_accepted t.shader.now t.module_info.now) → IsTrue (is_written_so_far t.shader.now) → HasNamesOf t.shader.now (names_in t.names.now) → slice_get t.shader.now.functions t.handle ≡ Some t.function.now → slice_get t.module_info.now.functions.items t.handle ≡ Some t.info.now → WrittenHaveForms (tells_types t.flags) t.shader.now t.module_info.now t.function.now t.info.now →
-    ((number : ℕ) → option_map_or string_bytes (slice_get t.given.now number) [] ≡ given_name t.shader.now t.handle number) → length (given_labels t.function.now) < 2 ^ 64 → CanWrite t
-can_write t accepted written named here known formed given room =
+    length (given_labels t.function.now) < 2 ^ 64 → CanWrite t
+can_write t accepted written named here known formed room =
     let m = t.shader.now in
     let info = t.module_info.now in
     let f = t.function.now in
@@ -116,7 +117,6 @@ can_write t accepted written named here known formed given room =
       size = one_is_known m info accepted t.handle f t.info.now here known;
       written = list_all_at function_is_written m.functions t.handle f part.2 here;
       formed = formed;
-      given = given;
       room = room;
     }
 
@@ -126,13 +126,21 @@ names_read [] number = refl
 names_read (name ∷ names) zero = refl
 names_read (name ∷ names) (suc number) = names_read names number
 
+-- the same where they were put into a slice
+pub names_same : {Y : Type 0} (slice names : List (String Y)) (given : List (List ℕ)) →
+    slice ≡ names → map string_bytes names ≡ given → (number : ℕ) →
+    option_map_or string_bytes (slice_get slice number) [] ≡ get_or given number []
+names_same slice names given same are number =
+    ap (λ xs. option_map_or string_bytes (slice_get xs number) []) same
+    ∙ (names_read names number ∙ ap (λ ns. get_or ns number []) are)
+
 -- the text of a function that there is
-pub text_of_function_at : (t : FunctionText) → slice_get t.shader.now.functions t.handle ≡ Some t.function.now → slice_get t.module_info.now.functions.items t.handle ≡ Some t.info.now → text_of_function t.shader.now t.module_info.now t.flags t.handle ≡ function_text t
+pub text_under_names : (t : FunctionText) → slice_get t.shader.now.functions t.handle ≡ Some t.function.now → slice_get t.module_info.now.functions.items t.handle ≡ Some t.info.now → text_under t.shader.now t.module_info.now t.flags (given_in t) t.handle ≡ function_text t
 unfolding function_text
-text_of_function_at t here known =
+text_under_names t here known =
     let m = t.shader.now in
     let info = t.module_info.now in
-    let form = λ (f : Function) (es : List ExpressionInfo). text (function_pieces (function_form (tells_types t.flags) (module_names m) m info t.handle f es)) in
+    let form = λ (f : Function) (es : List ExpressionInfo). text (function_pieces (function_form (tells_types t.flags) (module_names m) (given_in t) m info t.handle f es)) in
     ap (λ o. option_map_or (λ f. form f (known_of info t.handle)) o []) here ∙ ap (form t.function.now) (known_is info t.handle t.info.now known)
 
 -- ---- the head

@@ -46,10 +46,11 @@ use Rattle.naga_form.specs.ConstantForms.{initialiser_form, no_constant_form, wr
 use Rattle.naga_ir.specs.declared.module.Constant as ir_constant
 use Rattle.naga_ir.specs.declared.module.Module.{Module}
 use Rattle.naga_words.specs.Contexts.{Names as TypeNames}
+use Rattle.naga_wgsl_fns.specs.FunctionText.{given_in}
 use Rattle.naga_wgsl_fns.specs.FunctionText.{type_names_of}
 use Rattle.module_meaning.specs.ExpressionOperators.{load_operator, points_to_atomic}
 use Rattle.module_meaning.specs.OperatorTable.{AtomicLoad, Operator, WithoutForm}
-use Rattle.module_meaning.specs.Names.{given_name, numbered_name}
+use Rattle.module_meaning.specs.Names.{numbered_name}
 use Rattle.module_meaning.specs.Part.{expression_is_of_part}
 use Rattle.naga_form.specs.Expressions.{PlainForm, Source, ValueForm, applied_plain, as_reference}
 use Rattle.module_meaning.specs.ExpressionOperators.{type_known}
@@ -475,7 +476,7 @@ signed_row f table handle can within =
     by : (c : Standing) →
         is_signed
         (as_value
-        (standing_plain (standing_of (given_name f.shader.now f.handle) (numbered_name handle) c)
+        (standing_plain (standing_of (given_in f) (numbered_name handle) c)
         (own_form f table handle))) ≡
         signed_at (slice_get (expressions f) handle) c
     by (cell.Named name) = refl

@@ -35,9 +35,10 @@ use Rattle.module_meaning.specs.Sampling.{own_offset_is_written}
 use Rattle.naga_ir.specs.declared.expression.ImageQuery.{ImageQuery}
 use Rattle.naga_ir.specs.declared.expression.SampleLevel.{SampleLevel}
 use Rattle.std.proofs.Common.{Bool, max}
+use Rattle.naga_wgsl_fns.specs.FunctionText.{given_in}
 use Rattle.naga_wgsl_fns.specs.FunctionText.{AreInText}
 use Rattle.module_meaning.specs.FunctionShapes.{statement_shape}
-use Rattle.module_meaning.specs.Names.{given_name, module_names, numbered_name}
+use Rattle.module_meaning.specs.Names.{module_names, numbered_name}
 use Rattle.module_meaning.specs.OperatorTable.{relational_word}
 use Rattle.module_meaning.specs.AlikeTypes.{has_form}
 use Rattle.module_meaning.specs.Part.{constant_is_written, expression_is_written}
@@ -525,8 +526,8 @@ module _ (t : FunctionText) (can : CanWrite t) where
   unfolding bound_text next_name_text
   next_row k h =
       by (is_some (label_of f h))
-      ∙ sym (ap (λ b. cond b (given_name m g k) (numbered_name h)) (given_is m t.module_info.now f es h))
+      ∙ sym (ap (λ b. cond b (given_in t k) (numbered_name h)) (given_is m t.module_info.now f es h))
     where
-      by : (b : Bool) → name_of_bound (given_name m g) (numbered_name h) (next_name b k) ≡ cond b (given_name m g k) (numbered_name h)
+      by : (b : Bool) → name_of_bound (given_in t) (numbered_name h) (next_name b k) ≡ cond b (given_in t k) (numbered_name h)
       by true = refl
       by false = refl

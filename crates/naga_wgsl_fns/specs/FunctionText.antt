@@ -16,7 +16,7 @@ use Rattle.module_meaning.specs.Ranges.{function_in_range}
 use Rattle.naga_names.specs.Keys.{names_in}
 use Rattle.shader_runs.specs.Scope.{Handles, Naming}
 use Rattle.module_meaning.specs.GivenLabels.{given_labels}
-use Rattle.module_meaning.specs.Names.{HasNamesOf, given_name, module_names}
+use Rattle.module_meaning.specs.Names.{HasNamesOf, module_names}
 use Rattle.module_meaning.specs.ExpressionOperators.{Surroundings}
 use Rattle.module_meaning.specs.Namings.{function_naming}
 use Rattle.naga_form.specs.Expressions.{Source, function_source}
@@ -31,15 +31,19 @@ use Rattle.naga_wgsl_fns.specs.declared.functions.FunctionText.{FunctionText}
 abbrev pub tells_types : WriterFlags → Bool
 tells_types flags = bit_and flags.0 1 == 1
 
+-- the names that front ends gave in it, in the order of its text
+abbrev pub given_in : FunctionText → (number : ℕ) → List ℕ
+given_in f number = option_map_or string_bytes (slice_get f.given.now number) []
+
 -- the function under its names
 abbrev pub naming : FunctionText → Naming
 naming f =
     let m = f.shader.now in
-    function_naming (module_names m) m f.module_info.now f.handle f.function.now f.info.now
+    function_naming (module_names m) (given_in f) m f.module_info.now f.handle f.function.now f.info.now
 
 -- what a table of where its expressions stand says of them
 abbrev pub handles_in : FunctionText → List Standing → Handles
-handles_in f table = handles_of (given_name f.shader.now f.handle) table
+handles_in f table = handles_of (given_in f) table
 
 -- its expressions
 abbrev pub expressions : FunctionText → List Expression
@@ -99,6 +103,4 @@ pub record CanWrite (f : FunctionText) : Type 0 where
   pub written : IsTrue (function_is_written f.function.now)
   pub formed : WrittenHaveForms (tells_types f.flags) f.shader.now f.module_info.now f.function.now
       f.info.now
-  pub given : (number : ℕ) → option_map_or string_bytes (slice_get f.given.now number) []
-      ≡ given_name f.shader.now f.handle number
   pub room : length (given_labels f.function.now) < 2 ^ 64

@@ -1,6 +1,6 @@
 -- The text of a function and of its parts.
 use Rattle.std.specs.Prelude.{◌≡◌, ℕ, Bool, List, [], ◌∷◌, ◌++◌, Option, Some, codes, slice_get}
-use Rattle.std.specs.Prelude.{unwrap_or, ◌==◌, if◌then◌else◌}
+use Rattle.std.specs.Prelude.{get_or, unwrap_or, ◌==◌, if◌then◌else◌}
 use Rattle.std.specs.Option.{option_map, option_map_or}
 use Rattle.naga_ir.specs.declared.module.Function as ir
 use Rattle.naga_ir.specs.declared.module.FunctionArgument.{FunctionArgument}
@@ -9,7 +9,7 @@ use Rattle.naga_ir.specs.declared.module.Module.{Module}
 use Rattle.naga_info.specs.declared.info.ExpressionInfo.{ExpressionInfo}
 use Rattle.naga_info.specs.declared.info.ModuleInfo.{ModuleInfo}
 use Rattle.shader_runs.specs.Scope.{at_start}
-use Rattle.module_meaning.specs.Names.{module_names}
+use Rattle.module_meaning.specs.Names.{given_name, module_names}
 use Rattle.wgsl_text.specs.Expressions.{Expression}
 use Rattle.naga_form.specs.Expressions.{value_form}
 use Rattle.wgsl_text.specs.Functions.{Local, Function, value_pieces, parameter_pieces}
@@ -17,12 +17,13 @@ use Rattle.wgsl_text.specs.Functions.{parameters_pieces, result_pieces, locals_p
 use Rattle.wgsl_text.specs.Functions.{function_pieces}
 use Rattle.naga_form.specs.Functions.{parameter_form, function_form}
 use Rattle.naga_form.specs.Types.{type_form}
+use Rattle.naga_scope.specs.Plans.{Planned}
 use Rattle.naga_scope.specs.declared.points.Standing.{Standing}
 use Rattle.wgsl_text.specs.Text.{text}
 use Rattle.naga_back.specs.declared.flags.WriterFlags.{WriterFlags}
 use Rattle.naga_wgsl_fns.specs.declared.functions.FunctionText.{FunctionText}
-use Rattle.naga_wgsl_fns.specs.FunctionText.{handles_in, source, naming, tells_types}
-use Rattle.naga_wgsl_fns.specs.FunctionText.{type_names_of}
+use Rattle.naga_wgsl_fns.specs.FunctionText.{given_in, handles_in, source, naming}
+use Rattle.naga_wgsl_fns.specs.FunctionText.{tells_types, type_names_of}
 use Rattle.naga_wgsl_fns.specs.Names.{name_of_function}
 use Rattle.naga_wgsl_fns.specs.Statements.{lines_text}
 use Rattle.naga_wgsl_fns.specs.Types.{type_text}
@@ -31,25 +32,37 @@ use Rattle.naga_wgsl_fns.specs.Types.{type_text}
 abbrev pub known_of : ModuleInfo → ℕ → List ExpressionInfo
 known_of info handle = unwrap_or (slice_get info.functions.items handle) []
 
--- the text of a function of the module, with what is known of its expressions
+-- the names that a plan has
+abbrev pub names_of : Planned → (number : ℕ) → List ℕ
+names_of plan number = get_or plan.given number []
+
+-- the text of a function of the module, with what is known of its expressions and the names that front
+-- ends gave in it
 abbrev pub text_of :
-    Module → ModuleInfo → WriterFlags → (handle : ℕ) → ir.Function → List ExpressionInfo → List ℕ
-text_of m info flags handle f known =
-    let form = function_form (tells_types flags) (module_names m) m info handle f known in
+    Module → ModuleInfo → WriterFlags → (given : ℕ → List ℕ) → (handle : ℕ) → ir.Function →
+    List ExpressionInfo → List ℕ
+text_of m info flags given handle f known =
+    let form = function_form (tells_types flags) (module_names m) given m info handle f known in
     text (function_pieces form)
 
 -- the same of the module's function with this handle; nothing, where there is none
-abbrev pub text_of_function : Module → ModuleInfo → WriterFlags → (handle : ℕ) → List ℕ
-text_of_function m info flags handle =
-    option_map_or (λ f. text_of m info flags handle f (known_of info handle))
+abbrev pub text_under :
+    Module → ModuleInfo → WriterFlags → (given : ℕ → List ℕ) → (handle : ℕ) → List ℕ
+text_under m info flags given handle =
+    option_map_or (λ f. text_of m info flags given handle f (known_of info handle))
     (slice_get m.functions handle) []
+
+-- and in a text of the whole module
+abbrev pub text_of_function : Module → ModuleInfo → WriterFlags → (handle : ℕ) → List ℕ
+text_of_function m info flags handle = text_under m info flags (given_name m handle) handle
 
 -- the form of a function
 abbrev pub form_of : FunctionText → Function
 form_of f =
     let m = f.shader.now in
     let info = f.module_info.now in
-    function_form (tells_types f.flags) (module_names m) m info f.handle f.function.now f.info.now
+    function_form (tells_types f.flags) (module_names m) (given_in f) m info f.handle f.function.now
+    f.info.now
 
 unfoldable pub function_text : FunctionText → List ℕ
 function_text f = text (function_pieces (form_of f))

@@ -1,10 +1,11 @@
 -- The names that the text of a function uses.
 use Rattle.std.specs.Prelude.{ℕ, List}
-use Rattle.module_meaning.specs.Names.{argument_name, function_name, given_name, local_name}
+use Rattle.module_meaning.specs.Names.{argument_name, function_name, local_name}
 use Rattle.module_meaning.specs.Names.{module_names, numbered_name}
 use Rattle.naga_scope.specs.Standings.{name_of_bound}
 use Rattle.naga_scope.specs.declared.points.BoundName.{BoundName}
 use Rattle.shader_runs.specs.Scope.{bound_name}
+use Rattle.naga_wgsl_fns.specs.FunctionText.{given_in}
 use Rattle.naga_wgsl_fns.specs.FunctionText.{naming}
 use Rattle.naga_wgsl_fns.specs.declared.functions.FunctionText.{FunctionText}
 
@@ -19,7 +20,7 @@ name_of_argument f number = argument_name (module_names f.shader.now) f.handle n
 -- an expression that a `let` binds under this name
 unfoldable pub bound_text : FunctionText → (handle : ℕ) → BoundName → List ℕ
 bound_text f handle name =
-    name_of_bound (given_name f.shader.now f.handle) (numbered_name handle) name
+    name_of_bound (given_in f) (numbered_name handle) name
 
 -- the one that a `let` binds behind so many given names
 unfoldable pub next_name_text : FunctionText → (number handle : ℕ) → List ℕ

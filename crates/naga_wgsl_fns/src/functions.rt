@@ -9,7 +9,7 @@ ghost use Rattle.module_meaning.specs.Part.{is_written_so_far};
 ghost use Rattle.naga_info.specs.declared.info.TypeResolution.TheVariants as resolution;
 ghost use Rattle.module_meaning.specs.Names.{HasNamesOf};
 ghost use Rattle.naga_names.specs.Keys.{names_in};
-ghost use Rattle.naga_scope.specs.Plans.{AreGivenNames, IsPlanOf};
+ghost use Rattle.naga_scope.specs.Plans.{IsPlanOf};
 ghost use Rattle.naga_words.specs.Output.{Writes};
 ghost use Rattle.naga_words.specs.Sink.{IsBehind};
 ghost use Rattle.naga_wgsl_fns.specs.Errors.{IsWant};
@@ -21,7 +21,7 @@ ghost use Rattle.naga_wgsl_fns.specs.Functions.{arguments_text, body_text, first
 ghost use Rattle.naga_wgsl_fns.specs.Functions.{first_value_text, function_text, group_end_text};
 ghost use Rattle.naga_wgsl_fns.specs.Functions.{head_text, local_text, locals_text};
 ghost use Rattle.naga_wgsl_fns.specs.Functions.{next_argument_text, result_text, separator};
-ghost use Rattle.naga_wgsl_fns.specs.Functions.{text_of_function};
+ghost use Rattle.naga_wgsl_fns.specs.Functions.{names_of, text_under};
 
 use crate::Error;
 use crate::error::error_of_want;
@@ -62,11 +62,10 @@ pub fn write_function<W: TextSink>(
     requires handle { handle < length «module».now.functions }
     requires names { HasNamesOf «module».now (names_in names.now) }
     requires planned { IsPlanOf (tells_types flags) «module».now info.now handle plan }
-    requires named { AreGivenNames «module».now handle plan.given }
     ensures text_ok { OnOk result (W.text out.new
-        ≡ W.text out.old ++ text_of_function «module».now info.now flags handle) }
+        ≡ W.text out.old ++ text_under «module».now info.now flags (names_of plan) handle) }
     ensures text_err { OnErr result (IsBehind (W.text out.old)
-        (text_of_function «module».now info.now flags handle) (W.text out.new)) }
+        (text_under «module».now info.now flags (names_of plan) handle) (W.text out.new)) }
     ensures failures_ok { OnOk result (W.failures out.new ≡ W.failures out.old) }
     ensures reason { IfErr result (IsWant (W.failures out.old) (W.failures out.new)) }
 {

@@ -1,10 +1,10 @@
 //! Names, of which a function's module has a text for each key.
 
 ghost use Rattle.std.specs.Prelude.{◌≡◌, ◌<◌, Some, length};
-ghost use Rattle.module_meaning.specs.Names.{given_name, module_names, name_in, numbered_name};
+ghost use Rattle.module_meaning.specs.Names.{module_names, name_in, numbered_name};
 ghost use Rattle.naga_names.specs.Keys.{names_in};
 ghost use Rattle.naga_words.specs.Output.{Writes};
-ghost use Rattle.naga_wgsl_fns.specs.FunctionText.{CanWrite};
+ghost use Rattle.naga_wgsl_fns.specs.FunctionText.{CanWrite, given_in};
 ghost use Rattle.naga_wgsl_fns.specs.Names.{bound_text, name_of_argument, name_of_function};
 ghost use Rattle.naga_wgsl_fns.specs.Names.{name_of_local, next_name_text};
 
@@ -88,7 +88,7 @@ impl FunctionText<'_> {
     fn write_given_name<W: TextSink>(&self, number: usize, out: &mut Output<'_, W>)
         requires { CanWrite self.now }
         ensures { Writes W.text W.failures out.old out.new
-            (given_name self.now.shader.now self.now.handle number) }
+            (given_in self.now number) }
     {
         match self.given.get(number) {
             Some(name) => out.put(name),

@@ -23,7 +23,7 @@ use Rattle.naga_form.proofs.AcceptedFunctions.{functions_counted}
 use Rattle.wgsl_text.specs.Text.{text}
 use Rattle.naga_names.specs.Naming.{Names}
 use Rattle.naga_scope.specs.Plans.{Planned}
-use Rattle.module_meaning.specs.Names.{module_names}
+use Rattle.module_meaning.specs.Names.{given_name, module_names}
 use Rattle.naga_wgsl_fns.specs.Appends.{StoppedWithin, Wrote}
 use Rattle.naga_wgsl_fns.specs.FunctionText.{tells_types}
 use Rattle.naga_wgsl_fns.specs.Functions.{known_of, text_of_function}
@@ -43,7 +43,7 @@ functions_text m info flags g [] [] size known = refl
 functions_text m info flags g [] (es ∷ ess) size known = refl
 functions_text m info flags g (f ∷ fs) [] size known = absurd (cc)
 functions_text m info flags g (f ∷ fs) (es ∷ ess) size known =
-    let own = λ (ks : List ExpressionInfo). function_pieces (function_form (tells_types flags) (module_names m) m info g f ks) in
+    let own = λ (ks : List ExpressionInfo). function_pieces (function_form (tells_types flags) (module_names m) (given_name m g) m info g f ks) in
     let here : g + 0 ≡ g = omega arith in
     let same : known_of info g ≡ es = ap (known_of info) (sym here) ∙ known 0 es refl in
     text-append (own es) (LineEnd ∷ functions_pieces (functions_form (tells_types flags) (module_names m) m info (g + 1) fs ess))
@@ -64,7 +64,7 @@ written_lines m info flags accepted =
     known i es at = let same : i ≡ 0 + i = omega arith in subst (λ h. known_of info h ≡ es) same (ap (λ o. unwrap_or o []) at)
 
 -- the first of the functions that are left
-pub next_line : (m : Module) (info : ModuleInfo) (flags : WriterFlags) (all : List (ℕ × Function)) (n : ℕ) (f : ℕ × Function) → n < length all → f ≡ get_or all n f → lines_of m info flags (drop n all) ≡ (text (function_pieces (function_form (tells_types flags) (module_names m) m info f.0 f.1 (known_of info f.0))) ++ codes "\n") ++ lines_of m info flags (drop (n + 1) all)
+pub next_line : (m : Module) (info : ModuleInfo) (flags : WriterFlags) (all : List (ℕ × Function)) (n : ℕ) (f : ℕ × Function) → n < length all → f ≡ get_or all n f → lines_of m info flags (drop n all) ≡ (text (function_pieces (function_form (tells_types flags) (module_names m) (given_name m f.0) m info f.0 f.1 (known_of info f.0))) ++ codes "\n") ++ lines_of m info flags (drop (n + 1) all)
 next_line m info flags all n f lt is =
     let split : drop n all ≡ get_or all n f ∷ drop (n + 1) all = rw add-one (drop-cons all n f lt) in
     ap (lines_of m info flags) split ∙ ap (λ q. lines_of m info flags (q ∷ drop (n + 1) all)) (sym is)
@@ -78,12 +78,12 @@ at_enumerated n (x ∷ fs) (suc i) f lt is =
     let moved : (n + 1) + i ≡ n + suc i = omega arith in
     (rest.0 ∙ moved, omega (arith, rest.1), rest.2)
 
-text_is : (m : Module) (info : ModuleInfo) (flags : WriterFlags) (n : ℕ) (f : ℕ × Function) → n < length (enumerate_from 0 m.functions) → f ≡ get_or (enumerate_from 0 m.functions) n f → text (function_pieces (function_form (tells_types flags) (module_names m) m info f.0 f.1 (known_of info f.0))) ≡ text_of_function m info flags f.0
+text_is : (m : Module) (info : ModuleInfo) (flags : WriterFlags) (n : ℕ) (f : ℕ × Function) → n < length (enumerate_from 0 m.functions) → f ≡ get_or (enumerate_from 0 m.functions) n f → text (function_pieces (function_form (tells_types flags) (module_names m) (given_name m f.0) m info f.0 f.1 (known_of info f.0))) ≡ text_of_function m info flags f.0
 text_is m info flags n f lt is =
     let at = at_enumerated 0 m.functions n f lt is in
     let same : 0 + n ≡ n = omega arith in
     let found : slice_get m.functions f.0 ≡ Some f.1 = ap (slice_get m.functions) (at.0 ∙ same) ∙ at.2 in
-    sym (ap (λ o. option_map_or (λ g. text (function_pieces (function_form (tells_types flags) (module_names m) m info f.0 g (known_of info f.0)))) o []) found)
+    sym (ap (λ o. option_map_or (λ g. text (function_pieces (function_form (tells_types flags) (module_names m) (given_name m f.0) m info f.0 g (known_of info f.0)))) o []) found)
 
 -- the lines that are left begin with those of the next function
 pub here_line : (m : Module) (info : ModuleInfo) (flags : WriterFlags) (n : ℕ) (f : ℕ × Function) → n < length (enumerate_from 0 m.functions) → f ≡ get_or (enumerate_from 0 m.functions) n f → lines_of m info flags (drop n (enumerate_from 0 m.functions)) ≡ (text_of_function m info flags f.0 ++ codes "\n") ++ lines_of m info flags (drop (n + 1) (enumerate_from 0 m.functions))

@@ -12,7 +12,7 @@ use Rattle.naga_scope.specs.Plans.{AreGivenNames, IsPlanOf, OfFunctionAt, Planne
 use Rattle.wgsl_text.specs.Functions.{function_pieces}
 use Rattle.naga_form.specs.Functions.{function_form}
 use Rattle.naga_form.specs.Declarations.{written_program}
-use Rattle.module_meaning.specs.Names.{NamesAreCounted, module_names}
+use Rattle.module_meaning.specs.Names.{NamesAreCounted, given_name, module_names}
 use Rattle.naga_names.specs.Naming.{Names}
 use Rattle.wgsl_text.specs.Text.{text}
 use Rattle.wgsl_text.specs.Reading.{layout}
@@ -35,7 +35,9 @@ written_text m info flags = layout (written_program m info (tells_types flags))
 abbrev pub line_of : Module → ModuleInfo → WriterFlags → ℕ × Function → List ℕ
 line_of m info flags p =
     let known = known_of info p.0 in
-    let form = function_form (tells_types flags) (module_names m) m info p.0 p.1 known in
+    let explicit = tells_types flags in
+    let given = given_name m p.0 in
+    let form = function_form explicit (module_names m) given m info p.0 p.1 known in
     text (function_pieces form) ++ codes "\n"
 
 -- those of these functions, of the module, and of it in front of this function

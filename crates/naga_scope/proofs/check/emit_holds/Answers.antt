@@ -15,11 +15,11 @@ use Rattle.naga_scope.proofs.Holding.{room_first}
 use Rattle.naga_scope.proofs.check.emit_holds.Goals as goal
 
 pub returns-then-not-may_emit-clause-fits : goal.returns-then-not-may_emit-clause-fits
-returns-then-not-may_emit-clause-fits c names m known g same_types =
-    let s = handles_of (given_name m g) c.loop-index.scope.table in
-    let may = sym (c.may_emit.ensures (given_name m g) m known same_types ∙ ap (λ h. may_emit (function_shape m known c.args.function.now c.args.info.now) h s) c.from_index-handle.ensures) ∙ c.if-not-may_emit.true in
-    range_refused names m known g c.args.function.now c.args.info.now c.loop-index.scope.given c.loop-index.index c.args.range.end s c.loop-index-test.true may
-    ∙ c.loop-index.invariant.holds names m known g same_types
+returns-then-not-may_emit-clause-fits c names m known given g same_types =
+    let s = handles_of given c.loop-index.scope.table in
+    let may = sym (c.may_emit.ensures given m known same_types ∙ ap (λ h. may_emit (function_shape m known c.args.function.now c.args.info.now) h s) c.from_index-handle.ensures) ∙ c.if-not-may_emit.true in
+    range_refused names m known given g c.args.function.now c.args.info.now c.loop-index.scope.given c.loop-index.index c.args.range.end s c.loop-index-test.true may
+    ∙ c.loop-index.invariant.holds names m known given g same_types
 
 pub emit-requires-clause-room : goal.emit-requires-clause-room
 emit-requires-clause-room c =
@@ -43,34 +43,34 @@ loop-index-preserved c =
     record {
       size = c.emit.ensures.size ∙ c.loop-index.invariant.size;
       given = range_given f k j i e c.loop-index-test.true more ∙ c.loop-index.invariant.given;
-      holds = λ names m known g same_types.
-          let s = handles_of (given_name m g) c.loop-index.scope.table in
-          let may = sym (c.may_emit.ensures (given_name m g) m known same_types ∙ ap (λ h. may_emit (function_shape m known f es) h s) c.from_index-handle.ensures) ∙ c.if-not-may_emit.false in
-          let next = c.emit.ensures.handles names m known g same_types ∙ ap (λ h. after_one (function_naming names m known g f es) k h s) c.from_index-handle.ensures in
-          range_holds names m known g f es k j i e s (handles_of (given_name m g) c.emit.new.self.table) c.loop-index-test.true may next more
-          ∙ c.loop-index.invariant.holds names m known g same_types;
-      behind = λ names m known g same_types.
-          let s = handles_of (given_name m g) c.loop-index.scope.table in
-          let next = c.emit.ensures.handles names m known g same_types ∙ ap (λ h. after_one (function_naming names m known g f es) k h s) c.from_index-handle.ensures in
-          range_behind names m known g f es k j i e s (handles_of (given_name m g) c.emit.new.self.table) c.loop-index-test.true next more
-          ∙ c.loop-index.invariant.behind names m known g same_types;
+      holds = λ names m known given g same_types.
+          let s = handles_of given c.loop-index.scope.table in
+          let may = sym (c.may_emit.ensures given m known same_types ∙ ap (λ h. may_emit (function_shape m known f es) h s) c.from_index-handle.ensures) ∙ c.if-not-may_emit.false in
+          let next = c.emit.ensures.handles names m known given g same_types ∙ ap (λ h. after_one (function_naming names given m known g f es) k h s) c.from_index-handle.ensures in
+          range_holds names m known given g f es k j i e s (handles_of given c.emit.new.self.table) c.loop-index-test.true may next more
+          ∙ c.loop-index.invariant.holds names m known given g same_types;
+      behind = λ names m known given g same_types.
+          let s = handles_of given c.loop-index.scope.table in
+          let next = c.emit.ensures.handles names m known given g same_types ∙ ap (λ h. after_one (function_naming names given m known g f es) k h s) c.from_index-handle.ensures in
+          range_behind names m known given g f es k j i e s (handles_of given c.emit.new.self.table) c.loop-index-test.true next more
+          ∙ c.loop-index.invariant.behind names m known given g same_types;
       held = λ m known same_types.
           let s = handles_of (given_name m 0) c.loop-index.scope.table in
           let shape = function_shape m known f es in
-          let own = function_naming (module_names m) m known 0 f es in
-          subst (KeepsStart shape) (sym (c.emit.ensures.handles (module_names m) m known 0 same_types))
+          let own = function_naming (module_names m) (given_name m 0) m known 0 f es in
+          subst (KeepsStart shape) (sym (c.emit.ensures.handles (module_names m) m known (given_name m 0) 0 same_types))
           (one_keeps own shape k c.from_index-handle.result s (c.loop-index.invariant.held m known same_types));
     }
 
 pub returns-clause-fits : goal.returns-clause-fits
-returns-clause-fits c names m known g same_types =
-    ap (λ hs. may_emit_all (function_naming names m known g c.args.function.now c.args.info.now) c.loop-index.scope.given hs (handles_of (given_name m g) c.loop-index.scope.table)) (sym (range_none c.loop-index.index c.args.range.end c.loop-index-test.false))
-    ∙ c.loop-index.invariant.holds names m known g same_types
+returns-clause-fits c names m known given g same_types =
+    ap (λ hs. may_emit_all (function_naming names given m known g c.args.function.now c.args.info.now) c.loop-index.scope.given hs (handles_of given c.loop-index.scope.table)) (sym (range_none c.loop-index.index c.args.range.end c.loop-index-test.false))
+    ∙ c.loop-index.invariant.holds names m known given g same_types
 
 pub returns-clause-after : goal.returns-clause-after
-returns-clause-after c names m known g same_types holds =
-    ap (λ hs. after_emit (function_naming names m known g c.args.function.now c.args.info.now) c.loop-index.scope.given hs (handles_of (given_name m g) c.loop-index.scope.table)) (sym (range_none c.loop-index.index c.args.range.end c.loop-index-test.false))
-    ∙ c.loop-index.invariant.behind names m known g same_types
+returns-clause-after c names m known given g same_types holds =
+    ap (λ hs. after_emit (function_naming names given m known g c.args.function.now c.args.info.now) c.loop-index.scope.given hs (handles_of given c.loop-index.scope.table)) (sym (range_none c.loop-index.index c.args.range.end c.loop-index-test.false))
+    ∙ c.loop-index.invariant.behind names m known given g same_types
 
 pub returns-clause-given : goal.returns-clause-given
 returns-clause-given c holds =

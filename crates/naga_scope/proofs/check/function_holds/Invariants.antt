@@ -1,4 +1,4 @@
-use Rattle.std.proofs.Common.{◌≡◌, ℕ, ◌+◌, length, drop}
+use Rattle.std.proofs.Common.{◌≡◌, ℕ, ◌+◌, List, length, drop}
 use Rattle.module_meaning.specs.GivenLabels.{block_labels, given_labels}
 use Rattle.module_meaning.specs.Names.{given_name}
 use Rattle.naga_ir.specs.StatementViews.{block_of}
@@ -16,10 +16,10 @@ abbrev pub invariant-loop-statement : goal.invariant-loop-statement
 invariant-loop-statement l = record {
   size : length l.scope.table ≡ length l.function.expressions;
   given : l.scope.given + length (block_labels l.function (block_of (drop l.statement-index l.statement-items))) ≡ length (given_labels l.function);
-  holds : (names : NameMap) (m : Module) (known : ModuleInfo) (g : ℕ) →
+  holds : (names : NameMap) (m : Module) (known : ModuleInfo) (given : ℕ → List ℕ) (g : ℕ) →
       m.types ≡ l.types →
-      fits_all (function_naming names m known g l.function l.info) l.scope.given (statements_shape (declared m known (types_known l.info)).around (block_of (drop l.statement-index l.statement-items))) (handles_of (given_name m g) l.scope.table)
-      ≡ fits_all (function_naming names m known g l.function l.info) 0 (statements_shape (declared m known (types_known l.info)).around l.function.body) (at_start (function_shape m known l.function l.info));
+      fits_all (function_naming names given m known g l.function l.info) l.scope.given (statements_shape (declared m known (types_known l.info)).around (block_of (drop l.statement-index l.statement-items))) (handles_of given l.scope.table)
+      ≡ fits_all (function_naming names given m known g l.function l.info) 0 (statements_shape (declared m known (types_known l.info)).around l.function.body) (at_start (function_shape m known l.function l.info));
   held : (m : Module) (known : ModuleInfo) → m.types ≡ l.types →
       KeepsStart (function_shape m known l.function l.info) (handles_of (given_name m 0) l.scope.table);
 }

@@ -1,8 +1,7 @@
-use Rattle.std.proofs.Common.{[], ◌≡◌, ◌<◌, ◌∙◌, Global, List, Some, arith, ap, get_or, length, slice_get}
+use Rattle.std.proofs.Common.{[], ℕ, ◌≡◌, ◌<◌, ◌∙◌, Global, List, Some, arith, ap, get_or, length, slice_get}
 use Rattle.std.proofs.Common.{string_bytes, subst, sym}
 use Rattle.std.specs.Option.{option_map_or}
 use Rattle.std.specs.declared.string.String.{String}
-use Rattle.module_meaning.specs.Names.{given_name}
 use Rattle.naga_scope.specs.Standings.{TextPoint, handles_of}
 use Rattle.naga_form.proofs.AcceptedFunctions.{functions_counted}
 use Rattle.naga_words.proofs.Writing.{held_part_as, held_whole_as, never_formless, reason_given}
@@ -10,7 +9,9 @@ use Rattle.naga_words.proofs.Writing.{same_sink, writes_as}
 use Rattle.naga_scope.proofs.Planned.{plan_found}
 use Rattle.naga_wgsl_fns.specs.Errors.{IsWant}
 use Rattle.naga_wgsl_fns.specs.FunctionText.{tells_types}
-use Rattle.naga_wgsl_fns.proofs.FunctionRows.{can_write, names_read, reason_told, text_of_function_at}
+use Rattle.naga_wgsl_fns.proofs.FunctionRows.{can_write, names_same, reason_told}
+use Rattle.naga_wgsl_fns.proofs.FunctionRows.{text_under_names}
+use Rattle.naga_wgsl_fns.specs.Functions.{text_under}
 use Rattle.naga_wgsl_fns.proofs.functions.write_function.Goals as goal
 
 pub write_declaration-requires-clause-can : goal.write_declaration-requires-clause-can
@@ -18,17 +19,14 @@ write_declaration-requires-clause-can g c =
     let plan = plan_found (tells_types c.args.flags) c.args.module.now c.args.info.now c.args.handle c.index.result.now
     c.index-2.result.now c.args.plan c.index.ensures c.index-2.ensures c.requires.planned in
     can_write _ c.requires.accepted c.requires.written c.requires.names c.index.ensures
-    c.index-2.ensures plan.formed
-    (λ number. ap (λ (xs : List (String Global)). option_map_or string_bytes (slice_get xs number) []) c.as_slice.ensures.value
-    ∙ (names_read c.into_parts-scope.result.1.items number
-    ∙ (ap (λ ns. get_or ns number []) c.into_parts-scope.ensures.given ∙ c.requires.named number)))
-    plan.room
+    c.index-2.ensures plan.formed plan.room
 
 pub write_declaration-requires-clause-start : goal.write_declaration-requires-clause-start
 write_declaration-requires-clause-start g c =
     let plan = plan_found (tells_types c.args.flags) c.args.module.now c.args.info.now c.args.handle c.index.result.now
     c.index-2.result.now c.args.plan c.index.ensures c.index-2.ensures c.requires.planned in
-    let given = given_name c.args.module.now c.args.handle in
+    let given : ℕ → List ℕ = λ number.
+    option_map_or string_bytes (slice_get c.as_slice.result.now number) [] in
     ap (λ (p : TextPoint). handles_of given p.table) c.into_parts-scope.ensures.scope
     ∙ plan.starts given
 
@@ -56,14 +54,26 @@ pub returns-in-Ok-clause-text_ok : goal.returns-in-Ok-clause-text_ok
 returns-in-Ok-clause-text_ok g c =
     let same : c.write_declaration.new.out.sink.ghost_name ≡ c.new-written.result.sink.ghost_name = same_sink _ _ _ c.write_declaration.ensures in
     held_whole_as _ _ _ _ _ (grind arith) (grind arith)
-    (writes_as (sym (text_of_function_at _ c.index.ensures c.index-2.ensures)) c.write_declaration.ensures)
+    (writes_as
+    (sym
+    (ap (λ given. text_under c.args.module.now c.args.info.now c.args.flags given c.args.handle)
+    (λ i number. sym (names_same c.as_slice.result.now c.into_parts-scope.result.1.items
+    c.args.plan.given c.as_slice.ensures.value c.into_parts-scope.ensures.given number) i)
+    ∙ text_under_names _ c.index.ensures c.index-2.ensures))
+    c.write_declaration.ensures)
     c.new-written.ensures.want c.in-Ok.ensures.whole
 
 pub returns-clause-text_err : goal.returns-clause-text_err
 returns-clause-text_err g c =
     let same : c.write_declaration.new.out.sink.ghost_name ≡ c.new-written.result.sink.ghost_name = same_sink _ _ _ c.write_declaration.ensures in
     held_part_as _ _ _ _ _ _ (grind arith) (grind arith)
-    (writes_as (sym (text_of_function_at _ c.index.ensures c.index-2.ensures)) c.write_declaration.ensures)
+    (writes_as
+    (sym
+    (ap (λ given. text_under c.args.module.now c.args.info.now c.args.flags given c.args.handle)
+    (λ i number. sym (names_same c.as_slice.result.now c.into_parts-scope.result.1.items
+    c.args.plan.given c.as_slice.ensures.value c.into_parts-scope.ensures.given number) i)
+    ∙ text_under_names _ c.index.ensures c.index-2.ensures))
+    c.write_declaration.ensures)
     c.new-written.ensures.want c.in-Err.ensures.wanting
 
 pub returns-clause-reason : goal.returns-clause-reason

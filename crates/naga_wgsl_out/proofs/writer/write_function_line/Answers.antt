@@ -1,11 +1,37 @@
+use Rattle.std.proofs.Common.{◌≡◌, ◌∙◌, ◌++◌, ℕ, ap, subst}
+use Rattle.naga_back.specs.declared.flags.WriterFlags.{WriterFlags}
+use Rattle.naga_info.specs.declared.info.ModuleInfo.{ModuleInfo}
+use Rattle.naga_ir.specs.declared.module.Module.{Module}
+use Rattle.naga_scope.specs.Plans.{AreGivenNames, Planned}
+use Rattle.naga_words.specs.Sink.{IsBehind}
+use Rattle.naga_wgsl_fns.specs.Functions.{names_of, text_of_function, text_under}
 use Rattle.naga_wgsl_fns.proofs.Appending.{appends_then, appends_stopped, stopped_first}
 use Rattle.naga_wgsl_out.proofs.writer.write_function_line.Goals as goal
+
+-- a function's text under the names that its plan has is that in the text of the whole module
+named_text : (m : Module) (info : ModuleInfo) (flags : WriterFlags) (handle : ℕ) (plan : Planned) →
+    AreGivenNames m handle plan.given →
+    text_under m info flags (names_of plan) handle ≡ text_of_function m info flags handle
+named_text m info flags handle plan named =
+    ap (λ given. text_under m info flags given handle) (λ i number. named number i)
 
 pub returns-in_err-write_function : goal.returns-in_err-write_function
 returns-in_err-write_function g c =
     appends_stopped c.from_residual.result c.from_residual.ensures.1
-    (stopped_first _ (record { behind = c.in_err-write_function.ensures.text_err; reason = c.in_err-write_function.ensures.reason }))
+    (stopped_first _ (record {
+      behind =
+          subst (λ t. IsBehind (g.W.TextSink.text c.args.out.now) t (g.W.TextSink.text c.write_function.new.out))
+          (named_text c.args.«module».now c.args.info.now c.args.flags c.args.handle c.args.plan c.requires.named)
+          c.in_err-write_function.ensures.text_err;
+      reason = c.in_err-write_function.ensures.reason;
+    }))
 
 pub returns : goal.returns
 returns g c =
-    appends_then c.put.result _ _ _ (record { appended = c.in_ok-write_function.ensures.text_ok; kept = c.in_ok-write_function.ensures.failures_ok }) c.put.ensures
+    appends_then c.put.result _ _ _ (record {
+      appended =
+          c.in_ok-write_function.ensures.text_ok
+          ∙ ap (λ t. g.W.TextSink.text c.args.out.now ++ t)
+          (named_text c.args.«module».now c.args.info.now c.args.flags c.args.handle c.args.plan c.requires.named);
+      kept = c.in_ok-write_function.ensures.failures_ok;
+    }) c.put.ensures

@@ -1,5 +1,5 @@
 use Rattle.std.proofs.Common.{◌+◌, ◌<◌, ◌^◌, ◌≡◌, ◌∙◌, ap, List, ℕ, None, Some, arith, length, map, string_bytes}
-use Rattle.std.proofs.Common.{refl, subst, sym, true≢false}
+use Rattle.std.proofs.Common.{[], refl, subst, sym, true≢false}
 use Rattle.std.specs.declared.string.String.{String}
 use Rattle.module_meaning.specs.GivenLabels.{given_labels}
 use Rattle.naga_form.proofs.Fits.{mapped_length}
@@ -21,7 +21,7 @@ returns-then-not-function_holds-clause-err c known rules =
     let f = c.args.function.now in
     let es = c.args.info.now in
     let holds = (check_is_the_rules m known f es c.requires.ordered).1 rules in
-    let fails = sym (c.function_holds.ensures.scope (λ key. None) m known 0 refl)
+    let fails = sym (c.function_holds.ensures.scope (λ key. None) m known (λ number. []) 0 refl)
     ∙ c.if-not-function_holds.true in
     true≢false (sym holds ∙ fails)
 
@@ -35,7 +35,7 @@ returns-clause-ok c known =
     let f = c.args.function.now in
     let es = c.args.info.now in
     let shape = function_shape m known f es in
-    let holds = sym (c.function_holds.ensures.scope (λ key. None) m known 0 refl)
+    let holds = sym (c.function_holds.ensures.scope (λ key. None) m known (λ number. []) 0 refl)
     ∙ c.if-not-function_holds.false in
     let roots = function_roots (binds shape) f in
     let none_declared = sym c.declared_without_form.ensures ∙ c.in_default-declared_without_form.is in

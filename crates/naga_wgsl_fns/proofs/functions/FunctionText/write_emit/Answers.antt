@@ -8,7 +8,7 @@ use Rattle.module_meaning.specs.Names.{module_names}
 use Rattle.naga_scope.proofs.Emitting.{range_more, range_none}
 use Rattle.shader_runs.specs.Scope.{after_emit, after_one}
 use Rattle.naga_words.proofs.Writing.{leaves_more, leaves_none, leaves_start}
-use Rattle.naga_wgsl_fns.specs.FunctionText.{AreEmitted, AreInText, IsEmitted, IsInText, bound, handles_in, naming}
+use Rattle.naga_wgsl_fns.specs.FunctionText.{given_in, AreEmitted, AreInText, IsEmitted, IsInText, bound, handles_in, naming}
 use Rattle.naga_wgsl_fns.proofs.TextHandles.{first_in_text, others_in_text}
 use Rattle.naga_wgsl_fns.proofs.StatementRows.{after_step, given_step, lets_none, lets_step}
 use Rattle.naga_wgsl_fns.proofs.functions.FunctionText.write_emit.Goals as goal
@@ -50,7 +50,7 @@ pub loop-index-preserved : goal.loop-index-preserved
 loop-index-preserved g c =
     let self = c.args.self.now in
     let h = c.from_index-handle.result in
-    let one : handles_in self c.emit.new.self.table ≡ after_one (naming self) c.loop-index.scope.given h (handles_in self c.loop-index.scope.table) = c.emit.ensures.handles (module_names self.shader.now) self.shader.now self.module_info.now self.handle refl in
+    let one : handles_in self c.emit.new.self.table ≡ after_one (naming self) c.loop-index.scope.given h (handles_in self c.loop-index.scope.table) = c.emit.ensures.handles (module_names self.shader.now) self.shader.now self.module_info.now (given_in self) self.handle refl in
     record {
       leaves = leaves_more _ _ _ _ _ _ _ c.loop-index.invariant.leaves
           (lets_step self c.requires.can c.loop-index.scope c.emit.new.self c.args.level.0 c.loop-index.index c.args.range.end h c.loop-index-test.true c.from_index-handle.ensures one c.emit.ensures.given)

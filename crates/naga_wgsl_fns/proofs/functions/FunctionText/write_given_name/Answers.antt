@@ -11,5 +11,5 @@ returns-in-None g c =
     let past = ltb-false c.args.number (length self.given.now) (sym c.in-None.ensures.lookup.0) in
     let none = slice_get_past self.given.now c.args.number past in
     writes_as
-    (sym (ap (λ o. option_map_or string_bytes o []) none) ∙ c.requires.given c.args.number)
+    (sym (ap (λ o. option_map_or string_bytes o []) none))
     (writes_nothing _)
