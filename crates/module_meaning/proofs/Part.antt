@@ -1,14 +1,20 @@
 -- What is known of a module that is of the part written so far.
-use Rattle.std.proofs.Common.{List, ◌&&◌, ◌≡◌, true}
+use Rattle.std.proofs.Common.{List, ◌&&◌, ◌+◌, ◌∙◌, ◌≡◌, ℕ, Bool, Some, ap, arith, false, not, refl}
+use Rattle.std.proofs.Common.{slice_get, sym, true}
 use Rattle.std.specs.Prelude.{IsTrue}
 use Rattle.std.specs.List.{list_all}
 use Rattle.std.proofs.lemmas.Bool.{and_parts}
 use Rattle.naga_ir.specs.declared.module.Module.{Module}
 use Rattle.naga_info.specs.declared.info.ExpressionInfo.{ExpressionInfo}
-use Rattle.module_meaning.specs.Part.{type_is_of_part, declares_functions}
+use Rattle.naga_ir.specs.declared.types.Type_.{Type_}
+use Rattle.naga_info.specs.declared.info.TypeResolution.{TypeResolution}
+use Rattle.module_meaning.proofs.Lists.{placed_at}
+use Rattle.module_meaning.specs.AlikeTypes.{has_form}
+use Rattle.module_meaning.specs.Part.{type_is_of_part, types_are_of_part, declares_functions}
 use Rattle.module_meaning.specs.Part.{is_written_so_far, function_is_written}
 use Rattle.module_meaning.specs.Part.{expression_has_form, expression_is_written}
 use Rattle.module_meaning.specs.Sampling.{own_offset_is_written}
+use Rattle.module_meaning.specs.Undeclared.{is_spellable, names_undeclared}
 use Rattle.naga_ir.specs.declared.expression.Expression.{Expression}
 
 -- what has a form is written, and so is its offset
@@ -20,11 +26,11 @@ has_form_parts m known es e has =
 
 -- all that a module's being written so far says
 pub written_so_far_parts : (m : Module) → IsTrue (is_written_so_far m)
-    → IsTrue (declares_functions m) × IsTrue (list_all type_is_of_part m.types)
+    → IsTrue (declares_functions m) × IsTrue (types_are_of_part m)
     × IsTrue (list_all function_is_written m.functions)
 unfolding is_written_so_far
 written_so_far_parts m written =
-    let types = list_all type_is_of_part m.types in
+    let types = types_are_of_part m in
     let functions = list_all function_is_written m.functions in
     let one = and_parts (declares_functions m) (types && functions) written in
     let two = and_parts types functions one.1 in
@@ -32,3 +38,26 @@ written_so_far_parts m written =
 
 pub functions_are_written : (m : Module) → IsTrue (is_written_so_far m) → IsTrue (list_all function_is_written m.functions)
 functions_are_written m written = (written_so_far_parts m written).2
+
+-- each type is of the part, at its handle
+pub type_of_part : (m : Module) → types_are_of_part m ≡ true → (h : ℕ) (t : Type_) →
+    slice_get m.types h ≡ Some t → type_is_of_part m h t ≡ true
+type_of_part m all h t at =
+    let here : 0 + h ≡ h = omega arith in
+    sym (ap (λ k. type_is_of_part m k t) here) ∙ placed_at (type_is_of_part m) 0 m.types h t all at
+
+-- ---- types that a text can spell
+is_false : (b : Bool) → not b ≡ true → b ≡ false
+is_false true is = absurd cc
+is_false false is = refl
+
+-- such a type has a form, and names no struct that no text declares
+pub spellable_parts : (m : Module) (r : TypeResolution) → is_spellable m r ≡ true →
+    (has_form m.types r ≡ true) × (names_undeclared m r ≡ false)
+spellable_parts m r is =
+    let parts = and_parts (has_form m.types r) (not (names_undeclared m r)) is in
+    (parts.0, is_false (names_undeclared m r) parts.1)
+
+pub form_of_spellable : (m : Module) (r : TypeResolution) → is_spellable m r ≡ true →
+    has_form m.types r ≡ true
+form_of_spellable m r is = (spellable_parts m r is).0

@@ -17,12 +17,12 @@ use Rattle.text_meaning.specs.Bindings.{statements_annotations}
 
 -- the types of the handles that each function binds, where types are to be told
 abbrev pub module_annotations :
-    (explicit : Bool) → TypeNames → List Naming → List (List ExpressionInfo) →
+    (explicit : Bool) → Module → TypeNames → List Naming → List (List ExpressionInfo) →
     List (List (Option (List ℕ)))
-module_annotations explicit t (f ∷ fs) (es ∷ ess) =
-    map (λ b. told_spelling explicit t es b.handle) (function_bindings f)
-    ∷ module_annotations explicit t fs ess
-module_annotations explicit t _ _ = []
+module_annotations explicit m t (f ∷ fs) (es ∷ ess) =
+    map (λ b. told_spelling explicit m t es b.handle) (function_bindings f)
+    ∷ module_annotations explicit m t fs ess
+module_annotations explicit m t _ _ = []
 
 -- the module's functions with their names, in their order
 abbrev pub functions_named : Module → ModuleInfo → List Naming
@@ -43,13 +43,14 @@ lets_read p =
     }
 
 -- those of a module: of its handles that are bound, in their order, each under its handle's name.
--- Each tells its handle's type where types are to be told, and else none does
+-- Each tells its handle's type where types are to be told, but for one that no text can name, and else
+-- none does
 abbrev pub module_lets : Module → ModuleInfo → (explicit : Bool) → Lets
 module_lets m info explicit =
     record {
       names = map bound_names (namings (module_names m) m info);
       annotations =
-          module_annotations explicit (type_names m) (functions_named m info) info.functions.items;
+          module_annotations explicit m (type_names m) (functions_named m info) info.functions.items;
     }
 
 -- The program has the module's `let`s.

@@ -36,5 +36,6 @@ pub mod Surroundings
 pub mod TypeIdentity
 pub mod TypeParts
 pub mod Types
+pub mod Undeclared
 pub mod Writable
 pub mod Written

@@ -115,9 +115,14 @@ pub record ItemsAreTold (m : Module) : Type 0 where
       name_in (module_names m) (key.StructMember h i) ≡
       name_in (module_names m) (key.StructMember h j) → i ≡ j
 
--- The map has the name of each function, of each argument, whose numbers are no greater than the
--- greatest `u32`, and of each local.
+-- The map has the name of each type and of each member of a struct, of each function, of each
+-- argument, whose numbers are no greater than the greatest `u32`, and of each local.
 pub record HasNamesOf (m : Module) (names : NameMap) : Type 0 where
+  pub types : (h : ℕ) (t : Type_) → slice_get m.types h ≡ Some t →
+      names (key.Type_ h) ≡ Some (name_in (module_names m) (key.Type_ h))
+  pub members : (h : ℕ) (t : Type_) → slice_get m.types h ≡ Some t →
+      (i : ℕ) (a : StructMember) → slice_get (members_of t.inner) i ≡ Some a →
+      names (key.StructMember h i) ≡ Some (name_in (module_names m) (key.StructMember h i))
   pub functions : (g : ℕ) → g < length m.functions →
       names (key.Function g) ≡ Some (function_name (module_names m) g)
   pub arguments : (g : ℕ) (f : ir_function.Function) → slice_get m.functions g ≡ Some f →

@@ -47,7 +47,11 @@ use Rattle.module_meaning.specs.AlikeTypes.{has_form}
 use Rattle.module_meaning.specs.Conversions.{conversion_target}
 use Rattle.module_meaning.specs.ExpressionOperators.{has_parts, scalar_behind}
 use Rattle.module_meaning.specs.OperatorTable.{relational_word}
+use Rattle.module_meaning.specs.Ranges.{all_placed}
 use Rattle.module_meaning.specs.Sampling.{own_offset_is_written, sampling_is_written}
+use Rattle.module_meaning.specs.Undeclared.{is_spellable, is_undeclared, part_is_written_at}
+use Rattle.module_meaning.specs.Undeclared.{whole_known}
+use Rattle.naga_words.specs.Spelling.{is_struct}
 use Rattle.wgsl_words.specs.Words.{math_word}
 
 -- nothing is declared but types and functions: no constant has a name
@@ -67,7 +71,7 @@ width_is_extended _ width = false
 abbrev pub is_extended : Scalar → Bool
 is_extended s = width_is_extended s.kind s.width
 
--- a module declares nothing for the type and enables nothing for it
+-- a module declares nothing for a type that is no struct, and enables nothing for it
 abbrev pub needs_nothing : TypeInner → Bool
 needs_nothing (inner.Scalar s) = not (is_extended s)
 needs_nothing (inner.Vector size s) = not (is_extended s)
@@ -78,8 +82,13 @@ needs_nothing (inner.AccelerationStructure vertex_return) = false
 needs_nothing (inner.BindingArray base size) = false
 needs_nothing _ = true
 
-abbrev pub type_is_of_part : Type_ → Bool
-type_is_of_part t = needs_nothing t.inner
+-- nor for a struct that no text declares; such a struct is refused by name where it would be spelled
+abbrev pub type_is_of_part : Module → (h : ℕ) → Type_ → Bool
+type_is_of_part m h t =
+    needs_nothing t.inner || (is_struct t.inner && is_undeclared m.special_types h)
+
+abbrev pub types_are_of_part : Module → Bool
+types_are_of_part m = all_placed (type_is_of_part m) m.types
 
 -- ---- functions
 -- the literal is of `bool` or of one of these integer types
@@ -121,9 +130,9 @@ initialiser_passes m own h = option_map_or (λ c. own c.init) (slice_get m.const
 abbrev pub global_is_written_over : Module → (own : ℕ → Bool) → Expression → Bool
 global_is_written_over m own (Literal value) = is_written_literal value
 global_is_written_over m own (Constant handle) = initialiser_passes m own handle
-global_is_written_over m own (ZeroValue ty) = has_form m.types (Handle ty)
+global_is_written_over m own (ZeroValue ty) = is_spellable m (Handle ty)
 global_is_written_over m own (Compose ty components) =
-    has_form m.types (Handle ty) && list_all own components.items
+    is_spellable m (Handle ty) && list_all own components.items
 global_is_written_over m own (Splat size value) = own value
 global_is_written_over m own _ = false
 
@@ -142,22 +151,28 @@ abbrev pub constant_is_written : Module → ℕ → Bool
 constant_is_written m h = initialiser_passes m (global_is_written m) h
 
 -- ---- expressions
+-- the expression with this handle has parts, and the one with this number is written
+abbrev pub part_is_written : Module → List ExpressionInfo → (base index : ℕ) → Bool
+part_is_written m es base index =
+    known_passes m.types es (has_parts m.types) base &&
+    option_map_or (part_is_written_at m index) (whole_known m.types es base) true
+
 -- A literal of `bool` or of an integer type, the zero value of a type, a value of a type from its
 -- parts, a part at an index, an argument, a local, a load, an operator with a sign, the choice of
 -- one of two values, a vector of one value, components of a vector, a conversion, a derivative, an
 -- operation on an image that has a form, the length of an array, a load or a product of cooperative
 -- matrices, or a function of mathematics or a relation that has a word. A type that it spells has a
--- form, and a known index is that of what has parts. A constant without a name is written as its
+-- form and names no struct that no text declares, and a known index is that of what has parts, of
+-- such a struct that of a member that a text can name. A constant without a name is written as its
 -- initialiser is. The result of a statement has no form so far, since none of the statements that give
 -- one is written: it is in scope nowhere.
 abbrev pub expression_is_written : Module → List ExpressionInfo → Expression → Bool
 expression_is_written m es (Literal value) = is_written_literal value
 expression_is_written m es (Constant handle) = constant_is_written m handle
-expression_is_written m es (ZeroValue ty) = has_form m.types (Handle ty)
-expression_is_written m es (Compose ty components) = has_form m.types (Handle ty)
+expression_is_written m es (ZeroValue ty) = is_spellable m (Handle ty)
+expression_is_written m es (Compose ty components) = is_spellable m (Handle ty)
 expression_is_written m es (Access base index) = true
-expression_is_written m es (AccessIndex base index) =
-    known_passes m.types es (has_parts m.types) base
+expression_is_written m es (AccessIndex base index) = part_is_written m es base index
 expression_is_written m es (FunctionArgument number) = true
 expression_is_written m es (LocalVariable handle) = true
 expression_is_written m es (Load pointer) = true
@@ -252,8 +267,8 @@ function_is_written f =
 
 -- ---- modules
 -- Such types and such functions. A type without a form is refused by name where it is written, and
--- let be where it is not.
+-- let be where it is not, and so is a struct that no text declares.
 unfoldable pub is_written_so_far : Module → Bool
 is_written_so_far m =
     declares_functions m &&
-    (list_all type_is_of_part m.types && list_all function_is_written m.functions)
+    (types_are_of_part m && list_all function_is_written m.functions)

@@ -20,6 +20,7 @@ use Rattle.naga_words.specs.Parts.{known_text}
 use Rattle.naga_words.specs.Spelling.{Context, type_parts, resolution_parts}
 use Rattle.module_meaning.specs.TypeIdentity.{identity, word_of_unspelled_type}
 use Rattle.module_meaning.specs.Names.{module_names}
+use Rattle.module_meaning.specs.Undeclared.{names_undeclared}
 use Rattle.wgsl_text.specs.Words.{stands_in}
 use Rattle.shader_runs.specs.Value.{ValueType, BooleanType, IntegerType, PointerType, OtherType}
 
@@ -39,10 +40,14 @@ spelled_type t ty = unwrap_or (known_text (type_parts (spelling_context t) ty)) 
 abbrev pub spelled_resolution : TypeNames → TypeResolution → Option (List ℕ)
 spelled_resolution t r = known_text (resolution_parts (spelling_context t) r)
 
--- the type that the `let` of a handle tells, if it is to tell one, by its spelling
-abbrev pub told_spelling : (explicit : Bool) → TypeNames → List ExpressionInfo → ℕ → Option (List ℕ)
-told_spelling true t es h = option_and_then (λ e. spelled_resolution t e.ty) (slice_get es h)
-told_spelling false t es h = None
+-- The type that the `let` of a handle tells, if it is to tell one, by its spelling. A type whose
+-- spelling would name a struct that no text declares is not told.
+abbrev pub told_spelling :
+    (explicit : Bool) → Module → TypeNames → List ExpressionInfo → ℕ → Option (List ℕ)
+told_spelling true m t es h =
+    option_and_then (λ e. if names_undeclared m e.ty then None else spelled_resolution t e.ty)
+    (slice_get es h)
+told_spelling false m t es h = None
 
 abbrev pub integer_words : List (List ℕ)
 integer_words =

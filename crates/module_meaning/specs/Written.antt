@@ -7,12 +7,12 @@
 -- of these, h and x are handles, e is an expression,
 -- r a type, and explicit says whether `let`s tell types.
 use Rattle.std.specs.Prelude.{◌≡◌, ℕ, Bool, true, List, [], ◌∷◌, ◌++◌, ◌-◌, Some, slice_get}
-use Rattle.std.specs.Prelude.{IsTrue}
+use Rattle.std.specs.Prelude.{IsFalse, IsTrue}
 use Rattle.std.specs.List.{IsAmong, filter, flat_map}
 use Rattle.std.specs.Option.{option_to_list}
-use Rattle.module_meaning.specs.AlikeTypes.{has_form}
 use Rattle.module_meaning.specs.FunctionShapes.{function_shape}
 use Rattle.module_meaning.specs.Part.{expression_has_form}
+use Rattle.module_meaning.specs.Undeclared.{is_spellable, names_undeclared}
 use Rattle.naga_info.specs.declared.info.ExpressionInfo.{ExpressionInfo}
 use Rattle.naga_info.specs.declared.info.ModuleInfo.{ModuleInfo}
 use Rattle.naga_info.specs.declared.info.TypeResolution.{TypeResolution}
@@ -91,7 +91,7 @@ abbrev mutual
 
 -- The types that the text of a function spells, beside those that its expressions spell: of its
 -- arguments, its result and its locals, and where its `let`s tell types, of the handles that one
--- binds.
+-- binds, but for those that name a struct that no text declares.
 pub data IsSpelledIn (explicit : Bool) (m : Module) (info : ModuleInfo) (f : Function)
     (known : List ExpressionInfo) : TypeResolution → Type 0 where
   OfArgument : (n : ℕ) (a : FunctionArgument) → slice_get f.arguments.items n ≡ Some a →
@@ -102,7 +102,7 @@ pub data IsSpelledIn (explicit : Bool) (m : Module) (info : ModuleInfo) (f : Fun
       IsSpelledIn explicit m info f known (Handle v.ty)
   OfLet : (h : ℕ) (k : ExpressionInfo) → explicit ≡ true → IsAmong (block_emits f.body) h →
       binds (function_shape m info f known) h ≡ true → slice_get known h ≡ Some k →
-      IsSpelledIn explicit m info f known k.ty
+      IsFalse (names_undeclared m k.ty) → IsSpelledIn explicit m info f known k.ty
 
 -- ---- what has a form
 -- Each expression that is written has a form,
@@ -111,12 +111,12 @@ ExpressionsHaveForms m info f known =
     (h : ℕ) (e : Expression) → slice_get f.expressions h ≡ Some e → IsWrittenIn m info f known h →
     IsTrue (expression_has_form m known f.expressions e)
 
--- and so has each type that is spelled beside them.
+-- and so has each type that is spelled beside them, which names no struct that no text declares.
 pub record WrittenHaveForms (explicit : Bool) (m : Module) (info : ModuleInfo) (f : Function)
     (known : List ExpressionInfo) : Type 0 where
   pub expressions : ExpressionsHaveForms m info f known
   pub types : (r : TypeResolution) → IsSpelledIn explicit m info f known r →
-      IsTrue (has_form m.types r)
+      IsTrue (is_spellable m r)
 
 -- so it is in each function
 abbrev pub OfEachFunction : Module → ModuleInfo → (Function → List ExpressionInfo → Type 0) → Type 0

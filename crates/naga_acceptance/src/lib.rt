@@ -20,6 +20,7 @@ pub mod soundness;
 pub mod statements;
 mod type_hash;
 mod type_numbers;
+pub mod undeclared;
 mod uses;
 mod walk;
 
@@ -28,3 +29,4 @@ pub use alike::is_spelled;
 pub use counts::count;
 pub use faults::{Fault, Item, Part, Unaccepted};
 pub use part::is_written_so_far;
+pub use undeclared::is_spellable;

@@ -9,14 +9,18 @@ ghost use Rattle.module_meaning.specs.Part.{expression_is_of_part};
 ghost use Rattle.module_meaning.specs.Part.{function_is_written, is_unbound};
 ghost use Rattle.module_meaning.specs.Part.{is_extended, is_written_so_far};
 ghost use Rattle.module_meaning.specs.Part.{needs_nothing, statement_is_written, type_is_of_part};
+ghost use Rattle.module_meaning.specs.Part.{types_are_of_part};
 
+use crate::ranges::sizes::is_struct;
+use crate::undeclared::is_undeclared;
 use naga_ir::{
-    Arena, Block, Constant, Expression, Function, FunctionArgument, Module, Scalar, ScalarKind,
-    Statement, Type_, TypeInner, UniqueArena,
+    Arena, Block, Constant, Expression, Function, FunctionArgument, Handle, Module, Scalar,
+    ScalarKind, Statement, Type_, TypeInner,
 };
 
 /// Whether the module is of the part that is written so far: it declares nothing but functions and
-/// types that need no extension and no declaration, and its constants have no names; the functions'
+/// types that need no extension and no declaration, as structs that no text declares, and its
+/// constants have no names; the functions'
 /// arguments and results are bound to nothing; their expressions are arguments, locals, constants,
 /// literals, zero values,
 /// values of a type composed of others, loads, operators with a sign, choices, vectors of one value,
@@ -29,7 +33,7 @@ pub fn is_written_so_far(module: &Module) -> bool
     ensures { result ≡ is_written_so_far «module».now }
 {
     declares_functions(module)
-        && types_are_of_part(&module.types)
+        && types_are_of_part(module)
         && functions_are_written(&module.functions)
 }
 
@@ -64,7 +68,7 @@ fn is_extended(scalar: Scalar) -> bool
     }
 }
 
-/// Whether a module declares and enables nothing for the type.
+/// Whether a module declares and enables nothing for the type, which is no struct.
 fn needs_nothing(inner: &TypeInner) -> bool
     ensures { result ≡ needs_nothing inner.now }
 {
@@ -86,15 +90,23 @@ fn needs_nothing(inner: &TypeInner) -> bool
     }
 }
 
-fn types_are_of_part(types: &UniqueArena<Type_>) -> bool
-    ensures { result ≡ list_all type_is_of_part types.now }
+fn types_are_of_part(module: &Module) -> bool
+    ensures { result ≡ types_are_of_part «module».now }
 {
-    for (_, ty) in types.iter() {
-        if !needs_nothing(&ty.inner) {
+    for (handle, ty) in module.types.iter() {
+        if !type_is_of_part(module, handle, ty) {
             return false;
         }
     }
     true
+}
+
+/// Whether the type with this handle needs no declaration, or is a struct that no text declares.
+fn type_is_of_part(module: &Module, handle: Handle<Type_>, ty: &Type_) -> bool
+    ensures { result ≡ type_is_of_part «module».now handle ty.now }
+{
+    needs_nothing(&ty.inner)
+        || (is_struct(&ty.inner) && is_undeclared(&module.special_types, handle))
 }
 
 fn functions_are_written(functions: &Arena<Function>) -> bool

@@ -74,7 +74,7 @@ use Rattle.naga_form.proofs.WrittenHandles.{AreClosed, all_front, all_map, writt
 use Rattle.module_meaning.specs.Written.{IsWrittenIn, OfLocal, WrittenHaveForms}
 use Rattle.naga_form.proofs.WrittenHandles.{all_rest}
 use Rattle.module_meaning.specs.Part.{block_is_written, expression_has_form, expression_is_written}
-use Rattle.module_meaning.specs.Part.{function_is_written, type_is_of_part, statement_is_written}
+use Rattle.module_meaning.specs.Part.{function_is_written, types_are_of_part, statement_is_written}
 use Rattle.module_meaning.specs.Part.{constant_is_written, declares_functions}
 use Rattle.module_meaning.specs.Surroundings.{written_constant}
 use Rattle.module_meaning.proofs.Lists.{list_all_at}
@@ -483,7 +483,7 @@ standing_reads : (s : Standing) (p : PlainForm) (q : Plain) → plain_read p ≡
 standing_reads (Named x) p q e = refl
 standing_reads _ p q e = e
 
-module _ (names : NameMap) (given : ℕ → List ℕ) (m : Module) (info : ModuleInfo) (g : ℕ) (f : ir_function.Function) (es : List ExpressionInfo) (values : IsTrue (list_all type_is_of_part m.types)) (size : length f.expressions ≡ length es) (W : ℕ → Type 0) (closed : AreClosed W (binds (function_shape m info f es)) f) (written : AreWritten W m f es) (constants : ConstantsAreRead names m info) where
+module _ (names : NameMap) (given : ℕ → List ℕ) (m : Module) (info : ModuleInfo) (g : ℕ) (f : ir_function.Function) (es : List ExpressionInfo) (values : IsTrue (types_are_of_part m)) (size : length f.expressions ≡ length es) (W : ℕ → Type 0) (closed : AreClosed W (binds (function_shape m info f es)) f) (written : AreWritten W m f es) (constants : ConstantsAreRead names m info) where
   abbrev own : Naming
   own = function_naming names given m info g f es
 
@@ -701,7 +701,7 @@ pointer_reads m ty t at =
     (inner_tree_row text-append (type_names m) (λ handle. true) (inner.Pointer ty space.Function)
     ∙ ap (λ o. option_map type_layout (option_map (pointer_tree (codes "function") None) o)) at))
 
-module _ (given : ℕ → List ℕ) (m : Module) (info : ModuleInfo) (g : ℕ) (f : ir_function.Function) (es : List ExpressionInfo) (values : IsTrue (list_all type_is_of_part m.types)) (size : length f.expressions ≡ length es) (W : ℕ → Type 0) (closed : AreClosed W (binds (function_shape m info f es)) f) (written : AreWritten W m f es) (constants : ConstantsAreRead (module_names m) m info) where
+module _ (given : ℕ → List ℕ) (m : Module) (info : ModuleInfo) (g : ℕ) (f : ir_function.Function) (es : List ExpressionInfo) (values : IsTrue (types_are_of_part m)) (size : length f.expressions ≡ length es) (W : ℕ → Type 0) (closed : AreClosed W (binds (function_shape m info f es)) f) (written : AreWritten W m f es) (constants : ConstantsAreRead (module_names m) m info) where
   abbrev own_names : Naming
   own_names = function_naming (module_names m) given m info g f es
 
@@ -723,10 +723,10 @@ module _ (given : ℕ → List ℕ) (m : Module) (info : ModuleInfo) (g : ℕ) (
 
 -- the type of each local has a form where what is written has
 pub locals_have_forms : (explicit : Bool) (m : Module) (info : ModuleInfo) (f : ir_function.Function) (es : List ExpressionInfo) → WrittenHaveForms explicit m info f es → LocalsHaveForms (type_names m) f.local_variables
-locals_have_forms explicit m info f es have l v at = tree_there (type_names m) (Handle v.ty) (have.types (Handle v.ty) (OfLocal l v at))
+locals_have_forms explicit m info f es have l v at = tree_there (type_names m) (Handle v.ty) (form_of_spellable m (Handle v.ty) (have.types (Handle v.ty) (OfLocal l v at)))
 
 -- whatever is written of a function is read as its shape is
-pub written_reads : (explicit : Bool) (given : ℕ → List ℕ) (m : Module) (info : ModuleInfo) (g : ℕ) (f : ir_function.Function) (es : List ExpressionInfo) → IsTrue (list_all type_is_of_part m.types) → have_forms f.body ≡ true → length f.expressions ≡ length es → LocalsHaveForms (type_names m) f.local_variables → (W : ℕ → Type 0) → AreClosed W (binds (function_shape m info f es)) f → AreWritten W m f es → ConstantsAreRead (module_names m) m info → function_read (function_form explicit (module_names m) given m info g f es) ≡ form_function (function_naming (module_names m) given m info g f es)
+pub written_reads : (explicit : Bool) (given : ℕ → List ℕ) (m : Module) (info : ModuleInfo) (g : ℕ) (f : ir_function.Function) (es : List ExpressionInfo) → IsTrue (types_are_of_part m) → have_forms f.body ≡ true → length f.expressions ≡ length es → LocalsHaveForms (type_names m) f.local_variables → (W : ℕ → Type 0) → AreClosed W (binds (function_shape m info f es)) f → AreWritten W m f es → ConstantsAreRead (module_names m) m info → function_read (function_form explicit (module_names m) given m info g f es) ≡ form_function (function_naming (module_names m) given m info g f es)
 written_reads explicit given m info g f es values have size formed W closed written constants =
     let names = module_names m in
     let locals = locals_read given m info g f es values size W closed written constants formed 0 f.local_variables (λ k. ap (slice_get f.local_variables) (sym (add-zero k))) in
@@ -734,10 +734,10 @@ written_reads explicit given m info g f es values have size formed W closed writ
       name = function_name names g;
       parameters = (names_counted names m.types g 0 f.arguments.items ∙ ap (names_from (argument_name names g) 0) (sym (mapped_length (λ a. declared_type m a.ty) f.arguments.items))) i;
       variables = locals i;
-      lines = lines_read names given m info g f es values size W closed written constants (told_type explicit (type_names m) es) 0 f.body (at_start (function_shape m info f es)) have closed.body i;
+      lines = lines_read names given m info g f es values size W closed written constants (told_type explicit m (type_names m) es) 0 f.body (at_start (function_shape m info f es)) have closed.body i;
     }
 
-pub function_reads : (explicit : Bool) (given : ℕ → List ℕ) (m : Module) (info : ModuleInfo) (g : ℕ) (f : ir_function.Function) (es : List ExpressionInfo) → IsTrue (list_all type_is_of_part m.types) → IsTrue (declares_functions m) → length m.global_expressions ≡ length info.const_expression_types.items → IsTrue (function_is_written f) → WrittenHaveForms explicit m info f es → length f.expressions ≡ length es → function_read (function_form explicit (module_names m) given m info g f es) ≡ form_function (function_naming (module_names m) given m info g f es)
+pub function_reads : (explicit : Bool) (given : ℕ → List ℕ) (m : Module) (info : ModuleInfo) (g : ℕ) (f : ir_function.Function) (es : List ExpressionInfo) → IsTrue (types_are_of_part m) → IsTrue (declares_functions m) → length m.global_expressions ≡ length info.const_expression_types.items → IsTrue (function_is_written f) → WrittenHaveForms explicit m info f es → length f.expressions ≡ length es → function_read (function_form explicit (module_names m) given m info g f es) ≡ form_function (function_naming (module_names m) given m info g f es)
 function_reads explicit given m info g f es values declares own_size written have size =
     let parts = function_parts f written in
     let unnamed = (and_parts (list_all (λ c. is_none c.name) m.constants) _ declares).0 in

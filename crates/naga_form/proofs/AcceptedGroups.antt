@@ -42,7 +42,8 @@ use Rattle.module_meaning.proofs.Lists.{list_all_at}
 use Rattle.module_meaning.proofs.Lists.{placed_at}
 use Rattle.naga_names.proofs.Refusal.{element}
 use Rattle.naga_form.proofs.AgreeingUses.{AreKnown, AllFit, IsIn, in_left, in_right}
-use Rattle.naga_form.proofs.SameValues.{TypesAreCounted, IsFit, InnerIsCounted, LengthIsCounted}
+use Rattle.naga_form.proofs.SameValues.{TypesAreCounted, TypesAreFit, IsFit, InnerIsCounted}
+use Rattle.naga_form.proofs.SameValues.{LengthIsCounted}
 
 -- ---- what is known
 known_test : (test : TypeResolution → Bool) (es : List ExpressionInfo) → list_all (λ k. test k.ty) es ≡ true → (h : ℕ) (r : TypeResolution) → slice_get (map (λ k. k.ty) es) h ≡ Some r → test r ≡ true
@@ -124,13 +125,16 @@ module _ (m : Module) (info : ModuleInfo) where
         (list_all_at (λ t. numbers_in_range (length m.overrides) t.inner) m.types h t (and_parts _ _ types_range).1 at)
 
     -- the types, where names are counted
-    pub types_are_counted : TypesAreTold m → TypesAreCounted m
-    types_are_counted told = record {
-      names = told;
+    pub types_are_fit : TypesAreFit m
+    types_are_fit = record {
       fits = ranges_parts.1;
       counted = λ h t at. inner_counted t.inner (numbers_at h t at).1;
       within = λ h t at. (numbers_at h t at).0;
     }
+
+    -- the same, where structs and overrides are told by their names
+    pub types_are_counted : TypesAreTold m → TypesAreCounted m
+    types_are_counted told = record { names = told; types = types_are_fit }
 
     pub fit_of : (r : TypeResolution) → resolution_fits (length m.overrides) (length m.types) r ≡ true → IsFit m r
     fit_of (Handle h) fits = tt

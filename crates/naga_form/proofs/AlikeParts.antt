@@ -269,7 +269,7 @@ module _ (m : Module) (are : TypesAreCounted m) (stand : PartsStand m) where
     where
       by : (o : Option Type_) → slice_get m.types h ≡ o → option_map (λ t. t.inner) o ≡ Some it → IsFree it
       by None there at = absurd cc
-      by (Some t) there at = subst IsFree (same_Some t.inner it at) (free_by t.inner (each_named m.types are.fits h t there))
+      by (Some t) there at = subst IsFree (same_Some t.inner it at) (free_by t.inner (each_named m.types are.types.fits h t there))
 
   pointed : (r : TypeResolution) (it : TypeInner) → IsFree it → inner_of r m.types ≡ Some it → is_pointer it ≡ true → (x : List ℕ) → type_form m.types r ≡ Some x → Pointed it x
   unfolding handle_form
@@ -344,7 +344,7 @@ module _ (m : Module) (are : TypesAreCounted m) (stand : PartsStand m) where
   alike a b p q e = by (type_form m.types a) refl (type_form m.types b) refl e
     where
       apart : (r : TypeResolution) → IsFit m r → (it code : List ℕ) → type_form m.types r ≡ Some it → it ≡ 32 ∷ code → ⊥
-      apart r fit = form_apart m.types (each_named m.types are.fits) r (fit_of r fit)
+      apart r fit = form_apart m.types (each_named m.types are.types.fits) r (fit_of r fit)
 
       by : (x : Option (List ℕ)) → type_form m.types a ≡ x → (y : Option (List ℕ)) → type_form m.types b ≡ y → unwrap_or x (word_of_unspelled_type (identity m.types a)) ≡ unwrap_or y (word_of_unspelled_type (identity m.types b)) → Alike a b
       by (Some x) at (Some y) bt e = OneForm x at (bt ∙ ap Some (sym e))

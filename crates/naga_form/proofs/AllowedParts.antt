@@ -2,21 +2,30 @@
 -- and a conversion is to a type that has a form.
 use Rattle.std.proofs.Common.{◌≡◌, ℕ, Bool, true, false, List, Option, Some, None, refl, sym}
 use Rattle.std.proofs.Common.{ap, ◌∙◌, suc, zero, subst, ◌<◌, ◌^◌}
-use Rattle.std.specs.Prelude.{slice_get}
-use Rattle.std.specs.List.{list_all}
+use Rattle.std.specs.Prelude.{slice_get, ◌||◌, ◌&&◌, not, [], nat_lt, length}
+use Rattle.std.proofs.lemmas.Bool.{and_parts}
 use Rattle.std.proofs.lemmas.Option.{same_Some, slice_get-map}
 use Rattle.naga_ir.specs.declared.expression.SwizzleComponent.TheVariants as component
 use Rattle.naga_ir.specs.declared.types.Type_.{Type_}
 use Rattle.module_meaning.proofs.ExpressionShapes.{there_if}
 use Rattle.module_meaning.specs.AlikeTypes.{has_form}
 use Rattle.module_meaning.specs.Part.{converts, expression_is_written, known_passes, loads_matrix}
-use Rattle.module_meaning.specs.Part.{type_is_of_part}
+use Rattle.module_meaning.specs.InfoSizes.{resolution_is_fit}
+use Rattle.module_meaning.specs.Names.{module_names, name_in}
+use Rattle.module_meaning.specs.Part.{types_are_of_part}
+use Rattle.module_meaning.specs.Undeclared.{is_undeclared, member_is_written, member_words}
+use Rattle.module_meaning.specs.Undeclared.{part_is_written_at, whole_known, whole_of}
 use Rattle.module_meaning.specs.Types.{type_names}
-use Rattle.naga_info.specs.declared.info.TypeResolution.TheVariants.{Value}
+use Rattle.naga_info.specs.declared.info.TypeResolution.{TypeResolution}
+use Rattle.naga_info.specs.declared.info.TypeResolution.TheVariants.{Handle, Value}
+use Rattle.naga_names.specs.Reset.{members_of}
+use Rattle.naga_names.specs.declared.key.NameKey.TheVariants as key
 use Rattle.naga_words.specs.Spelling.{is_struct}
 use Rattle.wgsl_text.specs.Types.{TypeSpecifier}
 use Rattle.wgsl_text.specs.Literals.{IsPlainNumber}
-use Rattle.wgsl_text.specs.Words.{IsWord}
+use Rattle.wgsl_text.proofs.Words.{passes}
+use Rattle.wgsl_text.specs.Keywords.{reserved_words}
+use Rattle.wgsl_text.specs.Words.{IsWord, is_reserved, is_word_text, stands_in}
 use Rattle.naga_form.proofs.Letters.{letter_is_a_word}
 use Rattle.std.specs.Option.{is_some, option_and_then, option_map, option_map_or}
 use Rattle.naga_info.specs.Resolution.{inner_of, handle_of}
@@ -32,7 +41,8 @@ use Rattle.naga_ir.specs.declared.types.ScalarKind.{ScalarKind}
 use Rattle.module_meaning.specs.Conversions.{conversion_target}
 use Rattle.module_meaning.specs.ExpressionOperators.{Surroundings, scalar_behind, type_known}
 use Rattle.naga_form.proofs.SameValues.{IsFit}
-use Rattle.naga_form.proofs.WrittenTypes.{no_struct, no_struct_known, tree_there}
+use Rattle.naga_form.proofs.AlikeNumbers.{is_no}
+use Rattle.naga_form.proofs.WrittenTypes.{struct_undeclared, tree_there}
 use Rattle.naga_form.specs.Expressions.{scalar_pointed}
 use Rattle.naga_form.specs.TypeTrees.{inner_tree}
 use Rattle.naga_ir.specs.declared.module.Module.{Module}
@@ -80,39 +90,67 @@ component_well (suc (suc zero)) lt = letter_is_a_word component.Z
 component_well (suc (suc (suc zero))) lt = letter_is_a_word component.W
 component_well (suc (suc (suc (suc index)))) lt = lt
 
--- the parts of what is no struct
+-- a part is named so where a struct's member is
 own_well : (d : Declared) (whole : Option ℕ) (it : TypeInner) (index : ℕ) →
-    is_struct it ≡ false → index < 2 ^ 32 → (x : Selector) →
-    own_selector d whole it index ≡ Some x → IsWellSelected x
-own_well d whole (inner.Vector size s) index is lt x e =
+    (is_struct it ≡ true → IsWord (option_map_or (λ h. d.member h index) whole [])) →
+    index < 2 ^ 32 → (x : Selector) → own_selector d whole it index ≡ Some x → IsWellSelected x
+own_well d whole (inner.Vector size s) index named lt x e =
     subst IsWellSelected (same_Some _ x e) (component_well index lt)
-own_well d whole (inner.Matrix columns rows s) index is lt x e =
+own_well d whole (inner.Matrix columns rows s) index named lt x e =
     subst IsWellSelected (same_Some _ x e) lt
-own_well d whole (inner.Array base size stride) index is lt x e =
+own_well d whole (inner.Array base size stride) index named lt x e =
     subst IsWellSelected (same_Some _ x e) lt
-own_well d whole (inner.BindingArray base size) index is lt x e =
+own_well d whole (inner.BindingArray base size) index named lt x e =
     subst IsWellSelected (same_Some _ x e) lt
-own_well d whole (inner.Struct members span) index is lt x e = absurd cc
-own_well d whole _ index is lt x e = absurd cc
+own_well d whole (inner.Struct members span) index named lt x e =
+    subst IsWellSelected (same_Some _ x e) (named refl)
+own_well d whole _ index named lt x e = absurd cc
 
--- and of what is behind a pointer, where no type of the module is a struct
-inner_well : (d : Declared) →
-    ((h : ℕ) (t : Type_) → slice_get d.around.types h ≡ Some t → is_struct t.inner ≡ false) →
-    (whole : Option ℕ) (it : TypeInner) (index : ℕ) → is_struct it ≡ false → index < 2 ^ 32 →
-    (x : Selector) → selector d whole it index ≡ Some x → IsWellSelected x
-inner_well d none whole (inner.Pointer base space) index is lt x e =
+-- no type that is known is a struct by itself
+pub no_own_struct : (m : Module) (own it : TypeInner) → IsFit m (Value own) → own ≡ it →
+    is_struct it ≡ true → ⊥
+no_own_struct m own it fit same is =
+    by it is (sym (ap (λ it. resolution_is_fit (Value it)) same) ∙ fit.0)
+  where
+    by : (it : TypeInner) → is_struct it ≡ true → resolution_is_fit (Value it) ≡ true → ⊥
+    by (inner.Struct members span) is fits = absurd cc
+    by _ is fits = absurd cc
+
+-- The members of the struct of which a part is taken are named by words: of one that is known, or of
+-- one that is pointed to.
+abbrev MembersAreWords : Declared → TypeResolution → (it : TypeInner) → (index : ℕ) → Type 0
+MembersAreWords d r it index =
+    (h : ℕ) (t : Type_) → slice_get d.around.types h ≡ Some t → is_struct t.inner ≡ true →
+    whole_of r it ≡ Some h → IsWord (d.member h index)
+
+inner_well : (m : Module) (d : Declared) → d.around.types ≡ m.types → (r : TypeResolution) →
+    IsFit m r → (it : TypeInner) (index : ℕ) → inner_of r d.around.types ≡ Some it →
+    MembersAreWords d r it index → index < 2 ^ 32 →
+    (x : Selector) → selector d (handle_of r) it index ≡ Some x → IsWellSelected x
+inner_well m d same r fit (inner.Pointer base space) index is words lt x e =
     by (slice_get d.around.types base) refl e
   where
     by : (o : Option Type_) → slice_get d.around.types base ≡ o →
         option_and_then (λ it. own_selector d (Some base) it index) (option_map (λ t. t.inner) o) ≡
         Some x →
         IsWellSelected x
-    by (Some t) at e = own_well d (Some base) t.inner index (none base t at) lt x e
+    by (Some t) at e = own_well d (Some base) t.inner index (λ is. words base t at is refl) lt x e
     by None at e = absurd cc
-inner_well d none whole (inner.ValuePointer (Some size) s at) index is lt x e =
+inner_well m d same r fit (inner.ValuePointer (Some size) s at) index is words lt x e =
     subst IsWellSelected (same_Some _ x e) lt
-inner_well d none whole (inner.ValuePointer None s at) index is lt x e = absurd cc
-inner_well d none whole it index is lt x e = own_well d whole it index is lt x e
+inner_well m d same r fit (inner.ValuePointer None s at) index is words lt x e = absurd cc
+inner_well m d same (Handle h) fit (inner.Struct members span) index is words lt x e =
+    own_well d (Some h) (inner.Struct members span) index
+    (λ struct. by (slice_get d.around.types h) refl is) lt x e
+  where
+    by : (o : Option Type_) → slice_get d.around.types h ≡ o →
+        option_map (λ t. t.inner) o ≡ Some (inner.Struct members span) → IsWord (d.member h index)
+    by (Some t) at is = words h t at (ap is_struct (same_Some t.inner _ is)) refl
+    by None at is = absurd cc
+inner_well m d same (Value own) fit (inner.Struct members span) index is words lt x e =
+    absurd (no_own_struct m own (inner.Struct members span) fit (same_Some own _ is) refl)
+inner_well m d same r fit it index is words lt x e =
+    own_well d (handle_of r) it index (λ struct. absurd cc) lt x e
 
 -- what is known of an operand whose type passes a test
 pub record KnownOperand (m : Module) (es : List ExpressionInfo) (test : TypeInner → Bool) (h : ℕ) : Type 0 where
@@ -144,7 +182,37 @@ KnownBase m es base = KnownOperand m es (has_parts m.types) base
 
 pub known_base : (m : Module) (es : List ExpressionInfo) (base index : ℕ) →
     expression_is_written m es (AccessIndex base index) ≡ true → KnownBase m es base
-known_base m es base index may = known_operand m es (has_parts m.types) base may
+known_base m es base index may =
+    known_operand m es (has_parts m.types) base
+    (and_parts (known_passes m.types es (has_parts m.types) base) _ may).0
+
+-- a member of a struct of the part that is written is named by a word
+member_well : (m : Module) → types_are_of_part m ≡ true → (h index : ℕ) (t : Type_) →
+    slice_get m.types h ≡ Some t → is_struct t.inner ≡ true →
+    part_is_written_at m index h ≡ true → IsWord (name_in (module_names m) (key.StructMember h index))
+unfolding is_reserved reserved_words
+member_well m part h index t at is written =
+    let name = name_in (module_names m) (key.StructMember h index) in
+    let stands = by (is_undeclared m.special_types h) (struct_undeclared m part h t at is)
+    (is_struct t.inner) is
+    (sym (ap
+    (λ o. option_map_or
+    (λ t. not (is_struct t.inner) || member_is_written m h (members_of t.inner) index) o true) at)
+    ∙ written) in
+    record {
+      text = passes is_word_text member_words name refl stands;
+      free = is_no (is_reserved name) (passes (λ w. not (is_reserved w)) member_words name refl stands);
+    }
+  where
+    by : (undeclared : Bool) → undeclared ≡ true → (struct : Bool) → struct ≡ true →
+        (not struct || (not undeclared || (nat_lt index (length (members_of t.inner)) &&
+        stands_in member_words (name_in (module_names m) (key.StructMember h index))))) ≡ true →
+        stands_in member_words (name_in (module_names m) (key.StructMember h index)) ≡ true
+    by true one true two written =
+        (and_parts (nat_lt index (length (members_of t.inner)))
+        (stands_in member_words (name_in (module_names m) (key.StructMember h index))) written).1
+    by true one false two written = absurd cc
+    by false one struct two written = absurd cc
 
 -- what a conversion that is written takes, and what it gives, which has a form
 pub record Conversion (m : Module) (a : Surroundings) (operand : ℕ) (kind : ScalarKind) (convert : Option ℕ) : Type 0 where
@@ -266,13 +334,23 @@ module _ (m : Module) (info : ModuleInfo) (es : List ExpressionInfo) where
       let x = inner_selected d (handle_of b.known.ty) b.type index b.passes in
       (x.0, selector_is base index b ∙ x.1)
 
-  -- by a word or a number of the grammar, where no type is a struct
+  -- the type of which the part is taken
+  pub whole_is : (base : ℕ) (b : KnownBase m es base) →
+      whole_known m.types es base ≡ whole_of b.known.ty b.type
+  whole_is base b =
+      ap (option_and_then (λ k. option_and_then (whole_of k.ty) (inner_of k.ty m.types))) b.there
+      ∙ ap (option_and_then (whole_of b.known.ty)) b.is
+
+  -- by a word or a number of the grammar
   pub selected_well : (base index : ℕ) → expression_is_written m es (AccessIndex base index) ≡ true →
-      list_all type_is_of_part m.types ≡ true →
+      types_are_of_part m ≡ true →
       ((h : ℕ) (k : ExpressionInfo) → slice_get es h ≡ Some k → IsFit m k.ty) → index < 2 ^ 32 →
       (x : Selector) → part_selector d base index ≡ Some x → IsWellSelected x
   selected_well base index may part fits lt x e =
       let b = known_base m es base index may in
-      inner_well d (no_struct m.types part) (handle_of b.known.ty) b.type index
-      (no_struct_known m part b.known.ty (fits base b.known b.there) b.type b.is)
+      inner_well m d refl b.known.ty (fits base b.known b.there) b.type index b.is
+      (λ h t at is whole.
+      member_well m part h index t at is
+      (sym (ap (λ o. option_map_or (part_is_written_at m index) o true) (whole_is base b ∙ whole))
+      ∙ (and_parts (known_passes m.types es (has_parts m.types) base) _ may).1))
       lt x (sym (selector_is base index b) ∙ e)

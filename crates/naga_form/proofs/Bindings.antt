@@ -147,26 +147,33 @@ module _ (n : Naming) (told : ℕ → Option TypeSpecifier) (source : Source) wh
         told_both (statements_bindings n k (statements_shape source.declared.around body)) (cases_bindings n k1 (cases_shape source.declared.around cs)) (lines_tell k body both.0 s) (cases_tell k1 [] cs both.1 s)
 
 -- the layout of a type that a `let` tells is the spelling of its handle's type
-told_spells : (explicit : Bool) (t : TypeNames) (es : List ExpressionInfo) (h : ℕ) → option_map type_layout (told_type explicit t es h) ≡ told_spelling explicit t es h
-told_spells false t es h = refl
-told_spells true t es h = by (slice_get es h)
+told_spells : (explicit : Bool) (m : Module) (t : TypeNames) (es : List ExpressionInfo) (h : ℕ) →
+    option_map type_layout (told_type explicit m t es h) ≡ told_spelling explicit m t es h
+told_spells false m t es h = refl
+told_spells true m t es h = by (slice_get es h)
   where
-    row : (r : TypeResolution) → option_map type_layout (resolution_tree t r) ≡ spelled_resolution t r
-    row r = sym (resolution_row text-append t (λ handle. true) r)
+    row : (r : TypeResolution) → (undeclared : Bool) →
+        option_map type_layout (if undeclared then None else resolution_tree t r) ≡
+        (if undeclared then None else spelled_resolution t r)
+    row r true = refl
+    row r false = sym (resolution_row text-append t (λ handle. true) r)
 
-    by : (e : Option ExpressionInfo) → option_map type_layout (option_and_then (λ k. resolution_tree t k.ty) e) ≡ option_and_then (λ k. spelled_resolution t k.ty) e
+    by : (e : Option ExpressionInfo) →
+        option_map type_layout
+        (option_and_then (λ k. if names_undeclared m k.ty then None else resolution_tree t k.ty) e) ≡
+        option_and_then (λ k. if names_undeclared m k.ty then None else spelled_resolution t k.ty) e
     by None = refl
-    by (Some k) = row k.ty
+    by (Some k) = row k.ty (names_undeclared m k.ty)
 
-functions_tell : (explicit : Bool) (names : NameMap) (m : Module) (info : ModuleInfo) (g : ℕ) (fs : List ir_function.Function) (ess : List (List ExpressionInfo)) → IsTrue (list_all function_is_written fs) → map (λ (f : tree_functions.Function). statements_annotations f.body) (functions_form explicit names m info g fs ess) ≡ module_annotations explicit (names_of m.types names) (namings_from names m g (function_shapes m info fs ess)) ess
+functions_tell : (explicit : Bool) (names : NameMap) (m : Module) (info : ModuleInfo) (g : ℕ) (fs : List ir_function.Function) (ess : List (List ExpressionInfo)) → IsTrue (list_all function_is_written fs) → map (λ (f : tree_functions.Function). statements_annotations f.body) (functions_form explicit names m info g fs ess) ≡ module_annotations explicit m (names_of m.types names) (namings_from names m g (function_shapes m info fs ess)) ess
 functions_tell explicit names m info g [] ess written = refl
 functions_tell explicit names m info g (f ∷ fs) [] written = refl
 functions_tell explicit names m info g (f ∷ fs) (es ∷ ess) written =
     let parts = and_parts (function_is_written f) (list_all function_is_written fs) written in
     let n = function_naming names (given_name m g) m info g f es in
     let t = names_of m.types names in
-    let line = lines_tell n (told_type explicit t es) (function_source m info f es) 0 f.body (written_have_forms f.body (function_parts f parts.0).body) (at_start n.function)
-    ∙ (λ i. map (λ b. told_spells explicit t es b.handle i) (function_bindings n)) in
+    let line = lines_tell n (told_type explicit m t es) (function_source m info f es) 0 f.body (written_have_forms f.body (function_parts f parts.0).body) (at_start n.function)
+    ∙ (λ i. map (λ b. told_spells explicit m t es b.handle i) (function_bindings n)) in
     λ i. line i ∷ functions_tell explicit names m info (g + 1) fs ess parts.1 i
 
 pub binds_as : (m : Module) (info : ModuleInfo) (explicit : Bool) → IsTrue (is_accepted m info) → IsTrue (is_written_so_far m) → AllWrittenHaveForms explicit m info → BindsAs m info explicit (written_program m info explicit)

@@ -283,7 +283,7 @@ module _ (outer : ModuleNames) (m : Module) (info : ModuleInfo) (t : TypeNames)
       out_of each (expression.ZeroValue ty) is = tt
       out_of each (expression.Compose ty components) is =
           all_read each components.items
-          (and_parts (has_form m.types (Handle ty)) (list_all own components.items) is).1
+          (and_parts (is_spellable m (Handle ty)) (list_all own components.items) is).1
       out_of each (expression.Splat n value) is = each value is
       out_of each _ is = absurd cc
 
@@ -430,10 +430,10 @@ module _ (m : Module) (t : TypeNames)
           IsOutOf (surroundings m (λ x. None)) t (initialiser_form m part) part e
       out_of each (expression.Literal value) at is = literals h value at is
       out_of each (expression.Constant handle) at is = initialiser_is own part each handle is
-      out_of each (expression.ZeroValue ty) at is = formed ty is
+      out_of each (expression.ZeroValue ty) at is = formed ty (form_of_spellable m (Handle ty) is)
       out_of each (expression.Compose ty parts) at is =
-          let both = and_parts (has_form m.types (Handle ty)) (list_all own parts.items) is in
-          (formed ty both.0, all_are each parts.items both.1)
+          let both = and_parts (is_spellable m (Handle ty)) (list_all own parts.items) is in
+          (formed ty (form_of_spellable m (Handle ty) both.0), all_are each parts.items both.1)
       out_of each (expression.Splat size value) at is = each value is
       out_of each _ at is = tt
 

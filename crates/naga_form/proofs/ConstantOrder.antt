@@ -103,18 +103,18 @@ module _ (m : Module) (info : ModuleInfo) where
           ((k : ℕ) → k < h → (t : ConstantTree) → tree_of k ≡ Some t → EachLeaf AnyValue (Before h) t) → (t : ConstantTree) → tree_over inside tree_of h e ≡ Some t → EachLeaf AnyValue (Before h) t
       over_before tree_of h (expression.Literal v) at below t found = subst (EachLeaf AnyValue (Before h)) (same_Some _ t found) tt
       over_before tree_of h (expression.Constant c) at below t found =
-          let item = constant_named m info accepted told None (Own m info accepted told) (own_is m info accepted told) h c at in
-          let lt = initialiser_stands_before m info accepted told h c at item.0 item.1 in
+          let item = constant_named m info accepted None (Own m info accepted) (own_is m info accepted) h c at in
+          let lt = initialiser_stands_before m info accepted h c at item.0 item.1 in
           before_more (suc item.0.init) h (omega (arith, lt)) t (are c item.0 item.1 t found)
       over_before tree_of h (expression.Override o) at below t found = subst (EachLeaf AnyValue (Before h)) (same_Some (NamedConstant (override_number m o)) t found) (override_before h o)
       over_before tree_of h (expression.ZeroValue ty) at below t found = built_before h h (constructor inside.around (Handle ty) 0) [] tt t found
       over_before tree_of h (expression.Compose ty components) at below t found =
           let o = constructor inside.around (Handle ty) (length components.items) in
           let parts = then_some (built inside h o) (trees_of tree_of components.items) t found in
-          built_before h h o parts.0 (trees_leaves (Before h) tree_of h below components.items ((own_is m info accepted told).below h (expression.Compose ty components) at) parts.0 parts.1) t parts.2
+          built_before h h o parts.0 (trees_leaves (Before h) tree_of h below components.items ((own_is m info accepted).below h (expression.Compose ty components) at) parts.0 parts.1) t parts.2
       over_before tree_of h (expression.Splat size v) at below t found =
           let parts = then_some (λ u. built inside h (Splat size) (u ∷ [])) (tree_of v) t found in
-          let low = and_parts (nat_lt v h) true ((own_is m info accepted told).below h (expression.Splat size v) at) in
+          let low = and_parts (nat_lt v h) true ((own_is m info accepted).below h (expression.Splat size v) at) in
           built_before h h (Splat size) (parts.0 ∷ []) (below v (ltb-true v h low.0) parts.0 parts.1, tt) t parts.2
       over_before tree_of h _ at below t found = absurd cc
 

@@ -48,6 +48,6 @@ constants_are_typed m info accepted told f es group =
       types = tree_typed m info accepted told (Some f) g group;
       ranges = tree_in_range m info accepted told (Some f) g group;
       written = λ h c at.
-          let named = constant_named m info accepted told (Some f) g group h c at in
+          let named = constant_named m info accepted (Some f) g group h c at in
           constant_has_tree m info accepted told c named.0 named.1;
     }

@@ -26,7 +26,8 @@ use Rattle.naga_info.specs.declared.info.TypeResolution.{TypeResolution}
 use Rattle.naga_info.specs.declared.info.TypeResolution.TheVariants.{Handle, Value}
 use Rattle.shader_runs.specs.Program.{Constructed, no_constant}
 use Rattle.std.specs.Option.{option_map, option_map_or, option_and_then}
-use Rattle.std.specs.Prelude.{codes}
+use Rattle.std.specs.Prelude.{codes, ◌⊎◌}
+use mathlib.Core.Logic.{inl, inr}
 use Rattle.wgsl_text.specs.Reading.{type_layout}
 use Rattle.wgsl_text.proofs.Text.{text-append}
 use Rattle.naga_form.proofs.AcceptedFunctions.{names_are_in_range}
@@ -41,12 +42,14 @@ use Rattle.naga_form.proofs.TreeWords.{constant_words, levels_words, offset_word
 use Rattle.naga_form.proofs.TreeWords.{written_words}
 use Rattle.naga_form.proofs.TypeTrees.{resolution_row}
 use Rattle.naga_info.proofs.Options.{then_some}
-use Rattle.naga_form.proofs.SameValues.{IsFit, TypesAreCounted}
-use Rattle.naga_form.proofs.WrittenTypes.{free_form}
+use Rattle.naga_form.proofs.SameValues.{IsFit, TypesAreFit, or_nothing}
+use Rattle.naga_form.proofs.TypedWords.{no_request}
+use Rattle.wgsl_text.proofs.Types.{named_text}
+use Rattle.naga_form.proofs.WrittenTypes.{IsStructNamed, free_form}
 use Rattle.module_meaning.specs.Surroundings.{declared, types_known}
 use Rattle.module_meaning.proofs.ExpressionShapes.{load_asks}
 use Rattle.module_meaning.proofs.Shapes.{operator_any}
-use Rattle.naga_names.specs.Reset.{LabelledItem, labelled_items, labels_of}
+use Rattle.naga_names.specs.Reset.{LabelledItem, labelled_items, labels_of, type_label}
 use Rattle.shader_runs.specs.Value.{ValueType}
 use Rattle.shader_runs.specs.Program as shapes
 use Rattle.shader_runs.specs.Program.{operands_of, handle_type, argument_count, expression_of}
@@ -74,7 +77,7 @@ use Rattle.naga_ir.specs.declared.module.Module.{Module}
 use Rattle.naga_keywords.specs.Plain.{is_word}
 use Rattle.naga_names.specs.declared.key.NameKey.TheVariants as key
 use Rattle.naga_names.proofs.NameShapes.{name_after_is_word}
-use Rattle.naga_names.proofs.NamedItems.{Stands, local_stands}
+use Rattle.naga_names.proofs.NamedItems.{Stands, local_stands, type_stands}
 use Rattle.wgsl_text.specs.Requests.{is_request}
 use Rattle.wgsl_text.specs.Words.{is_builtin}
 use Rattle.naga_form.proofs.Fits.{given_by_all_is, local_item, mapped_length}
@@ -85,7 +88,7 @@ use Rattle.naga_form.proofs.WellFormed.{any_shape}
 use Rattle.naga_form.proofs.FunctionsFit.{IsLeft}
 use Rattle.naga_form.proofs.Regular.{AreWorded, IsWorded}
 use Rattle.module_meaning.specs.Writable.{only_empty_fall, only_empty_fall_in}
-use Rattle.module_meaning.specs.Part.{function_is_written, block_is_written, statement_is_written, type_is_of_part, is_unbound, expression_is_of_part}
+use Rattle.module_meaning.specs.Part.{function_is_written, block_is_written, statement_is_written, is_unbound, expression_is_of_part}
 use Rattle.module_meaning.specs.ExpressionShapes.{part_selector, part_shape}
 use Rattle.module_meaning.specs.Conversions.{conversion_target}
 use Rattle.module_meaning.specs.ExpressionOperators.{type_known}
@@ -93,7 +96,8 @@ use Rattle.naga_form.proofs.AllowedParts.{target_fit}
 use Rattle.naga_form.specs.TypeTrees.{resolution_tree}
 use Rattle.naga_ir.specs.declared.types.ScalarKind.{ScalarKind}
 use Rattle.naga_ir.specs.declared.types.TypeInner.{TypeInner}
-use Rattle.wgsl_text.specs.Types.{TypeSpecifier}
+use Rattle.naga_ir.specs.declared.types.Type_.{Type_}
+use Rattle.wgsl_text.specs.Types.{Named, TypeSpecifier}
 use Rattle.module_meaning.proofs.ExpressionShapes.{query_asks}
 use Rattle.module_meaning.specs.ExpressionOperators.{is_depth_image, level_of, query_operator}
 use Rattle.module_meaning.specs.ExpressionOperators.{sample_operator, texel_of, matrix_load}
@@ -165,7 +169,7 @@ none_listed : (i : ℕ) (ts : List ValueType) → ts ≡ [] → i < length ts �
 none_listed i ts e lt = let none : i < 0 = subst (λ ts. i < length ts) e lt in omega (arith, none)
 
 -- ---- one function
-module _ (m : Module) (info : ModuleInfo) (values : IsTrue (list_all type_is_of_part m.types)) (are : TypesAreCounted m) (g : ℕ) (f : ir_function.Function) (found : slice_get m.functions g ≡ Some f) (es : List ExpressionInfo) (callees : ℕ) (ranges : function_in_range m callees f ≡ true) (written : IsTrue (function_is_written f)) (p : shapes.Module) (constants : p.constant_types ≡ []) (globals : p.global_types ≡ []) (counted : length p.functions ≡ length m.functions) where
+module _ (m : Module) (info : ModuleInfo) (types : TypesAreFit m) (named : NamesAreCounted m) (g : ℕ) (f : ir_function.Function) (found : slice_get m.functions g ≡ Some f) (es : List ExpressionInfo) (callees : ℕ) (ranges : function_in_range m callees f ≡ true) (written : IsTrue (function_is_written f)) (p : shapes.Module) (constants : p.constant_types ≡ []) (globals : p.global_types ≡ []) (counted : length p.functions ≡ length m.functions) where
   abbrev own : Naming
   own = function_naming (module_names m) (given_name m g) m info g f es
 
@@ -236,13 +240,73 @@ module _ (m : Module) (info : ModuleInfo) (values : IsTrue (list_all type_is_of_
   asks_by w free =
       let both = and_parts (is_request w) (names_no_item w) free in (both.0, free_word w both.1)
 
+  -- the name of a struct is none that the text of the function uses, and asks for nothing
+  struct_operates : (h : ℕ) (t : Type_) → slice_get m.types h ≡ Some t →
+      OperatesBy p own (name_in (module_names m) (key.Type_ h))
+  struct_operates h t at = (no_request w (item_is_identifier m item there), functions, no_name)
+    where
+      item : LabelledItem
+      item = (key.Type_ h, type_label m.entry_points.items h t)
+
+      there : Stands (labelled_items wgsl_names m) item
+      there = type_stands wgsl_names m h t at
+
+      w : List ℕ
+      w = name_in (module_names m) (key.Type_ h)
+
+      other : (b : LabelledItem) → Stands (labelled_items wgsl_names m) b →
+          (b.0 ≡ key.Type_ h → ⊥) → name_in (module_names m) b.0 ≢ w
+      other b s differs e =
+          differs (ap (λ item. item.0) (items_tell m (items_counted m named) b item s there e))
+
+      no_function : (k : ℕ) → key.Function k ≡ key.Type_ h → ⊥
+      no_function k e = cc
+
+      no_argument : (i : ℕ) → key.FunctionArgument g i ≡ key.Type_ h → ⊥
+      no_argument i e = cc
+
+      no_local : (i : ℕ) → key.FunctionLocal g i ≡ key.Type_ h → ⊥
+      no_local i e = cc
+
+      functions : (k : ℕ) → k < length p.functions → function_name (module_names m) k ≢ w
+      functions k lt =
+          let a = element m.functions k (subst (λ n. k < n) counted lt) in
+          other (function_item m k a.0) (function_there m k a.0 a.1) (no_function k)
+
+      no_name : IsNoName p own w
+      no_name (FixedKey (ArgumentName i)) is e =
+          let a = element f.arguments.items i (subst (λ n. i < n) (mapped_length (λ a. declared_type m a.ty) f.arguments.items) is) in
+          other (argument_item m g i a.0) (argument_there m g f i a.0 found a.1) (no_argument i) e
+      no_name (FixedKey (LocalName i)) is e =
+          let a = element f.local_variables i (subst (λ n. i < n) (mapped_length (λ l. l.init) f.local_variables) is) in
+          other (local_item g i a.0) (local_stands wgsl_names m g f i a.0 found a.1) (no_local i) e
+      no_name (FixedKey (ConstantName i)) is e = none_listed i p.constant_types constants is
+      no_name (FixedKey (GlobalName i)) is e = none_listed i p.global_types globals is
+      no_name (NumberedKey k) is e = item_not_numbered m item k there (sym e)
+      no_name (GivenKey k) is e =
+          given_no_item m g f found named k (given_in k is) item there e
+
   -- what is spelled by a type is called by that, or by what no text has where it has no form
   spelled_words : (r : TypeResolution) → IsFit m r → (P : Operator → Type 0) →
       (makes : List ℕ → Operator) → (without : Operator) →
-      ((word : List ℕ) → operates_freely word ≡ true → P (makes word)) → P without →
+      ((word : List ℕ) → OperatesBy p own word → P (makes word)) → P without →
       P (option_map_or makes (d.around.spelled r) without)
   spelled_words r fit P makes without is none = by (resolution_tree (type_names m) r) refl
     where
+      struct_name : (h : ℕ) → (type_names m).struct_name h ≡ name_in (module_names m) (key.Type_ h)
+      struct_name h = or_nothing (module_names m (key.Type_ h))
+
+      form_operates : (t : TypeSpecifier) →
+          (operates_freely (type_layout t) ≡ true) ⊎ IsStructNamed (type_names m) t →
+          OperatesBy p own (type_layout t)
+      form_operates t (inl free) = operates (type_layout t) free
+      form_operates t (inr is) =
+          subst (OperatesBy p own)
+          (sym
+          (ap type_layout (is.named ∙ ap Named (struct_name is.handle))
+          ∙ named_text (name_in (module_names m) (key.Type_ is.handle))))
+          (struct_operates is.handle is.type is.there)
+
       row : d.around.spelled r ≡ option_map type_layout (resolution_tree (type_names m) r)
       row = resolution_row text-append (type_names m) (λ handle. true) r
 
@@ -250,7 +314,7 @@ module _ (m : Module) (info : ModuleInfo) (values : IsTrue (list_all type_is_of_
           P (option_map_or makes (d.around.spelled r) without)
       by (Some t) at =
           subst (λ o. P (option_map_or makes o without)) (sym (row ∙ ap (option_map type_layout) at))
-          (is (type_layout t) (free_form m are values r fit t at))
+          (is (type_layout t) (form_operates t (free_form m types r fit t at)))
       by None at =
           subst (λ o. P (option_map_or makes o without)) (sym (row ∙ ap (option_map type_layout) at))
           none
@@ -264,14 +328,14 @@ module _ (m : Module) (info : ModuleInfo) (values : IsTrue (list_all type_is_of_
       P (constructor d.around (Handle ty) components)
   made_words components ty P makes without =
       spelled_words (Handle ty) tt P (λ spelling. Construct spelling components) (unmade components ty)
-      (λ word free. makes word (operates word free))
+      makes
       (without
       (operates (run_word (unmade components ty))
       (formless_free (ValueOf (d.around.numbers (Handle ty)) components) refl)))
 
-  cast_words : (bits : Bool) (word : List ℕ) (operand : ℕ) → operates_freely word ≡ true →
+  cast_words : (bits : Bool) (word : List ℕ) (operand : ℕ) → OperatesBy p own word →
       WordFits p own (Some (applied_shape (cast_to bits word) (operand ∷ [])))
-  cast_words false word operand free = operates word free
+  cast_words false word operand is = is
   cast_words true word operand free = operates (with_type (codes "bitcast") word) (bits_free word)
 
   -- a conversion to a type, or what no text has
@@ -461,8 +525,8 @@ module _ (m : Module) (info : ModuleInfo) (values : IsTrue (list_all type_is_of_
       (line_worded st parts.0, worded b parts.1)
 
   -- ---- names
-  distinct : NamesAreCounted m → AreDistinct p own
-  distinct named a b is_a is_b e = apart a b is_a is_b e
+  distinct : AreDistinct p own
+  distinct a b is_a is_b e = apart a b is_a is_b e
     where
       argument_in : (i : ℕ) → i < argument_count shape → i < length f.arguments.items
       argument_in i lt = subst (λ n. i < n) (mapped_length (λ a. declared_type m a.ty) f.arguments.items) lt
@@ -525,12 +589,12 @@ module _ (m : Module) (info : ModuleInfo) (values : IsTrue (list_all type_is_of_
       apart x (FixedKey (GlobalName i)) la lb e = absurd (none_listed i p.global_types globals lb)
 
   -- so nothing is left where its handles are in scope
-  pub is_left : (behind : List shapes.Function) → length behind ≡ g → NamesAreCounted m → IsTrue (fits_function own) → IsLeft p (outer_names (module_names m)) behind own
-  is_left behind earlier counted scope = record {
+  pub is_left : (behind : List shapes.Function) → length behind ≡ g → IsTrue (fits_function own) → IsLeft p (outer_names (module_names m)) behind own
+  is_left behind earlier scope = record {
     outer = refl;
     earlier = sym earlier;
     words = λ h. any_shape m info f es h (λ o. WordFits p own o) tt (words_at h);
     worded = worded f.body (function_parts f written).body;
-    distinct = distinct counted;
+    distinct = distinct;
     scope = scope;
   }

@@ -1,5 +1,5 @@
--- The types of an accepted module of the part: their parts stand before them, and they name no struct
--- and no override.
+-- The types of an accepted module of the part: their parts stand before them, they name no override,
+-- and structs by the module's names.
 use Rattle.std.proofs.Common.{◌≡◌, ℕ, zero, suc, ◌<◌, ◌≤◌, ◌+◌, Bool, true, List, length, Option}
 use Rattle.std.proofs.Common.{Some, None, refl, sym, ap, subst, ◌∙◌, slice_get, arith}
 use Rattle.std.specs.Prelude.{IsTrue, nat_lt, ◌==◌}
@@ -21,12 +21,16 @@ use Rattle.naga_ir.specs.declared.types.Type_.{Type_}
 use Rattle.naga_ir.specs.declared.types.TypeInner.{TypeInner}
 use Rattle.naga_ir.specs.declared.types.TypeInner.TheVariants as inner
 use Rattle.naga_names.proofs.Refusal.{element}
+use Rattle.naga_names.specs.Keys.{NameMap}
+use Rattle.naga_names.specs.declared.key.NameKey.TheVariants as key
+use Rattle.naga_words.specs.Contexts.{name_or_nothing}
 use Rattle.naga_words.specs.Spelling.{end_of_base, length_within}
 use Rattle.module_meaning.proofs.Lists.{list_all_at, placed_at}
 use Rattle.module_meaning.proofs.Part.{written_so_far_parts}
 use Rattle.module_meaning.specs.Accepted.{is_accepted}
 use Rattle.module_meaning.specs.AlikeTypes.{has_form}
 use Rattle.module_meaning.specs.InfoSizes.{resolution_is_fit}
+use Rattle.module_meaning.specs.Names.{HasNamesOf, module_names}
 use Rattle.module_meaning.specs.Part.{is_written_so_far}
 use Rattle.module_meaning.specs.Numbers.{signature_fits_32_bits}
 use Rattle.module_meaning.specs.Ranges.{function_in_range, is_below, local_in_range, parts_before}
@@ -35,10 +39,9 @@ use Rattle.module_meaning.specs.Ranges.{signature_fits, signature_types_fit}
 use Rattle.module_meaning.specs.Written.{AllWrittenHaveForms, ExpressionsHaveForms, IsSpelledIn}
 use Rattle.module_meaning.specs.Written.{OfArgument, OfEachFunction, OfLet, OfLocal, OfResult}
 use Rattle.naga_form.proofs.AcceptedFunctions.{accepted_at, function_there, locals_are_in_range}
-use Rattle.naga_form.proofs.AcceptedGroups.{known_is_fit, types_are_counted, types_range}
-use Rattle.naga_form.proofs.SameValues.{TypesAreCounted}
-use Rattle.naga_form.proofs.ToldItems.{written_are_told}
-use Rattle.naga_form.proofs.WrittenTypes.{AreNameless, no_struct}
+use Rattle.naga_form.proofs.AcceptedGroups.{known_is_fit, types_are_fit, types_range}
+use Rattle.naga_form.proofs.SameValues.{or_nothing}
+use Rattle.naga_form.proofs.WrittenTypes.{AreNamedAlike}
 
 -- what stands before a type has handles below it
 pub ends_before : (types : ℕ) (it : TypeInner) → parts_before types it ≡ true → end_of_base it ≤ types
@@ -94,17 +97,19 @@ module _ (m : Module) (info : ModuleInfo) (accepted : IsTrue (is_accepted m info
           (and_parts (length_within (length m.overrides) it) _ two.1).0
 
   module _ (of_part : IsTrue (is_written_so_far m)) where
-    pub part_types : TypesAreCounted m
-    part_types = types_are_counted m info accepted (written_are_told m of_part).types
-
     pub no_overrides : length m.overrides ≡ 0
     no_overrides =
         let one = and_parts (list_all (λ c. is_none c.name) m.constants) _ (written_so_far_parts m of_part).0 in
         let two = and_parts (length m.overrides == 0) _ one.1 in
         eqb-true (length m.overrides) 0 two.0
 
-    pub nameless : AreNameless m.types
-    nameless = record {
-      structs = no_struct m.types (written_so_far_parts m of_part).1;
-      lengths = λ h t at. subst (λ n. length_within n t.inner ≡ true) no_overrides (part_types.within h t at);
+    -- names that the map of a module has are the module's own
+    pub named_alike : (names : NameMap) → HasNamesOf m names →
+        AreNamedAlike m.types names (module_names m)
+    named_alike names has = record {
+      names = λ h t at.
+          ap name_or_nothing (has.types h t at) ∙ sym (or_nothing (module_names m (key.Type_ h)));
+      lengths = λ h t at.
+          subst (λ n. length_within n t.inner ≡ true) no_overrides
+          ((types_are_fit m info accepted).within h t at);
     }

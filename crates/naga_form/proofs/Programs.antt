@@ -37,7 +37,9 @@ use Rattle.naga_ir.specs.declared.module.FunctionResult.{FunctionResult}
 use Rattle.naga_ir.specs.declared.module.Module.{Module}
 use Rattle.naga_info.specs.declared.info.ExpressionInfo.{ExpressionInfo}
 use Rattle.naga_info.specs.declared.info.ModuleInfo.{ModuleInfo}
-use Rattle.module_meaning.specs.Part.{type_is_of_part}
+use Rattle.module_meaning.proofs.Part.{form_of_spellable}
+use Rattle.module_meaning.specs.Part.{types_are_of_part}
+use Rattle.module_meaning.specs.Undeclared.{is_spellable}
 use Rattle.module_meaning.specs.Ranges.{is_below}
 use Rattle.wgsl_text.specs.Words.{stands_in, is_builtin, IsIdentifier, is_letter, is_word_byte}
 use Rattle.wgsl_text.specs.Words.{all_word_bytes, is_reserved}
@@ -67,9 +69,8 @@ use Rattle.module_meaning.specs.Premises.{handles_are_counted}
 use Rattle.module_meaning.specs.Names.{module_names, wgsl_names, numbered_text, numbered_name}
 use Rattle.module_meaning.specs.Types.{type_names}
 use Rattle.naga_form.specs.Types.{told_type}
-use Rattle.naga_form.proofs.AcceptedGroups.{known_fits, types_are_counted}
-use Rattle.naga_form.proofs.SameValues.{IsFit, TypesAreCounted, tree_is}
-use Rattle.naga_form.proofs.ToldItems.{written_are_told}
+use Rattle.naga_form.proofs.AcceptedGroups.{known_fits, types_are_fit}
+use Rattle.naga_form.proofs.SameValues.{IsFit, TypesAreFit, tree_is}
 use Rattle.naga_form.proofs.WrittenTypes.{is_type_at, told_is}
 use Rattle.module_meaning.specs.ExpressionOperators.{applied_operator, load_operator}
 use Rattle.module_meaning.specs.ExpressionOperators.{points_to_atomic}
@@ -288,7 +289,7 @@ statements_fit (statement st b) is =
 abbrev ArePlain : (operand : ℕ → PlainForm) → List ℕ → Type 0
 ArePlain operand hs = AllByRecursion (λ x. IsPlainForm (operand x)) hs
 
-module _ (m : Module) (info : ModuleInfo) (g : ℕ) (f : ir_function.Function) (found : slice_get m.functions g ≡ Some f) (es : List ExpressionInfo) (callees : ℕ) (ranges : function_in_range m callees f ≡ true) (W : ℕ → Type 0) (closed : AreClosed W (binds (function_shape m info f es)) f) (written : AreWritten W m f es) (are : TypesAreCounted m) (fits : (h : ℕ) (k : ExpressionInfo) → slice_get es h ≡ Some k → IsFit m k.ty) (values : list_all type_is_of_part m.types ≡ true) (explicit : Bool) (spelled : (r : TypeResolution) → IsSpelledIn explicit m info f es r → type_has_form m.types r ≡ true) (few : length f.expressions ≤ 2 ^ 64) (given : ℕ → List ℕ) (identifiers : (k : ℕ) → k < length (given_labels f) → IsIdentifier (given k)) (constants : (c : ℕ) → constant_is_written m c ≡ true → IsExpression (written_constant_form m (type_names m) c)) where
+module _ (m : Module) (info : ModuleInfo) (g : ℕ) (f : ir_function.Function) (found : slice_get m.functions g ≡ Some f) (es : List ExpressionInfo) (callees : ℕ) (ranges : function_in_range m callees f ≡ true) (W : ℕ → Type 0) (closed : AreClosed W (binds (function_shape m info f es)) f) (written : AreWritten W m f es) (types : TypesAreFit m) (fits : (h : ℕ) (k : ExpressionInfo) → slice_get es h ≡ Some k → IsFit m k.ty) (values : types_are_of_part m ≡ true) (explicit : Bool) (spelled : (r : TypeResolution) → IsSpelledIn explicit m info f es r → is_spellable m r ≡ true) (few : length f.expressions ≤ 2 ^ 64) (given : ℕ → List ℕ) (identifiers : (k : ℕ) → k < length (given_labels f) → IsIdentifier (given k)) (constants : (c : ℕ) → constant_is_written m c ≡ true → IsExpression (written_constant_form m (type_names m) c)) where
   abbrev own : Naming
   own = function_naming (module_names m) given m info g f es
 
@@ -311,26 +312,27 @@ module _ (m : Module) (info : ModuleInfo) (g : ℕ) (f : ir_function.Function) (
   type_at : (ty : ℕ) → type_has_form m.types (Handle ty) ≡ true → HasFormAt (type_names m) ty
   type_at ty is =
       let t = tree_there (type_names m) (Handle ty) is in
-      (t.0, t.1, tree_is m are (Handle ty) tt t.0 t.1)
+      (t.0, t.1, tree_is m types (Handle ty) tt t.0 t.1)
 
   type_formed : (e : ir.Expression) → expression_is_written m es e ≡ true →
       TypeIsFormed d.around (type_names m) e
-  type_formed (expression.ZeroValue ty) is = type_at ty is
-  type_formed (expression.Compose ty components) is = type_at ty is
+  type_formed (expression.ZeroValue ty) is = type_at ty (form_of_spellable m (Handle ty) is)
+  type_formed (expression.Compose ty components) is =
+      type_at ty (form_of_spellable m (Handle ty) is)
   type_formed (expression.As operand kind convert) is =
       let c = conversion m info es operand kind convert is in
       let fit = target_fit m c.from c.to kind convert c.target in (
         cast_tree (keeps_bits c.from convert) c.tree,
         conversion_is d.around (type_names m) operand kind convert c.from c.to c.tree c.known
             c.target c.is,
-        cast_callee (keeps_bits c.from convert) c.tree (tree_is m are (Value c.to) fit c.tree c.is),
+        cast_callee (keeps_bits c.from convert) c.tree (tree_is m types (Value c.to) fit c.tree c.is),
       )
   type_formed (expression.CooperativeLoad columns rows role place) is =
       let c = loaded_matrix m info es columns rows role place is in (
         load_tree place.row_major c.tree,
         matrix_is d.around (type_names m) columns rows role place c.scalar c.tree c.known c.is,
         load_callee place.row_major c.tree
-            (tree_is m are (Value (inner.CooperativeMatrix columns rows c.scalar role))
+            (tree_is m types (Value (inner.CooperativeMatrix columns rows c.scalar role))
             (refl, tt, refl) c.tree c.is),
       )
   type_formed _ is = tt
@@ -378,12 +380,14 @@ module _ (m : Module) (info : ModuleInfo) (g : ℕ) (f : ir_function.Function) (
           (written h (expression.Constant c) at w)).0)
           (λ h ty at w.
           type_at ty
+          (form_of_spellable m (Handle ty)
           (has_form_parts m es f.expressions (expression.ZeroValue ty)
-          (written h (expression.ZeroValue ty) at w)).0)
+          (written h (expression.ZeroValue ty) at w)).0))
           (λ h ty parts at w.
           type_at ty
+          (form_of_spellable m (Handle ty)
           (has_form_parts m es f.expressions (expression.Compose ty parts)
-          (written h (expression.Compose ty parts) at w)).0)
+          (written h (expression.Compose ty parts) at w)).0))
           (suc x) x w
   offset_is h _ at w = tt
 
@@ -399,7 +403,7 @@ module _ (m : Module) (info : ModuleInfo) (g : ℕ) (f : ir_function.Function) (
       let l = element f.local_variables v (ltb-true v (length f.local_variables) (names_are_in_range m callees f ranges h (expression.LocalVariable v) at)) in
       (item_is_identifier m (local_item g v l.0) (local_stands wgsl_names m g f v l.0 found l.1), refl)
   own_is operand h (expression.ZeroValue ty) at is all =
-      let form = type_at ty is.0 in
+      let form = type_at ty (form_of_spellable m (Handle ty) is.0) in
       applied_is operand (notation (type_tree (type_names m) ty) (constructor d.around (Handle ty) 0)) [] tt
       (constructor_notated d.around (Handle ty) 0 [] (type_tree (type_names m) ty) form.0 form.1 form.2)
   own_is operand h (expression.Access base index) at is all =
@@ -687,7 +691,7 @@ module _ (m : Module) (info : ModuleInfo) (g : ℕ) (f : ir_function.Function) (
       let parts = and_parts (nat_lt v.ty (length m.types)) (is_below (length f.expressions) v.init) both.0 in (
         record {
           name = item_is_identifier m (local_item g l here.0) (local_stands wgsl_names m g f l here.0 found here.1);
-          type = is_type_at m are v.ty (spelled (Handle v.ty) (OfLocal l v (ap (slice_get f.local_variables) (sym (zero-add l)) ∙ sym (at 0))));
+          type = is_type_at m types v.ty (form_of_spellable m (Handle v.ty) (spelled (Handle v.ty) (OfLocal l v (ap (slice_get f.local_variables) (sym (zero-add l)) ∙ sym (at 0)))));
           value = first_is v.init (closed.firsts l v (ap (slice_get f.local_variables) (sym (zero-add l)) ∙ sym (at 0)));
         },
         locals_are (l + 1) vs next later both.1,
@@ -707,7 +711,7 @@ module _ (m : Module) (info : ModuleInfo) (g : ℕ) (f : ir_function.Function) (
   parameters_are n (a ∷ args) size at =
       let next : (n + 1) + length args ≡ length f.arguments.items = omega (arith, size) in
       let here : slice_get f.arguments.items n ≡ Some a = ap (slice_get f.arguments.items) (sym (zero-add n)) ∙ sym (at 0) in (
-        record { attributes = tt; binding = refl; name = item_is_identifier m (argument_item m g n a) (argument_there m g f n a found here); type = is_type_at m are a.ty (spelled (Handle a.ty) (OfArgument n a here)) },
+        record { attributes = tt; binding = refl; name = item_is_identifier m (argument_item m g n a) (argument_there m g f n a found here); type = is_type_at m types a.ty (form_of_spellable m (Handle a.ty) (spelled (Handle a.ty) (OfArgument n a here))) },
         parameters_are (n + 1) args next later,
       )
     where
@@ -718,7 +722,7 @@ module _ (m : Module) (info : ModuleInfo) (g : ℕ) (f : ir_function.Function) (
 
   result_is : (r : Option FunctionResult) → f.result ≡ r → IsResult (result_form (type_names m) r)
   result_is None at = tt
-  result_is (Some r) at = (tt, refl, is_type_at m are r.ty (spelled (Handle r.ty) (OfResult r at)))
+  result_is (Some r) at = (tt, refl, is_type_at m types r.ty (form_of_spellable m (Handle r.ty) (spelled (Handle r.ty) (OfResult r at))))
 
   function_is : AllFit f.body → IsFunction (function_form explicit (module_names m) given m info g f es)
   function_is fit =
@@ -730,27 +734,26 @@ module _ (m : Module) (info : ModuleInfo) (g : ℕ) (f : ir_function.Function) (
         parameters = parameters_are 0 f.arguments.items all (λ k. ap (slice_get f.arguments.items) (sym (add-zero k)));
         result = result_is f.result refl;
         locals = locals_are 0 f.local_variables all_locals (λ k. ap (slice_get f.local_variables) (sym (add-zero k))) (locals_are_in_range m callees f ranges);
-        body = lines_are (told_type explicit (type_names m) es) (told_is m are explicit es fits) 0 f.body fit (at_start own.function) start_is all_labels closed.body;
+        body = lines_are (told_type explicit m (type_names m) es) (told_is m types explicit es fits) 0 f.body fit (at_start own.function) start_is all_labels closed.body;
       }
 
 module _ (explicit : Bool) (m : Module) (info : ModuleInfo) (accepted : IsTrue (is_accepted m info)) (of_part : IsTrue (is_written_so_far m)) where
-  are : TypesAreCounted m
-  are = types_are_counted m info accepted (written_are_told m of_part).types
+  types : TypesAreFit m
+  types = types_are_fit m info accepted
 
   -- each constant that is written is of the grammar
   written_constants : (c : ℕ) → constant_is_written m c ≡ true → IsExpression (written_constant_form m (type_names m) c)
   written_constants =
-      let told = (written_are_told m of_part).types in
       constant_is m (type_names m)
-      (λ h value at is. literal_is value is (global_names_in_range m info accepted told h (expression.Literal value) at))
-      (λ ty is. let t = tree_there (type_names m) (Handle ty) is in (t.0, t.1, tree_is m are (Handle ty) tt t.0 t.1))
+      (λ h value at is. literal_is value is (global_names_in_range m info accepted h (expression.Literal value) at))
+      (λ ty is. let t = tree_there (type_names m) (Handle ty) is in (t.0, t.1, tree_is m types (Handle ty) tt t.0 t.1))
 
   one_is : (g : ℕ) (f : ir_function.Function) (found : slice_get m.functions g ≡ Some f) (es : List ExpressionInfo) → slice_get info.functions.items g ≡ Some es → (callees : ℕ) → function_in_range m callees f ≡ true → IsTrue (function_is_written f) → WrittenHaveForms explicit m info f es → length f.expressions ≤ 2 ^ 64 → IsFunction (function_form explicit (module_names m) (given_name m g) m info g f es)
   one_is g f found es here callees ranges written have few =
       let parts = function_parts f written in
       function_is m info g f found es callees ranges (IsWrittenIn m info f es)
       (written_are_closed m info f es) have.expressions
-      are (known_fits m info accepted g es here) (written_so_far_parts m of_part).1 explicit
+      types (known_fits m info accepted g es here) (written_so_far_parts m of_part).1 explicit
       have.types few (given_name m g) (given_is_identifier m g f found) written_constants (statements_fit f.body parts.body)
 
   functions_are : (g : ℕ) (fs : List ir_function.Function) (ess : List (List ExpressionInfo)) → ((i : ℕ) (f : ir_function.Function) → slice_get fs i ≡ Some f → slice_get m.functions (g + i) ≡ Some f) → ((i : ℕ) (es : List ExpressionInfo) → slice_get ess i ≡ Some es → slice_get info.functions.items (g + i) ≡ Some es) → IsTrue (list_all function_is_written fs) → ((i : ℕ) (f : ir_function.Function) (es : List ExpressionInfo) → slice_get fs i ≡ Some f → slice_get ess i ≡ Some es → WrittenHaveForms explicit m info f es) →

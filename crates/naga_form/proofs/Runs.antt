@@ -1,7 +1,7 @@
 -- The program that is written for a module does what the module does.
 use Rattle.naga_form.proofs.AcceptedFunctions.{accepted_at, locals_are_in_range}
 use Rattle.naga_form.proofs.AcceptedFunctions.{function_there as function_there_known}
-use Rattle.module_meaning.specs.Part.{type_is_of_part}
+use Rattle.module_meaning.specs.Part.{types_are_of_part}
 use Rattle.module_meaning.specs.Types.{type_names}
 use Rattle.naga_form.specs.Types.{LocalsHaveForms}
 use Rattle.std.proofs.Common.{[], ◌≡◌, ℕ, suc, ◌+◌, ◌<◌, Bool, List, ◌∷◌, map, length}
@@ -26,7 +26,7 @@ use Rattle.naga_form.proofs.Abstraction.{locals_have_forms, function_reads}
 use Rattle.naga_form.proofs.AcceptedFunctions.{functions_paired}
 use Rattle.module_meaning.specs.InfoSizes.{function_size_fits}
 use Rattle.module_meaning.proofs.SideBySide.{paired_at}
-use Rattle.naga_form.proofs.ToldItems.{written_are_told}
+use Rattle.naga_form.proofs.ToldItems.{types_are_told}
 use Rattle.naga_form.proofs.GivenNames.{items_counted}
 use Rattle.naga_form.proofs.Names.{items_tell, function_item, function_there}
 use Rattle.naga_names.proofs.Refusal.{element}
@@ -69,7 +69,7 @@ use Rattle.std.specs.Prelude.{◌==◌}
 use Rattle.std.specs.Option.{is_none}
 use Rattle.naga_form.proofs.AcceptedGroups.{declarations_are}
 use Rattle.module_meaning.specs.Part.{declares_functions}
-use Rattle.naga_form.proofs.AcceptedGroups.{types_are_counted}
+use Rattle.naga_form.proofs.AcceptedGroups.{types_are_fit}
 use Rattle.naga_form.proofs.ScopeRules.{same_functions, scopes_are_checked}
 
 pub form_functions-map : (ns : List Naming) → form_functions ns ≡ map form_function ns
@@ -81,7 +81,7 @@ shapes_counted m info [] ess paired = refl
 shapes_counted m info (f ∷ fs) [] paired = absurd (omega (arith, paired))
 shapes_counted m info (f ∷ fs) (es ∷ ess) paired = ap suc (shapes_counted m info fs ess (omega (arith, paired)))
 
-functions_read : (explicit : Bool) (m : Module) (info : ModuleInfo) → IsTrue (list_all type_is_of_part m.types) → IsTrue (declares_functions m) → length m.global_expressions ≡ length info.const_expression_types.items → (g : ℕ) (fs : List ir_function.Function) (ess : List (List ExpressionInfo)) → IsTrue (list_all function_is_written fs) → ((i : ℕ) (f : ir_function.Function) (es : List ExpressionInfo) → slice_get fs i ≡ Some f → slice_get ess i ≡ Some es → WrittenHaveForms explicit m info f es) → ((i : ℕ) (f : ir_function.Function) (es : List ExpressionInfo) → slice_get fs i ≡ Some f → slice_get ess i ≡ Some es → length f.expressions ≡ length es) →
+functions_read : (explicit : Bool) (m : Module) (info : ModuleInfo) → IsTrue (types_are_of_part m) → IsTrue (declares_functions m) → length m.global_expressions ≡ length info.const_expression_types.items → (g : ℕ) (fs : List ir_function.Function) (ess : List (List ExpressionInfo)) → IsTrue (list_all function_is_written fs) → ((i : ℕ) (f : ir_function.Function) (es : List ExpressionInfo) → slice_get fs i ≡ Some f → slice_get ess i ≡ Some es → WrittenHaveForms explicit m info f es) → ((i : ℕ) (f : ir_function.Function) (es : List ExpressionInfo) → slice_get fs i ≡ Some f → slice_get ess i ≡ Some es → length f.expressions ≡ length es) →
     map function_read (functions_form explicit (module_names m) m info g fs ess) ≡ map form_function (namings_from (module_names m) m g (function_shapes m info fs ess))
 functions_read explicit m info values declares own g [] [] is have sizes = refl
 functions_read explicit m info values declares own g [] (es ∷ ess) is have sizes = refl
@@ -161,11 +161,11 @@ module _ (m : Module) (info : ModuleInfo) (accepted : IsTrue (is_accepted m info
       by (AsFunction here known) = list_all_at function_is_written m.functions k f (functions_are_written m written) here
       by (AsEntryPoint j e number here known of) = absurd (none m.entry_points.items j e no_entry_points here)
 
-  -- no struct and no override is named
-  told : TypesAreTold m
-  told = (written_are_told m written).types
-
   module _ (scope : IsTrue (scope_holds m info)) (counted : NamesAreCounted m) where
+    -- structs have names of their own
+    told : TypesAreTold m
+    told = types_are_told m (items_counted m counted)
+
     constants_typed : (k : ℕ) (f : ir_function.Function) (es : List ExpressionInfo) → slice_get (functions_known m info) k ≡ Some (f, es) → ConstantsAreTyped m info f es
     constants_typed k f es at = constants_are_typed m info accepted told f es (group_at m info accepted k f es at)
 
@@ -182,7 +182,7 @@ module _ (m : Module) (info : ModuleInfo) (accepted : IsTrue (is_accepted m info
         let scopes = and_parts (fits_function own) (list_all fits_function (namings_from (module_names m) m (g + 1) (function_shapes m info fs ess))) scoped in
         let at_function = function_there_known m info accepted g f found in
         let fits = accepted_at m info accepted g f at_function.0 at_function.1 in
-        let this = is_left m info (written_so_far_parts m written).1 (types_are_counted m info accepted told) g f found es fits.callees fits.ranges all.0 p no_constant_types no_global_types all_counted (functions_of behind) (length-functions_of behind ∙ at) counted scopes.0 in
+        let this = is_left m info (types_are_fit m info accepted) counted g f found es fits.callees fits.ranges all.0 p no_constant_types no_global_types all_counted (functions_of behind) (length-functions_of behind ∙ at) scopes.0 in
         all_left (g + 1) fs ess (further m.functions g f fs there) all.1 scopes.1 (own ∷ behind) (ap suc at ∙ sym (add-one g)) (this, so_far)
 
     no_constants : ConstantsFit (functions_alone m info) (outer_names (module_names m))

@@ -98,12 +98,16 @@ IsFit m (Handle h) = Unit {0}
 IsFit m (Value it) =
     (resolution_is_fit (Value it) ≡ true) × InnerIsCounted it × (length_within (length m.overrides) it ≡ true)
 
--- structs and overrides are told by their names, and the types of the module are fit
-pub record TypesAreCounted (m : Module) : Type 0 where
-  pub names : TypesAreTold m
+-- the types of the module are fit
+pub record TypesAreFit (m : Module) : Type 0 where
   pub fits : list_all type_is_fit m.types ≡ true
   pub counted : (h : ℕ) (t : Type_) → slice_get m.types h ≡ Some t → InnerIsCounted t.inner
   pub within : (h : ℕ) (t : Type_) → slice_get m.types h ≡ Some t → length_within (length m.overrides) t.inner ≡ true
+
+-- and structs and overrides are told by their names
+pub record TypesAreCounted (m : Module) : Type 0 where
+  pub names : TypesAreTold m
+  pub types : TypesAreFit m
 
 -- ---- values
 abbrev pub word_in : ValueType → List ℕ
@@ -131,17 +135,62 @@ word_of_type m r = by (inner_of r m.types)
     by None = refl
     by (Some it) = values_word it (word_of_values m r)
 
+-- ---- trees
+pub or_nothing : (o : Option (List ℕ)) → name_or_nothing o ≡ unwrap_or o []
+or_nothing None = refl
+or_nothing (Some w) = refl
+
+module _ (m : Module) where
+  -- an item within the list
+  there : {X : Type 0} (xs : List X) (i : ℕ) → i < length xs → (x : X) × (slice_get xs i ≡ Some x)
+  there [] i lt = absurd (omega (arith, lt))
+  there (x ∷ xs) zero lt = (x, refl)
+  there (x ∷ xs) (suc i) lt = there xs i (omega (arith, lt))
+
+  type_item : (h : ℕ) → h < length m.types → (label : List ℕ) × Stands (labelled_items wgsl_names m) (key.Type_ h, label)
+  type_item h lt = let k = there m.types h lt in (_, type_stands wgsl_names m h k.0 k.1)
+
+  override_item : (o : ℕ) → o < length m.overrides → (label : List ℕ) × Stands (labelled_items wgsl_names m) (key.Override o, label)
+  override_item o lt = let k = there m.overrides o lt in (_, override_stands wgsl_names m o k.0 k.1)
+
+  struct_identifier : (h : ℕ) → h < length m.types → IsIdentifier ((type_names m).struct_name h)
+  struct_identifier h lt = let a = type_item h lt in subst IsIdentifier (sym (or_nothing (module_names m (key.Type_ h)))) (item_is_identifier m (key.Type_ h, a.0) a.1)
+
+  override_identifier : (o : ℕ) → o < length m.overrides → IsIdentifier ((type_names m).override_name o)
+  override_identifier o lt = let a = override_item o lt in subst IsIdentifier (sym (or_nothing (module_names m (key.Override o)))) (item_is_identifier m (key.Override o, a.0) a.1)
+
+module _ (m : Module) (types : TypesAreFit m) where
+  size_is : (n : ArraySize) → LengthIsCounted n → size_within (length m.overrides) n ≡ true → LengthIsWithin (length m.overrides) n
+  size_is (size.Constant number) counted within = counted
+  size_is (size.Pending o) counted within = ltb-true o (length m.overrides) within
+  size_is size.Dynamic counted within = tt
+
+  inner_within : (it : TypeInner) → InnerIsCounted it → length_within (length m.overrides) it ≡ true → InnerIsWithin (length m.overrides) it
+  inner_within (inner.Array base n stride) counted within = size_is n counted within
+  inner_within (inner.BindingArray base n) counted within = size_is n counted within
+  inner_within _ counted within = tt
+
+  are_named : AreNamed (type_names m) (length m.overrides)
+  are_named = record {
+    structs = λ h t at is. struct_identifier m h (slice_get_within m.types h t at);
+    overrides = override_identifier m;
+    lengths = λ h t at. inner_within t.inner (types.counted h t at) (types.within h t at);
+  }
+
+  is_within : (r : TypeResolution) → IsFit m r → ResolutionIsWithin (length m.overrides) r
+  is_within (Handle h) fit = tt
+  is_within (Value it) fit = inner_within it fit.1 fit.2
+
+  pub tree_is : (r : TypeResolution) → IsFit m r → (t : TypeSpecifier) → resolution_tree (type_names m) r ≡ Some t → IsType t
+  tree_is r fit t at = resolution_is (type_names m) (length m.overrides) are_named r (is_within r fit) t at
+
 -- ---- names of structs and overrides
 module _ (m : Module) (are : TypesAreCounted m) where
   abbrev names : Names
   names = type_names m
 
-  name_is : (o : Option (List ℕ)) → name_or_nothing o ≡ unwrap_or o []
-  name_is None = refl
-  name_is (Some w) = refl
-
   same_name : (a b : NameKey) → name_or_nothing (module_names m a) ≡ name_or_nothing (module_names m b) → name_in (module_names m) a ≡ name_in (module_names m) b
-  same_name a b e = sym (name_is (module_names m a)) ∙ (e ∙ name_is (module_names m b))
+  same_name a b e = sym (or_nothing (module_names m a)) ∙ (e ∙ or_nothing (module_names m b))
 
   -- a struct with this name
   abbrev is_struct_at : ℕ → Bool
@@ -197,46 +246,11 @@ module _ (m : Module) (are : TypesAreCounted m) where
           (same_name (key.Type_ h) (key.Override o) ((bytes_eq-Decides (names.struct_name h) (names.override_name o)).0 parts.1)))
       not_both h false named = named
 
-  -- an item within the list
-  there : {X : Type 0} (xs : List X) (i : ℕ) → i < length xs → (x : X) × (slice_get xs i ≡ Some x)
-  there [] i lt = absurd (omega (arith, lt))
-  there (x ∷ xs) zero lt = (x, refl)
-  there (x ∷ xs) (suc i) lt = there xs i (omega (arith, lt))
-
-  type_item : (h : ℕ) → h < length m.types → (label : List ℕ) × Stands (labelled_items wgsl_names m) (key.Type_ h, label)
-  type_item h lt = let k = there m.types h lt in (_, type_stands wgsl_names m h k.0 k.1)
-
-  override_item : (o : ℕ) → o < length m.overrides → (label : List ℕ) × Stands (labelled_items wgsl_names m) (key.Override o, label)
-  override_item o lt = let k = there m.overrides o lt in (_, override_stands wgsl_names m o k.0 k.1)
-
-  struct_identifier : (h : ℕ) → h < length m.types → IsIdentifier (names.struct_name h)
-  struct_identifier h lt = let a = type_item h lt in subst IsIdentifier (sym (name_is (module_names m (key.Type_ h)))) (item_is_identifier m (key.Type_ h, a.0) a.1)
-
-  override_identifier : (o : ℕ) → o < length m.overrides → IsIdentifier (names.override_name o)
-  override_identifier o lt = let a = override_item o lt in subst IsIdentifier (sym (name_is (module_names m (key.Override o)))) (item_is_identifier m (key.Override o, a.0) a.1)
-
-  size_is : (n : ArraySize) → LengthIsCounted n → size_within (length m.overrides) n ≡ true → LengthIsWithin (length m.overrides) n
-  size_is (size.Constant number) counted within = counted
-  size_is (size.Pending o) counted within = ltb-true o (length m.overrides) within
-  size_is size.Dynamic counted within = tt
-
-  inner_within : (it : TypeInner) → InnerIsCounted it → length_within (length m.overrides) it ≡ true → InnerIsWithin (length m.overrides) it
-  inner_within (inner.Array base n stride) counted within = size_is n counted within
-  inner_within (inner.BindingArray base n) counted within = size_is n counted within
-  inner_within _ counted within = tt
-
-  are_named : AreNamed names (length m.overrides)
-  are_named = record {
-    structs = λ h t at is. struct_identifier h (slice_get_within m.types h t at);
-    overrides = override_identifier;
-    lengths = λ h t at. inner_within t.inner (are.counted h t at) (are.within h t at);
-  }
-
   size_told : (n : ArraySize) → size_within (length m.overrides) n ≡ true → LengthIsTold handle_named names n
   size_told (size.Constant number) within = tt
   size_told (size.Pending o) within =
       let lt = ltb-true o (length m.overrides) within in
-      named_numbers handle_named (names.override_name o) (override_identifier o lt) ∙ ap (λ x. level 8 x 0 0 0 0) (override_handle o lt)
+      named_numbers handle_named (names.override_name o) (override_identifier m o lt) ∙ ap (λ x. level 8 x 0 0 0 0) (override_handle o lt)
   size_told size.Dynamic within = tt
 
   inner_told : (it : TypeInner) → length_within (length m.overrides) it ≡ true → InnerIsTold handle_named names it
@@ -247,8 +261,8 @@ module _ (m : Module) (are : TypesAreCounted m) where
   are_told : AreTold handle_named names
   are_told = record {
     structs = λ h t at is. let lt = slice_get_within m.types h t at in
-        named_numbers handle_named (names.struct_name h) (struct_identifier h lt) ∙ ap (λ x. level 8 x 0 0 0 0) (struct_handle h t at is);
-    lengths = λ h t at. inner_told t.inner (are.within h t at);
+        named_numbers handle_named (names.struct_name h) (struct_identifier m h lt) ∙ ap (λ x. level 8 x 0 0 0 0) (struct_handle h t at is);
+    lengths = λ h t at. inner_told t.inner (are.types.within h t at);
   }
 
   is_fit : (r : TypeResolution) → IsFit m r → resolution_is_fit r ≡ true
@@ -259,14 +273,10 @@ module _ (m : Module) (are : TypesAreCounted m) where
   is_told (Handle h) fit = tt
   is_told (Value it) fit = inner_told it fit.2
 
-  is_within : (r : TypeResolution) → IsFit m r → ResolutionIsWithin (length m.overrides) r
-  is_within (Handle h) fit = tt
-  is_within (Value it) fit = inner_within it fit.1 fit.2
-
   -- ---- forms and spellings
   -- a type's numbers by its tree
   numbers_of : (r : TypeResolution) → IsFit m r → type_form m.types r ≡ option_map (tree_numbers handle_named) (resolution_tree names r)
-  numbers_of r fit = form_is_told handle_named names are_told (each_named m.types are.fits) r (is_told r fit) (is_fit r fit)
+  numbers_of r fit = form_is_told handle_named names are_told (each_named m.types are.types.fits) r (is_told r fit) (is_fit r fit)
 
   -- the tree by the numbers
   pub tree_of : (r : TypeResolution) → resolution_tree names r ≡ option_map (form_read names) (type_form m.types r)
@@ -275,9 +285,6 @@ module _ (m : Module) (are : TypesAreCounted m) where
   -- the spelling by the tree
   pub spelling_of : (r : TypeResolution) → spelled_resolution names r ≡ option_map type_layout (resolution_tree names r)
   spelling_of r = resolution_row text-append names (λ handle. true) r
-
-  pub tree_is : (r : TypeResolution) → IsFit m r → (t : TypeSpecifier) → resolution_tree names r ≡ Some t → IsType t
-  tree_is r fit t at = resolution_is names (length m.overrides) are_named r (is_within r fit) t at
 
   one_layout : (t u : TypeSpecifier) → IsType t → IsType u → type_layout t ≡ type_layout u → t ≡ u
   one_layout t u p q e =
@@ -307,9 +314,9 @@ module _ (m : Module) (are : TypesAreCounted m) where
       identity_is a p ∙ (by (resolution_tree names a) refl (resolution_tree names b) refl (sym (word_is a) ∙ (e ∙ word_is b)) ∙ sym (identity_is b q))
     where
       by : (x : Option TypeSpecifier) → resolution_tree names a ≡ x → (y : Option TypeSpecifier) → resolution_tree names b ≡ y → word_of x a ≡ word_of y b → identity_of x a ≡ identity_of y b
-      by (Some t) at (Some u) bt e = ap (tree_numbers handle_named) (one_layout t u (tree_is a p t at) (tree_is b q u bt) e)
-      by (Some t) at None bt e = absurd (no_blank_in t (tree_is a p t at) (identity_code (identity m.types b)) e)
-      by None at (Some u) bt e = absurd (no_blank_in u (tree_is b q u bt) (identity_code (identity m.types a)) (sym e))
+      by (Some t) at (Some u) bt e = ap (tree_numbers handle_named) (one_layout t u (tree_is m are.types a p t at) (tree_is m are.types b q u bt) e)
+      by (Some t) at None bt e = absurd (no_blank_in t (tree_is m are.types a p t at) (identity_code (identity m.types b)) e)
+      by None at (Some u) bt e = absurd (no_blank_in u (tree_is m are.types b q u bt) (identity_code (identity m.types a)) (sym e))
       by None at None bt e = e
 
   -- and the other way
@@ -320,7 +327,7 @@ module _ (m : Module) (are : TypesAreCounted m) where
   word_by_form r = word_is r ∙ ap (λ o. word_of o r) (tree_of r)
 
   apart : (r : TypeResolution) → IsFit m r → (it code : List ℕ) → type_form m.types r ≡ Some it → it ≡ 32 ∷ code → ⊥
-  apart r fit = form_apart m.types (each_named m.types are.fits) r (is_fit r fit)
+  apart r fit = form_apart m.types (each_named m.types are.types.fits) r (is_fit r fit)
 
   -- the same, with the form of the other type
   record AlikeForms (a b : TypeResolution) : Type 0 where

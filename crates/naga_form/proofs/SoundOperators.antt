@@ -38,7 +38,7 @@ module _ (m : Module) (are : TypesAreCounted m) where
   spells r fit w at = by (resolution_tree (type_names m) r) refl (sym (spelling_of m are r) ∙ at)
     where
       by : (o : Option TypeSpecifier) → resolution_tree (type_names m) r ≡ o → option_map type_layout o ≡ Some w → SpellsAType w
-      by (Some t) is e = (t, (tree_is m are r fit t is, same_Some (type_layout t) w e))
+      by (Some t) is e = (t, (tree_is m are.types r fit t is, same_Some (type_layout t) w e))
       by None is e = absurd (cc)
 
   module _ (known : ℕ → Option TypeResolution) where

@@ -1,5 +1,4 @@
--- Structs, overrides and members are told apart by their names where names are counted, and where
--- there are none of them.
+-- Structs, overrides and members are told apart by their names where names are counted.
 use Rattle.std.proofs.Common.{◌≡◌, ℕ, ◌<◌, true, length, Some, ap, arith, slice_get}
 use Rattle.std.specs.Prelude.{IsTrue, ◌==◌}
 use Rattle.std.specs.Option.{is_none}
@@ -25,7 +24,6 @@ use Rattle.naga_form.proofs.MemberNames.{member_names_tell}
 use Rattle.naga_form.proofs.Names.{items_tell}
 
 module _ (m : Module) where
-  -- ---- names that are counted
   one_key : AreCounted (item_labels m) → (a b : LabelledItem) → Stands (labelled_items wgsl_names m) a →
       Stands (labelled_items wgsl_names m) b →
       name_in (module_names m) a.0 ≡ name_in (module_names m) b.0 → a.0 ≡ b.0
@@ -63,35 +61,3 @@ module _ (m : Module) where
     members = λ h t at i j a b x y e.
         member_names_tell m counted.names counted.keys h t at i j a b x y e;
   }
-
-  -- ---- types of the part
-  no_struct : (it : TypeInner) → needs_nothing it ≡ true → is_struct it ≡ true → ⊥
-  no_struct (inner.Struct members span) value is = absurd (cc)
-  no_struct _ value is = absurd (cc)
-
-  no_member : (it : TypeInner) → needs_nothing it ≡ true → (i : ℕ) (a : StructMember) →
-      slice_get (members_of it) i ≡ Some a → ⊥
-  no_member (inner.Struct members span) value i a at = absurd (cc)
-  no_member _ value i a at = absurd (cc)
-
-  -- a module of the part has none of them
-  pub written_are_told : IsTrue (is_written_so_far m) → ItemsAreTold m
-  written_are_told written = record {
-    types = record {
-      structs = λ h k t u at there is_t is_u e. absurd (no_struct t.inner (value h t at) is_t);
-      overrides = λ o p lo lp e. absurd (none o lo);
-      apart = λ h o t at is lo e. absurd (none o lo);
-    };
-    members = λ h t at i j a b x y e. absurd (no_member t.inner (value h t at) i a x);
-  }
-    where
-      value : (h : ℕ) (t : Type_) → slice_get m.types h ≡ Some t → needs_nothing t.inner ≡ true
-      value h t at =
-          list_all_at type_is_of_part m.types h t (written_so_far_parts m written).1 at
-
-      none : (o : ℕ) → o < length m.overrides → ⊥
-      none o lt =
-          let one = and_parts (list_all (λ c. is_none c.name) m.constants) _ (written_so_far_parts m written).0 in
-          let two = and_parts (length m.overrides == 0) _ one.1 in
-          let same = eqb-true (length m.overrides) 0 two.0 in
-          omega (arith, lt, same)

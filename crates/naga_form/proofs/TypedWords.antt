@@ -11,7 +11,7 @@ use Rattle.std.proofs.lemmas.Bool.{false≢true, true≢false, and_parts, eqb-tr
 use Rattle.std.proofs.lemmas.List.{append_cancel_left, append_cancel_right}
 use Rattle.std.proofs.lemmas.Slice.Eq.{bytes_eq-Decides}
 use Rattle.wgsl_text.specs.Words.{is_word_text, is_letter, all_word_bytes, is_word_byte, stands_in}
-use Rattle.wgsl_text.specs.Words.{is_builtin}
+use Rattle.wgsl_text.specs.Words.{IsIdentifier, is_builtin}
 use Rattle.wgsl_text.specs.Types.{TypeSpecifier, Named, Template, TypeParts, has_gaps, parts_pieces}
 use Rattle.wgsl_text.specs.Types.{plain_type_words, is_type, TakesNone, rule_among, type_templates}
 use Rattle.wgsl_text.specs.Types.{fits, IsPart, IsType}
@@ -20,7 +20,9 @@ use Rattle.naga_form.proofs.OperatorTable.{untyped_share}
 use Rattle.wgsl_text.proofs.Types.{fits_none, type_template, named_text}
 use Rattle.wgsl_text.specs.Reading.{type_layout}
 use Rattle.wgsl_text.specs.Text.{text}
-use Rattle.wgsl_text.specs.Requests.{head_word}
+use Rattle.wgsl_text.specs.Requests.{head_word, is_request, request_words}
+use Rattle.wgsl_text.specs.Keywords.{builtin_words}
+use Rattle.wgsl_text.proofs.Words.{passes}
 use Rattle.module_meaning.specs.OperatorTable.{Operator, CooperativeLoad, Construct, Convert}
 use Rattle.module_meaning.specs.OperatorTable.{Reinterpret, with_type, run_word, one_word}
 use Rattle.module_meaning.specs.OperatorTable.{is_untyped, SpellsAType, TypeIsSound}
@@ -104,6 +106,16 @@ word_bytes (b ∷ bytes) e = letter_first b bytes (and_parts (is_letter b) (all_
   where
     letter_first : (b : ℕ) (bytes : List ℕ) → (is_letter b ≡ true) × (all_word_bytes bytes ≡ true) → (is_word_byte b && all_word_bytes bytes) ≡ true
     letter_first b bytes p = λ i. (p.0 i || is_ascii_digit b) && p.1 i
+
+-- an identifier asks for no event
+pub no_request : (w : List ℕ) → IsIdentifier w → is_request w ≡ false
+unfolding is_request is_builtin builtin_words
+no_request w is = by (stands_in request_words w) refl
+  where
+    by : (b : Bool) → stands_in request_words w ≡ b →
+        stands_in request_words (head_word w) ≡ false
+    by false at = ap (stands_in request_words) (head_alone w (word_bytes w is.word.text)) ∙ at
+    by true at = absurd (true≢false (sym (passes is_builtin request_words w refl at) ∙ is.own))
 
 -- what a type's layout begins with, up to its parts
 abbrev pub head_of : TypeSpecifier → List ℕ

@@ -79,7 +79,7 @@ module _ (m : Module) (info : ModuleInfo) where
         (t.0, ap (option_and_then (λ t. built inside h (Splat size) (t ∷ []))) one.1 ∙ t.1)
     over_there tree_of is_written h _ at have named out = absurd cc
 
-  module _ (accepted : IsTrue (is_accepted m info)) (told : TypesAreTold m) where
+  module _ (accepted : IsTrue (is_accepted m info)) where
     -- ---- the module's own expressions stand behind the initialisers that they name
     ranges : module_ranges_fit m info ≡ true
     unfolding is_accepted
@@ -140,37 +140,38 @@ module _ (m : Module) (info : ModuleInfo) where
         let before = (and_parts (expression_in_range m (length m.functions) 0 0 h (expression.Constant c)) (initialiser_before m h (expression.Constant c)) (global_is_in_range h (expression.Constant c) at)).1 in
         ltb-true k.init h (sym (ap (λ o. is_below h (option_map (λ k. k.init) o)) there) ∙ before)
 
-    -- ---- constants
-    -- a tree stands for each constant
-    constant_stands : (global : ℕ → Option ConstantTree) (h : ℕ) (c : Constant) → slice_get m.constants h ≡ Some c → HasTree (constant_over m global h)
-    constant_stands global h c at = (_, ap (option_map (standing_tree m info accepted told global h)) at)
+    module _ (told : TypesAreTold m) where
+      -- ---- constants
+      -- a tree stands for each constant
+      constant_stands : (global : ℕ → Option ConstantTree) (h : ℕ) (c : Constant) → slice_get m.constants h ≡ Some c → HasTree (constant_over m global h)
+      constant_stands global h c at = (_, ap (option_map (standing_tree m info accepted told global h)) at)
 
-    pub constant_has_tree : (h : ℕ) (c : Constant) → slice_get m.constants h ≡ Some c → HasTree (written_constant m info h)
-    constant_has_tree = constant_stands (global_tree m info)
+      pub constant_has_tree : (h : ℕ) (c : Constant) → slice_get m.constants h ≡ Some c → HasTree (written_constant m info h)
+      constant_has_tree = constant_stands (global_tree m info)
 
-    -- what is written out has a tree, among the module's own expressions
-    global_there : (levels h : ℕ) → written_out_within levels m.global_expressions h ≡ true → HasTree (global_tree_within levels m info h)
-    global_there zero h out = absurd cc
-    global_there (suc levels) h out = by (slice_get m.global_expressions h) refl out (global_there levels)
-      where
-        global : ℕ → Option ConstantTree
-        global = global_tree_within levels m info
+      -- what is written out has a tree, among the module's own expressions
+      global_there : (levels h : ℕ) → written_out_within levels m.global_expressions h ≡ true → HasTree (global_tree_within levels m info h)
+      global_there zero h out = absurd cc
+      global_there (suc levels) h out = by (slice_get m.global_expressions h) refl out (global_there levels)
+        where
+          global : ℕ → Option ConstantTree
+          global = global_tree_within levels m info
 
-        by : (o : Option Expression) → slice_get m.global_expressions h ≡ o → option_map_or (written_out_over (written_out_within levels m.global_expressions)) o false ≡ true →
-            ((k : ℕ) → written_out_within levels m.global_expressions k ≡ true → HasTree (global k)) →
-            HasTree (option_and_then (tree_over (declared_over m (constant_over m global) (global_types_known info)) global h) o)
-        by None at out have = absurd cc
-        by (Some e) at out have =
-            over_there None Own own_is (constant_over m global) global (written_out_within levels m.global_expressions) h e at (λ k lt. have k)
-            (λ c same. let item = constant_named None Own own_is h c (at ∙ ap Some same) in constant_stands global c item.0 item.1) out
+          by : (o : Option Expression) → slice_get m.global_expressions h ≡ o → option_map_or (written_out_over (written_out_within levels m.global_expressions)) o false ≡ true →
+              ((k : ℕ) → written_out_within levels m.global_expressions k ≡ true → HasTree (global k)) →
+              HasTree (option_and_then (tree_over (declared_over m (constant_over m global) (global_types_known info)) global h) o)
+          by None at out have = absurd cc
+          by (Some e) at out have =
+              over_there None Own own_is (constant_over m global) global (written_out_within levels m.global_expressions) h e at (λ k lt. have k)
+              (λ c same. let item = constant_named None Own own_is h c (at ∙ ap Some same) in constant_stands global c item.0 item.1) out
 
-    -- so each initialiser of a named one has
-    pub have_trees : AreWrittenOut m → HaveTrees m info accepted told
-    have_trees out i c named =
-        let k = named_stands m.constants i c named in
-        global_there (suc c.init) c.init
-        (by c.name k.2 (list_all_at (λ c. is_none c.name || is_written_out m.global_expressions c.init) m.constants k.0 c out k.1))
-      where
-        by : {X : Type 0} (name : Option X) → is_some name ≡ true → (is_none name || is_written_out m.global_expressions c.init) ≡ true → is_written_out m.global_expressions c.init ≡ true
-        by (Some name) named is = is
-        by None named is = absurd cc
+      -- so each initialiser of a named one has
+      pub have_trees : AreWrittenOut m → HaveTrees m info accepted told
+      have_trees out i c named =
+          let k = named_stands m.constants i c named in
+          global_there (suc c.init) c.init
+          (by c.name k.2 (list_all_at (λ c. is_none c.name || is_written_out m.global_expressions c.init) m.constants k.0 c out k.1))
+        where
+          by : {X : Type 0} (name : Option X) → is_some name ≡ true → (is_none name || is_written_out m.global_expressions c.init) ≡ true → is_written_out m.global_expressions c.init ≡ true
+          by (Some name) named is = is
+          by None named is = absurd cc

@@ -3,13 +3,13 @@
 use Rattle.std.proofs.Common.{[], ◌≡◌, ℕ, zero, suc, ◌<◌, Bool, true, false, not, List, ◌∷◌, ◌++◌}
 use Rattle.std.proofs.Common.{Option, Some, None, refl, sym, ap, subst, ◌∙◌, slice_get, arith}
 use Rattle.std.proofs.Common.{codes}
-use Rattle.std.specs.Prelude.{if◌then◌else◌, unwrap_or}
-use Rattle.std.specs.List.{AllByRecursion, list_all}
+use Rattle.std.specs.Prelude.{if◌then◌else◌, unwrap_or, ◌⊎◌, ◌&&◌, ◌||◌}
+use mathlib.Core.Logic.{inl, inr}
+use Rattle.std.specs.List.{AllByRecursion}
 use Rattle.std.specs.Option.{is_some, option_map}
 use Rattle.std.proofs.lemmas.Bool.{ltb-true}
 use Rattle.std.proofs.lemmas.Option.{same_Some}
 use Rattle.naga_info.proofs.Options.{map_some, then_some}
-use Rattle.naga_info.specs.Resolution.{inner_of}
 use Rattle.naga_info.specs.declared.info.ExpressionInfo.{ExpressionInfo}
 use Rattle.naga_info.specs.declared.info.TypeResolution.{TypeResolution}
 use Rattle.naga_info.specs.declared.info.TypeResolution.TheVariants.{Handle, Value}
@@ -28,10 +28,10 @@ use Rattle.naga_names.specs.Keys.{NameMap}
 use Rattle.naga_words.specs.Contexts.{Names, names_of}
 use Rattle.naga_words.specs.Spelling.{is_struct, length_within}
 use Rattle.naga_words.specs.Words.{image_word, sampler_word}
-use Rattle.module_meaning.proofs.Lists.{list_all_at}
 use Rattle.module_meaning.specs.AlikeTypes.{has_form, type_form as form_numbers}
-use Rattle.module_meaning.specs.InfoSizes.{resolution_is_fit}
-use Rattle.module_meaning.specs.Part.{needs_nothing, type_is_of_part}
+use Rattle.module_meaning.proofs.Part.{type_of_part}
+use Rattle.module_meaning.specs.Part.{needs_nothing, types_are_of_part}
+use Rattle.module_meaning.specs.Undeclared.{is_undeclared, names_undeclared}
 use Rattle.module_meaning.specs.Types.{type_names}
 use Rattle.wgsl_text.proofs.Building.{in_front}
 use Rattle.wgsl_text.proofs.ValueWords.{value_words}
@@ -46,7 +46,7 @@ use Rattle.wgsl_text.specs.Words.{stands_in}
 use Rattle.wgsl_words.specs.Words.{scalar_word, scalar_word_of, space_word, space_access_word}
 use Rattle.naga_form.proofs.AlikeTypes.{form_is_read, form_read}
 use Rattle.naga_form.proofs.OperatingWords.{operates_freely, plain_types_free, templates_free}
-use Rattle.naga_form.proofs.SameValues.{IsFit, TypesAreCounted, tree_is}
+use Rattle.naga_form.proofs.SameValues.{IsFit, TypesAreFit, tree_is}
 use Rattle.naga_form.proofs.TypeTrees.{depth_is_plain}
 use Rattle.naga_form.specs.TypeTrees.{array_tree, found_tree_by, image_tree, inner_tree_by}
 use Rattle.naga_form.specs.TypeTrees.{inner_tree, pointer_tree_in, ray_tree, resolution_tree}
@@ -87,29 +87,30 @@ inner_same n k f g same (inner.BindingArray base l) within =
     array_same n k _ l within (f base) (g base) (same base)
 inner_same n k f g same _ within = refl
 
--- types that hold no struct and name no override
-pub record AreNameless (types : List Type_) : Type 0 where
-  pub structs : (h : ℕ) (t : Type_) → slice_get types h ≡ Some t → is_struct t.inner ≡ false
+-- types that name no override, and whose names are the same
+pub record AreNamedAlike (types : List Type_) (a b : NameMap) : Type 0 where
+  pub names : (h : ℕ) (t : Type_) → slice_get types h ≡ Some t →
+      (names_of types a).struct_name h ≡ (names_of types b).struct_name h
   pub lengths : (h : ℕ) (t : Type_) → slice_get types h ≡ Some t → length_within 0 t.inner ≡ true
 
--- have one tree each, whatever is named how
-module _ (types : List Type_) (are : AreNameless types) (a b : NameMap) where
+-- have one tree each
+module _ (types : List Type_) (a b : NameMap) (are : AreNamedAlike types a b) where
   abbrev n : Names
   n = names_of types a
 
   abbrev k : Names
   k = names_of types b
 
-  if_no : (struct : Bool) → struct ≡ false → (x y : List ℕ) (o p : Option TypeSpecifier) → o ≡ p →
+  either_same : (struct : Bool) (x y : List ℕ) → x ≡ y → (o p : Option TypeSpecifier) → o ≡ p →
       (if struct then Some (Named x) else o) ≡ (if struct then Some (Named y) else p)
-  if_no true is x y o p e = absurd cc
-  if_no false is x y o p e = e
+  either_same true x y same o p e = ap (λ w. Some (Named w)) same
+  either_same false x y same o p e = e
 
   found_same : (f g : ℕ → Option TypeSpecifier) → ((b : ℕ) → f b ≡ g b) → (h : ℕ) →
       (o : Option Type_) → slice_get types h ≡ o → found_tree_by n f h o ≡ found_tree_by k g h o
   found_same f g same h None at = refl
   found_same f g same h (Some t) at =
-      if_no (is_struct t.inner) (are.structs h t at) _ _ _ _
+      either_same (is_struct t.inner) _ _ (are.names h t at) _ _
       (inner_same n k f g same t.inner (are.lengths h t at))
 
   within_same : (levels h : ℕ) → tree_within levels n h ≡ tree_within levels k h
@@ -188,23 +189,39 @@ query_plain : (b : Bool) → is_plain (ray_tree (codes "ray_query") b) ≡ true
 query_plain true = refl
 query_plain false = refl
 
-module _ (n : Names) (none : (h : ℕ) (t : Type_) → slice_get n.types h ≡ Some t → is_struct t.inner ≡ false) where
+-- a struct by its name
+pub record IsStructNamed (n : Names) (t : TypeSpecifier) : Type 0 where
+  pub handle : ℕ
+  pub type : Type_
+  pub there : slice_get n.types handle ≡ Some type
+  pub is : is_struct type.inner ≡ true
+  pub named : t ≡ Named (n.struct_name handle)
+
+-- each tree is spelled as no name is, or it is the name of a struct
+module _ (n : Names) where
+  abbrev IsKnown : TypeSpecifier → Type 0
+  IsKnown t = (is_plain t ≡ true) ⊎ IsStructNamed n t
+
   inner_plain : (f : ℕ → Option TypeSpecifier) →
-      ((b : ℕ) (x : TypeSpecifier) → f b ≡ Some x → is_plain x ≡ true) → (it : TypeInner) →
-      (t : TypeSpecifier) → inner_tree_by n f it ≡ Some t → is_plain t ≡ true
-  inner_plain f all (inner.Scalar s) t e = scalar_plain s t e
-  inner_plain f all (inner.Vector v s) t e = mapped_plain (of_one _) (λ x. refl) (scalar_tree s) t e
-  inner_plain f all (inner.Matrix c r s) t e = mapped_plain (of_one _) (λ x. refl) (scalar_tree s) t e
+      ((b : ℕ) (x : TypeSpecifier) → f b ≡ Some x → IsKnown x) → (it : TypeInner) →
+      (t : TypeSpecifier) → inner_tree_by n f it ≡ Some t → IsKnown t
+  inner_plain f all (inner.Scalar s) t e = inl (scalar_plain s t e)
+  inner_plain f all (inner.Vector v s) t e =
+      inl (mapped_plain (of_one _) (λ x. refl) (scalar_tree s) t e)
+  inner_plain f all (inner.Matrix c r s) t e =
+      inl (mapped_plain (of_one _) (λ x. refl) (scalar_tree s) t e)
   inner_plain f all (inner.CooperativeMatrix c r s l) t e =
-      mapped_plain _ (λ x. refl) (scalar_tree s) t e
-  inner_plain f all (inner.Atomic s) t e = mapped_plain (of_one _) (λ x. refl) (scalar_tree s) t e
+      inl (mapped_plain _ (λ x. refl) (scalar_tree s) t e)
+  inner_plain f all (inner.Atomic s) t e =
+      inl (mapped_plain (of_one _) (λ x. refl) (scalar_tree s) t e)
   inner_plain f all (inner.Pointer base a) t e = by (space_word a) e
     where
       by : (s : Option (List ℕ)) → pointer_tree_in s (space_access_word a) (f base) ≡ Some t →
-          is_plain t ≡ true
+          IsKnown t
       by None e = all base t e
-      by (Some space) e = mapped_plain _ (pointer_plain space (space_access_word a)) (f base) t e
-  inner_plain f all (inner.ValuePointer v s a) t e = by (space_word a) e
+      by (Some space) e =
+          inl (mapped_plain _ (pointer_plain space (space_access_word a)) (f base) t e)
+  inner_plain f all (inner.ValuePointer v s a) t e = inl (by (space_word a) e)
     where
       by : (o : Option (List ℕ)) →
           value_pointer_tree_in o (space_access_word a) (value_tree v s) ≡ Some t →
@@ -213,37 +230,39 @@ module _ (n : Names) (none : (h : ℕ) (t : Type_) → slice_get n.types h ≡ S
       by (Some space) e =
           mapped_plain _ (pointer_plain space (space_access_word a)) (value_tree v s) t e
   inner_plain f all (inner.Array base l stride) t e =
-      mapped_plain _ (array_plain n _ l) (f base) t e
-  inner_plain f all (inner.BindingArray base l) t e = mapped_plain _ (array_plain n _ l) (f base) t e
+      inl (mapped_plain _ (array_plain n _ l) (f base) t e)
+  inner_plain f all (inner.BindingArray base l) t e =
+      inl (mapped_plain _ (array_plain n _ l) (f base) t e)
   inner_plain f all (inner.Struct members span) t e = absurd cc
-  inner_plain f all (inner.Image dim arrayed c) t e = image_plain dim arrayed c t e
-  inner_plain f all (inner.Sampler comparison) t e = same_plain _ t (sampler_plain comparison) e
-  inner_plain f all (inner.AccelerationStructure b) t e = same_plain _ t (structure_plain b) e
-  inner_plain f all (inner.RayQuery b) t e = same_plain _ t (query_plain b) e
-
-  named_plain : (f : ℕ → Option TypeSpecifier) →
-      ((b : ℕ) (x : TypeSpecifier) → f b ≡ Some x → is_plain x ≡ true) → (h : ℕ) (it : TypeInner) →
-      (struct : Bool) → struct ≡ false → (t : TypeSpecifier) →
-      (if struct then Some (Named (n.struct_name h)) else inner_tree_by n f it) ≡ Some t →
-      is_plain t ≡ true
-  named_plain f all h it true is t e = absurd cc
-  named_plain f all h it false is t e = inner_plain f all it t e
+  inner_plain f all (inner.Image dim arrayed c) t e = inl (image_plain dim arrayed c t e)
+  inner_plain f all (inner.Sampler comparison) t e =
+      inl (same_plain _ t (sampler_plain comparison) e)
+  inner_plain f all (inner.AccelerationStructure b) t e =
+      inl (same_plain _ t (structure_plain b) e)
+  inner_plain f all (inner.RayQuery b) t e = inl (same_plain _ t (query_plain b) e)
 
   found_plain : (f : ℕ → Option TypeSpecifier) →
-      ((b : ℕ) (x : TypeSpecifier) → f b ≡ Some x → is_plain x ≡ true) → (h : ℕ) →
+      ((b : ℕ) (x : TypeSpecifier) → f b ≡ Some x → IsKnown x) → (h : ℕ) →
       (o : Option Type_) → slice_get n.types h ≡ o → (t : TypeSpecifier) →
-      found_tree_by n f h o ≡ Some t → is_plain t ≡ true
+      found_tree_by n f h o ≡ Some t → IsKnown t
   found_plain f all h None at t e = absurd cc
-  found_plain f all h (Some y) at t e =
-      named_plain f all h y.inner (is_struct y.inner) (none h y at) t e
+  found_plain f all h (Some y) at t e = by (is_struct y.inner) refl e
+    where
+      by : (struct : Bool) → is_struct y.inner ≡ struct →
+          (if struct then Some (Named (n.struct_name h)) else inner_tree_by n f y.inner) ≡ Some t →
+          IsKnown t
+      by true is e =
+          inr
+          (record { handle = h; type = y; there = at; is = is; named = sym (same_Some _ t e) })
+      by false is e = inner_plain f all y.inner t e
 
-  within_plain : (k h : ℕ) (t : TypeSpecifier) → tree_within k n h ≡ Some t → is_plain t ≡ true
+  within_plain : (k h : ℕ) (t : TypeSpecifier) → tree_within k n h ≡ Some t → IsKnown t
   within_plain zero h t e = absurd cc
   within_plain (suc k) h t e =
       found_plain (tree_within k n) (within_plain k) h (slice_get n.types h) refl t e
 
   resolution_plain : (r : TypeResolution) (t : TypeSpecifier) → resolution_tree n r ≡ Some t →
-      is_plain t ≡ true
+      IsKnown t
   unfolding type_tree
   resolution_plain (Handle h) t e = within_plain (suc h) h t e
   resolution_plain (Value it) t e =
@@ -278,54 +297,52 @@ free_tree (Named w) is plain =
 free_tree (Template w parts) is plain = template_free w parts is.part.0
 
 -- ---- types of a module of the part
--- no struct is among them
-pub no_struct : (types : List Type_) → list_all type_is_of_part types ≡ true →
-    (h : ℕ) (t : Type_) → slice_get types h ≡ Some t → is_struct t.inner ≡ false
-no_struct types all h t at = by t.inner (list_all_at type_is_of_part types h t all at)
+-- a struct among them is declared by no text
+pub struct_undeclared : (m : Module) → types_are_of_part m ≡ true → (h : ℕ) (t : Type_) →
+    slice_get m.types h ≡ Some t → is_struct t.inner ≡ true →
+    is_undeclared m.special_types h ≡ true
+struct_undeclared m all h t at is = by t.inner is (type_of_part m all h t at)
   where
-    by : (it : TypeInner) → needs_nothing it ≡ true → is_struct it ≡ false
-    by (inner.Struct members span) is = absurd cc
-    by _ is = refl
+    by : (it : TypeInner) → is_struct it ≡ true →
+        (needs_nothing it || (is_struct it && is_undeclared m.special_types h)) ≡ true →
+        is_undeclared m.special_types h ≡ true
+    by (inner.Struct members span) is part = part
+    by _ is part = absurd cc
 
--- nor is what is known of an expression one
-pub no_struct_known : (m : Module) → list_all type_is_of_part m.types ≡ true → (r : TypeResolution) →
-    IsFit m r → (it : TypeInner) → inner_of r m.types ≡ Some it → is_struct it ≡ false
-no_struct_known m all (Handle h) fit it is = by (slice_get m.types h) refl is
-  where
-    by : (o : Option Type_) → slice_get m.types h ≡ o → option_map (λ t. t.inner) o ≡ Some it →
-        is_struct it ≡ false
-    by (Some t) at is =
-        subst (λ it. is_struct it ≡ false) (same_Some t.inner it is) (no_struct m.types all h t at)
-    by None at is = absurd cc
-no_struct_known m all (Value own) fit it is =
-    subst (λ it. is_struct it ≡ false) (same_Some own it is) (by own fit.0)
-  where
-    by : (it : TypeInner) → resolution_is_fit (Value it) ≡ true → is_struct it ≡ false
-    by (inner.Struct members span) fits = absurd cc
-    by _ fits = refl
-
-module _ (m : Module) (are : TypesAreCounted m) where
+module _ (m : Module) (types : TypesAreFit m) where
   -- a type of the module that has a form is one of the grammar
   pub is_type_at : (ty : ℕ) → has_form m.types (Handle ty) ≡ true →
       IsType (type_form (type_names m) ty)
   is_type_at ty is =
       let t = tree_there (type_names m) (Handle ty) is in
-      subst (λ o. IsType (unwrap_or o (Named []))) (sym t.1) (tree_is m are (Handle ty) tt t.0 t.1)
+      subst (λ o. IsType (unwrap_or o (Named []))) (sym t.1) (tree_is m types (Handle ty) tt t.0 t.1)
 
   -- what a `let` tells is a type of the grammar
   pub told_is : (explicit : Bool) (es : List ExpressionInfo) →
       ((h : ℕ) (k : ExpressionInfo) → slice_get es h ≡ Some k → IsFit m k.ty) →
       (h : ℕ) (tree : TypeSpecifier) →
-      told_type explicit (type_names m) es h ≡ Some tree → IsType tree
+      told_type explicit m (type_names m) es h ≡ Some tree → IsType tree
   told_is true es fits h tree is =
-      let k = then_some (λ k. resolution_tree (type_names m) k.ty) (slice_get es h) tree is in
-      tree_is m are k.0.ty (fits h k.0 k.1) tree k.2
+      let k =
+      then_some
+      (λ k. if names_undeclared m k.ty then None else resolution_tree (type_names m) k.ty)
+      (slice_get es h) tree is in
+      by (names_undeclared m k.0.ty) k.0 (fits h k.0 k.1) k.2
+    where
+      by : (undeclared : Bool) (k : ExpressionInfo) → IsFit m k.ty →
+          (if undeclared then None else resolution_tree (type_names m) k.ty) ≡ Some tree →
+          IsType tree
+      by true k fit e = absurd cc
+      by false k fit e = tree_is m types k.ty fit tree e
   told_is false es fits h tree is = absurd cc
 
-  -- the tree of a type is spelled as no name is, among types without structs
-  pub free_form : list_all type_is_of_part m.types ≡ true → (r : TypeResolution) → IsFit m r →
+  -- the tree of a type is spelled as no name is, or it names a struct
+  pub free_form : (r : TypeResolution) → IsFit m r →
       (t : TypeSpecifier) → resolution_tree (type_names m) r ≡ Some t →
-      operates_freely (type_layout t) ≡ true
-  free_form all r fit t is =
-      free_tree t (tree_is m are r fit t is)
-      (resolution_plain (type_names m) (no_struct m.types all) r t is)
+      (operates_freely (type_layout t) ≡ true) ⊎ IsStructNamed (type_names m) t
+  free_form r fit t is = by (resolution_plain (type_names m) r t is)
+    where
+      by : (is_plain t ≡ true) ⊎ IsStructNamed (type_names m) t →
+          (operates_freely (type_layout t) ≡ true) ⊎ IsStructNamed (type_names m) t
+      by (inl plain) = inl (free_tree t (tree_is m types r fit t is) plain)
+      by (inr named) = inr named

@@ -64,7 +64,7 @@ function_form explicit names given m info g f es =
       parameters = parameters_form names m.types g 0 f.arguments.items;
       result = result_form t f.result;
       locals = locals_form n t source 0 f.local_variables;
-      body = lines_form n (told_type explicit t es) source 0 f.body (at_start n.function);
+      body = lines_form n (told_type explicit m t es) source 0 f.body (at_start n.function);
     }
 
 -- the functions from this handle on, each with what is known of its expressions, in a text of the whole

@@ -41,7 +41,7 @@ use Rattle.module_meaning.specs.Names.{ItemsAreCounted, ItemsAreTold, NamesAreCo
 use Rattle.module_meaning.specs.Names.{TypesAreTold, module_names}
 use Rattle.module_meaning.specs.Ranges.{resolution_fits}
 use Rattle.module_meaning.specs.Part.{declares_functions, function_is_written, is_written_so_far}
-use Rattle.module_meaning.specs.Part.{type_is_of_part}
+use Rattle.module_meaning.specs.Part.{types_are_of_part}
 use Rattle.module_meaning.specs.Premises.{handles_are_counted, scope_holds, ScopesHold}
 use Rattle.module_meaning.specs.Resolution.{ResolvesAs}
 use Rattle.module_meaning.specs.ModuleShapes.{module_shape}
@@ -100,7 +100,7 @@ BindsAsCounted =
 abbrev pub FunctionsAreRead : Type 0
 FunctionsAreRead =
     (explicit : Bool) (given : ℕ → List ℕ) (m : Module) (info : ModuleInfo) (g : ℕ) (f : Function) →
-    (es : List ExpressionInfo) → IsTrue (list_all type_is_of_part m.types) →
+    (es : List ExpressionInfo) → IsTrue (types_are_of_part m) →
     IsTrue (declares_functions m) →
     length m.global_expressions ≡ length info.const_expression_types.items →
     IsTrue (function_is_written f) → WrittenHaveForms explicit m info f es →
@@ -142,10 +142,6 @@ HasAMeaning =
 -- names that are counted tell them apart, as those that a `reset` gives which succeeds
 abbrev pub CountedAreTold : Type 0
 CountedAreTold = (m : Module) → ItemsAreCounted m → ItemsAreTold m
-
--- a module of the part that is written so far has none of them
-abbrev pub WrittenAreTold : Type 0
-WrittenAreTold = (m : Module) → IsTrue (is_written_so_far m) → ItemsAreTold m
 
 -- one world answers by the right types in every run of the module
 abbrev pub HasAWorld : Type 0

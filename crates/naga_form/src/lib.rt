@@ -7,7 +7,7 @@ pub mod types;
 ghost use Rattle.naga_form.specs.Laws.{IsAProgram, HasTheInterface, ResolvesAsMeant};
 ghost use Rattle.naga_form.specs.Laws.{BindsAsCounted, FunctionsAreRead, IsReadAsItsShapes};
 ghost use Rattle.naga_form.specs.Laws.{RunsAsTheModule, ScopesAreChecked, IsConsistent};
-ghost use Rattle.naga_form.specs.Laws.{HasAMeaning, CountedAreTold, WrittenAreTold, HasAWorld};
+ghost use Rattle.naga_form.specs.Laws.{HasAMeaning, CountedAreTold, HasAWorld};
 ghost use Rattle.naga_form.specs.Laws.{EveryHasAWorld, IsNotStuck, EveryIsNotStuck, AlikeAreTold};
 ghost use Rattle.naga_form.specs.Laws.{UnspelledAreTold, LiteralsAreTold, WordsAreTold, WordsAreKept};
 ghost use Rattle.naga_form.specs.Laws.{OperandsAreTold, RequestsAreTold};
@@ -61,12 +61,11 @@ pub fn scopes_are_checked()
 /// The operators of every accepted module, written so far or not, are typed consistently, so that
 /// some meaning gives each a value of its handle's type, where its structs, overrides and members
 /// are told apart by their names. They are where names are counted, as in each module that gets
-/// names, and in a module of the part that is written so far, which has none of them.
+/// names.
 pub fn has_a_typed_meaning()
     ensures consistent { IsConsistent }
     ensures meaning { HasAMeaning }
     ensures counted { CountedAreTold }
-    ensures written { WrittenAreTold }
 {}
 
 /// For each such meaning, one world answers by the right types in every run of the module: of a

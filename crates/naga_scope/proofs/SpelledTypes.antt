@@ -10,6 +10,7 @@ use Rattle.std.proofs.lemmas.List.{drop_all}
 use Rattle.std.proofs.lemmas.List.Folds.{find-append}
 use Rattle.module_meaning.proofs.Fitting.{drop_first}
 use Rattle.module_meaning.specs.AlikeTypes.{has_form}
+use Rattle.module_meaning.specs.Undeclared.{is_spellable, names_undeclared}
 use Rattle.module_meaning.specs.FunctionShapes.{function_shape}
 use Rattle.module_meaning.specs.Written.{IsSpelledIn, OfArgument, OfLet, OfLocal, OfResult}
 use Rattle.module_meaning.specs.Written.{block_emits, statement_emits}
@@ -24,7 +25,7 @@ use Rattle.naga_ir.specs.declared.module.FunctionResult.{FunctionResult}
 use Rattle.naga_ir.specs.declared.module.Module.{Module}
 use Rattle.naga_ir.specs.declared.types.Type_.{Type_}
 use Rattle.naga_scope.specs.SpelledTypes.{declared_formless, declared_types, is_formless, tells_formless}
-use Rattle.naga_scope.specs.SpelledTypes.{told_formless}
+use Rattle.naga_scope.specs.SpelledTypes.{is_told_formless, told_formless}
 use Rattle.shader_runs.specs.Program.{binds}
 
 -- ---- searches
@@ -137,32 +138,32 @@ abbrev local_types : Function → List ℕ
 local_types f = map (λ l. l.ty) f.local_variables
 
 -- the first of all is the first of the arguments', or of the result's, or of the locals'
-pub parted : (types : List Type_) (f : Function) →
-    declared_formless types f ≡
-    option_or (find (is_formless types) (argument_types f))
-    (option_or (find (is_formless types) (answer_types f)) (find (is_formless types) (local_types f)))
-parted types f =
-    find-append (is_formless types) (argument_types f) (answer_types f ++ local_types f)
-    ∙ ap (option_or (find (is_formless types) (argument_types f)))
-    (find-append (is_formless types) (answer_types f) (local_types f))
+pub parted : (m : Module) (f : Function) →
+    declared_formless m f ≡
+    option_or (find (is_formless m) (argument_types f))
+    (option_or (find (is_formless m) (answer_types f)) (find (is_formless m) (local_types f)))
+parted m f =
+    find-append (is_formless m) (argument_types f) (answer_types f ++ local_types f)
+    ∙ ap (option_or (find (is_formless m) (argument_types f)))
+    (find-append (is_formless m) (answer_types f) (local_types f))
 
 module _ (explicit : Bool) (m : Module) (info : ModuleInfo) (f : Function) (es : List ExpressionInfo) where
   abbrev bound : ℕ → Bool
   bound = binds (function_shape m info f es)
 
   abbrev p : ℕ → Bool
-  p = is_formless m.types
+  p = is_formless m
 
   abbrev told : ℕ → Bool
-  told = tells_formless m.types es bound
+  told = tells_formless m es bound
 
   -- where neither search finds one, each type that is spelled has a form
-  pub spelled_formed : declared_formless m.types f ≡ None → told_formless explicit m.types es bound f ≡ None →
-      (r : TypeResolution) → IsSpelledIn explicit m info f es r → IsTrue (has_form m.types r)
+  pub spelled_formed : declared_formless m f ≡ None → told_formless explicit m es bound f ≡ None →
+      (r : TypeResolution) → IsSpelledIn explicit m info f es r → IsTrue (is_spellable m r)
   spelled_formed none_declared none_told = spelled
     where
       one : (find p (argument_types f) ≡ None) × (option_or (find p (answer_types f)) (find p (local_types f)) ≡ None)
-      one = neither _ _ (sym (parted m.types f) ∙ none_declared)
+      one = neither _ _ (sym (parted m f) ∙ none_declared)
 
       two : (find p (answer_types f) ≡ None) × (find p (local_types f) ≡ None)
       two = neither _ _ one.1
@@ -174,28 +175,31 @@ module _ (explicit : Bool) (m : Module) (info : ModuleInfo) (f : Function) (es :
 
       let_formed : (b : Bool) → b ≡ true → (if b then find told (block_emits f.body) else None) ≡ None →
           (h : ℕ) (k : ExpressionInfo) → IsAmong (block_emits f.body) h → bound h ≡ true → slice_get es h ≡ Some k →
-          has_form m.types k.ty ≡ true
-      let_formed false tells none h k among is_bound at = absurd cc
-      let_formed true tells none h k among is_bound at =
+          names_undeclared m k.ty ≡ false → is_spellable m k.ty ≡ true
+      let_formed false tells none h k among is_bound at declared = absurd cc
+      let_formed true tells none h k among is_bound at declared =
           let place = there_among (block_emits f.body) h among in
           let fails = none_passes told (block_emits f.body) none place.0 h place.1 in
-          turned_false (has_form m.types k.ty)
-          (sym (ap (λ b. b && option_map_or (λ k. not (has_form m.types k.ty)) (slice_get es h) false) is_bound
-          ∙ ap (λ o. option_map_or (λ k. not (has_form m.types k.ty)) o false) at)
-          ∙ fails)
+          let formed = turned_false (has_form m.types k.ty)
+          (sym (ap (λ b. b && option_map_or (λ k. is_told_formless m k.ty) (slice_get es h) false) is_bound
+          ∙ ap (λ o. option_map_or (λ k. is_told_formless m k.ty) o false) at
+          ∙ ap (λ b. not b && not (has_form m.types k.ty)) declared)
+          ∙ fails) in
+          λ i. formed i && not (declared i)
 
-      spelled : (r : TypeResolution) → IsSpelledIn explicit m info f es r → IsTrue (has_form m.types r)
+      spelled : (r : TypeResolution) → IsSpelledIn explicit m info f es r → IsTrue (is_spellable m r)
       spelled _ (OfArgument n a at) =
-          turned_false (has_form m.types (Handle a.ty)) (none_passes p (argument_types f) one.0 n a.ty (map_at (λ a. a.ty) f.arguments.items n a at))
+          turned_false (is_spellable m (Handle a.ty)) (none_passes p (argument_types f) one.0 n a.ty (map_at (λ a. a.ty) f.arguments.items n a at))
       spelled _ (OfResult r is) =
-          turned_false (has_form m.types (Handle r.ty)) (none_passes p (answer_types f) two.0 0 r.ty (at_answer f.result r is))
+          turned_false (is_spellable m (Handle r.ty)) (none_passes p (answer_types f) two.0 0 r.ty (at_answer f.result r is))
       spelled _ (OfLocal l v at) =
-          turned_false (has_form m.types (Handle v.ty)) (none_passes p (local_types f) two.1 l v.ty (map_at (λ l. l.ty) f.local_variables l v at))
-      spelled _ (OfLet h k tells among is_bound at) = let_formed explicit tells none_told h k among is_bound at
+          turned_false (is_spellable m (Handle v.ty)) (none_passes p (local_types f) two.1 l v.ty (map_at (λ l. l.ty) f.local_variables l v at))
+      spelled _ (OfLet h k tells among is_bound at declared) =
+          let_formed explicit tells none_told h k among is_bound at declared
 
   -- what the first search finds is spelled, and has no form
-  pub declared_lacks : (ty : ℕ) → declared_formless m.types f ≡ Some ty → IsSpelledIn explicit m info f es (Handle ty) × IsFalse (has_form m.types (Handle ty))
-  declared_lacks ty is = by (either_one _ _ ty (sym (parted m.types f) ∙ is))
+  pub declared_lacks : (ty : ℕ) → declared_formless m f ≡ Some ty → IsSpelledIn explicit m info f es (Handle ty) × IsFalse (is_spellable m (Handle ty))
+  declared_lacks ty is = by (either_one _ _ ty (sym (parted m f) ∙ is))
     where
       of_answer : (o : Option FunctionResult) → f.result ≡ o → (i : ℕ) →
           slice_get (option_to_list (option_map (λ r. r.ty) o)) i ≡ Some ty → IsSpelledIn explicit m info f es (Handle ty)
@@ -206,43 +210,46 @@ module _ (explicit : Bool) (m : Module) (info : ModuleInfo) (f : Function) (es :
       of_answer (Some r) result (suc i) at = absurd cc
 
       inside : (find p (answer_types f) ≡ Some ty) ⊎ (find p (local_types f) ≡ Some ty) →
-          IsSpelledIn explicit m info f es (Handle ty) × IsFalse (has_form m.types (Handle ty))
+          IsSpelledIn explicit m info f es (Handle ty) × IsFalse (is_spellable m (Handle ty))
       inside (inl is) =
           let found = found_passes p (answer_types f) ty is in
-          (of_answer f.result refl found.0 found.1, turned_true (has_form m.types (Handle ty)) found.2)
+          (of_answer f.result refl found.0 found.1, turned_true (is_spellable m (Handle ty)) found.2)
       inside (inr is) =
           let found = found_passes p (local_types f) ty is in
           let here = at_map (λ l. l.ty) f.local_variables found.0 ty found.1 in (
             subst (λ ty. IsSpelledIn explicit m info f es (Handle ty)) here.2 (OfLocal found.0 here.0 here.1),
-            turned_true (has_form m.types (Handle ty)) found.2,
+            turned_true (is_spellable m (Handle ty)) found.2,
           )
 
       by : (find p (argument_types f) ≡ Some ty) ⊎ (option_or (find p (answer_types f)) (find p (local_types f)) ≡ Some ty) →
-          IsSpelledIn explicit m info f es (Handle ty) × IsFalse (has_form m.types (Handle ty))
+          IsSpelledIn explicit m info f es (Handle ty) × IsFalse (is_spellable m (Handle ty))
       by (inl is) =
           let found = found_passes p (argument_types f) ty is in
           let here = at_map (λ a. a.ty) f.arguments.items found.0 ty found.1 in (
             subst (λ ty. IsSpelledIn explicit m info f es (Handle ty)) here.2 (OfArgument found.0 here.0 here.1),
-            turned_true (has_form m.types (Handle ty)) found.2,
+            turned_true (is_spellable m (Handle ty)) found.2,
           )
       by (inr is) = inside (either_one _ _ ty is)
 
   -- so it is with what the second finds
-  pub let_lacks : (h : ℕ) → told_formless explicit m.types es bound f ≡ Some h →
-      IsSomeAnd (slice_get es h) (λ k. IsSpelledIn explicit m info f es k.ty × IsFalse (has_form m.types k.ty))
+  pub let_lacks : (h : ℕ) → told_formless explicit m es bound f ≡ Some h →
+      IsSomeAnd (slice_get es h) (λ k. IsSpelledIn explicit m info f es k.ty × IsFalse (is_spellable m k.ty))
   let_lacks h is = by explicit refl is
     where
       known : (o : Option ExpressionInfo) → slice_get es h ≡ o → explicit ≡ true → IsAmong (block_emits f.body) h →
-          bound h ≡ true → option_map_or (λ k. not (has_form m.types k.ty)) o false ≡ true →
-          IsSomeAnd o (λ k. IsSpelledIn explicit m info f es k.ty × IsFalse (has_form m.types k.ty))
+          bound h ≡ true → option_map_or (λ k. is_told_formless m k.ty) o false ≡ true →
+          IsSomeAnd o (λ k. IsSpelledIn explicit m info f es k.ty × IsFalse (is_spellable m k.ty))
       known None at tells among is_bound lacks = absurd cc
       known (Some k) at tells among is_bound lacks =
-          (OfLet h k tells among is_bound at, turned_true (has_form m.types k.ty) lacks)
+          let parts = and_parts (not (names_undeclared m k.ty)) (not (has_form m.types k.ty)) lacks in (
+            OfLet h k tells among is_bound at (turned_true (names_undeclared m k.ty) parts.0),
+            ap (λ b. b && not (names_undeclared m k.ty)) (turned_true (has_form m.types k.ty) parts.1),
+          )
 
       by : (b : Bool) → explicit ≡ b → (if b then find told (block_emits f.body) else None) ≡ Some h →
-          IsSomeAnd (slice_get es h) (λ k. IsSpelledIn explicit m info f es k.ty × IsFalse (has_form m.types k.ty))
+          IsSomeAnd (slice_get es h) (λ k. IsSpelledIn explicit m info f es k.ty × IsFalse (is_spellable m k.ty))
       by false tells is = absurd cc
       by true tells is =
           let found = found_passes told (block_emits f.body) h is in
-          let both = and_parts (bound h) (option_map_or (λ k. not (has_form m.types k.ty)) (slice_get es h) false) found.2 in
+          let both = and_parts (bound h) (option_map_or (λ k. is_told_formless m k.ty) (slice_get es h) false) found.2 in
           known (slice_get es h) refl tells (among_there (block_emits f.body) found.0 h found.1) both.0 both.1

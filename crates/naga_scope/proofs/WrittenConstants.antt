@@ -12,12 +12,11 @@ use Rattle.std.proofs.lemmas.List.{get_or-set_other, get_or_past, length-set}
 use Rattle.std.proofs.lemmas.Option.{slice_get_past, slice_get_within}
 use Rattle.module_meaning.proofs.Stepwise.{by_those_before}
 use Rattle.module_meaning.specs.Accepted.{is_accepted}
-use Rattle.module_meaning.specs.Names.{TypesAreTold}
 use Rattle.naga_form.proofs.Ordered.{each_below}
 use Rattle.naga_form.proofs.WrittenOut.{Own, constant_named, initialiser_stands_before}
 use Rattle.naga_form.proofs.WrittenOut.{initialiser_within, own_is}
 use Rattle.naga_info.specs.declared.info.ModuleInfo.{ModuleInfo}
-use Rattle.module_meaning.specs.AlikeTypes.{has_form}
+use Rattle.module_meaning.specs.Undeclared.{is_spellable}
 use Rattle.module_meaning.specs.Part.{constant_is_written, global_is_written}
 use Rattle.module_meaning.specs.Part.{global_is_written_over, global_is_written_within}
 use Rattle.module_meaning.specs.Part.{initialiser_passes}
@@ -114,7 +113,7 @@ pub global_same : (m : Module) → GlobalsStandInOrder m → (h : ℕ) (e : Expr
 global_same m ordered h (expression.Constant c) at a b same =
     initialiser_same m a b h c (λ k there. ordered.initialisers h c k at there) same
 global_same m ordered h (expression.Compose ty components) at a b same =
-    ap (λ all. has_form m.types (Handle ty) && all)
+    ap (λ all. is_spellable m (Handle ty) && all)
     (list_same a b h components.items
     (ordered.operands h (expression.Compose ty components) at) same)
 global_same m ordered h (expression.Splat size value) at a b same =
@@ -151,12 +150,12 @@ constant_marked m marks are c = by (slice_get m.constants c)
 -- ---- order
 -- in a module that is accepted operands and initialisers stand before
 pub globals_in_order : (m : Module) (info : ModuleInfo) → IsTrue (is_accepted m info) →
-    TypesAreTold m → GlobalsStandInOrder m
-globals_in_order m info accepted told = record {
-  operands = λ h e at. each_below h (expression_operands e) ((own_is m info accepted told).below h e at);
-  initialisers = λ h c k at there. initialiser_stands_before m info accepted told h c at k there;
+    GlobalsStandInOrder m
+globals_in_order m info accepted = record {
+  operands = λ h e at. each_below h (expression_operands e) ((own_is m info accepted).below h e at);
+  initialisers = λ h c k at there. initialiser_stands_before m info accepted h c at k there;
   named = λ h c at.
-      let k = constant_named m info accepted told None (Own m info accepted told) (own_is m info accepted told) h c at in
+      let k = constant_named m info accepted None (Own m info accepted) (own_is m info accepted) h c at in
       slice_get_within m.constants c k.0 k.1;
-  initialised = initialiser_within m info accepted told;
+  initialised = initialiser_within m info accepted;
 }

@@ -7,7 +7,7 @@ use Rattle.std.specs.Prelude.{IsFalse, IsTrue, get_or, length, nat_le, slice_get
 use Rattle.naga_ir.specs.declared.module.Function as ir
 use Rattle.naga_info.specs.declared.info.ExpressionInfo.{ExpressionInfo}
 use Rattle.module_meaning.specs.Part.{expression_has_form}
-use Rattle.module_meaning.specs.AlikeTypes.{has_form}
+use Rattle.module_meaning.specs.Undeclared.{is_spellable}
 use Rattle.module_meaning.specs.Written.{IsSpelledIn, IsWrittenIn, WrittenHaveForms}
 use Rattle.naga_ir.specs.declared.module.Module.{Module}
 use Rattle.naga_info.specs.declared.info.ModuleInfo.{ModuleInfo}
@@ -65,10 +65,10 @@ IsRefusalToPlan explicit m info f es namer (WithoutForm h) =
     IsWrittenIn m info f es h
     × IsSomeAnd (slice_get f.expressions h) (λ e. IsFalse (expression_has_form m es f.expressions e))
 IsRefusalToPlan explicit m info f es namer (TypeWithoutForm ty) =
-    IsSpelledIn explicit m info f es (Handle ty) × IsFalse (has_form m.types (Handle ty))
+    IsSpelledIn explicit m info f es (Handle ty) × IsFalse (is_spellable m (Handle ty))
 IsRefusalToPlan explicit m info f es namer (LetWithoutForm h) =
     IsSomeAnd (slice_get es h)
-    (λ k. IsSpelledIn explicit m info f es k.ty × IsFalse (has_form m.types k.ty))
+    (λ k. IsSpelledIn explicit m info f es k.ty × IsFalse (is_spellable m k.ty))
 IsRefusalToPlan explicit m info f es namer (Unnamed error) =
     (earlier : List (List ℕ)) → HasNamed namer earlier →
     IsRefusalOfLabels namer earlier (given_labels f) error

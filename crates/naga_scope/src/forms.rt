@@ -1,37 +1,48 @@
 //! Which expressions have a form.
 
-ghost use Rattle.std.specs.Prelude.{◌≡◌, List, IsTrue};
-ghost use Rattle.std.specs.Option.{is_some};
-ghost use Rattle.module_meaning.specs.AlikeTypes.{has_form};
+ghost use Rattle.std.specs.Prelude.{◌≡◌, List, IsTrue, Some};
+ghost use Rattle.std.specs.Option.{is_some, option_and_then};
 ghost use Rattle.module_meaning.specs.Conversions.{converted_scalar};
 ghost use Rattle.module_meaning.specs.Part.{converts, expression_is_written, is_written_literal};
 ghost use Rattle.module_meaning.specs.ExpressionOperators.{scalar_behind, scalar_in};
-ghost use Rattle.module_meaning.specs.Part.{known_passes, loads_matrix};
+ghost use Rattle.module_meaning.specs.Names.{HasNamesOf, module_names, name_in};
+ghost use Rattle.module_meaning.specs.Part.{known_passes, loads_matrix, part_is_written};
 ghost use Rattle.module_meaning.specs.Sampling.{sampling_is_written};
+ghost use Rattle.module_meaning.specs.Undeclared.{is_spellable, member_words, part_is_written_at};
+ghost use Rattle.module_meaning.specs.Undeclared.{whole_known, whole_of};
+ghost use Rattle.naga_info.specs.Resolution.{InRange, inner_of};
 ghost use Rattle.naga_info.specs.declared.info.TypeResolution.TheVariants.{Handle as OfHandle};
 ghost use Rattle.naga_ir.specs.declared.types.Type_.{Type_};
+ghost use Rattle.naga_names.specs.Keys.{names_in};
+ghost use Rattle.naga_names.specs.declared.key.NameKey.TheVariants as key;
 ghost use Rattle.naga_scope.specs.Forms.{AreKnownIn};
 ghost use Rattle.naga_scope.specs.Marks.{MarksGlobals};
+ghost use Rattle.wgsl_text.specs.Words.{stands_in};
 ghost use Rattle.wgsl_words.specs.Words.{scalar_word};
 
 use crate::global_expressions::GlobalExpressions;
-use naga_acceptance::is_spelled;
+use naga_acceptance::is_spellable;
 use naga_acceptance::parts::known_has_parts;
+use naga_acceptance::undeclared::is_undeclared;
 use naga_info::{FunctionInfo, TypeResolution};
 use naga_ir::{
     CooperativeRole, CooperativeSize, Expression, Handle, Literal, Module, RelationalFunction,
     SampleLevel, Scalar, ScalarKind, SwizzleComponent, Type_, TypeInner, UniqueArena,
 };
+use naga_names::NameKey;
+use std::collections::HashMap;
 use wgsl_words::TryToWgsl;
 
 /// Whether an expression is one that is written, where its offset, if it has one, is written out.
 pub(crate) fn is_written(
     module: &Module,
     globals: &GlobalExpressions,
+    names: &HashMap<NameKey, String>,
     info: &FunctionInfo,
     expression: &Expression,
 ) -> bool
     requires globals { MarksGlobals «module».now globals.now }
+    requires named { HasNamesOf «module».now (names_in names.now) }
     requires known { AreKnownIn «module».now.types info.now }
     ensures { result ≡ expression_is_written «module».now info.now expression.now }
 {
@@ -57,12 +68,12 @@ pub(crate) fn is_written(
             clamp_to_edge,
             ..
         } => sampling_has_form(*gather, *level, depth_ref.is_some(), *clamp_to_edge),
-        Expression::AccessIndex { base, .. } => {
-            known_has_parts(&module.types, info.expressions.as_slice(), *base)
+        Expression::AccessIndex { base, index } => {
+            part_is_written(module, names, info, *base, *index)
         }
         Expression::ImageLoad { sample, level, .. } => sample.is_none() || level.is_none(),
-        Expression::ZeroValue(ty) => type_has_form(&module.types, *ty),
-        Expression::Compose { ty, .. } => type_has_form(&module.types, *ty),
+        Expression::ZeroValue(ty) => type_is_spellable(module, *ty),
+        Expression::Compose { ty, .. } => type_is_spellable(module, *ty),
         Expression::As {
             expr,
             kind,
@@ -106,11 +117,108 @@ pub fn sampling_has_form(
     }
 }
 
-/// Whether the type with this handle has a form.
-pub(crate) fn type_has_form(types: &UniqueArena<Type_>, ty: Handle<Type_>) -> bool
-    ensures { result ≡ has_form types.now (OfHandle ty) }
+/// Whether a text can spell the type with this handle.
+pub(crate) fn type_is_spellable(module: &Module, ty: Handle<Type_>) -> bool
+    ensures { result ≡ is_spellable «module».now (OfHandle ty) }
 {
-    is_spelled(types, &TypeResolution::Handle(ty))
+    is_spellable(module, &TypeResolution::Handle(ty))
+}
+
+/// Whether an expression has parts, and the one with this number is written: it is no member of a
+/// struct that no text declares, or a text can name it.
+fn part_is_written(
+    module: &Module,
+    names: &HashMap<NameKey, String>,
+    info: &FunctionInfo,
+    base: Handle<Expression>,
+    index: u32,
+) -> bool
+    requires named { HasNamesOf «module».now (names_in names.now) }
+    requires known { AreKnownIn «module».now.types info.now }
+    ensures { result ≡ part_is_written «module».now info.now base index }
+{
+    known_has_parts(&module.types, info.expressions.as_slice(), base)
+        && match whole_known(&module.types, info, base) {
+            Some(whole) => part_is_written_at(module, names, index, whole),
+            None => true,
+        }
+}
+
+/// The type of which a part of an expression is taken, if that is one of the module: its own, or what
+/// it points to.
+pub fn whole_known(
+    types: &UniqueArena<Type_>,
+    info: &FunctionInfo,
+    base: Handle<Expression>,
+) -> Option<Handle<Type_>>
+    requires known { AreKnownIn types.now info.now }
+    ensures { result ≡ whole_known types.now info.now base }
+{
+    match info.expressions.get(base.index()) {
+        Some(known) => whole_of(types, &known.ty),
+        None => None,
+    }
+}
+
+fn whole_of(types: &UniqueArena<Type_>, ty: &TypeResolution) -> Option<Handle<Type_>>
+    requires { InRange ty.now types.now }
+    ensures { result ≡ option_and_then (whole_of ty.now) (inner_of ty.now types.now) }
+{
+    match ty.inner_with(types) {
+        TypeInner::Pointer { base, .. } => Some(*base),
+        _ => ty.handle(),
+    }
+}
+
+/// Whether the part with this number of a type of the module is no member of a struct, or is written.
+fn part_is_written_at(
+    module: &Module,
+    names: &HashMap<NameKey, String>,
+    index: u32,
+    whole: Handle<Type_>,
+) -> bool
+    requires named { HasNamesOf «module».now (names_in names.now) }
+    ensures { result ≡ part_is_written_at «module».now index whole }
+{
+    if whole.index() >= module.types.len() {
+        return true;
+    }
+    match &module.types[whole].inner {
+        TypeInner::Struct { members, .. } => {
+            !is_undeclared(&module.special_types, whole)
+                || ((index as usize) < members.len() && has_member_word(module, names, whole, index))
+        }
+        _ => true,
+    }
+}
+
+/// Whether a member of a struct has a word that a text can name.
+fn has_member_word(
+    module: &Module,
+    names: &HashMap<NameKey, String>,
+    whole: Handle<Type_>,
+    index: u32,
+) -> bool
+    requires named { names_in names.now (key.StructMember whole index)
+        ≡ Some (name_in (module_names «module».now) (key.StructMember whole index)) }
+    ensures { result ≡ stands_in member_words
+        (name_in (module_names «module».now) (key.StructMember whole index)) }
+{
+    match names.get(&NameKey::StructMember(whole, index)) {
+        Some(name) => is_member_word(name),
+        None => unreachable!(),
+    }
+}
+
+/// Whether a member has this name in one of the structs that WGSL's own functions give.
+fn is_member_word(name: &str) -> bool
+    ensures { result ≡ stands_in member_words name.now }
+{
+    name == "fract"
+        || name == "whole"
+        || name == "exp"
+        || name == "old_value"
+        || name == "exchanged"
 }
 
 pub(crate) fn literal_has_form(literal: Literal) -> bool

@@ -5,7 +5,7 @@ ghost use Rattle.module_meaning.specs.Part.{constant_is_written, global_is_writt
 ghost use Rattle.module_meaning.specs.Part.{initialiser_passes};
 ghost use Rattle.naga_scope.specs.Marks.{GlobalsStandInOrder, MarksGlobals, is_marked};
 
-use crate::forms::{literal_has_form, type_has_form};
+use crate::forms::{literal_has_form, type_is_spellable};
 use crate::written::{are_marked, is_marked};
 use naga_ir::{Constant, Expression, Handle, Module, Place};
 use std::alloc::{AllocError, Global};
@@ -76,9 +76,9 @@ fn is_written_over(marks: &[bool], module: &Module, expression: &Expression) -> 
     match expression {
         Expression::Literal(literal) => literal_has_form(*literal),
         Expression::Constant(constant) => initialiser_is_marked(marks, module, *constant),
-        Expression::ZeroValue(ty) => type_has_form(&module.types, *ty),
+        Expression::ZeroValue(ty) => type_is_spellable(module, *ty),
         Expression::Compose { ty, components } => {
-            type_has_form(&module.types, *ty) && are_marked(marks, components.as_slice())
+            type_is_spellable(module, *ty) && are_marked(marks, components.as_slice())
         }
         Expression::Splat { value, .. } => is_marked(marks, *value),
         _ => false,

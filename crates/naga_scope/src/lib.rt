@@ -13,7 +13,7 @@ mod spelled;
 mod written;
 
 pub use binding::binds;
-pub use forms::{converted_scalar, sampling_has_form, scalar_behind};
+pub use forms::{converted_scalar, sampling_has_form, scalar_behind, whole_known};
 pub use global_expressions::GlobalExpressions;
 pub use plan::{Plan, PlanError};
 pub use points::{BoundName, Scope, Standing};

@@ -4,7 +4,8 @@ ghost use Rattle.std.specs.Prelude.{◌≡◌, ◌<◌, [], List, IfErr, IfOk, I
 ghost use Rattle.std.specs.Prelude.{string_bytes};
 ghost use Rattle.module_meaning.specs.Accepted.{is_accepted};
 ghost use Rattle.module_meaning.specs.GivenLabels.{given_labels};
-ghost use Rattle.module_meaning.specs.Names.{labels_given};
+ghost use Rattle.module_meaning.specs.Names.{HasNamesOf, labels_given};
+ghost use Rattle.naga_names.specs.Keys.{names_in};
 ghost use Rattle.module_meaning.specs.Part.{function_is_written, is_written_so_far};
 ghost use Rattle.module_meaning.specs.Premises.{OperandsStandBefore};
 ghost use Rattle.naga_info.specs.declared.info.ModuleInfo.{ModuleInfo};
@@ -22,9 +23,10 @@ use crate::spelled::{declared_without_form, told_without_form};
 use crate::written::written_without_form;
 use naga_info::{FunctionInfo, ModuleInfo};
 use naga_ir::{Expression, Function, Handle, Module, Type_};
-use naga_names::NamerError;
+use naga_names::{NameKey, NamerError};
 use naga_names::namer::Namer;
 use std::alloc::{AllocError, Global};
+use std::collections::HashMap;
 use std::marker::Model;
 
 /// Why there is no plan of a function.
@@ -102,6 +104,7 @@ impl Plan {
         info: &ModuleInfo,
         handle: Handle<Function>,
         globals: &GlobalExpressions,
+        names: &HashMap<NameKey, String>,
         explicit: bool,
         namer: &mut Namer,
     ) -> Result<Plan, PlanError>
@@ -109,6 +112,7 @@ impl Plan {
         requires written { IsTrue (is_written_so_far «module».now) }
         requires handle { handle < length «module».now.functions }
         requires globals { MarksGlobals «module».now globals.now }
+        requires names { HasNamesOf «module».now (names_in names.now) }
         ensures ok { IfOk result (IsPlanOf explicit «module».now info.now handle) }
         ensures named { IfOk result (λ p.
             NamesLabels namer.old [] (labels_given «module».now handle) namer.new p.given) }
@@ -121,6 +125,7 @@ impl Plan {
             alloc,
             module,
             globals,
+            names,
             &module.functions[handle],
             &info[handle],
             explicit,
@@ -132,6 +137,7 @@ impl Plan {
         alloc: Global,
         module: &Module,
         globals: &GlobalExpressions,
+        names: &HashMap<NameKey, String>,
         function: &Function,
         info: &FunctionInfo,
         explicit: bool,
@@ -140,6 +146,7 @@ impl Plan {
         requires ordered { OperandsStandBefore function.now.expressions }
         requires written { IsTrue (function_is_written function.now) }
         requires globals { MarksGlobals «module».now globals.now }
+        requires names { HasNamesOf «module».now (names_in names.now) }
         requires known { AreKnownIn «module».now.types info.now }
         ensures ok { (known : ModuleInfo) →
             IfOk result (IsPlan explicit «module».now known function.now info.now) }
@@ -155,13 +162,13 @@ impl Plan {
         if !function_holds(&mut scope, &module.types, function, info) {
             return Err(PlanError::OutOfScope);
         }
-        if let Some(handle) = written_without_form(alloc, module, globals, function, info)? {
+        if let Some(handle) = written_without_form(alloc, module, globals, names, function, info)? {
             return Err(PlanError::WithoutForm(handle));
         }
-        if let Some(ty) = declared_without_form(&module.types, function) {
+        if let Some(ty) = declared_without_form(module, function) {
             return Err(PlanError::TypeWithoutForm(ty));
         }
-        if let Some(handle) = told_without_form(&module.types, function, info, explicit) {
+        if let Some(handle) = told_without_form(module, function, info, explicit) {
             return Err(PlanError::LetWithoutForm(handle));
         }
         scope.restart(function);

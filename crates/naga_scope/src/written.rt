@@ -7,6 +7,7 @@ ghost use Rattle.std.specs.Option.{option_to_list};
 ghost use Rattle.naga_ir.specs.Operands.{expression_operands};
 ghost use Rattle.module_meaning.specs.FunctionShapes.{function_shape};
 ghost use Rattle.module_meaning.specs.Part.{expression_has_form, function_is_written};
+ghost use Rattle.module_meaning.specs.Names.{HasNamesOf};
 ghost use Rattle.module_meaning.specs.Part.{statement_is_written};
 ghost use Rattle.module_meaning.specs.Sampling.{own_offset_is_written};
 ghost use Rattle.module_meaning.specs.Writable.{written_out_over};
@@ -16,6 +17,7 @@ ghost use Rattle.naga_ir.specs.StatementViews.{tree_of};
 ghost use Rattle.naga_ir.specs.declared.module.Module.{Module};
 ghost use Rattle.module_meaning.specs.Premises.{OperandsStandBefore};
 ghost use Rattle.naga_ir.specs.declared.expression.Expression.{Expression};
+ghost use Rattle.naga_names.specs.Keys.{names_in};
 ghost use Rattle.naga_scope.specs.Forms.{AreKnownIn};
 ghost use Rattle.naga_scope.specs.Marks.{MarksConstants, MarksGlobals, MarksJust, Sweeps};
 ghost use Rattle.naga_scope.specs.Marks.{is_marked};
@@ -27,7 +29,9 @@ use crate::forms::is_written;
 use crate::global_expressions::GlobalExpressions;
 use naga_info::FunctionInfo;
 use naga_ir::{Expression, Function, Handle, Module, Place, Range, Statement, Type_, UniqueArena};
+use naga_names::NameKey;
 use std::alloc::{AllocError, Global};
+use std::collections::HashMap;
 
 /// Notes that the expression with this handle is written, if there is one.
 fn mark(marks: &mut [bool], handle: Handle<Expression>)
@@ -118,15 +122,17 @@ fn has_form(
     constants: &[bool],
     module: &Module,
     globals: &GlobalExpressions,
+    names: &HashMap<NameKey, String>,
     info: &FunctionInfo,
     expression: &Expression,
 ) -> bool
     requires globals { MarksGlobals «module».now globals.now }
+    requires named { HasNamesOf «module».now (names_in names.now) }
     requires known { AreKnownIn «module».now.types info.now }
     ensures { (es : List Expression) → MarksConstants es constants.now →
         result ≡ expression_has_form «module».now info.now es expression.now }
 {
-    is_written(module, globals, info, expression) && offset_has_form(constants, expression)
+    is_written(module, globals, names, info, expression) && offset_has_form(constants, expression)
 }
 
 /// Marks what these handles of an `Emit` write: those that a `let` binds.
@@ -241,6 +247,7 @@ fn sweep(
     constants: &[bool],
     module: &Module,
     globals: &GlobalExpressions,
+    names: &HashMap<NameKey, String>,
     function: &Function,
     info: &FunctionInfo,
 ) -> Option<Handle<Expression>>
@@ -248,6 +255,7 @@ fn sweep(
     requires constants { MarksConstants function.now.expressions constants.now }
     requires ordered { OperandsStandBefore function.now.expressions }
     requires globals { MarksGlobals «module».now globals.now }
+    requires named { HasNamesOf «module».now (names_in names.now) }
     requires known { AreKnownIn «module».now.types info.now }
     ensures { (roots : List ℕ) → MarksJust roots marks.old →
         Sweeps (expression_has_form «module».now info.now function.now.expressions)
@@ -259,7 +267,7 @@ fn sweep(
         if marks[end] {
             let handle = Place::from_index(end);
             let expression = &function.expressions[handle];
-            if !has_form(constants, module, globals, info, expression) {
+            if !has_form(constants, module, globals, names, info, expression) {
                 return Some(handle);
             }
             mark_operands(marks, expression);
@@ -275,6 +283,7 @@ fn without_form(
     constants: &[bool],
     module: &Module,
     globals: &GlobalExpressions,
+    names: &HashMap<NameKey, String>,
     function: &Function,
     info: &FunctionInfo,
 ) -> Option<Handle<Expression>>
@@ -283,6 +292,7 @@ fn without_form(
     requires marks { marks.old ≡ replicate (length function.now.expressions) false }
     requires constants { MarksConstants function.now.expressions constants.now }
     requires globals { MarksGlobals «module».now globals.now }
+    requires named { HasNamesOf «module».now (names_in names.now) }
     requires known { AreKnownIn «module».now.types info.now }
     ensures { (known : ModuleInfo) →
         let shape = function_shape «module».now known function.now info.now in
@@ -291,7 +301,7 @@ fn without_form(
 {
     mark_first_values(marks, function);
     mark_body(marks, &module.types, function, info);
-    sweep(marks, constants, module, globals, function, info)
+    sweep(marks, constants, module, globals, names, function, info)
 }
 
 /// The last written expression of the function that has no form, if there is one.
@@ -299,12 +309,14 @@ pub(crate) fn written_without_form(
     alloc: Global,
     module: &Module,
     globals: &GlobalExpressions,
+    names: &HashMap<NameKey, String>,
     function: &Function,
     info: &FunctionInfo,
 ) -> Result<Option<Handle<Expression>>, AllocError>
     requires ordered { OperandsStandBefore function.now.expressions }
     requires written { IsTrue (function_is_written function.now) }
     requires globals { MarksGlobals «module».now globals.now }
+    requires named { HasNamesOf «module».now (names_in names.now) }
     requires known { AreKnownIn «module».now.types info.now }
     ensures { (known : ModuleInfo) →
         let shape = function_shape «module».now known function.now info.now in
@@ -314,5 +326,7 @@ pub(crate) fn written_without_form(
     let mut constants = no_marks(alloc, function)?;
     mark_constants(&mut constants, function);
     let mut marks = no_marks(alloc, function)?;
-    Ok(without_form(&mut marks, &constants, module, globals, function, info))
+    Ok(without_form(
+        &mut marks, &constants, module, globals, names, function, info,
+    ))
 }

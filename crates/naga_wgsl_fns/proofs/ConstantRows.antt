@@ -42,7 +42,8 @@ use Rattle.naga_wgsl_fns.specs.FunctionText.{CanWrite, type_names_of}
 use Rattle.naga_wgsl_fns.specs.Literals.{literal_text}
 use Rattle.naga_wgsl_fns.specs.Types.{type_text}
 use Rattle.naga_wgsl_fns.specs.declared.functions.FunctionText.{FunctionText}
-use Rattle.naga_form.proofs.ToldItems.{written_are_told}
+use Rattle.module_meaning.proofs.Part.{form_of_spellable}
+use Rattle.module_meaning.specs.Undeclared.{is_spellable}
 use Rattle.shader_runs.specs.Premises.{AllBelow}
 use Rattle.wgsl_text.proofs.Expressions.{argument_text as argument_row_text}
 use Rattle.wgsl_text.proofs.Expressions.{call_text as call_row_text}
@@ -109,7 +110,7 @@ module _ (m : Module) (ordered : GlobalsStandInOrder m) where
       by (expression.ZeroValue ty) at below is = tt
       by (expression.Compose ty components) at below is =
           parts_of h components.items below
-          (and_parts (has_form m.types (Handle ty)) (list_all (global_is_written m) components.items)
+          (and_parts (is_spellable m (Handle ty)) (list_all (global_is_written m) components.items)
           is).1
       by (expression.Splat size value) at below is = ((below.0, is), tt)
       by _ at below is = absurd cc
@@ -167,13 +168,15 @@ module _ (m : Module) (ordered : GlobalsStandInOrder m) where
   pub zero_passes : (h : ℕ) (e : ir.Expression) (ty : ℕ) → slice_get m.global_expressions h ≡ Some e →
       e ≡ expression.ZeroValue ty → global_is_written m h ≡ true →
       has_form m.types (Handle ty) ≡ true
-  zero_passes h e ty at same is = written_over h (expression.ZeroValue ty) (at ∙ ap Some same) is
+  zero_passes h e ty at same is =
+      form_of_spellable m (Handle ty) (written_over h (expression.ZeroValue ty) (at ∙ ap Some same) is)
 
   pub composed_passes : (h : ℕ) (e : ir.Expression) (ty : ℕ) (parts : _) →
       slice_get m.global_expressions h ≡ Some e → e ≡ expression.Compose ty parts →
       global_is_written m h ≡ true → has_form m.types (Handle ty) ≡ true
   composed_passes h e ty parts at same is =
-      (and_parts (has_form m.types (Handle ty)) (list_all (global_is_written m) parts.items)
+      form_of_spellable m (Handle ty)
+      (and_parts (is_spellable m (Handle ty)) (list_all (global_is_written m) parts.items)
       (written_over h (expression.Compose ty parts) (at ∙ ap Some same) is)).0
 
   -- ---- forms
@@ -222,7 +225,6 @@ module _ (m : Module) (ordered : GlobalsStandInOrder m) where
 pub in_order : (f : FunctionText) → CanWrite f → GlobalsStandInOrder f.shader.now
 in_order f can =
     globals_in_order f.shader.now f.module_info.now can.accepted
-    (written_are_told f.shader.now can.of_part).types
 
 own_form_is : (f : FunctionText) → CanWrite f → (h : ℕ) (e own : ir.Expression) →
     slice_get f.shader.now.global_expressions h ≡ Some e → e ≡ own →

@@ -112,7 +112,6 @@ can_write t accepted written named here known formed room =
       of_part = written;
       function = here;
       infos = known;
-      values = part.1;
       ranges = function_names_there m info (names_are_there m info accepted) t.handle f here;
       size = one_is_known m info accepted t.handle f t.info.now here known;
       written = list_all_at function_is_written m.functions t.handle f part.2 here;

@@ -6,6 +6,7 @@ pub mod FunctionRows
 pub mod ImageRows
 pub mod Literals
 pub mod LoadRows
+pub mod Members
 pub mod NameRows
 pub mod PartForms
 pub mod PartRows

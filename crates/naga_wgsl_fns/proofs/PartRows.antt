@@ -19,6 +19,9 @@ use Rattle.naga_wgsl_fns.specs.Expressions.{base_text, form_at, is_signed, lette
 use Rattle.naga_wgsl_fns.specs.Expressions.{parenthesized_text, value_text}
 use Rattle.naga_wgsl_fns.specs.Expressions.{base_of, index_text, number_text, part_base, part_end}
 use Rattle.naga_wgsl_fns.specs.Expressions.{selector_end, selector_of, selector_text}
+use Rattle.naga_wgsl_fns.specs.Expressions.{named_member_text}
+use Rattle.module_meaning.specs.Names.{module_names, name_in}
+use Rattle.naga_names.specs.declared.key.NameKey.TheVariants as key
 use Rattle.std.proofs.lemmas.Option.{same_Some}
 use Rattle.naga_wgsl_fns.specs.Expressions.{part_base_text, part_end_text, part_reference_text}
 use Rattle.naga_wgsl_fns.specs.Expressions.{part_value_text, plain_address_text, plain_text}
@@ -31,7 +34,7 @@ use Rattle.naga_wgsl_fns.proofs.PartForms.{tree_of_part}
 use Rattle.naga_form.specs.Expressions.{no_form, part_plain, points, selected_part}
 use Rattle.module_meaning.specs.ExpressionShapes.{part_selector}
 use Rattle.module_meaning.specs.OperatorTable.{PartAt}
-use Rattle.shader_runs.specs.Value.{Selector}
+use Rattle.shader_runs.specs.Value.{MemberNamed, Selector}
 use Rattle.std.specs.Prelude.{decimal}
 use Rattle.wgsl_text.proofs.Expressions.{address_text as address_row_text}
 use Rattle.naga_form.specs.Expressions.{as_value}
@@ -172,6 +175,19 @@ pub selector_row : (f : FunctionText) (base index : ℕ) (letter : Option (List 
     selector_end (selector_of letter index) ≡ selector_text f base index
 unfolding selector_text
 selector_row f base index letter is = sym (ap (λ o. option_map_or selector_end o []) is)
+
+-- a member by its name
+pub named_member_row : (f : FunctionText) (h index : ℕ) → named_member_text f h index ≡
+    joined_texts (codes ".") (name_in (module_names f.shader.now) (key.StructMember h index))
+unfolding named_member_text word_text joined_texts
+named_member_row f h index = refl
+
+pub member_selector_row : (f : FunctionText) (base index h : ℕ) →
+    part_selector (source f).declared base index ≡
+    Some (MemberNamed (name_in (module_names f.shader.now) (key.StructMember h index))) →
+    named_member_text f h index ≡ selector_text f base index
+unfolding named_member_text selector_text
+member_selector_row f base index h is = sym (ap (λ o. option_map_or selector_end o []) is)
 
 -- what stands behind the base
 pub element_end : (f : FunctionText) (table : List Standing) (handle : ℕ) (e : ir.Expression)

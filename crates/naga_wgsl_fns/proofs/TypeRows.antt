@@ -31,7 +31,7 @@ use Rattle.naga_wgsl_fns.specs.FunctionText.{CanWrite}
 use Rattle.module_meaning.specs.AlikeTypes.{form_within, found_form_by, handle_form, has_form}
 use Rattle.module_meaning.specs.Ranges.{resolution_fits}
 use Rattle.module_meaning.specs.Types.{type_names}
-use Rattle.naga_form.proofs.PartTypes.{known_before, known_within, nameless, no_overrides}
+use Rattle.naga_form.proofs.PartTypes.{known_before, known_within, named_alike, no_overrides}
 use Rattle.naga_form.proofs.PartTypes.{type_before}
 use Rattle.naga_form.proofs.WrittenTypes.{resolution_same, tree_there}
 use Rattle.naga_ir.specs.declared.module.Module.{Module}
@@ -132,11 +132,12 @@ module _ (f : FunctionText) (can : CanWrite f) where
     knows = all_known m.types names it;
   }
 
-  -- the spelling of a type that has a form, which is the same under all names
+  -- the spelling of a type that has a form, under the map's names, which are the module's
   formed_known : (r : TypeResolution) → IsTrue (has_form m.types r) → ((it : TypeInner) → r ≡ resolution.Value it → length_within 0 it ≡ true) → known_text (resolution_parts (names_context m.types names) r) ≡ Some (type_layout (unwrap_or (resolution_tree (type_names m) r) (Named [])))
   formed_known r formed within =
       let t = tree_there (type_names m) r formed in
-      let same = resolution_same m.types (nameless m f.module_info.now can.accepted can.of_part) names (module_names m) r within in
+      let same = resolution_same m.types names (module_names m)
+      (named_alike m f.module_info.now can.accepted can.of_part names can.named) r within in
       row_of m.types names r ∙ ap (option_map type_layout) (same ∙ t.1)
       ∙ ap (λ o. Some (type_layout (unwrap_or o (Named [])))) (sym t.1)
 

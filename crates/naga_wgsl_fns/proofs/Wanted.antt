@@ -80,7 +80,8 @@ use Rattle.naga_scope.specs.Standings.{name_of_bound, next_name}
 use Rattle.naga_wgsl_fns.specs.Names.{bound_text, next_name_text}
 use Rattle.naga_form.proofs.Ordered.{operands_stand_before}
 use Rattle.naga_form.proofs.PartFits.{function_parts}
-use Rattle.naga_form.proofs.WrittenTypes.{no_struct, no_struct_known, tree_there}
+use Rattle.naga_form.proofs.WrittenTypes.{struct_undeclared, tree_there}
+use Rattle.naga_wgsl_fns.proofs.Members.{found_none, found_struct, member_selected, no_struct}
 use Rattle.naga_form.specs.TypeTrees.{resolution_tree}
 use Rattle.naga_form.specs.Types.{told_type}
 use Rattle.wgsl_text.specs.Reading.{type_layout}
@@ -203,13 +204,19 @@ module _ (t : FunctionText) (can : CanWrite t) where
   -- ---- types
   -- the types of arguments, of the result and of locals have forms
   pub argument_is_formed : (n : ℕ) (a : argument.FunctionArgument) → slice_get f.arguments.items n ≡ Some a → IsTrue (has_form m.types (resolution.Handle a.ty))
-  argument_is_formed n a here = can.formed.types (resolution.Handle a.ty) (OfArgument n a here)
+  argument_is_formed n a here =
+      form_of_spellable m (resolution.Handle a.ty)
+      (can.formed.types (resolution.Handle a.ty) (OfArgument n a here))
 
   pub answer_is_formed : (r : FunctionResult) → f.result ≡ Some r → IsTrue (has_form m.types (resolution.Handle r.ty))
-  answer_is_formed r is = can.formed.types (resolution.Handle r.ty) (OfResult r is)
+  answer_is_formed r is =
+      form_of_spellable m (resolution.Handle r.ty)
+      (can.formed.types (resolution.Handle r.ty) (OfResult r is))
 
   pub local_is_formed : (l : ℕ) (v : LocalVariable) → slice_get f.local_variables l ≡ Some v → IsTrue (has_form m.types (resolution.Handle v.ty))
-  local_is_formed l v here = can.formed.types (resolution.Handle v.ty) (OfLocal l v here)
+  local_is_formed l v here =
+      form_of_spellable m (resolution.Handle v.ty)
+      (can.formed.types (resolution.Handle v.ty) (OfLocal l v here))
 
   -- a local's first value is one of the function's expressions
   local_is_in_range : (l : ℕ) (v : LocalVariable) → slice_get f.local_variables l ≡ Some v → IsTrue (nat_lt v.ty (length m.types)) × IsTrue (is_below (length f.expressions) v.init)
@@ -222,9 +229,10 @@ module _ (t : FunctionText) (can : CanWrite t) where
   -- ---- what is known of an expression
   -- the type that a `let` tells has a form
   pub told_is_formed : (h : ℕ) (k : ExpressionInfo) → slice_get es h ≡ Some k →
-      tells_types t.flags ≡ true → IsEmitted t h → bound t h ≡ true → IsTrue (has_form m.types k.ty)
-  told_is_formed h k at tells emitted is_bound =
-      can.formed.types k.ty (OfLet h k tells emitted is_bound at)
+      tells_types t.flags ≡ true → IsEmitted t h → bound t h ≡ true →
+      names_undeclared m k.ty ≡ false → IsTrue (has_form m.types k.ty)
+  told_is_formed h k at tells emitted is_bound declared =
+      form_of_spellable m k.ty (can.formed.types k.ty (OfLet h k tells emitted is_bound at declared))
 
   pub known_resolution_fits : (h : ℕ) (k : ExpressionInfo) → slice_get es h ≡ Some k → IsTrue (resolution_fits (length m.overrides) (length m.types) k.ty)
   known_resolution_fits h k at = known_is_fit m info can.accepted g es can.infos h k at
@@ -245,6 +253,58 @@ module _ (t : FunctionText) (can : CanWrite t) where
       let ends = known_before m info can.accepted k.0.ty (known_resolution_fits h k.0 k.1) (inner.Pointer base at) inside in
       omega (arith, ends)
 
+  -- ---- parts
+  -- a member of a struct, by its name
+  pub member_is : (base index h : ℕ) →
+      expression_is_written m es (expression.AccessIndex base index) ≡ true →
+      struct_known t base ≡ Some h →
+      part_selector (source t).declared base index ≡
+      Some (MemberNamed (name_in (module_names m) (key.StructMember h index)))
+  member_is base index h may found =
+      let b = known_base m es base index may in
+      selector_is m info es base index b
+      ∙ member_selected m (source t).declared refl b.known.ty b.type index h b.is
+      (sym (ap (option_and_then (struct_at m.types)) (whole_is m info es base b)) ∙ found)
+
+  -- which the map of names has
+  pub member_there : (base index h : ℕ) →
+      expression_is_written m es (expression.AccessIndex base index) ≡ true →
+      struct_known t base ≡ Some h →
+      names_in t.names.now (key.StructMember h index) ≡
+      Some (name_in (module_names m) (key.StructMember h index))
+  member_there base index h may found =
+      let whole = then_some (struct_at m.types) (whole_known m.types es base) h found in
+      let s = found_struct m whole.0 h whole.2 in
+      let written = (and_parts (known_passes m.types es (has_parts m.types) base) _ may).1 in
+      let lt =
+      by s.type.inner s.is
+      (struct_undeclared m (written_so_far_parts m can.of_part).1 whole.0 s.type s.there s.is)
+      (sym
+      (ap (λ o. option_map_or
+      (λ ty. not (is_struct ty.inner) || member_is_written m whole.0 (members_of ty.inner) index) o
+      true) s.there)
+      ∙ (sym (ap (λ o. option_map_or (part_is_written_at m index) o true) whole.1) ∙ written)) in
+      let a = element (members_of s.type.inner) index (ltb-true index _ lt) in
+      subst
+      (λ k. names_in t.names.now (key.StructMember k index) ≡
+      Some (name_in (module_names m) (key.StructMember k index)))
+      s.same (can.named.members whole.0 s.type s.there index a.0 a.1)
+    where
+      inside : (undeclared : Bool) → undeclared ≡ true → (count : Bool) (word : Bool) →
+          (not undeclared || (count && word)) ≡ true → count ≡ true
+      inside true one count word written = (and_parts count word written).0
+      inside false one count word written = absurd cc
+
+      by : (it : TypeInner) → is_struct it ≡ true → {k : ℕ} →
+          is_undeclared m.special_types k ≡ true →
+          (not (is_struct it) || member_is_written m k (members_of it) index) ≡ true →
+          nat_lt index (length (members_of it)) ≡ true
+      by (inner.Struct members span) is {k} undeclared written =
+          inside (is_undeclared m.special_types k) undeclared
+          (nat_lt index (length members.items))
+          (stands_in member_words (name_in (module_names m) (key.StructMember k index))) written
+      by _ is undeclared written = absurd cc
+
   -- the letter of a component, where a vector has it or one that is pointed at
   letter_of : (d : Declared) (whole : Option ℕ) (it : TypeInner) (index : ℕ) →
       is_struct it ≡ false → is_composite it ≡ true →
@@ -259,17 +319,20 @@ module _ (t : FunctionText) (can : CanWrite t) where
 
   pub component_is : (base index : ℕ) →
       expression_is_written m es (expression.AccessIndex base index) ≡ true →
+      struct_known t base ≡ None →
       (letter : Option (List ℕ)) →
       letter ≡ (if has_components t base then slice_get component_letters index else None) →
       part_selector (source t).declared base index ≡ Some (selector_of letter index)
-  component_is base index may letter is =
+  component_is base index may no_member letter is =
       let b = known_base m es base index may in
       let none =
-      no_struct_known m can.values b.known.ty
-      (known_fits m info can.accepted g es can.infos base b.known b.there) b.type b.is in
+      sym (ap (option_and_then (struct_at m.types)) (whole_is m info es base b)) ∙ no_member in
+      let itself =
+      no_struct m b.known.ty b.type
+      (known_fits m info can.accepted g es can.infos base b.known b.there) b.is none in
       let known = type_known_is base b.known b.there ∙ b.is in
       selector_is m info es base index b
-      ∙ (by b.type (handle_of b.known.ty) none b.passes
+      ∙ (by b.type b.known.ty itself b.passes none
       ∙ ap (λ l. Some (selector_of l index))
       (sym
       (is
@@ -277,7 +340,7 @@ module _ (t : FunctionText) (can : CanWrite t) where
       (λ o. if option_map_or (is_of_components m.types) o false then
       slice_get component_letters index else None) known)))
     where
-      pointed : (whole : Option ℕ) (b : ℕ) (o : Option Type_) → slice_get m.types b ≡ o →
+      pointed : (b : ℕ) → struct_at m.types b ≡ None → (o : Option Type_) → slice_get m.types b ≡ o →
           option_map_or is_composite (option_map (λ t. t.inner) o) false ≡ true →
           option_and_then (λ it. own_selector (source t).declared (Some b) it index)
           (option_map (λ t. t.inner) o) ≡
@@ -285,25 +348,26 @@ module _ (t : FunctionText) (can : CanWrite t) where
           (selector_of
           (if option_map_or is_vector (option_map (λ t. t.inner) o) false then
           slice_get component_letters index else None) index)
-      pointed whole b (Some ty) at parts =
-          letter_of (source t).declared (Some b) ty.inner index (no_struct m.types can.values b ty at) parts
-      pointed whole b None at parts = absurd cc
+      pointed b none (Some ty) at parts =
+          letter_of (source t).declared (Some b) ty.inner index (found_none m b ty at none) parts
+      pointed b none None at parts = absurd cc
 
-      by : (it : TypeInner) (whole : Option ℕ) → is_struct it ≡ false →
+      by : (it : TypeInner) (r : TypeResolution) → is_struct it ≡ false →
           has_parts m.types it ≡ true →
-          selector (source t).declared whole it index ≡
+          option_and_then (struct_at m.types) (whole_of r it) ≡ None →
+          selector (source t).declared (handle_of r) it index ≡
           Some
           (selector_of
           (if is_of_components m.types it then slice_get component_letters index else None) index)
-      by (inner.Pointer b at) whole none parts = pointed whole b (slice_get m.types b) refl parts
-      by (inner.ValuePointer (Some size) s at) whole none parts = refl
-      by (inner.ValuePointer None s at) whole none parts = absurd cc
-      by (inner.Vector size s) whole none parts = refl
-      by (inner.Matrix columns rows s) whole none parts = refl
-      by (inner.Array base size stride) whole none parts = refl
-      by (inner.BindingArray base size) whole none parts = refl
-      by (inner.Struct members span) whole none parts = absurd cc
-      by _ whole none parts = absurd cc
+      by (inner.Pointer b at) r itself parts none = pointed b none (slice_get m.types b) refl parts
+      by (inner.ValuePointer (Some size) s at) r itself parts none = refl
+      by (inner.ValuePointer None s at) r itself parts none = absurd cc
+      by (inner.Vector size s) r itself parts none = refl
+      by (inner.Matrix columns rows s) r itself parts none = refl
+      by (inner.Array base size stride) r itself parts none = refl
+      by (inner.BindingArray base size) r itself parts none = refl
+      by (inner.Struct members span) r itself parts none = absurd cc
+      by _ r itself parts none = absurd cc
 
   -- what a part is taken of is known
   pub base_known : (base index : ℕ) →
@@ -314,18 +378,42 @@ module _ (t : FunctionText) (can : CanWrite t) where
   pub known_within_infos : (h : ℕ) → h < length f.expressions → h < length es
   known_within_infos h lt = subst (λ n. h < n) can.size lt
 
+  -- what is told of a type that is known
+  abbrev told_of : Option ExpressionInfo → Option TypeSpecifier
+  told_of o =
+      option_and_then
+      (λ e. if names_undeclared m e.ty then None else resolution_tree (type_names m) e.ty) o
+
   -- the type that a `let` tells, where it tells one
   pub told_row : (h : ℕ) (k : ExpressionInfo) → slice_get es h ≡ Some k → tells_types t.flags ≡ true →
-      IsTrue (has_form m.types k.ty) → annotation_text t k.ty ≡ told_text t h
+      names_undeclared m k.ty ≡ false → IsTrue (has_form m.types k.ty) →
+      annotation_text t k.ty ≡ told_text t h
   unfolding annotation_text resolution_text told_text
-  told_row h k at is formed =
+  told_row h k at is declared formed =
       let has = tree_there (type_names m) k.ty formed in
       ap (λ o. codes ": " ++ type_layout (unwrap_or o (Named []))) has.1
-      ∙ ap told_type_text (sym (ap (λ b. told_type b (type_names m) es h) is ∙ ap (option_and_then (λ e. resolution_tree (type_names m) e.ty)) at ∙ has.1))
+      ∙ ap told_type_text
+      (sym
+      (ap (λ b. told_type b m (type_names m) es h) is
+      ∙ ap told_of at
+      ∙ ap (λ b. if b then None else resolution_tree (type_names m) k.ty) declared ∙ has.1))
+
+  -- where it names what no text declares, none is told
+  pub undeclared_row : (h : ℕ) (k : ExpressionInfo) → slice_get es h ≡ Some k →
+      names_undeclared m k.ty ≡ true → told_text t h ≡ []
+  unfolding told_text
+  undeclared_row h k at named = by (tells_types t.flags)
+    where
+      by : (b : Bool) → told_type_text (told_type b m (type_names m) es h) ≡ []
+      by true =
+          ap told_type_text
+          (ap told_of at
+          ∙ ap (λ b. if b then None else resolution_tree (type_names m) k.ty) named)
+      by false = refl
 
   pub untold_row : (h : ℕ) → tells_types t.flags ≡ false → told_text t h ≡ []
   unfolding told_text
-  untold_row h is = ap (λ b. told_type_text (told_type b (type_names m) es h)) is
+  untold_row h is = ap (λ b. told_type_text (told_type b m (type_names m) es h)) is
 
   -- ---- expressions
   pub is_of_part : (h : ℕ) (e : Expression) → slice_get f.expressions h ≡ Some e → IsTrue (expression_is_of_part e)
@@ -473,10 +561,11 @@ module _ (t : FunctionText) (can : CanWrite t) where
   -- the type of which an expression that is written makes a value has a form
   pub made_value : (h : ℕ) (e own : Expression) (ty : ℕ) → slice_get f.expressions h ≡ Some e →
       IsInText t h → e ≡ own →
-      expression_is_written m es own ≡ has_form m.types (resolution.Handle ty) →
+      expression_is_written m es own ≡ is_spellable m (resolution.Handle ty) →
       IsTrue (has_form m.types (resolution.Handle ty))
   made_value h e own ty here within is names =
-      sym names ∙ (ap (expression_is_written m es) (sym is) ∙ expression_formed h e here within)
+      form_of_spellable m (resolution.Handle ty)
+      (sym names ∙ (ap (expression_is_written m es) (sym is) ∙ expression_formed h e here within))
 
   -- no other expression is written
   pub no_other_expression : (h : ℕ) (e : Expression) → slice_get f.expressions h ≡ Some e → IsInText t h → IsNoOther e → ⊥

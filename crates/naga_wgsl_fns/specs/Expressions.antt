@@ -16,7 +16,11 @@ use Rattle.naga_ir.specs.declared.types.TypeInner.{TypeInner}
 use Rattle.naga_ir.specs.declared.types.TypeInner.TheVariants as inner
 use Rattle.naga_wgsl_fns.specs.FunctionText.{around}
 use Rattle.shader_runs.specs.Value.{Selector, MemberNamed, ElementAt}
-use Rattle.std.specs.Option.{option_map_or}
+use Rattle.std.specs.Option.{option_and_then, option_map_or}
+use Rattle.naga_names.specs.declared.key.NameKey.TheVariants as key
+use Rattle.naga_words.specs.Spelling.{is_struct}
+use Rattle.module_meaning.specs.Names.{module_names, name_in}
+use Rattle.module_meaning.specs.Undeclared.{whole_known}
 use Rattle.naga_ir.specs.Operands.{expression_operands}
 use Rattle.wgsl_text.specs.Expressions.{Expression, Name, AddressOf, Call, Dereference, Member}
 use Rattle.wgsl_text.specs.Expressions.{Unary, arguments_pieces, base_pieces, expression_pieces}
@@ -222,6 +226,22 @@ selector_end (ElementAt index) = number_text index
 unfoldable pub selector_text : FunctionText → (base index : ℕ) → List ℕ
 selector_text f base index =
     option_map_or selector_end (part_selector (source f).declared base index) []
+
+-- the type at this handle is a struct
+abbrev pub struct_at : List Type_ → (h : ℕ) → Option ℕ
+struct_at types h =
+    option_and_then (λ t. if is_struct t.inner then Some h else None) (slice_get types h)
+
+-- the struct of which a part of the expression with this handle is taken, if it is one
+abbrev pub struct_known : FunctionText → (base : ℕ) → Option ℕ
+struct_known f base =
+    option_and_then (struct_at f.shader.now.types)
+    (whole_known f.shader.now.types f.info.now base)
+
+-- its member with this number, by the name
+unfoldable pub named_member_text : FunctionText → (h index : ℕ) → List ℕ
+named_member_text f h index =
+    word_text (name_in (module_names f.shader.now) (key.StructMember h index))
 
 -- a component by its letter, where it has one, else the part with this number
 abbrev pub selector_of : (letter : Option (List ℕ)) → (index : ℕ) → Selector

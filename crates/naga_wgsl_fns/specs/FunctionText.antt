@@ -11,7 +11,7 @@ use Rattle.naga_scope.specs.Standings.{handles_of}
 use Rattle.std.specs.List.{list_all}
 use Rattle.naga_ir.specs.declared.expression.Expression.{Expression}
 use Rattle.module_meaning.specs.Accepted.{is_accepted}
-use Rattle.module_meaning.specs.Part.{function_is_written, is_written_so_far, type_is_of_part}
+use Rattle.module_meaning.specs.Part.{function_is_written, is_written_so_far}
 use Rattle.module_meaning.specs.Ranges.{function_in_range}
 use Rattle.naga_names.specs.Keys.{names_in}
 use Rattle.shader_runs.specs.Scope.{Handles, Naming}
@@ -63,7 +63,7 @@ type_names_of f = type_names f.shader.now
 -- the type that the `let` of a handle tells, if it tells one
 abbrev pub let_annotation : FunctionText → (handle : ℕ) → Option TypeSpecifier
 let_annotation f handle =
-    told_type (tells_types f.flags) (type_names f.shader.now) f.info.now handle
+    told_type (tells_types f.flags) f.shader.now (type_names f.shader.now) f.info.now handle
 
 -- the handle is written in the function, and has an expression
 pub record IsInText (f : FunctionText) (handle : ℕ) : Type 0 where
@@ -97,7 +97,6 @@ pub record CanWrite (f : FunctionText) : Type 0 where
   pub of_part : IsTrue (is_written_so_far f.shader.now)
   pub function : slice_get f.shader.now.functions f.handle ≡ Some f.function.now
   pub infos : slice_get f.module_info.now.functions.items f.handle ≡ Some f.info.now
-  pub values : IsTrue (list_all type_is_of_part f.shader.now.types)
   pub ranges : IsTrue (function_in_range f.shader.now f.handle f.function.now)
   pub size : length f.function.now.expressions ≡ length f.info.now
   pub written : IsTrue (function_is_written f.function.now)

@@ -3,6 +3,7 @@
 ghost use Rattle.std.specs.Prelude.{◌≡◌, ◌<◌, Some, length};
 ghost use Rattle.module_meaning.specs.Names.{module_names, name_in, numbered_name};
 ghost use Rattle.naga_names.specs.Keys.{names_in};
+ghost use Rattle.naga_names.specs.declared.key.NameKey.TheVariants as key;
 ghost use Rattle.naga_words.specs.Output.{Writes};
 ghost use Rattle.naga_wgsl_fns.specs.FunctionText.{CanWrite, given_in};
 ghost use Rattle.naga_wgsl_fns.specs.Names.{bound_text, name_of_argument, name_of_function};
@@ -10,7 +11,7 @@ ghost use Rattle.naga_wgsl_fns.specs.Names.{name_of_local, next_name_text};
 
 use crate::functions::FunctionText;
 use itoa::Buffer;
-use naga_ir::{Expression, Handle, LocalVariable};
+use naga_ir::{Expression, Handle, LocalVariable, Type_};
 use naga_names::NameKey;
 use naga_scope::{BoundName, Scope};
 use naga_words::{Output, TextSink};
@@ -49,6 +50,22 @@ impl FunctionText<'_> {
         ensures { Writes W.text W.failures out.old out.new (name_of_local self.now local) }
     {
         self.write_name(&NameKey::FunctionLocal(self.handle, local), out);
+    }
+
+    /// A member of a struct.
+    #[inline(never)]
+    pub(crate) fn write_member_name<W: TextSink>(
+        &self,
+        whole: Handle<Type_>,
+        index: u32,
+        out: &mut Output<'_, W>,
+    )
+        requires { names_in self.now.names.now (key.StructMember whole index)
+            ≡ Some (name_in (module_names self.now.shader.now) (key.StructMember whole index)) }
+        ensures { Writes W.text W.failures out.old out.new
+            (name_in (module_names self.now.shader.now) (key.StructMember whole index)) }
+    {
+        self.write_name(&NameKey::StructMember(whole, index), out);
     }
 
     /// The name of an expression that a `let` binds.

@@ -1,6 +1,6 @@
 //! Parts of values and of what is pointed at: components, columns, elements and swizzles.
 
-ghost use Rattle.std.specs.Prelude.{◌≡◌, ◌<◌, IsTrue, Some, length, slice_get};
+ghost use Rattle.std.specs.Prelude.{◌≡◌, ◌<◌, IsTrue, None, Some, length, slice_get};
 ghost use Rattle.std.specs.Option.{is_some, option_map};
 ghost use Rattle.module_meaning.specs.ExpressionShapes.{component_letters, letter, part_selector};
 ghost use Rattle.module_meaning.specs.ExpressionShapes.{swizzle_letters};
@@ -12,16 +12,22 @@ ghost use Rattle.naga_wgsl_fns.specs.Expressions.{parenthesized_text, part_base_
 ghost use Rattle.naga_wgsl_fns.specs.Expressions.{part_end_text, part_reference_text};
 ghost use Rattle.naga_wgsl_fns.specs.Expressions.{part_value_text, plain_address_text, plain_text};
 ghost use Rattle.naga_wgsl_fns.specs.Expressions.{selector_of, selector_text, word_text};
-ghost use Rattle.naga_wgsl_fns.specs.Expressions.{has_components, is_vector_at};
+ghost use Rattle.naga_wgsl_fns.specs.Expressions.{has_components, is_vector_at, named_member_text};
+ghost use Rattle.naga_wgsl_fns.specs.Expressions.{struct_at, struct_known};
 ghost use Rattle.module_meaning.specs.ExpressionOperators.{type_known};
+ghost use Rattle.module_meaning.specs.Names.{module_names, name_in};
 ghost use Rattle.module_meaning.specs.Part.{expression_is_written};
+ghost use Rattle.naga_names.specs.Keys.{names_in};
+ghost use Rattle.naga_names.specs.declared.key.NameKey.TheVariants as key;
 ghost use Rattle.naga_ir.specs.declared.expression.Expression.TheVariants.{AccessIndex};
 ghost use Rattle.naga_wgsl_fns.specs.FunctionText.{CanWrite, IsInText, around, source};
 
 use crate::functions::FunctionText;
 use itoa::Buffer;
-use naga_ir::{Expression, Handle, SwizzleComponent, Type_, TypeInner, VectorSize};
-use naga_scope::{Scope, Standing};
+use naga_ir::{
+    Expression, Handle, SwizzleComponent, Type_, TypeInner, UniqueArena, VectorSize,
+};
+use naga_scope::{Scope, Standing, whole_known};
 use naga_words::{Output, TextSink};
 use std::alloc::Global;
 
@@ -177,7 +183,7 @@ impl FunctionText<'_> {
         out.put("]");
     }
 
-    /// A known index: a component by its letter, a column by its number.
+    /// A known index: a member by its name, a component by its letter, a column by its number.
     fn write_selector<W: TextSink>(
         &self,
         base: Handle<Expression>,
@@ -189,9 +195,56 @@ impl FunctionText<'_> {
             (AccessIndex base index)) }
         ensures { Writes W.text W.failures out.old out.new (selector_text self.now base index) }
     {
+        match self.struct_known(base) {
+            Some(whole) => self.write_named_member(whole, index, out),
+            None => self.write_component(base, index, out),
+        }
+    }
+
+    /// A member of a struct, by its name.
+    #[tactic(auto, using(naga_words::proofs::Writing::writes_then, crate::proofs::PartRows::named_member_row))]
+    fn write_named_member<W: TextSink>(
+        &self,
+        whole: Handle<Type_>,
+        index: u32,
+        out: &mut Output<'_, W>,
+    )
+        requires named { names_in self.now.names.now (key.StructMember whole index)
+            ≡ Some (name_in (module_names self.now.shader.now) (key.StructMember whole index)) }
+        ensures { Writes W.text W.failures out.old out.new (named_member_text self.now whole index) }
+    {
+        out.put(".");
+        self.write_member_name(whole, index, out);
+    }
+
+    /// A component by its letter, and any other part by its number.
+    fn write_component<W: TextSink>(
+        &self,
+        base: Handle<Expression>,
+        index: u32,
+        out: &mut Output<'_, W>,
+    )
+        requires can { CanWrite self.now }
+        requires written { IsTrue (expression_is_written self.now.shader.now self.now.info.now
+            (AccessIndex base index)) }
+        requires no_member { struct_known self.now base ≡ None }
+        ensures { Writes W.text W.failures out.old out.new (selector_text self.now base index) }
+    {
         match self.component(base, index) {
             Some(word) => write_word(word, out),
             None => write_number(index, out),
+        }
+    }
+
+    /// The struct of which a part of an expression is taken, if it is one: its own type, or what it
+    /// points to.
+    fn struct_known(&self, base: Handle<Expression>) -> Option<Handle<Type_>>
+        requires can { CanWrite self.now }
+        ensures { result ≡ struct_known self.now base }
+    {
+        match whole_known(&self.shader.types, self.info, base) {
+            Some(whole) => struct_at(&self.shader.types, whole),
+            None => None,
         }
     }
 
@@ -200,6 +253,7 @@ impl FunctionText<'_> {
         requires can { CanWrite self.now }
         requires written { IsTrue (expression_is_written self.now.shader.now self.now.info.now
             (AccessIndex base index)) }
+        requires no_member { struct_known self.now base ≡ None }
         ensures { part_selector (source self.now).declared base index
             ≡ Some (selector_of (option_map (λ word. word.now) result) index) }
     {
@@ -324,6 +378,19 @@ impl FunctionText<'_> {
             Standing::Named(_) => false,
             _ => matches!(&self.function.expressions[handle], Expression::Unary { .. }),
         }
+    }
+}
+
+/// The handle, if the type there is a struct.
+fn struct_at(types: &UniqueArena<Type_>, ty: Handle<Type_>) -> Option<Handle<Type_>>
+    ensures { result ≡ struct_at types.now ty }
+{
+    if ty.index() >= types.len() {
+        return None;
+    }
+    match &types[ty].inner {
+        TypeInner::Struct { .. } => Some(ty),
+        _ => None,
     }
 }
 

@@ -10,6 +10,7 @@ ghost use Rattle.naga_wgsl_fns.specs.Types.{annotation_text, resolution_text, to
 
 use crate::functions::FunctionText;
 use bitflags::Flags;
+use naga_acceptance::undeclared::names_undeclared;
 use naga_back::WriterFlags;
 use naga_info::TypeResolution;
 use naga_ir::{Expression, Handle, Type_};
@@ -74,8 +75,28 @@ impl FunctionText<'_> {
         write_resolution_in(&context, alloc, ty, out);
     }
 
+    /// The same, where types are told.
+    fn write_told<W: TextSink>(
+        &self,
+        alloc: Global,
+        handle: Handle<Expression>,
+        out: &mut Output<'_, W>,
+    )
+        requires can { CanWrite self.now }
+        requires handle { handle < length self.now.function.now.expressions }
+        requires emitted { IsEmitted self.now handle }
+        requires bound { IsTrue (bound self.now handle) }
+        requires tells { IsTrue (tells_types self.now.flags) }
+        ensures { Writes W.text W.failures out.old out.new (told_text self.now handle) }
+    {
+        let ty = &self.info[handle].ty;
+        if !names_undeclared(self.shader, ty) {
+            self.write_annotation(alloc, ty, out);
+        }
+    }
+
     /// What stands between the name of a `let` and its `=`: a colon and the type, if the flags ask
-    /// for it.
+    /// for it and it names no struct that no text declares.
     pub(crate) fn write_told_type<W: TextSink>(
         &self,
         alloc: Global,
@@ -89,7 +110,7 @@ impl FunctionText<'_> {
         ensures { Writes W.text W.failures out.old out.new (told_text self.now handle) }
     {
         if tells_types(self.flags) {
-            self.write_annotation(alloc, &self.info[handle].ty, out);
+            self.write_told(alloc, handle, out);
         }
     }
 }

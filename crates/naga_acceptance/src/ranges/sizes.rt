@@ -93,7 +93,7 @@ pub(crate) fn is_handle_pointer(inner: &TypeInner) -> bool
     }
 }
 
-fn is_struct(inner: &TypeInner) -> bool
+pub(crate) fn is_struct(inner: &TypeInner) -> bool
     ensures { result ≡ is_struct inner.now }
 {
     match inner {

@@ -1,5 +1,5 @@
 use Rattle.naga_form.proofs.ConsistentModules.{consistent, has_meaning}
-use Rattle.naga_form.proofs.ToldItems.{items_are_told, written_are_told}
+use Rattle.naga_form.proofs.ToldItems.{items_are_told}
 use Rattle.naga_form.proofs.has_a_typed_meaning.Goals as goal
 
 pub returns-clause-consistent : goal.returns-clause-consistent
@@ -10,6 +10,3 @@ returns-clause-meaning c = has_meaning
 
 pub returns-clause-counted : goal.returns-clause-counted
 returns-clause-counted c = items_are_told
-
-pub returns-clause-written : goal.returns-clause-written
-returns-clause-written c = written_are_told

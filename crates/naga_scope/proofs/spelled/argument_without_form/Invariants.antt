@@ -5,5 +5,5 @@ use Rattle.naga_scope.proofs.spelled.argument_without_form.Given as goal
 
 abbrev pub invariant-loop-argument : goal.invariant-loop-argument
 invariant-loop-argument l =
-    find (is_formless l.types) (map (λ a. a.ty) (drop l.argument-index l.arguments)) ≡
-    find (is_formless l.types) (map (λ a. a.ty) l.arguments)
+    find (is_formless l.module) (map (λ a. a.ty) (drop l.argument-index l.arguments)) ≡
+    find (is_formless l.module) (map (λ a. a.ty) l.arguments)

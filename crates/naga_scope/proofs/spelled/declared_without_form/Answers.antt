@@ -12,9 +12,9 @@ types_of xs = map (λ a. a.ty) xs
 pub returns-in-Some : goal.returns-in-Some
 returns-in-Some c =
     let f = c.args.function.now in
-    let p = is_formless c.args.types.now in
+    let p = is_formless c.args.module.now in
     sym
-    (parted c.args.types.now f
+    (parted c.args.module.now f
     ∙ ap
     (λ o. option_or o
     (option_or (find p (option_to_list (option_map (λ r. r.ty) f.result)))
@@ -25,9 +25,9 @@ returns-in-Some c =
 pub returns-in-Some-result_without_form : goal.returns-in-Some-result_without_form
 returns-in-Some-result_without_form c =
     let f = c.args.function.now in
-    let p = is_formless c.args.types.now in
+    let p = is_formless c.args.module.now in
     sym
-    (parted c.args.types.now f
+    (parted c.args.module.now f
     ∙ ap₂ (λ o q. option_or o (option_or q (find p (map (λ l. l.ty) f.local_variables))))
     (ap (λ xs. find p (types_of xs)) (sym c.deref.ensures.value)
     ∙ (sym c.argument_without_form.ensures ∙ c.in_default.is))
@@ -36,10 +36,10 @@ returns-in-Some-result_without_form c =
 pub returns : goal.returns
 returns c =
     let f = c.args.function.now in
-    let p = is_formless c.args.types.now in
+    let p = is_formless c.args.module.now in
     c.local_without_form.ensures
     ∙ sym
-    (parted c.args.types.now f
+    (parted c.args.module.now f
     ∙ ap₂ (λ o q. option_or o (option_or q (find p (map (λ l. l.ty) f.local_variables))))
     (ap (λ xs. find p (types_of xs)) (sym c.deref.ensures.value)
     ∙ (sym c.argument_without_form.ensures ∙ c.in_default.is))

@@ -14,9 +14,9 @@ use Rattle.shader_runs.specs.Program.{binds}
 use Rattle.naga_scope.proofs.spelled.let_without_form.Goals as goal
 
 pub loop-statement-init : goal.loop-statement-init
-loop-statement-init c m known same =
-    let q = tells_formless c.args.types.now c.args.info.now
-    (binds (function_shape m known c.args.function.now c.args.info.now)) in
+loop-statement-init c known =
+    let q = tells_formless c.args.module.now c.args.info.now
+    (binds (function_shape c.args.module.now known c.args.function.now c.args.info.now)) in
     ap (λ b. find q (block_emits b)) c.as_slice-statement-items.ensures
 
 pub statement_without_form-requires-clause-line : goal.statement_without_form-requires-clause-line
@@ -27,9 +27,9 @@ statement_without_form-requires-clause-line c =
     ∙ (function_parts c.args.function.now c.requires.written).body)
 
 pub returns-in-Some : goal.returns-in-Some
-returns-in-Some c m known same =
-    let q = tells_formless c.args.types.now c.args.info.now
-    (binds (function_shape m known c.args.function.now c.args.info.now)) in
+returns-in-Some c known =
+    let q = tells_formless c.args.module.now c.args.info.now
+    (binds (function_shape c.args.module.now known c.args.function.now c.args.info.now)) in
     let items = c.as_slice-statement-items.result.now in
     let i = c.loop-statement.statement-index in
     let here = statement_emits (tree_of c.statement-item.result) in
@@ -38,13 +38,13 @@ returns-in-Some c m known same =
     (ap (find q) (emits_more i items c.statement-item.result c.loop-statement-test.true c.statement-item.is)
     ∙ (find-append q here rest
     ∙ ap (λ o. option_or o (find q rest))
-    (sym (c.statement_without_form.ensures m known same) ∙ c.in-Some.is)))
-    ∙ c.loop-statement.invariant m known same
+    (sym (c.statement_without_form.ensures known) ∙ c.in-Some.is)))
+    ∙ c.loop-statement.invariant known
 
 pub loop-statement-preserved : goal.loop-statement-preserved
-loop-statement-preserved c m known same =
-    let q = tells_formless c.args.types.now c.args.info.now
-    (binds (function_shape m known c.args.function.now c.args.info.now)) in
+loop-statement-preserved c known =
+    let q = tells_formless c.args.module.now c.args.info.now
+    (binds (function_shape c.args.module.now known c.args.function.now c.args.info.now)) in
     let items = c.as_slice-statement-items.result.now in
     let i = c.loop-statement.statement-index in
     let here = statement_emits (tree_of c.statement-item.result) in
@@ -53,14 +53,14 @@ loop-statement-preserved c m known same =
     (ap (find q) (emits_more i items c.statement-item.result c.loop-statement-test.true c.statement-item.is)
     ∙ (find-append q here rest
     ∙ ap (λ o. option_or o (find q rest))
-    (sym (c.statement_without_form.ensures m known same) ∙ c.in_default.is)))
-    ∙ c.loop-statement.invariant m known same
+    (sym (c.statement_without_form.ensures known) ∙ c.in_default.is)))
+    ∙ c.loop-statement.invariant known
 
 pub returns : goal.returns
-returns c m known same =
-    let q = tells_formless c.args.types.now c.args.info.now
-    (binds (function_shape m known c.args.function.now c.args.info.now)) in
+returns c known =
+    let q = tells_formless c.args.module.now c.args.info.now
+    (binds (function_shape c.args.module.now known c.args.function.now c.args.info.now)) in
     sym
     (ap (find q)
     (emits_end c.as_slice-statement-items.result.now c.loop-statement.statement-index c.loop-statement-test.false))
-    ∙ c.loop-statement.invariant m known same
+    ∙ c.loop-statement.invariant known

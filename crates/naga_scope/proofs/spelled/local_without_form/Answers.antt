@@ -11,34 +11,34 @@ types_of ps = map (λ q. q.1.ty) ps
 
 pub loop-local-init : goal.loop-local-init
 loop-local-init c =
-    let p = is_formless c.args.types.now in
+    let p = is_formless c.args.module.now in
     ap (λ ps. find p (types_of ps))
     (c.into_iter-local-iterator.ensures.into_iter_gives ∙ c.iter-local-items.ensures)
     ∙ ap (find p) (numbered_mapped (λ (v : LocalVariable). v.ty) 0 c.args.function.now.local_variables)
 
-pub returns-then-not-type_has_form : goal.returns-then-not-type_has_form
-returns-then-not-type_has_form c =
-    let p = is_formless c.args.types.now in
+pub returns-then-not-type_is_spellable : goal.returns-then-not-type_is_spellable
+returns-then-not-type_is_spellable c =
+    let p = is_formless c.args.module.now in
     let ty = c.in-Some.local.now.ty in
     let rest = find p (types_of c.next.new.self) in
     sym
     (ap (λ ps. find p (types_of ps)) c.in-Some.ensures.steps
     ∙ ap (λ b. cond b (Some ty) rest)
-    (ap not (sym c.type_has_form.ensures ∙ c.if-not-type_has_form.true)))
+    (ap not (sym c.type_is_spellable.ensures ∙ c.if-not-type_is_spellable.true)))
     ∙ c.loop-local.invariant
 
 pub loop-local-preserved : goal.loop-local-preserved
 loop-local-preserved c =
-    let p = is_formless c.args.types.now in
+    let p = is_formless c.args.module.now in
     let ty = c.in-Some.local.now.ty in
     let rest = find p (types_of c.next.new.self) in
     sym
     (ap (λ ps. find p (types_of ps)) c.in-Some.ensures.steps
     ∙ ap (λ b. cond b (Some ty) rest)
-    (ap not (sym c.type_has_form.ensures ∙ c.if-not-type_has_form.false)))
+    (ap not (sym c.type_is_spellable.ensures ∙ c.if-not-type_is_spellable.false)))
     ∙ c.loop-local.invariant
 
 pub returns : goal.returns
 returns c =
-    let p = is_formless c.args.types.now in
+    let p = is_formless c.args.module.now in
     sym (ap (λ ps. find p (types_of ps)) c.in-None.ensures.steps.0) ∙ c.loop-local.invariant

@@ -5,5 +5,5 @@ use Rattle.naga_scope.proofs.spelled.local_without_form.Given as goal
 
 abbrev pub invariant-loop-local : goal.invariant-loop-local
 invariant-loop-local l =
-    find (is_formless l.types) (map (λ q. q.1.ty) l.local-iterator) ≡
-    find (is_formless l.types) (map (λ v. v.ty) l.function.local_variables)
+    find (is_formless l.module) (map (λ q. q.1.ty) l.local-iterator) ≡
+    find (is_formless l.module) (map (λ v. v.ty) l.function.local_variables)

@@ -8,8 +8,8 @@ use Rattle.shader_runs.specs.Program.{binds}
 use Rattle.naga_scope.proofs.spelled.statement_without_form.Goals as goal
 
 pub returns-in-Emit : goal.returns-in-Emit
-returns-in-Emit c m known same =
-    let q = tells_formless c.args.types.now c.args.info.now
-    (binds (function_shape m known c.args.function.now c.args.info.now)) in
-    c.emitted_without_form.ensures m known same
+returns-in-Emit c known =
+    let q = tells_formless c.args.module.now c.args.info.now
+    (binds (function_shape c.args.module.now known c.args.function.now c.args.info.now)) in
+    c.emitted_without_form.ensures known
     ∙ ap (λ st. find q (statement_emits (tree_of st))) (sym c.in-Emit.is)

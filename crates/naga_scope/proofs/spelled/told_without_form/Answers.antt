@@ -8,8 +8,8 @@ use Rattle.shader_runs.specs.Program.{binds}
 use Rattle.naga_scope.proofs.spelled.told_without_form.Goals as goal
 
 pub returns-then-explicit : goal.returns-then-explicit
-returns-then-explicit c m known same =
-    let q = tells_formless c.args.types.now c.args.info.now
-    (binds (function_shape m known c.args.function.now c.args.info.now)) in
-    c.let_without_form.ensures m known same
+returns-then-explicit c known =
+    let q = tells_formless c.args.module.now c.args.info.now
+    (binds (function_shape c.args.module.now known c.args.function.now c.args.info.now)) in
+    c.let_without_form.ensures known
     ∙ ap (λ b. if b then find q (block_emits c.args.function.now.body) else None) (sym c.if-explicit.true)

@@ -39,7 +39,7 @@ returns-clause-ok c known =
     ∙ c.if-not-function_holds.false in
     let roots = function_roots (binds shape) f in
     let none_declared = sym c.declared_without_form.ensures ∙ c.in_default-declared_without_form.is in
-    let none_told = sym (c.told_without_form.ensures m known refl) ∙ c.in_default-told_without_form.is in
+    let none_told = sym (c.told_without_form.ensures known) ∙ c.in_default-told_without_form.is in
     record {
       in_scope = (check_is_the_rules m known f es c.requires.ordered).0 holds;
       starts = λ given. c.restart.ensures.start given m known es;
@@ -74,4 +74,4 @@ pub returns-in-Some-told_without_form-clause-err : goal.returns-in-Some-told_wit
 returns-in-Some-told_without_form-clause-err c known =
     let m = c.args.module.now in
     let_lacks c.args.explicit m known c.args.function.now c.args.info.now c.in-Some-told_without_form.handle
-    (sym (c.told_without_form.ensures m known refl) ∙ c.in-Some-told_without_form.is)
+    (sym (c.told_without_form.ensures known) ∙ c.in-Some-told_without_form.is)

@@ -1,22 +1,18 @@
-use Rattle.std.proofs.Common.{ap, sym, ◌∙◌}
-use Rattle.std.specs.Option.{option_map}
+use Rattle.std.proofs.Common.{sym, ◌∙◌}
 use Rattle.naga_words.proofs.Writing.{writes_as}
-use Rattle.naga_wgsl_fns.specs.Expressions.{selector_end, selector_of}
-use Rattle.naga_wgsl_fns.proofs.PartRows.{selector_row}
+use Rattle.naga_wgsl_fns.proofs.PartRows.{member_selector_row}
+use Rattle.naga_wgsl_fns.proofs.Wanted.{member_is, member_there}
 use Rattle.naga_wgsl_fns.proofs.functions.FunctionText.write_selector.Goals as goal
+
+pub write_named_member-requires : goal.write_named_member-requires
+write_named_member-requires g c =
+    member_there c.args.self.now c.requires.can c.args.base c.args.index c.in-Some.whole c.requires.written
+    (sym c.struct_known.ensures ∙ c.in-Some.is)
 
 pub returns-in-Some : goal.returns-in-Some
 returns-in-Some g c =
     writes_as
-    (ap (λ o. selector_end (selector_of (option_map (λ word. word.now) o) c.args.index))
-    (sym c.in-Some.is)
-    ∙ selector_row c.args.self.now c.args.base c.args.index _ c.component.ensures)
-    c.write_word.ensures
-
-pub returns-in-None : goal.returns-in-None
-returns-in-None g c =
-    writes_as
-    (ap (λ o. selector_end (selector_of (option_map (λ word. word.now) o) c.args.index))
-    (sym c.in-None.is)
-    ∙ selector_row c.args.self.now c.args.base c.args.index _ c.component.ensures)
-    c.write_number.ensures
+    (member_selector_row c.args.self.now c.args.base c.args.index c.in-Some.whole
+    (member_is c.args.self.now c.requires.can c.args.base c.args.index c.in-Some.whole c.requires.written
+    (sym c.struct_known.ensures ∙ c.in-Some.is)))
+    c.write_named_member.ensures
