@@ -745,13 +745,16 @@ module _ (explicit : Bool) (m : Module) (info : ModuleInfo) (accepted : IsTrue (
       (λ h value at is. literal_is value is (global_names_in_range m info accepted told h (expression.Literal value) at))
       (λ ty is. let t = tree_there (type_names m) (Handle ty) is in (t.0, t.1, tree_is m are (Handle ty) tt t.0 t.1))
 
-  one_is : (g : ℕ) (f : ir_function.Function) (found : slice_get m.functions g ≡ Some f) (es : List ExpressionInfo) → slice_get info.functions.items g ≡ Some es → (callees : ℕ) → function_in_range m callees f ≡ true → IsTrue (function_is_written f) → WrittenHaveForms explicit m info f es → length f.expressions ≤ 2 ^ 64 → IsFunction (function_form explicit (module_names m) (given_name m g) m info g f es)
-  one_is g f found es here callees ranges written have few =
+  -- a function, under names of front ends that are identifiers
+  pub one_is : (given : ℕ → List ℕ) (g : ℕ) (f : ir_function.Function) (found : slice_get m.functions g ≡ Some f) (es : List ExpressionInfo) → slice_get info.functions.items g ≡ Some es → ((k : ℕ) → k < length (given_labels f) → IsIdentifier (given k)) → IsTrue (function_is_written f) → WrittenHaveForms explicit m info f es → length f.expressions ≤ 2 ^ 64 → IsFunction (function_form explicit (module_names m) given m info g f es)
+  one_is given g f found es here given_are written have few =
       let parts = function_parts f written in
-      function_is m info g f found es callees ranges (IsWrittenIn m info f es)
+      let at = known_function m info accepted g f found in
+      let is = accepted_at m info accepted g f at.0 at.1 in
+      function_is m info g f found es is.callees is.ranges (IsWrittenIn m info f es)
       (written_are_closed m info f es) have.expressions
       are (known_fits m info accepted g es here) (written_so_far_parts m of_part).1 explicit
-      have.types few (given_name m g) (given_is_identifier m g f found) written_constants (statements_fit f.body parts.body)
+      have.types few given given_are written_constants (statements_fit f.body parts.body)
 
   functions_are : (g : ℕ) (fs : List ir_function.Function) (ess : List (List ExpressionInfo)) → ((i : ℕ) (f : ir_function.Function) → slice_get fs i ≡ Some f → slice_get m.functions (g + i) ≡ Some f) → ((i : ℕ) (es : List ExpressionInfo) → slice_get ess i ≡ Some es → slice_get info.functions.items (g + i) ≡ Some es) → IsTrue (list_all function_is_written fs) → ((i : ℕ) (f : ir_function.Function) (es : List ExpressionInfo) → slice_get fs i ≡ Some f → slice_get ess i ≡ Some es → WrittenHaveForms explicit m info f es) →
       IsTrue (list_all (λ f. nat_le (length f.expressions) (2 ^ 64)) fs) → Each IsFunction (functions_form explicit (module_names m) m info g fs ess)
@@ -762,11 +765,9 @@ module _ (explicit : Bool) (m : Module) (info : ModuleInfo) (accepted : IsTrue (
       let here : g + 0 ≡ g = omega arith in
       let found = subst (λ h. slice_get m.functions h ≡ Some f) here (there 0 f refl) in
       let own = subst (λ h. slice_get info.functions.items h ≡ Some es) here (known 0 es refl) in
-      let at = known_function m info accepted g f found in
-      let is = accepted_at m info accepted g f at.0 at.1 in
       let all = and_parts (function_is_written f) (list_all function_is_written fs) written in
       let counted = and_parts (nat_le (length f.expressions) (2 ^ 64)) (list_all (λ f. nat_le (length f.expressions) (2 ^ 64)) fs) few in (
-        one_is g f found es own is.callees is.ranges all.0 (have 0 f es refl refl) (leb-true (length f.expressions) (2 ^ 64) counted.0),
+        one_is (given_name m g) g f found es own (given_is_identifier m g f found) all.0 (have 0 f es refl refl) (leb-true (length f.expressions) (2 ^ 64) counted.0),
         functions_are (g + 1) fs ess (further m.functions g f fs there) (further info.functions.items g es ess known) all.1 (λ i f es here known. have (suc i) f es here known) counted.1,
       )
 
