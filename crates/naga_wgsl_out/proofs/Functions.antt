@@ -31,7 +31,7 @@ use Rattle.naga_wgsl_fns.specs.declared.error.Error.{Error}
 use Rattle.naga_wgsl_fns.specs.declared.error.Error.TheVariants.{Memory}
 use Rattle.naga_wgsl_fns.proofs.Appending.{stopped_first, stopped_then, wrote_nothing, wrote_then}
 use Rattle.naga_back.specs.declared.flags.WriterFlags.{WriterFlags}
-use Rattle.naga_wgsl_out.specs.Refusals.{HasNamedBefore, IsFault, IsPlanRefusal, TellsOfModule}
+use Rattle.naga_wgsl_fns.specs.Refusals.{HasNamedBefore, IsFault, IsPlanRefusal, TellsOfModule}
 use Rattle.naga_wgsl_out.specs.Writing.{HasPlan, IsNamedPlan, MetNoPlan, WritesFunctions}
 use Rattle.naga_wgsl_out.specs.Writing.{WroteFunctions}
 use Rattle.naga_wgsl_out.specs.Writing.{line_of, lines_before, lines_of, module_lines, written_text}

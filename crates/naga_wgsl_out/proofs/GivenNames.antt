@@ -18,7 +18,7 @@ use Rattle.module_meaning.specs.Names.{labels_given, wgsl_names}
 use Rattle.naga_scope.specs.GivenNames.{HasOtherUses, NamesLabels, names_behind}
 use Rattle.naga_scope.specs.Plans.{AreGivenNames, IsPlanOf, Planned}
 use Rattle.naga_info.specs.declared.info.ModuleInfo.{ModuleInfo}
-use Rattle.naga_wgsl_out.specs.Refusals.{GivenAreFullIn, HasNamedBefore}
+use Rattle.naga_wgsl_fns.specs.Refusals.{GivenAreFullIn, HasNamedBefore}
 use Rattle.naga_wgsl_out.specs.Writing.{IsNamedPlan}
 
 -- ---- names in a list

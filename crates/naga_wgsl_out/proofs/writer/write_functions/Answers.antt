@@ -1,5 +1,5 @@
 use Rattle.std.proofs.Common.{◌≡◌, ◌<◌, arith, length, subst, sym}
-use Rattle.naga_wgsl_out.specs.Refusals.{HasNamedBefore}
+use Rattle.naga_wgsl_fns.specs.Refusals.{HasNamedBefore}
 use Rattle.naga_wgsl_out.proofs.Functions.{up_to_all, up_to_more, up_to_none}
 use Rattle.naga_wgsl_out.proofs.Functions.{up_to_stopped, up_to_unplanned}
 use Rattle.naga_wgsl_out.proofs.writer.write_functions.Goals as goal

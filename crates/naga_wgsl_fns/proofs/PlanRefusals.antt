@@ -61,18 +61,18 @@ use Rattle.naga_wgsl_fns.specs.declared.error.Error.TheVariants.{Custom, FmtErro
 use Rattle.naga_wgsl_fns.specs.declared.error.Error.TheVariants.{Unimplemented}
 use Rattle.naga_words.specs.declared.sink.SinkError.{SinkError}
 use Rattle.naga_wgsl_fns.specs.Errors.{IsCustom}
-use Rattle.naga_wgsl_out.specs.Refusals.{GivenAreFullIn, HasNamedBefore, IsErrorOfNames, IsFault}
-use Rattle.naga_wgsl_out.specs.Refusals.{IsOfPlan, IsPlanRefusal, IsRefusal, ItemsAreFull}
-use Rattle.naga_wgsl_out.specs.Refusals.{HasFormlessIn, NamesConversion, NamesExpression}
-use Rattle.naga_wgsl_out.specs.Refusals.{NamesFormlessType, NamesLacking, NamesType}
-use Rattle.naga_wgsl_out.specs.Refusals.{NamesFormless, NamesLiteral, NamesMatrix, converted}
-use Rattle.naga_wgsl_out.specs.Refusals.{NamesConstantsOf, NamesGlobal, OfConstant, OfLiteral}
-use Rattle.naga_wgsl_out.specs.Refusals.{OfOperand, OfOperation, OfType, pointed_scalar}
+use Rattle.naga_wgsl_fns.specs.Refusals.{GivenAreFullIn, HasNamedBefore, IsErrorOfNames, IsFault}
+use Rattle.naga_wgsl_fns.specs.Refusals.{IsOfPlan, IsPlanRefusal, IsRefusal, ItemsAreFull}
+use Rattle.naga_wgsl_fns.specs.Refusals.{HasFormlessIn, NamesConversion, NamesExpression}
+use Rattle.naga_wgsl_fns.specs.Refusals.{NamesFormlessType, NamesLacking, NamesType}
+use Rattle.naga_wgsl_fns.specs.Refusals.{NamesFormless, NamesLiteral, NamesMatrix, converted}
+use Rattle.naga_wgsl_fns.specs.Refusals.{NamesConstantsOf, NamesGlobal, OfConstant, OfLiteral}
+use Rattle.naga_wgsl_fns.specs.Refusals.{OfOperand, OfOperation, OfType, pointed_scalar}
 use Rattle.naga_ir.specs.declared.expression.Expression.TheVariants.{Constant}
 use Rattle.naga_ir.specs.declared.module.Constant as constant
 use Rattle.naga_ir.specs.declared.expression.Expression.TheVariants.{CooperativeLoad}
 use Rattle.naga_ir.specs.declared.types.Scalar.{Scalar}
-use Rattle.naga_wgsl_out.specs.Refusals.{TellsOfFunction, TellsOfModule, TellsPlanError}
+use Rattle.naga_wgsl_fns.specs.Refusals.{TellsOfFunction, TellsOfModule, TellsPlanError}
 use Rattle.naga_wgsl_out.specs.Writing.{HasPlan, IsWritableAt}
 
 -- ---- a list of functions and its reverse

@@ -6,9 +6,9 @@ use Rattle.naga_wgsl_out.proofs.Scopes.{constants_there, function_written, is_of
 use Rattle.naga_form.proofs.ToldItems.{written_are_told}
 use Rattle.naga_scope.proofs.WrittenConstants.{globals_in_order}
 use Rattle.naga_wgsl_out.proofs.GivenNames.{named_plan}
-use Rattle.naga_wgsl_out.specs.Refusals.{IsPlanRefusal}
+use Rattle.naga_wgsl_fns.specs.Refusals.{IsPlanRefusal}
 use Rattle.naga_wgsl_out.specs.Writing.{IsNamedPlan}
-use Rattle.naga_wgsl_out.proofs.writer.plan_of.Goals as goal
+use Rattle.naga_wgsl_fns.proofs.plans.plan_of.Goals as goal
 
 pub index-requires-in-Err : goal.index-requires-in-Err
 index-requires-in-Err c =
