@@ -2,13 +2,17 @@ pub mod Appending
 pub mod ConstantRows
 pub mod ConversionRows
 pub mod ExpressionRows
+pub mod FormlessConstants
 pub mod FunctionRows
+pub mod GivenNames
 pub mod ImageRows
+pub mod Items
 pub mod Literals
 pub mod LoadRows
 pub mod NameRows
 pub mod PartForms
 pub mod PartRows
+pub mod PlanRefusals
 pub mod StatementRows
 pub mod TextHandles
 pub mod TypeRows

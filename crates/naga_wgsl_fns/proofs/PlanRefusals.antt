@@ -1,16 +1,13 @@
--- The rules of scope in the functions of a module, one by one and in all.
+-- What a plan of a function says, and what is told of one that has none.
 use Rattle.naga_form.proofs.AcceptedFunctions.{accepted_at, function_there, names_are_in_range}
 use Rattle.module_meaning.specs.Ranges.{names_in_range}
 use Rattle.std.proofs.lemmas.Bool.{ltb-true}
-use Rattle.std.proofs.Common.{◌≡◌, ◌<◌, ◌^◌, ◌∙◌, ℕ, Bool, true, zero, suc, List, [], ◌∷◌}
-use Rattle.std.proofs.Common.{None, Option, Some, ap, arith, inl, inr, length, nat_le, refl, subst}
+use Rattle.std.proofs.Common.{◌≡◌, ◌<◌, ◌∙◌, ℕ, Bool, true, zero, suc, List, [], ◌∷◌}
+use Rattle.std.proofs.Common.{None, Option, Some, ap, arith, inl, inr, length, refl, subst}
 use Rattle.std.proofs.Common.{codes, sym, ◌++◌}
 use Rattle.std.specs.Prelude.{IfSome, IsFalse, IsSomeAnd, IsTrue, slice_get}
-use Rattle.std.specs.List.{list_all}
 use Rattle.std.specs.Option.{option_map_or}
-use Rattle.std.proofs.lemmas.Bool.{and_from}
 use Rattle.std.proofs.lemmas.Option.{slice_get_within}
-use mathlib.Core.List.{reverse_aux}
 use Rattle.naga_ir.specs.declared.expression.Expression.{Expression}
 use Rattle.naga_ir.specs.declared.expression.Expression.TheVariants.{AccessIndex, As, Compose}
 use Rattle.naga_ir.specs.declared.expression.Expression.TheVariants.{Literal, Math}
@@ -22,7 +19,6 @@ use Rattle.naga_ir.specs.declared.module.Function as ir_function
 use Rattle.naga_ir.specs.declared.module.Module.{Module}
 use Rattle.naga_info.specs.declared.info.ExpressionInfo.{ExpressionInfo}
 use Rattle.naga_info.specs.declared.info.ModuleInfo.{ModuleInfo}
-use Rattle.shader_runs.specs.Program as shapes
 use Rattle.shader_runs.specs.Program.{Function}
 use Rattle.shader_runs.specs.ScopeRules.{ScopeHolds}
 use Rattle.module_meaning.specs.Accepted.{is_accepted}
@@ -31,10 +27,8 @@ use Rattle.module_meaning.specs.Part.{is_written_so_far}
 use Rattle.module_meaning.proofs.Lists.{list_all_at}
 use Rattle.module_meaning.proofs.Part.{functions_are_written}
 use Rattle.module_meaning.specs.LackingScalars.{lacking_scalar}
-use Rattle.module_meaning.specs.Written.{AllWrittenHaveForms, IsSpelledIn}
-use Rattle.module_meaning.specs.Premises.{EachScopeHolds, ScopesHold, handles_are_counted}
+use Rattle.module_meaning.specs.Written.{IsSpelledIn}
 use Rattle.module_meaning.specs.FunctionShapes.{function_shape, function_shapes}
-use Rattle.module_meaning.proofs.ModuleShapes.{declares_functions_alone}
 use Rattle.module_meaning.specs.AlikeTypes.{has_form}
 use Rattle.naga_form.proofs.AcceptedFunctions.{functions_counted}
 use Rattle.naga_info.specs.declared.info.TypeResolution.{TypeResolution}
@@ -42,14 +36,14 @@ use Rattle.naga_info.specs.declared.info.TypeResolution.TheVariants.{Handle}
 use Rattle.naga_ir.specs.declared.types.Scalar.{Scalar}
 use Rattle.naga_ir.specs.declared.types.Type_.{Type_}
 use Rattle.naga_ir.specs.declared.types.TypeInner.{TypeInner}
-use Rattle.naga_names.specs.Naming.{Names, label_base, labels_with_base}
+use Rattle.naga_names.specs.Naming.{HasNamed, Names, label_base, labels_with_base}
 use Rattle.naga_names.specs.declared.error.NamerError.{NamerError}
 use Rattle.naga_names.specs.declared.error.NamerError.TheVariants as namer_error
 use Rattle.naga_names.proofs.Refusal.{element}
 use Rattle.module_meaning.specs.GivenLabels.{SomeLabelIsFull, given_labels}
-use Rattle.module_meaning.specs.Names.{labels_before, labels_given}
-use Rattle.naga_scope.specs.GivenNames.{IsRefusalOfLabels}
-use Rattle.naga_scope.specs.Plans.{IsRefusalToPlanOf, ScopeHoldsIn}
+use Rattle.module_meaning.specs.Names.{labels_given, wgsl_names}
+use Rattle.naga_scope.specs.GivenNames.{HasOtherUses, IsRefusalOfLabels}
+use Rattle.naga_scope.specs.Plans.{IsPlanOf, IsRefusalToPlanOf, Planned, ScopeHoldsIn}
 use Rattle.naga_scope.specs.declared.plan.PlanError.{PlanError}
 use Rattle.naga_scope.specs.declared.plan.PlanError.TheVariants.{LetWithoutForm, OutOfScope}
 use Rattle.naga_scope.specs.declared.plan.PlanError.TheVariants.{TypeWithoutForm, Unnamed}
@@ -58,11 +52,10 @@ use Rattle.naga_scope.specs.declared.plan.PlanError.TheVariants as plan_error
 use Rattle.naga_scope.proofs.Planned.{shape_found}
 use Rattle.naga_wgsl_fns.specs.declared.error.Error.{Error}
 use Rattle.naga_wgsl_fns.specs.declared.error.Error.TheVariants.{Custom, FmtError, Memory}
-use Rattle.naga_wgsl_fns.specs.declared.error.Error.TheVariants.{Unimplemented}
 use Rattle.naga_words.specs.declared.sink.SinkError.{SinkError}
 use Rattle.naga_wgsl_fns.specs.Errors.{IsCustom}
-use Rattle.naga_wgsl_fns.specs.Refusals.{GivenAreFullIn, HasNamedBefore, IsErrorOfNames, IsFault}
-use Rattle.naga_wgsl_fns.specs.Refusals.{IsOfPlan, IsPlanRefusal, IsRefusal, ItemsAreFull}
+use Rattle.naga_wgsl_fns.specs.Refusals.{GivenAreFullIn, IsErrorOfNames, IsFault, IsWritableAt}
+use Rattle.naga_wgsl_fns.specs.Refusals.{IsOfPlan, IsPlanRefusal}
 use Rattle.naga_wgsl_fns.specs.Refusals.{HasFormlessIn, NamesConversion, NamesExpression}
 use Rattle.naga_wgsl_fns.specs.Refusals.{NamesFormlessType, NamesLacking, NamesType}
 use Rattle.naga_wgsl_fns.specs.Refusals.{NamesFormless, NamesLiteral, NamesMatrix, converted}
@@ -72,39 +65,7 @@ use Rattle.naga_ir.specs.declared.expression.Expression.TheVariants.{Constant}
 use Rattle.naga_ir.specs.declared.module.Constant as constant
 use Rattle.naga_ir.specs.declared.expression.Expression.TheVariants.{CooperativeLoad}
 use Rattle.naga_ir.specs.declared.types.Scalar.{Scalar}
-use Rattle.naga_wgsl_fns.specs.Refusals.{TellsOfFunction, TellsOfModule, TellsPlanError}
-use Rattle.naga_wgsl_out.specs.Writing.{HasPlan, IsWritableAt}
-
--- ---- a list of functions and its reverse
-turned : (fs behind : List Function) → EachScopeHolds fs → EachScopeHolds behind →
-    EachScopeHolds (reverse_aux fs behind)
-turned [] behind each rest = rest
-turned (f ∷ fs) behind each rest = turned fs (f ∷ behind) each.1 (each.0, rest)
-
-turned_back : (fs behind : List Function) → EachScopeHolds (reverse_aux fs behind) →
-    EachScopeHolds fs × EachScopeHolds behind
-turned_back [] behind each = (tt, each)
-turned_back (f ∷ fs) behind each =
-    let parts = turned_back fs (f ∷ behind) each in ((parts.1.0, parts.0), parts.1.1)
-
-each_at : (fs : List Function) → EachScopeHolds fs → (i : ℕ) → IfSome (slice_get fs i) ScopeHolds
-each_at [] each i = tt
-each_at (f ∷ fs) each zero = each.0
-each_at (f ∷ fs) each (suc i) = each_at fs each.1 i
-
-each_from : (fs : List Function) → ((i : ℕ) → i < length fs → IfSome (slice_get fs i) ScopeHolds) →
-    EachScopeHolds fs
-each_from [] at = tt
-each_from (f ∷ fs) at = (at 0 (omega arith), each_from fs (λ i lt. at (suc i) (omega (arith, lt))))
-
--- where the rules hold in a module, they hold in each function
-pub scope_holds_in : (m : Module) (info : ModuleInfo) → IsTrue (is_written_so_far m) →
-    ScopesHold m info → (i : ℕ) → ScopeHoldsIn m info i
-scope_holds_in m info written rules i =
-    let own = function_shapes m info m.functions info.functions.items in
-    let of_part = subst (λ (p : shapes.Module). EachScopeHolds p.functions)
-    (declares_functions_alone m info written) rules in
-    each_at own (turned_back own [] of_part).0 i
+use Rattle.naga_wgsl_fns.specs.Refusals.{TellsPlanError}
 
 -- ---- functions with a plan
 -- what holds of the shape of each function that there is holds of the shape with its handle
@@ -118,74 +79,21 @@ of_shape m info (f ∷ fs) [] i Q each = tt
 of_shape m info (f ∷ fs) (es ∷ ess) zero Q each = each f es refl refl
 of_shape m info (f ∷ fs) (es ∷ ess) (suc i) Q each = of_shape m info fs ess i Q each
 
-pub planned_holds : (explicit : Bool) (m : Module) (info : ModuleInfo) (i : ℕ) →
-    HasPlan explicit m info i → IsWritableAt explicit m info i
-planned_holds explicit m info i has = record {
+pub planned_holds : (explicit : Bool) (m : Module) (info : ModuleInfo) (earlier : List (List ℕ))
+    (i : ℕ) (planned : Planned) → IsPlanOf explicit m info i planned →
+    (GivenAreFullIn m earlier i → ⊥) → IsWritableAt explicit m info earlier i
+planned_holds explicit m info earlier i planned plan told = record {
   in_scope = of_shape m info m.functions info.functions.items i ScopeHolds
-      (λ f es at known. (has.plan f es at known).in_scope);
-  formed = λ f es at known. (has.plan f es at known).formed;
-  told = has.told;
+      (λ f es at known. (plan f es at known).in_scope);
+  formed = λ f es at known. (plan f es at known).formed;
+  told = told;
 }
-
--- more shapes than functions there are none
-shapes_below : (m : Module) (info : ModuleInfo) (i : ℕ) →
-    i < length (function_shapes m info m.functions info.functions.items) → i < length m.functions
-shapes_below m info i lt = by m.functions info.functions.items i lt
-  where
-    by : (fs : List ir_function.Function) (ess : List _) (i : ℕ) →
-        i < length (function_shapes m info fs ess) → i < length fs
-    by [] ess i lt = lt
-    by (f ∷ fs) [] i lt = absurd (omega (arith, lt))
-    by (f ∷ fs) (es ∷ ess) zero lt = omega arith
-    by (f ∷ fs) (es ∷ ess) (suc i) lt =
-        let rest = by fs ess i (omega (arith, lt)) in omega (arith, rest)
-
--- where each function has a plan, the rules of scope hold in the module
-pub all_planned_hold : (explicit : Bool) (m : Module) (info : ModuleInfo) →
-    IsTrue (is_written_so_far m) →
-    ((i : ℕ) → i < length m.functions → HasPlan explicit m info i) → ScopesHold m info
-all_planned_hold explicit m info written planned =
-    let own = function_shapes m info m.functions info.functions.items in
-    subst (λ (p : shapes.Module). EachScopeHolds p.functions)
-    (sym (declares_functions_alone m info written))
-    (turned own []
-    (each_from own (λ i lt. (planned_holds explicit m info i (planned i (shapes_below m info i lt))).in_scope)) tt)
-
--- a test that each item passes
-all_pass : {X : Type 0} (test : X → Bool) (xs : List X) →
-    ((i : ℕ) (x : X) → slice_get xs i ≡ Some x → test x ≡ true) → list_all test xs ≡ true
-all_pass test [] at = refl
-all_pass test (x ∷ xs) at =
-    and_from (test x) (list_all test xs) (at 0 x refl)
-    (all_pass test xs (λ i y is. at (suc i) y is))
-
--- and its handles are counted
-pub all_planned_counted : (explicit : Bool) (m : Module) (info : ModuleInfo) →
-    IsTrue (is_accepted m info) →
-    ((i : ℕ) → i < length m.functions → HasPlan explicit m info i) → IsTrue (handles_are_counted m)
-all_planned_counted explicit m info accepted planned =
-    all_pass (λ f. nat_le (length f.expressions) (2 ^ 64)) m.functions at
-  where
-    at : (i : ℕ) (f : ir_function.Function) → slice_get m.functions i ≡ Some f →
-        nat_le (length f.expressions) (2 ^ 64) ≡ true
-    at i f is =
-        let within = slice_get_within m.functions i f is in
-        let counted = functions_counted m info accepted in
-        let known = element info.functions.items i (omega (arith, within, counted)) in
-        ((planned i within).plan f known.0 is known.1).counted
-
--- and each written handle and each type that is spelled has a form
-pub all_planned_formed : (explicit : Bool) (m : Module) (info : ModuleInfo) →
-    ((i : ℕ) → i < length m.functions → HasPlan explicit m info i) →
-    AllWrittenHaveForms explicit m info
-all_planned_formed explicit m info planned g f known at is =
-    ((planned g (slice_get_within m.functions g f at)).plan f known at is).formed
 
 -- ---- functions without one
 -- what is named stands in the function, and has no form
 module _ (m : Module) (info : ModuleInfo) (i : ℕ) (error : Error)
     (n : NamesFormless m info i error) where
-  named : (x : Expression) × (slice_get n.function.expressions n.expression ≡ Some x)
+  pub named : (x : Expression) × (slice_get n.function.expressions n.expression ≡ Some x)
       × IsFalse (expression_has_form m n.known n.function.expressions x)
       × NamesExpression m n.known n.function.expressions x error
   named = by (slice_get n.function.expressions n.expression) refl n.named
@@ -200,59 +108,31 @@ module _ (m : Module) (info : ModuleInfo) (i : ℕ) (error : Error)
       by None at is = absurd is
       by (Some x) at is = (x, at, is.0, is.1)
 
-  expression_fails : (explicit : Bool) → IsWritableAt explicit m info i → ⊥
-  expression_fails explicit w =
+  expression_fails : (explicit : Bool) (earlier : List (List ℕ)) →
+      IsWritableAt explicit m info earlier i → ⊥
+  expression_fails explicit earlier w =
       let formed = (w.formed n.function n.known n.stands n.is_known).expressions n.expression named.0 named.1 n.written in
       let formless = named.2 in
       absurd cc
 
-  expression_told : TellsOfModule error → TellsOfFunction m error
-  expression_told tells =
-      inr (inl (tells, inl (m, n.known, n.function.expressions, named.0, named.3)))
-
 -- so does a type that is spelled
 module _ (explicit : Bool) (m : Module) (info : ModuleInfo) (i : ℕ) (error : Error) where
-  pub formless_fails : HasFormlessIn explicit m info i error → IsWritableAt explicit m info i → ⊥
-  formless_fails (inl n) w = expression_fails m info i error n explicit w
-  formless_fails (inr n) w =
+  pub formless_fails : HasFormlessIn explicit m info i error → (earlier : List (List ℕ)) →
+      IsWritableAt explicit m info earlier i → ⊥
+  formless_fails (inl n) earlier w = expression_fails m info i error n explicit earlier w
+  formless_fails (inr n) earlier w =
       let formed = (w.formed n.function n.known n.stands n.is_known).types n.type n.spelled in
       let formless = n.formless in
       absurd cc
 
-  pub formless_told : HasFormlessIn explicit m info i error → TellsOfModule error → TellsOfFunction m error
-  formless_told (inl n) tells = expression_told m info i error n tells
-  formless_told (inr n) tells = inr (inl (tells, inr (m.types, n.type, n.named)))
-
--- what a fault is
-module _ (explicit : Bool) (m : Module) (info : ModuleInfo) (i : ℕ) where
-  pub fault_fails : (error : Error) → IsFault explicit m info i error → IsWritableAt explicit m info i → ⊥
-  fault_fails error (inl scope) w = scope.1 w.in_scope
-  fault_fails error (inr (inl formless)) w = formless_fails explicit m info i error formless w
-  fault_fails error (inr (inr full)) w = w.told full.1
-
-  pub fault_told : (ItemsAreFull m → ⊥) → (error : Error) → TellsOfModule error →
-      IsFault explicit m info i error → TellsOfFunction m error
-  fault_told items error tells (inl scope) = inl scope.0
-  fault_told items error tells (inr (inl formless)) = formless_told explicit m info i error formless tells
-  fault_told items error tells (inr (inr full)) = inr (inr (full.0, items))
-
-  pub fault_refuses : (before after : ℕ) → IsTrue (is_written_so_far m) → (error : Error) →
-      TellsOfModule error → IsFault explicit m info i error → IsRefusal explicit m info before after error
-  fault_refuses before after written (FmtError e) tells fault = absurd tells
-  fault_refuses before after written (Memory e) tells fault = absurd tells
-  fault_refuses before after written (Custom message) tells (inl scope) =
-      inr (inl (scope.0, λ rules. scope.1 (scope_holds_in m info written rules i)))
-  fault_refuses before after written (Custom message) tells (inr (inl formless)) =
-      inr (inr (i, formless))
-  fault_refuses before after written (Custom message) tells (inr (inr full)) =
-      inl (inl (full.0, inr (i, full.1)))
-  fault_refuses before after written (Unimplemented message) tells (inl scope) = absurd scope.0
-  fault_refuses before after written (Unimplemented message) tells (inr (inl formless)) =
-      inr (i, formless)
-  fault_refuses before after written (Unimplemented message) tells (inr (inr full)) = absurd full.0
-  fault_refuses before after written _ tells (inl scope) = absurd scope.0
-  fault_refuses before after written _ tells (inr (inl formless)) = (i, formless)
-  fault_refuses before after written _ tells (inr (inr full)) = absurd full.0
+-- a fault
+pub fault_fails : (explicit : Bool) (m : Module) (info : ModuleInfo) (earlier : List (List ℕ)) (i : ℕ)
+    (error : Error) → IsFault explicit m info earlier i error →
+    IsWritableAt explicit m info earlier i → ⊥
+fault_fails explicit m info earlier i error (inl scope) w = scope.1 w.in_scope
+fault_fails explicit m info earlier i error (inr (inl formless)) w =
+    formless_fails explicit m info i error formless earlier w
+fault_fails explicit m info earlier i error (inr (inr full)) w = w.told full.1
 
 -- ---- what is told of a plan's error
 -- no refusal that names a type is the sink's
@@ -366,102 +246,105 @@ module _ (explicit : Bool) (m : Module) (info : ModuleInfo) (accepted : IsTrue (
   is_of_plan es here namer (Unnamed e) refusal = tt
   is_of_plan es here namer (plan_error.Memory e) refusal = tt
 
-  for_scope : (told : Error) → IsCustom (codes "operand out of scope") told →
-      (ScopeHoldsIn m info i → ⊥) → IsPlanRefusal explicit m info i told
-  for_scope (Custom message) is fails = (tt, inl (is, fails))
-  for_scope (Memory e) is fails = tt
-  for_scope _ is fails = absurd is
+  -- behind these labels
+  module _ (earlier : List (List ℕ)) where
+    for_scope : (told : Error) → IsCustom (codes "operand out of scope") told →
+        (ScopeHoldsIn m info i → ⊥) → IsPlanRefusal explicit m info earlier i told
+    for_scope (Custom message) is fails = (tt, inl (is, fails))
+    for_scope (Memory e) is fails = tt
+    for_scope _ is fails = absurd is
 
-  for_form : (told : Error) → HasFormlessIn explicit m info i told → IsPlanRefusal explicit m info i told
-  for_form (FmtError reason) (inl n) =
-      let at = named m info i (FmtError reason) n in
-      absurd (names_no_sink m n.known n.function.expressions at.0 reason at.3)
-  for_form (FmtError reason) (inr n) = absurd (no_type_sink m.types n.type reason n.named)
-  for_form (Memory e) n = tt
-  for_form _ n = (tt, inr (inl n))
+    for_form : (told : Error) → HasFormlessIn explicit m info i told → IsPlanRefusal explicit m info earlier i told
+    for_form (FmtError reason) (inl n) =
+        let at = named m info i (FmtError reason) n in
+        absurd (names_no_sink m n.known n.function.expressions at.0 reason at.3)
+    for_form (FmtError reason) (inr n) = absurd (no_type_sink m.types n.type reason n.named)
+    for_form (Memory e) n = tt
+    for_form _ n = (tt, inr (inl n))
 
-  for_full : (told : Error) → IsCustom (codes "namer is full") told → GivenAreFullIn m i →
-      IsPlanRefusal explicit m info i told
-  for_full (Custom message) is full = (tt, inr (inr (is, full)))
-  for_full (Memory e) is full = tt
-  for_full _ is full = absurd is
+    for_full : (told : Error) → IsCustom (codes "namer is full") told → GivenAreFullIn m earlier i →
+        IsPlanRefusal explicit m info earlier i told
+    for_full (Custom message) is full = (tt, inr (inr (is, full)))
+    for_full (Memory e) is full = tt
+    for_full _ is full = absurd is
 
-  -- the labels of the function are those of its handle
-  labels_are : given_labels f ≡ labels_given m i
-  labels_are = sym (ap (λ o. option_map_or given_labels o []) stands)
+    -- the labels of the function are those of its handle
+    labels_are : given_labels f ≡ labels_given m i
+    labels_are = sym (ap (λ o. option_map_or given_labels o []) stands)
 
-  full_is : (namer : Names) → HasNamedBefore m i namer →
-      SomeLabelIsFull namer (labels_before m i) (given_labels f) → GivenAreFullIn m i
-  full_is namer before full = record {
-    named = full.named;
-    label = full.label;
-    left = full.left;
-    all = sym labels_are ∙ full.all;
-    full = sym (ap (λ (n : Names). labels_with_base n (labels_before m i ++ full.named)
-        (label_base n full.label)) before.words) ∙ full.full;
-  }
+    full_is : (namer : Names) → HasOtherUses wgsl_names namer →
+        SomeLabelIsFull namer earlier (given_labels f) → GivenAreFullIn m earlier i
+    full_is namer words full = record {
+      named = full.named;
+      label = full.label;
+      left = full.left;
+      all = sym labels_are ∙ full.all;
+      full = sym (ap (λ (n : Names). labels_with_base n (earlier ++ full.named)
+          (label_base n full.label)) words) ∙ full.full;
+    }
 
-  for_names : (namer : Names) → HasNamedBefore m i namer → (error : NamerError) (told : Error) →
-      IsRefusalOfLabels namer (labels_before m i) (given_labels f) error →
-      IsErrorOfNames error told → IsPlanRefusal explicit m info i told
-  for_names namer before namer_error.Full told refusal is =
-      for_full told is (full_is namer before refusal)
-  for_names namer before namer_error.KeyFull told refusal is = absurd refusal
-  for_names namer before (namer_error.Memory e) told refusal is =
-      subst (IsPlanRefusal explicit m info i) (sym is) tt
+    for_names : (namer : Names) → HasOtherUses wgsl_names namer → (error : NamerError) (told : Error) →
+        IsRefusalOfLabels namer earlier (given_labels f) error →
+        IsErrorOfNames error told → IsPlanRefusal explicit m info earlier i told
+    for_names namer words namer_error.Full told refusal is =
+        for_full told is (full_is namer words refusal)
+    for_names namer words namer_error.KeyFull told refusal is = absurd refusal
+    for_names namer words (namer_error.Memory e) told refusal is =
+        subst (IsPlanRefusal explicit m info earlier i) (sym is) tt
 
-  type_named : (es : List ExpressionInfo) → slice_get info.functions.items i ≡ Some es →
-      (told : Error) (r : TypeResolution) → IsSpelledIn explicit m info f es r →
-      IsFalse (has_form m.types r) → NamesType m.types r told →
-      NamesFormlessType explicit m info i told
-  type_named es at told r spelled formless is = record {
-    function = f;
-    known = es;
-    stands = stands;
-    is_known = at;
-    type = r;
-    spelled = spelled;
-    formless = formless;
-    named = is;
-  }
+    type_named : (es : List ExpressionInfo) → slice_get info.functions.items i ≡ Some es →
+        (told : Error) (r : TypeResolution) → IsSpelledIn explicit m info f es r →
+        IsFalse (has_form m.types r) → NamesType m.types r told →
+        NamesFormlessType explicit m info i told
+    type_named es at told r spelled formless is = record {
+      function = f;
+      known = es;
+      stands = stands;
+      is_known = at;
+      type = r;
+      spelled = spelled;
+      formless = formless;
+      named = is;
+    }
 
-  pub plan_refusal : (es : List ExpressionInfo) → slice_get info.functions.items i ≡ Some es →
-      (namer : Names) → HasNamedBefore m i namer → (error : PlanError) (told : Error) →
-      IsRefusalToPlanOf explicit m info i namer error → TellsPlanError m f es error told →
-      IsPlanRefusal explicit m info i told
-  plan_refusal es at namer before (Unnamed e) told refusal is =
-      for_names namer before e told (refusal f es stands at (labels_before m i) before.labels) is
-  plan_refusal es at namer before OutOfScope told refusal is =
-      for_scope told is (out_of_scope namer refusal)
-  plan_refusal es at namer before (WithoutForm h) told refusal is =
-      let here = refusal f es stands at in
-      for_form told (inl (record {
-        function = f;
-        known = es;
-        stands = stands;
-        is_known = at;
-        expression = h;
-        written = here.0;
-        named = both _ _ (slice_get f.expressions h) here.1 is;
-      }))
-    where
-      both : (P Q : Expression → Type 0) (o : Option Expression) → IsSomeAnd o P →
-          IsSomeAnd o Q → IsSomeAnd o (λ e. P e × Q e)
-      both P Q None p q = absurd p
-      both P Q (Some e) p q = (p, q)
-  plan_refusal es at namer before (TypeWithoutForm ty) told refusal is =
-      let here = refusal f es stands at in
-      for_form told (inr (type_named es at told (Handle ty) here.0 here.1 is))
-  plan_refusal es at namer before (LetWithoutForm h) told refusal is =
-      by (slice_get es h) (refusal f es stands at) is
-    where
-      by : (o : Option ExpressionInfo) →
-          IsSomeAnd o (λ k. IsSpelledIn explicit m info f es k.ty × IsFalse (has_form m.types k.ty)) →
-          IsSomeAnd o (λ k. NamesType m.types k.ty told) → IsPlanRefusal explicit m info i told
-      by None here is = absurd here
-      by (Some k) here is = for_form told (inr (type_named es at told k.ty here.0 here.1 is))
-  plan_refusal es at namer before (plan_error.Memory e) told refusal is =
-      subst (IsPlanRefusal explicit m info i) (sym is) tt
+    pub plan_refusal : (es : List ExpressionInfo) → slice_get info.functions.items i ≡ Some es →
+        (namer : Names) → HasOtherUses wgsl_names namer → HasNamed namer earlier →
+        (error : PlanError) (told : Error) →
+        IsRefusalToPlanOf explicit m info i namer error → TellsPlanError m f es error told →
+        IsPlanRefusal explicit m info earlier i told
+    plan_refusal es at namer words has (Unnamed e) told refusal is =
+        for_names namer words e told (refusal f es stands at earlier has) is
+    plan_refusal es at namer words has OutOfScope told refusal is =
+        for_scope told is (out_of_scope namer refusal)
+    plan_refusal es at namer words has (WithoutForm h) told refusal is =
+        let here = refusal f es stands at in
+        for_form told (inl (record {
+          function = f;
+          known = es;
+          stands = stands;
+          is_known = at;
+          expression = h;
+          written = here.0;
+          named = both _ _ (slice_get f.expressions h) here.1 is;
+        }))
+      where
+        both : (P Q : Expression → Type 0) (o : Option Expression) → IsSomeAnd o P →
+            IsSomeAnd o Q → IsSomeAnd o (λ e. P e × Q e)
+        both P Q None p q = absurd p
+        both P Q (Some e) p q = (p, q)
+    plan_refusal es at namer words has (TypeWithoutForm ty) told refusal is =
+        let here = refusal f es stands at in
+        for_form told (inr (type_named es at told (Handle ty) here.0 here.1 is))
+    plan_refusal es at namer words has (LetWithoutForm h) told refusal is =
+        by (slice_get es h) (refusal f es stands at) is
+      where
+        by : (o : Option ExpressionInfo) →
+            IsSomeAnd o (λ k. IsSpelledIn explicit m info f es k.ty × IsFalse (has_form m.types k.ty)) →
+            IsSomeAnd o (λ k. NamesType m.types k.ty told) → IsPlanRefusal explicit m info earlier i told
+        by None here is = absurd here
+        by (Some k) here is = for_form told (inr (type_named es at told k.ty here.0 here.1 is))
+    plan_refusal es at namer words has (plan_error.Memory e) told refusal is =
+        subst (IsPlanRefusal explicit m info earlier i) (sym is) tt
 
 -- each constant that an expression of an accepted function names is there
 pub constants_there : (m : Module) (info : ModuleInfo) → IsTrue (is_accepted m info) → (i : ℕ)
