@@ -89,10 +89,11 @@ use Rattle.std.proofs.Common.{map}
 use Rattle.std.specs.Option.{is_some}
 use Rattle.module_meaning.proofs.Part.{has_form_parts}
 use Rattle.module_meaning.specs.ExpressionOperators.{is_depth_image, type_known}
-use Rattle.naga_form.proofs.ConstantForms.{constant_is, form_out_is}
+use Rattle.naga_form.proofs.ConstantForms.{constant_is, form_out_is, global_is}
 use Rattle.naga_form.proofs.WrittenOut.{global_names_in_range}
-use Rattle.naga_form.specs.ConstantForms.{written_constant_form}
-use Rattle.module_meaning.specs.Part.{constant_is_written}
+use Rattle.naga_form.specs.ConstantForms.{global_form, written_constant_form}
+use Rattle.naga_form.specs.Literals.{literal_form}
+use Rattle.module_meaning.specs.Part.{constant_is_written, global_is_written, is_written_literal}
 use Rattle.naga_form.proofs.Images.{offset_alone, sampling_is, without_offset}
 use Rattle.naga_form.specs.Expressions.{constant_form, value_forms}
 use Rattle.naga_ir.specs.Operands.{level_operands}
@@ -737,13 +738,19 @@ module _ (explicit : Bool) (m : Module) (info : ModuleInfo) (accepted : IsTrue (
   are : TypesAreCounted m
   are = types_are_counted m info accepted (written_are_told m of_part).types
 
-  -- each constant that is written is of the grammar
+  -- literals and types that are written are of the grammar
+  literal_there : (h : ℕ) (value : _) → slice_get m.global_expressions h ≡ Some (expression.Literal value) → is_written_literal value ≡ true → IsExpression (tree_expressions.Constant (literal_form value))
+  literal_there h value at is = literal_is value is (global_names_in_range m info accepted (written_are_told m of_part).types h (expression.Literal value) at)
+
+  formed_there : (ty : ℕ) → type_has_form m.types (Handle ty) ≡ true → HasFormAt (type_names m) ty
+  formed_there ty is = let t = tree_there (type_names m) (Handle ty) is in (t.0, t.1, tree_is m are (Handle ty) tt t.0 t.1)
+
+  -- each of the module's own expressions that is written is of the grammar, and so each constant
+  pub written_global : (h : ℕ) → global_is_written m h ≡ true → IsExpression (global_form m (type_names m) h)
+  written_global h is = global_is m (type_names m) literal_there formed_there (suc h) h is
+
   written_constants : (c : ℕ) → constant_is_written m c ≡ true → IsExpression (written_constant_form m (type_names m) c)
-  written_constants =
-      let told = (written_are_told m of_part).types in
-      constant_is m (type_names m)
-      (λ h value at is. literal_is value is (global_names_in_range m info accepted told h (expression.Literal value) at))
-      (λ ty is. let t = tree_there (type_names m) (Handle ty) is in (t.0, t.1, tree_is m are (Handle ty) tt t.0 t.1))
+  written_constants = constant_is m (type_names m) literal_there formed_there
 
   -- a function, under names of front ends that are identifiers
   pub one_is : (given : ℕ → List ℕ) (g : ℕ) (f : ir_function.Function) (found : slice_get m.functions g ≡ Some f) (es : List ExpressionInfo) → slice_get info.functions.items g ≡ Some es → ((k : ℕ) → k < length (given_labels f) → IsIdentifier (given k)) → IsTrue (function_is_written f) → WrittenHaveForms explicit m info f es → length f.expressions ≤ 2 ^ 64 → IsFunction (function_form explicit (module_names m) given m info g f es)
