@@ -1,5 +1,6 @@
 -- A function that is written by itself.
-use Rattle.std.proofs.Common.{◌≡◌, ◌<◌, ◌^◌, ◌∙◌, ◌++◌, ℕ, Bool, List, [], Some, append-nil, ap, arith}
+use Rattle.std.proofs.Common.{◌≡◌, ◌<◌, ◌^◌, ◌∙◌, ◌++◌, ℕ, Bool, List, [], Some, append-nil, append_assoc}
+use Rattle.std.proofs.Common.{ap, arith}
 use Rattle.std.proofs.Common.{inl, inr, length, refl, slice_get, subst, sym, take, unwrap_or}
 use Rattle.std.specs.Prelude.{Err, IfErr, IsErrAnd, IsFalse, IsTrue, Ok, OnErr, OnOk, Result, vec_len}
 use Rattle.std.specs.Option.{option_map_or}
@@ -14,7 +15,7 @@ use Rattle.naga_names.specs.Naming.{HasNamed, Names, name_after}
 use Rattle.naga_names.proofs.Refusal.{element}
 use Rattle.module_meaning.specs.Accepted.{is_accepted}
 use Rattle.module_meaning.specs.GivenLabels.{given_labels, name_of_label}
-use Rattle.module_meaning.specs.Names.{labels_given, module_names, wgsl_names}
+use Rattle.module_meaning.specs.Names.{item_labels, labels_given, module_names, wgsl_names}
 use Rattle.module_meaning.specs.Part.{is_written_so_far}
 use Rattle.module_meaning.proofs.Part.{written_so_far_parts}
 use Rattle.naga_form.proofs.AcceptedFunctions.{functions_counted}
@@ -34,7 +35,9 @@ use Rattle.naga_wgsl_fns.specs.Errors.{IsNotYetWritten, IsWant}
 use Rattle.naga_wgsl_fns.specs.FunctionText.{tells_types}
 use Rattle.naga_wgsl_fns.specs.Functions.{known_of, names_of, text_of, text_under}
 use Rattle.naga_wgsl_fns.specs.Items.{FunctionWriting, IsFunctionRefusal}
-use Rattle.naga_wgsl_fns.specs.Items.{given_behind, text_behind}
+use Rattle.naga_wgsl_fns.specs.Items.{HasNamedItemsOf, OfFunction, given_behind, text_behind}
+use Rattle.naga_back.specs.declared.context.FunctionType.{FunctionType}
+use Rattle.naga_back.specs.declared.context.FunctionType.TheVariants as item
 use Rattle.naga_wgsl_fns.specs.Refusals.{IsPlanRefusal, TellsOfModule}
 use Rattle.naga_wgsl_fns.specs.declared.error.Error.{Error}
 use Rattle.naga_wgsl_fns.specs.declared.error.Error.TheVariants.{FmtError, Memory, Unimplemented}
@@ -55,6 +58,43 @@ no_entry_point m written index lt =
     let none : length m.entry_points.items ≡ 0 = eqb-true (length m.entry_points.items) 0 three.1 in
     let counted : m.entry_points.len ≡ length m.entry_points.items = m.entry_points.ok.0 in
     absurd (omega (arith, lt, none, counted))
+
+-- ---- functions and entry points
+pub of_each : (ty : FunctionType) (Holds : ℕ → Type 0) → ((handle : ℕ) → Holds handle) →
+    OfFunction ty Holds
+of_each (item.Function handle) Holds all = all handle
+of_each (item.EntryPoint index) Holds all = tt
+
+pub of_one : (ty : FunctionType) (handle : ℕ) → ty ≡ item.Function handle → (Holds : ℕ → Type 0) →
+    Holds handle → OfFunction ty Holds
+of_one ty handle is Holds holds = subst (λ t. OfFunction t Holds) (sym is) holds
+
+-- a namer that has named some first labels of a function has named the items in front of them
+pub items_named : (m : Module) (handle : ℕ) (old new : Names) → HasNamedItemsOf m old →
+    HasOtherUses old new → (r : Result Unit Error) →
+    ((earlier : List (List ℕ)) → HasNamed old earlier →
+    OnOk r (HasNamed new (earlier ++ labels_given m handle)) ×
+    OnErr r (HasNamedSome new earlier (labels_given m handle))) →
+    HasNamedItemsOf m new
+items_named m handle old new items same r named =
+    by r (named (item_labels m ++ items.later) items.named.labels)
+  where
+    with_more : (more : List (List ℕ)) → HasNamed new ((item_labels m ++ items.later) ++ more) →
+        HasNamedItemsOf m new
+    with_more more has = record {
+      later = items.later ++ more;
+      named = record {
+        words = same ∙ ap (λ (o : Names). record o { uses = new.uses }) items.named.words;
+        labels = subst (HasNamed new) (append_assoc (item_labels m) items.later more) has;
+      };
+    }
+
+    by : (r : Result Unit Error) →
+        OnOk r (HasNamed new ((item_labels m ++ items.later) ++ labels_given m handle)) ×
+        OnErr r (HasNamedSome new (item_labels m ++ items.later) (labels_given m handle)) →
+        HasNamedItemsOf m new
+    by (Ok _) has = with_more (labels_given m handle) has.0
+    by (Err e) has = with_more has.1.named has.1.has
 
 module _ (m : Module) (info : ModuleInfo) (flags : WriterFlags) (earlier : List (List ℕ))
     (handle : ℕ) where

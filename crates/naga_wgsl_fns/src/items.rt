@@ -61,6 +61,8 @@ pub fn write_function<W: TextSink>(
         × (W.text out.new ≡ W.text out.old) × (W.failures out.new ≡ W.failures out.old)
         × (namer.new ≡ namer.old) }
     ensures words { HasOtherUses namer.old namer.new }
+    // So that the next function may be written.
+    ensures named { HasNamedItemsOf «module».now namer.new }
 {
     if !is_written_so_far(module) {
         return Err(not_yet_written(alloc));
