@@ -407,7 +407,7 @@ module _ (m : Module) (t : TypeNames)
       by None is = absurd cc
       by (Some k) is = each k.init is
 
-  global_is : (levels h : ℕ) → global_is_written_within levels m h ≡ true →
+  pub global_is : (levels h : ℕ) → global_is_written_within levels m h ≡ true →
       IsExpression (global_form_within levels m t h)
   global_is zero h is = tt
   global_is (suc levels) h is = by (slice_get m.global_expressions h) refl is (global_is levels)

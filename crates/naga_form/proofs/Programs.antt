@@ -90,10 +90,11 @@ use Rattle.std.proofs.Common.{map}
 use Rattle.std.specs.Option.{is_some}
 use Rattle.module_meaning.proofs.Part.{has_form_parts}
 use Rattle.module_meaning.specs.ExpressionOperators.{is_depth_image, type_known}
-use Rattle.naga_form.proofs.ConstantForms.{constant_is, form_out_is}
+use Rattle.naga_form.proofs.ConstantForms.{constant_is, form_out_is, global_is}
 use Rattle.naga_form.proofs.WrittenOut.{global_names_in_range}
-use Rattle.naga_form.specs.ConstantForms.{written_constant_form}
-use Rattle.module_meaning.specs.Part.{constant_is_written}
+use Rattle.naga_form.specs.ConstantForms.{global_form, written_constant_form}
+use Rattle.naga_form.specs.Literals.{literal_form}
+use Rattle.module_meaning.specs.Part.{constant_is_written, global_is_written, is_written_literal}
 use Rattle.naga_form.proofs.Images.{offset_alone, sampling_is, without_offset}
 use Rattle.naga_form.specs.Expressions.{constant_form, value_forms}
 use Rattle.naga_ir.specs.Operands.{level_operands}
@@ -741,20 +742,30 @@ module _ (explicit : Bool) (m : Module) (info : ModuleInfo) (accepted : IsTrue (
   types : TypesAreFit m
   types = types_are_fit m info accepted
 
-  -- each constant that is written is of the grammar
-  written_constants : (c : ℕ) → constant_is_written m c ≡ true → IsExpression (written_constant_form m (type_names m) c)
-  written_constants =
-      constant_is m (type_names m)
-      (λ h value at is. literal_is value is (global_names_in_range m info accepted h (expression.Literal value) at))
-      (λ ty is. let t = tree_there (type_names m) (Handle ty) is in (t.0, t.1, tree_is m types (Handle ty) tt t.0 t.1))
+  -- literals and types that are written are of the grammar
+  literal_there : (h : ℕ) (value : _) → slice_get m.global_expressions h ≡ Some (expression.Literal value) → is_written_literal value ≡ true → IsExpression (tree_expressions.Constant (literal_form value))
+  literal_there h value at is = literal_is value is (global_names_in_range m info accepted h (expression.Literal value) at)
 
-  one_is : (g : ℕ) (f : ir_function.Function) (found : slice_get m.functions g ≡ Some f) (es : List ExpressionInfo) → slice_get info.functions.items g ≡ Some es → (callees : ℕ) → function_in_range m callees f ≡ true → IsTrue (function_is_written f) → WrittenHaveForms explicit m info f es → length f.expressions ≤ 2 ^ 64 → IsFunction (function_form explicit (module_names m) (given_name m g) m info g f es)
-  one_is g f found es here callees ranges written have few =
+  formed_there : (ty : ℕ) → type_has_form m.types (Handle ty) ≡ true → HasFormAt (type_names m) ty
+  formed_there ty is = let t = tree_there (type_names m) (Handle ty) is in (t.0, t.1, tree_is m types (Handle ty) tt t.0 t.1)
+
+  -- each of the module's own expressions that is written is of the grammar, and so each constant
+  pub written_global : (h : ℕ) → global_is_written m h ≡ true → IsExpression (global_form m (type_names m) h)
+  written_global h is = global_is m (type_names m) literal_there formed_there (suc h) h is
+
+  written_constants : (c : ℕ) → constant_is_written m c ≡ true → IsExpression (written_constant_form m (type_names m) c)
+  written_constants = constant_is m (type_names m) literal_there formed_there
+
+  -- a function, under names of front ends that are identifiers
+  pub one_is : (given : ℕ → List ℕ) (g : ℕ) (f : ir_function.Function) (found : slice_get m.functions g ≡ Some f) (es : List ExpressionInfo) → slice_get info.functions.items g ≡ Some es → ((k : ℕ) → k < length (given_labels f) → IsIdentifier (given k)) → IsTrue (function_is_written f) → WrittenHaveForms explicit m info f es → length f.expressions ≤ 2 ^ 64 → IsFunction (function_form explicit (module_names m) given m info g f es)
+  one_is given g f found es here given_are written have few =
       let parts = function_parts f written in
-      function_is m info g f found es callees ranges (IsWrittenIn m info f es)
+      let at = known_function m info accepted g f found in
+      let is = accepted_at m info accepted g f at.0 at.1 in
+      function_is m info g f found es is.callees is.ranges (IsWrittenIn m info f es)
       (written_are_closed m info f es) have.expressions
       types (known_fits m info accepted g es here) (written_so_far_parts m of_part).1 explicit
-      have.types few (given_name m g) (given_is_identifier m g f found) written_constants (statements_fit f.body parts.body)
+      have.types few given given_are written_constants (statements_fit f.body parts.body)
 
   functions_are : (g : ℕ) (fs : List ir_function.Function) (ess : List (List ExpressionInfo)) → ((i : ℕ) (f : ir_function.Function) → slice_get fs i ≡ Some f → slice_get m.functions (g + i) ≡ Some f) → ((i : ℕ) (es : List ExpressionInfo) → slice_get ess i ≡ Some es → slice_get info.functions.items (g + i) ≡ Some es) → IsTrue (list_all function_is_written fs) → ((i : ℕ) (f : ir_function.Function) (es : List ExpressionInfo) → slice_get fs i ≡ Some f → slice_get ess i ≡ Some es → WrittenHaveForms explicit m info f es) →
       IsTrue (list_all (λ f. nat_le (length f.expressions) (2 ^ 64)) fs) → Each IsFunction (functions_form explicit (module_names m) m info g fs ess)
@@ -765,11 +776,9 @@ module _ (explicit : Bool) (m : Module) (info : ModuleInfo) (accepted : IsTrue (
       let here : g + 0 ≡ g = omega arith in
       let found = subst (λ h. slice_get m.functions h ≡ Some f) here (there 0 f refl) in
       let own = subst (λ h. slice_get info.functions.items h ≡ Some es) here (known 0 es refl) in
-      let at = known_function m info accepted g f found in
-      let is = accepted_at m info accepted g f at.0 at.1 in
       let all = and_parts (function_is_written f) (list_all function_is_written fs) written in
       let counted = and_parts (nat_le (length f.expressions) (2 ^ 64)) (list_all (λ f. nat_le (length f.expressions) (2 ^ 64)) fs) few in (
-        one_is g f found es own is.callees is.ranges all.0 (have 0 f es refl refl) (leb-true (length f.expressions) (2 ^ 64) counted.0),
+        one_is (given_name m g) g f found es own (given_is_identifier m g f found) all.0 (have 0 f es refl refl) (leb-true (length f.expressions) (2 ^ 64) counted.0),
         functions_are (g + 1) fs ess (further m.functions g f fs there) (further info.functions.items g es ess known) all.1 (λ i f es here known. have (suc i) f es here known) counted.1,
       )
 

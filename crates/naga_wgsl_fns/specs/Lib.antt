@@ -5,7 +5,9 @@ pub mod Expressions
 pub mod FunctionText
 pub mod Functions
 pub mod Images
+pub mod Items
 pub mod Literals
 pub mod Names
+pub mod Refusals
 pub mod Statements
 pub mod Types

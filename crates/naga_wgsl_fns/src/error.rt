@@ -4,9 +4,11 @@ ghost use Rattle.std.specs.Prelude.{◌≡◌, codes};
 ghost use Rattle.naga_wgsl_fns.specs.declared.error.Error.TheVariants.{Memory};
 ghost use Rattle.naga_wgsl_fns.specs.Errors.{error_of_sink, IsCustom, IsErrorOf, IsNotYetWritten};
 ghost use Rattle.naga_wgsl_fns.specs.Errors.{IsUnimplemented};
+ghost use Rattle.naga_wgsl_fns.specs.Refusals.{IsErrorOfNames};
 ghost use Rattle.naga_words.specs.declared.error.TypeTextError.TheVariants as type_error;
 
 use naga_ir::RelationalFunction;
+use naga_names::NamerError;
 use naga_words::{SinkError, TypeTextError};
 use std::alloc::{AllocError, Global};
 use thiserror::Error as DisplayedError;
@@ -97,5 +99,17 @@ pub fn custom(alloc: Global, text: &str) -> Error
     match String::from_str(alloc, text) {
         Ok(text) => Error::Custom(text),
         Err(error) => Error::Memory(error),
+    }
+}
+
+/// The refusal of a module of which an item or a label gets no name: `namer is full`, or `name key out
+/// of range`; want of memory where there was none for the name, or is none for the text.
+pub fn names_error(alloc: Global, error: NamerError) -> Error
+    ensures { IsErrorOfNames error result }
+{
+    match error {
+        NamerError::Full => custom(alloc, "namer is full"),
+        NamerError::KeyFull => custom(alloc, "name key out of range"),
+        NamerError::Memory(error) => Error::Memory(error),
     }
 }

@@ -47,7 +47,7 @@ use std::collections::HashMap;
 /// stands behind what the sink held. Memory is taken where the sink takes it, and where a type is
 /// spelled.
 #[tactic(auto, using(naga_words::proofs::Writing::fresh_output))]
-pub fn write_function<W: TextSink>(
+pub fn write_planned<W: TextSink>(
     alloc: Global,
     module: &Module,
     info: &ModuleInfo,

@@ -36,10 +36,11 @@ use Rattle.naga_wgsl_out.specs.Writing.{HasPlan, MetNoPlan, WritesFunctions, Wro
 use Rattle.naga_wgsl_out.specs.Writing.{WroteFunctionsBefore, lines_before, module_lines}
 use Rattle.naga_wgsl_out.specs.Writing.{written_text}
 use Rattle.naga_wgsl_out.proofs.Functions.{lines_behind, lines_split, written_lines}
-use Rattle.naga_wgsl_out.proofs.Scopes.{all_planned_counted, all_planned_formed, all_planned_hold}
-use Rattle.naga_wgsl_out.proofs.Scopes.{fault_refuses, fault_told}
-use Rattle.naga_wgsl_out.specs.Refusals.{ComesBeforeText, HasAllNames, IsNamesRefusal, IsRefusal}
-use Rattle.naga_wgsl_out.specs.Refusals.{NamerIsFull, TellsOfModule, TellsOfFunction}
+use Rattle.naga_wgsl_out.proofs.ModuleScopes.{all_planned_counted, all_planned_formed, all_planned_hold}
+use Rattle.naga_wgsl_out.proofs.ModuleScopes.{fault_refuses, fault_told}
+use Rattle.naga_wgsl_fns.specs.Refusals.{TellsOfModule}
+use Rattle.naga_wgsl_out.specs.ModuleRefusals.{ComesBeforeText, HasAllNames, IsNamesRefusal}
+use Rattle.naga_wgsl_out.specs.ModuleRefusals.{IsRefusal, NamerIsFull, TellsOfFunction}
 use Rattle.naga_wgsl_out.proofs.GivenNames.{none_past}
 use Rattle.naga_wgsl_out.specs.Headline.{EachReading, FaithfulWriting}
 

@@ -22,8 +22,9 @@ use Rattle.naga_names.proofs.Refusal.{element}
 use Rattle.naga_form.proofs.AcceptedFunctions.{functions_counted}
 use Rattle.wgsl_text.specs.Text.{text}
 use Rattle.naga_names.specs.Naming.{Names}
-use Rattle.naga_scope.specs.Plans.{Planned}
-use Rattle.module_meaning.specs.Names.{given_name, module_names}
+use Rattle.naga_scope.specs.GivenNames.{NamesLabels}
+use Rattle.naga_scope.specs.Plans.{IsPlanOf, Planned}
+use Rattle.module_meaning.specs.Names.{given_name, labels_before, labels_given, module_names}
 use Rattle.naga_wgsl_fns.specs.Appends.{StoppedWithin, Wrote}
 use Rattle.naga_wgsl_fns.specs.FunctionText.{tells_types}
 use Rattle.naga_wgsl_fns.specs.Functions.{known_of, text_of_function}
@@ -31,12 +32,14 @@ use Rattle.naga_wgsl_fns.specs.declared.error.Error.{Error}
 use Rattle.naga_wgsl_fns.specs.declared.error.Error.TheVariants.{Memory}
 use Rattle.naga_wgsl_fns.proofs.Appending.{stopped_first, stopped_then, wrote_nothing, wrote_then}
 use Rattle.naga_back.specs.declared.flags.WriterFlags.{WriterFlags}
-use Rattle.naga_wgsl_out.specs.Refusals.{HasNamedBefore, IsFault, IsPlanRefusal, TellsOfModule}
+use Rattle.naga_wgsl_fns.specs.Refusals.{IsFault, IsPlanRefusal, TellsOfModule}
+use Rattle.naga_wgsl_out.specs.ModuleRefusals.{HasNamedBefore}
 use Rattle.naga_wgsl_out.specs.Writing.{HasPlan, IsNamedPlan, MetNoPlan, WritesFunctions}
 use Rattle.naga_wgsl_out.specs.Writing.{WroteFunctions}
 use Rattle.naga_wgsl_out.specs.Writing.{line_of, lines_before, lines_of, module_lines, written_text}
-use Rattle.naga_wgsl_out.proofs.GivenNames.{all_counted, none_full}
-use Rattle.naga_wgsl_out.proofs.Scopes.{fault_fails, planned_holds}
+use Rattle.naga_wgsl_out.proofs.GivenNames.{all_counted, named_plan, none_full}
+use Rattle.naga_wgsl_fns.proofs.PlanRefusals.{fault_fails}
+use Rattle.naga_wgsl_out.proofs.ModuleScopes.{has_plan_holds}
 
 functions_text : (m : Module) (info : ModuleInfo) (flags : WriterFlags) (g : ℕ) (fs : List Function) (ess : List (List ExpressionInfo)) → length fs ≡ length ess → ((i : ℕ) (es : List ExpressionInfo) → slice_get ess i ≡ Some es → known_of info (g + i) ≡ es) → text (functions_pieces (functions_form (tells_types flags) (module_names m) m info g fs ess)) ≡ lines_of m info flags (enumerate_from g fs)
 functions_text m info flags g [] [] size known = refl
@@ -175,6 +178,18 @@ module _ (m : Module) (info : ModuleInfo) (flags : WriterFlags) {n : ℕ} {held 
         ∙ ap (λ fs. lines_of m info flags fs)
         (ap (λ q. take n all ++ q ∷ []) stands ∙ sym (take_more all n here below)))
 
+    -- a plan of it with its names
+    pub named_before : HasNamedBefore m handle namer
+    named_before = subst (λ h. HasNamedBefore m h namer) (sym is) so_far.named
+
+    pub named_at : (planned : Planned) (next : Names) →
+        IsPlanOf (tells_types flags) m info handle planned →
+        NamesLabels namer [] (labels_given m handle) next planned.given →
+        IsNamedPlan (tells_types flags) m info handle next planned
+    named_at planned next plan names =
+        named_plan m (tells_types flags) info handle namer next planned
+        (subst (λ k. k < length m.functions) (sym is) lt) named_before plan names
+
     -- one more
     pub up_to_more : (planned : Planned) (next : Names) {now : List ℕ} {failures : ℕ} →
         IsNamedPlan (tells_types flags) m info handle next planned → Wrote middle among line now failures →
@@ -203,13 +218,13 @@ module _ (m : Module) (info : ModuleInfo) (flags : WriterFlags) {n : ℕ} {held 
         (stopped_then so_far.wrote (stopped_first (lines_behind m info flags (n + 1)) stopped))))
 
     -- it has no plan
-    unplanned : (error : Error) → TellsOfModule error → IsFault (tells_types flags) m info handle error →
+    unplanned : (error : Error) → TellsOfModule error → IsFault (tells_types flags) m info (labels_before m handle) handle error →
         MetNoPlan m info flags held failed middle among error
     unplanned error tells fault = record {
       before = record {
         handle = n;
-        fails = fault_fails (tells_types flags) m info n error here_fault;
-        hold = λ i below. planned_holds (tells_types flags) m info i (so_far.planned i below);
+        fails = fault_fails (tells_types flags) m info (labels_before m n) n error here_fault;
+        hold = λ i below. has_plan_holds (tells_types flags) m info i (so_far.planned i below);
         written = so_far.wrote.appended;
       };
       tells = tells;
@@ -217,14 +232,14 @@ module _ (m : Module) (info : ModuleInfo) (flags : WriterFlags) {n : ℕ} {held 
       kept = so_far.wrote.kept;
     }
       where
-        here_fault : IsFault (tells_types flags) m info n error
-        here_fault = subst (λ h. IsFault (tells_types flags) m info h error) is fault
+        here_fault : IsFault (tells_types flags) m info (labels_before m n) n error
+        here_fault = subst (λ h. IsFault (tells_types flags) m info (labels_before m h) h error) is fault
 
     pub up_to_unplanned : (r : Result Unit Error) (error : Error) → IsErrAnd r (λ e. e ≡ error) →
-        IsPlanRefusal (tells_types flags) m info handle error → WritesFunctions m info flags r held failed middle among
+        IsPlanRefusal (tells_types flags) m info (labels_before m handle) handle error → WritesFunctions m info flags r held failed middle among
     up_to_unplanned r error told refusal = writes_err r told (by error refusal)
       where
-        by : (error : Error) → IsPlanRefusal (tells_types flags) m info handle error →
+        by : (error : Error) → IsPlanRefusal (tells_types flags) m info (labels_before m handle) handle error →
             StoppedWithin held failed (module_lines m info flags) middle among error
             ⊎ MetNoPlan m info flags held failed middle among error
         by (Memory e) refusal = inl (record {

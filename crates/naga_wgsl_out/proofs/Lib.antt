@@ -1,5 +1,4 @@
-pub mod FormlessConstants
-pub mod Scopes
+pub mod ModuleScopes
 pub mod ToldNames
 pub mod Functions
 pub mod GivenNames

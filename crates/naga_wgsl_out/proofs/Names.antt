@@ -23,7 +23,7 @@ use Rattle.naga_form.proofs.Names.{argument_there}
 use Rattle.naga_names.proofs.Refusal.{element}
 use Rattle.module_meaning.proofs.Lists.{list_all_at}
 use Rattle.naga_form.proofs.Fits.{local_item}
-use Rattle.naga_wgsl_out.specs.Refusals.{ItemsAreFull, KeyIsOutOfRange, HasAllNames, HasNamedBefore}
+use Rattle.naga_wgsl_out.specs.ModuleRefusals.{ItemsAreFull, KeyIsOutOfRange, HasAllNames, HasNamedBefore}
 
 module _ (m : Module) (before now : NameMap) (names : Names) (has : HasNamedItems wgsl_names before (labelled_items wgsl_names m) names now) where
   -- the map has an item's name

@@ -21,11 +21,12 @@ use Rattle.naga_ir.specs.declared.types.TypeInner.{TypeInner}
 use Rattle.naga_wgsl_fns.specs.Errors.{IsCustom, IsUnimplemented}
 use Rattle.naga_wgsl_fns.specs.declared.error.Error.{Error}
 use Rattle.naga_wgsl_fns.specs.declared.error.Error.TheVariants.{Custom, Memory, Unimplemented}
-use Rattle.naga_wgsl_out.specs.Refusals.{IsNamesRefusal, IsToldOfItems, NamesConversion}
-use Rattle.naga_wgsl_out.specs.Refusals.{NamesExpression, NamesFunction, NamesLiteral, NamesMatrix}
-use Rattle.naga_wgsl_out.specs.Refusals.{NamesGlobal, NamesLacking, NamesScalar, NamesType}
-use Rattle.naga_wgsl_out.specs.Refusals.{OfConstant, OfLiteral, OfOperand, OfOperation, OfType}
-use Rattle.naga_wgsl_out.specs.Refusals.{TellsOfFunction, converted, pointed_scalar}
+use Rattle.naga_wgsl_out.specs.ModuleRefusals.{IsNamesRefusal, IsToldOfItems, TellsOfFunction}
+use Rattle.naga_wgsl_fns.specs.Refusals.{NamesConversion}
+use Rattle.naga_wgsl_fns.specs.Refusals.{NamesExpression, NamesFunction, NamesLiteral, NamesMatrix}
+use Rattle.naga_wgsl_fns.specs.Refusals.{NamesGlobal, NamesLacking, NamesScalar, NamesType}
+use Rattle.naga_wgsl_fns.specs.Refusals.{OfConstant, OfLiteral, OfOperand, OfOperation, OfType}
+use Rattle.naga_wgsl_fns.specs.Refusals.{converted, pointed_scalar}
 
 -- the text begins with an `n`, as what is told of names does, and `not yet written`
 abbrev begins : List ℕ → Bool

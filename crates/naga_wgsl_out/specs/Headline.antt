@@ -10,7 +10,7 @@ use Rattle.wgsl_text.specs.Text.{tokens}
 use Rattle.wgsl_text.specs.Declarations.{Program}
 use Rattle.module_meaning.specs.Faithful.{HasInterfaceOf, RunsAs}
 use Rattle.naga_wgsl_fns.specs.declared.error.Error.{Error}
-use Rattle.naga_wgsl_out.specs.Refusals.{RefusesOnlyFor}
+use Rattle.naga_wgsl_out.specs.ModuleRefusals.{RefusesOnlyFor}
 
 -- a text stands behind what the sink held, and it is read as one program and as no other
 pub record AppendsOneReading (held now : List ℕ) : Type 0 where

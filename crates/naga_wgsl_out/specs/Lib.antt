@@ -1,3 +1,3 @@
 pub mod Writing
-pub mod Refusals
+pub mod ModuleRefusals
 pub mod Headline

@@ -7,12 +7,11 @@ use Rattle.std.specs.List.{enumerate_from, flat_map}
 use Rattle.naga_ir.specs.declared.module.Function.{Function}
 use Rattle.naga_ir.specs.declared.module.Module.{Module}
 use Rattle.naga_info.specs.declared.info.ModuleInfo.{ModuleInfo}
-use Rattle.module_meaning.specs.Written.{WrittenHaveForms}
-use Rattle.naga_scope.specs.Plans.{AreGivenNames, IsPlanOf, OfFunctionAt, Planned, ScopeHoldsIn}
+use Rattle.naga_scope.specs.Plans.{AreGivenNames, IsPlanOf, Planned}
 use Rattle.wgsl_text.specs.Functions.{function_pieces}
 use Rattle.naga_form.specs.Functions.{function_form}
 use Rattle.naga_form.specs.Declarations.{written_program}
-use Rattle.module_meaning.specs.Names.{NamesAreCounted, given_name, module_names}
+use Rattle.module_meaning.specs.Names.{NamesAreCounted, given_name, labels_before, module_names}
 use Rattle.naga_names.specs.Naming.{Names}
 use Rattle.wgsl_text.specs.Text.{text}
 use Rattle.wgsl_text.specs.Reading.{layout}
@@ -20,7 +19,8 @@ use Rattle.naga_wgsl_fns.specs.Appends.{StoppedWithin, Wrote}
 use Rattle.naga_wgsl_fns.specs.FunctionText.{tells_types}
 use Rattle.naga_wgsl_fns.specs.Functions.{known_of}
 use Rattle.naga_wgsl_fns.specs.declared.error.Error.{Error}
-use Rattle.naga_wgsl_out.specs.Refusals.{GivenAreFullIn, HasNamedBefore, IsFault, TellsOfModule}
+use Rattle.naga_wgsl_fns.specs.Refusals.{GivenAreFullIn, IsFault, IsWritableAt, TellsOfModule}
+use Rattle.naga_wgsl_out.specs.ModuleRefusals.{HasNamedBefore}
 use Rattle.naga_back.specs.declared.flags.WriterFlags.{WriterFlags}
 
 pub record Writing (W : Type 0) : Type 0 where
@@ -51,29 +51,23 @@ abbrev pub lines_before : Module → ModuleInfo → WriterFlags → (handle : �
 lines_before m info flags handle =
     lines_of m info flags (take handle (enumerate_from 0 m.functions))
 
--- the rules of scope hold in the function with this handle, each written handle of it and each type
--- that it spells has a form, and the labels that front ends gave in it can all be named
-pub record IsWritableAt (explicit : Bool) (m : Module) (info : ModuleInfo) (handle : ℕ) : Type 0 where
-  pub in_scope : ScopeHoldsIn m info handle
-  pub formed : OfFunctionAt m info handle (WrittenHaveForms explicit m info)
-  pub told : GivenAreFullIn m handle → ⊥
-
--- Behind what the sink held stand the functions in front of the first one for which that does not
--- hold, an empty line behind each, and nothing else.
+-- Behind what the sink held stand the functions in front of the first one that can't be written,
+-- an empty line behind each, and nothing else.
 pub record WroteFunctionsBefore (m : Module) (info : ModuleInfo) (flags : WriterFlags)
     (held now : List ℕ) : Type 0 where
   -- that function
   pub handle : ℕ
-  pub fails : IsWritableAt (tells_types flags) m info handle → ⊥
+  pub fails : IsWritableAt (tells_types flags) m info (labels_before m handle) handle → ⊥
   -- and those in front of it
-  pub hold : (i : ℕ) → i < handle → IsWritableAt (tells_types flags) m info i
+  pub hold : (i : ℕ) → i < handle →
+      IsWritableAt (tells_types flags) m info (labels_before m i) i
   pub written : now ≡ held ++ lines_before m info flags handle
 
 -- there is a plan of the function with this handle, which has names for its labels
 pub record HasPlan (explicit : Bool) (m : Module) (info : ModuleInfo) (handle : ℕ) : Type 0 where
   pub planned : Planned
   pub plan : IsPlanOf explicit m info handle planned
-  pub told : GivenAreFullIn m handle → ⊥
+  pub told : GivenAreFullIn m (labels_before m handle) handle → ⊥
 
 -- a plan with its names, behind which the namer has named the labels of the function too
 pub record IsNamedPlan (explicit : Bool) (m : Module) (info : ModuleInfo) (handle : ℕ) (namer : Names)
@@ -95,7 +89,7 @@ pub record MetNoPlan (m : Module) (info : ModuleInfo) (flags : WriterFlags) (hel
     (failed : ℕ) (now : List ℕ) (failures : ℕ) (error : Error) : Type 0 where
   pub before : WroteFunctionsBefore m info flags held now
   pub tells : TellsOfModule error
-  pub fault : IsFault (tells_types flags) m info before.handle error
+  pub fault : IsFault (tells_types flags) m info (labels_before m before.handle) before.handle error
   pub kept : failures ≡ failed
 
 -- what a call that writes the functions did, by its answer

@@ -7,11 +7,8 @@
 #![tactic(auto)]
 
 pub mod back;
-mod constants;
 pub mod diagnostics;
-mod forms;
 pub mod info;
-mod lacking;
 pub mod to_wgsl;
 pub mod types;
 pub mod wgsl;

@@ -1,9 +1,8 @@
 //! The writer of modules.
 
-ghost use Rattle.std.specs.Prelude.{◌≡◌, ◌<◌, ◌++◌, [], ℕ, IfErr, IfOk, IsTrue, OnErr, OnOk};
-ghost use Rattle.std.specs.Prelude.{codes, length, slice_get, string_bytes};
+ghost use Rattle.std.specs.Prelude.{◌≡◌, ◌<◌, ◌++◌, [], IfErr, IfOk, IsTrue, OnErr, OnOk};
+ghost use Rattle.std.specs.Prelude.{codes, length, string_bytes};
 ghost use Rattle.module_meaning.specs.Accepted.{is_accepted};
-ghost use Rattle.module_meaning.specs.Part.{function_is_written};
 ghost use Rattle.module_meaning.specs.Part.{is_written_so_far};
 ghost use Rattle.naga_names.specs.Keys.{names_in};
 ghost use Rattle.naga_words.specs.Sink.{IsBehind};
@@ -11,34 +10,31 @@ ghost use Rattle.naga_names.specs.Refusal.{IsResetRefusal};
 ghost use Rattle.module_meaning.specs.Names.{HasNamesOf, wgsl_names};
 ghost use Rattle.module_meaning.specs.Resolution.{ResolvesAs};
 ghost use Rattle.module_meaning.specs.Bindings.{BindsAs};
-ghost use Rattle.naga_ir.specs.declared.expression.Expression.{Expression};
-ghost use Rattle.naga_scope.specs.Forms.{AreKnownIn};
-ghost use Rattle.naga_scope.specs.Marks.{GlobalsStandInOrder, MarksGlobals};
+ghost use Rattle.naga_scope.specs.Marks.{MarksGlobals};
 ghost use Rattle.naga_scope.specs.Plans.{AreGivenNames, IsPlanOf};
 ghost use Rattle.naga_wgsl_fns.specs.Appends.{Appends};
 ghost use Rattle.naga_wgsl_fns.specs.FunctionText.{tells_types};
 ghost use Rattle.naga_wgsl_fns.specs.Functions.{text_of_function};
 ghost use Rattle.naga_wgsl_out.specs.Headline.{EachReading, FaithfulWriting, answer_of, text_of};
-ghost use Rattle.naga_wgsl_out.specs.Refusals.{ComesBeforeText, HasAllNames, HasNamedBefore};
-ghost use Rattle.naga_wgsl_out.specs.Refusals.{IsErrorOfNames};
-ghost use Rattle.naga_wgsl_out.specs.Refusals.{IsNamesRefusal, IsPlanRefusal, IsOfPlan};
-ghost use Rattle.naga_wgsl_out.specs.Refusals.{NamesConstantsOf, TellsPlanError};
-ghost use Rattle.naga_wgsl_out.specs.Refusals.{TellsOfModule, TellsOfFunction};
-ghost use Rattle.naga_wgsl_out.specs.Writing.{IsNamedPlan, WritesFunctions, Writing};
+ghost use Rattle.naga_wgsl_fns.specs.Items.{HasNamedItemsOf};
+ghost use Rattle.naga_wgsl_fns.specs.Refusals.{TellsOfModule};
+ghost use Rattle.naga_wgsl_out.specs.ModuleRefusals.{ComesBeforeText, HasAllNames};
+ghost use Rattle.naga_wgsl_out.specs.ModuleRefusals.{HasNamedBefore, IsNamesRefusal};
+ghost use Rattle.naga_wgsl_out.specs.ModuleRefusals.{TellsOfFunction};
+ghost use Rattle.naga_wgsl_out.specs.Writing.{WritesFunctions, Writing};
 ghost use Rattle.naga_wgsl_out.specs.Writing.{WroteFunctionsBefore};
 ghost use Rattle.naga_wgsl_out.specs.Writing.{written_text};
 
-use crate::forms::{type_without_form, without_form};
 use naga_acceptance::is_written_so_far;
 use naga_back::WriterFlags;
-use naga_info::{FunctionInfo, ModuleInfo, TypeResolution};
-use naga_ir::{Expression, Function, Handle, Module, Place, Type_, UniqueArena};
+use naga_info::ModuleInfo;
+use naga_ir::{Function, Handle, Module, Place};
 use naga_names::by_bytes::{builtin_words, reserved_words};
 use naga_names::keyword_set::CaseInsensitiveKeywordSet;
 use naga_names::namer::{NameKey, Namer, NamerError};
-use naga_scope::{GlobalExpressions, Plan, PlanError};
-use naga_wgsl_fns::error::{custom, not_yet_written};
-use naga_wgsl_fns::{Error, put, tells_types, write_function};
+use naga_scope::{GlobalExpressions, Plan};
+use naga_wgsl_fns::error::{names_error, not_yet_written};
+use naga_wgsl_fns::{Error, plan_of, put, write_planned};
 use naga_words::TextSink;
 use std::alloc::Global;
 use std::collections::HashMap;
@@ -203,80 +199,6 @@ fn write_functions<W: TextSink>(
     Ok(())
 }
 
-/// The plan of a function.
-fn plan_of(
-    alloc: Global,
-    module: &Module,
-    info: &ModuleInfo,
-    handle: Handle<Function>,
-    globals: &GlobalExpressions,
-    flags: WriterFlags,
-    namer: &mut Namer,
-) -> Result<Plan, Error>
-    requires accepted { IsTrue (is_accepted «module».now info.now) }
-    requires written { IsTrue (is_written_so_far «module».now) }
-    requires handle { handle < length «module».now.functions }
-    requires globals { MarksGlobals «module».now globals.now }
-    requires namer { HasNamedBefore «module».now handle namer.old }
-    ensures ok { IfOk result
-        (IsNamedPlan (tells_types flags) «module».now info.now handle namer.new) }
-    ensures err { IfErr result (IsPlanRefusal (tells_types flags) «module».now info.now handle) }
-{
-    match Plan::of(
-        alloc,
-        module,
-        info,
-        handle,
-        globals,
-        tells_types(flags),
-        namer,
-    ) {
-        Ok(plan) => Ok(plan),
-        Err(error) => Err(error_of_plan(
-            alloc,
-            module,
-            globals,
-            &module.functions[handle],
-            &info[handle],
-            error,
-        )),
-    }
-}
-
-/// What is told of this function where there is no plan of it.
-fn error_of_plan(
-    alloc: Global,
-    module: &Module,
-    globals: &GlobalExpressions,
-    function: &Function,
-    info: &FunctionInfo,
-    error: PlanError,
-) -> Error
-    requires written { IsTrue (function_is_written function.now) }
-    requires known { AreKnownIn «module».now.types info.now }
-    requires ordered { GlobalsStandInOrder «module».now }
-    requires globals { MarksGlobals «module».now globals.now }
-    requires named { (h : ℕ) (e : Expression) → slice_get function.now.expressions h ≡ Some e →
-        NamesConstantsOf «module».now e }
-    requires formless { IsOfPlan «module».now function.now info.now error }
-    ensures { TellsPlanError «module».now function.now info.now error result }
-{
-    match error {
-        PlanError::OutOfScope => custom(alloc, "operand out of scope"),
-        PlanError::WithoutForm(handle) => {
-            without_form(alloc, module, globals, info, &function.expressions[handle])
-        }
-        PlanError::TypeWithoutForm(ty) => {
-            type_without_form(alloc, &module.types, &TypeResolution::Handle(ty))
-        }
-        PlanError::LetWithoutForm(handle) => {
-            type_without_form(alloc, &module.types, &info[handle].ty)
-        }
-        PlanError::Unnamed(error) => names_error(alloc, error),
-        PlanError::Memory(error) => Error::Memory(error),
-    }
-}
-
 fn write_function_line<W: TextSink>(
     alloc: Global,
     module: &Module,
@@ -297,14 +219,22 @@ fn write_function_line<W: TextSink>(
         (text_of_function «module».now info.now flags handle ++ codes "\n")
         (W.text out.new) (W.failures out.new) }
 {
-    write_function(alloc, module, info, names, flags, handle, plan, out)?;
+    write_planned(alloc, module, info, names, flags, handle, plan, out)?;
     put("\n", out)
 }
 
-/// The names of a module's items in WGSL, and the namer that gave them.
-fn names_of(alloc: Global, module: &Module) -> Result<(HashMap<NameKey, String>, Namer), Error>
+/// The names of a module's items in WGSL, as [`Writer`] gives them, and the namer that gave them, which
+/// can go on from there.
+///
+/// A module of which so many labels are alike that an item gets no name is refused as `Custom`, `namer
+/// is full`, and one with more members, arguments or entry points than a key can tell as `Custom`,
+/// `name key out of range`.
+pub fn names_of(alloc: Global, module: &Module) -> Result<(HashMap<NameKey, String>, Namer), Error>
     ensures ok { IfOk result (λ r. HasAllNames «module».now (names_in r.0)) }
     ensures namer { IfOk result (λ r. HasNamedBefore «module».now 0 r.1) }
+    // As a call asks for them that writes one of the items.
+    ensures names { IfOk result (λ r. HasNamesOf «module».now (names_in r.0)) }
+    ensures items { IfOk result (λ r. HasNamedItemsOf «module».now r.1) }
     ensures err { IfErr result (IsNamesRefusal «module».now) }
 {
     let mut names = HashMap::new(alloc);
@@ -351,17 +281,6 @@ fn reset_for_wgsl(
         &RESERVED_PREFIXES,
         names,
     )
-}
-
-/// The refusal of a module of which an item or a label gets no name.
-fn names_error(alloc: Global, error: NamerError) -> Error
-    ensures { IsErrorOfNames error result }
-{
-    match error {
-        NamerError::Full => custom(alloc, "namer is full"),
-        NamerError::KeyFull => custom(alloc, "name key out of range"),
-        NamerError::Memory(error) => Error::Memory(error),
-    }
 }
 
 /// The WGSL text of a module, which is accepted with what is known of it. Want of memory is told as

@@ -15,23 +15,23 @@ named_text : (m : Module) (info : ModuleInfo) (flags : WriterFlags) (handle : �
 named_text m info flags handle plan named =
     ap (λ given. text_under m info flags given handle) (λ i number. named number i)
 
-pub returns-in_err-write_function : goal.returns-in_err-write_function
-returns-in_err-write_function g c =
+pub returns-in_err-write_planned : goal.returns-in_err-write_planned
+returns-in_err-write_planned g c =
     appends_stopped c.from_residual.result c.from_residual.ensures.1
     (stopped_first _ (record {
       behind =
-          subst (λ t. IsBehind (g.W.TextSink.text c.args.out.now) t (g.W.TextSink.text c.write_function.new.out))
+          subst (λ t. IsBehind (g.W.TextSink.text c.args.out.now) t (g.W.TextSink.text c.write_planned.new.out))
           (named_text c.args.«module».now c.args.info.now c.args.flags c.args.handle c.args.plan c.requires.named)
-          c.in_err-write_function.ensures.text_err;
-      reason = c.in_err-write_function.ensures.reason;
+          c.in_err-write_planned.ensures.text_err;
+      reason = c.in_err-write_planned.ensures.reason;
     }))
 
 pub returns : goal.returns
 returns g c =
     appends_then c.put.result _ _ _ (record {
       appended =
-          c.in_ok-write_function.ensures.text_ok
+          c.in_ok-write_planned.ensures.text_ok
           ∙ ap (λ t. g.W.TextSink.text c.args.out.now ++ t)
           (named_text c.args.«module».now c.args.info.now c.args.flags c.args.handle c.args.plan c.requires.named);
-      kept = c.in_ok-write_function.ensures.failures_ok;
+      kept = c.in_ok-write_planned.ensures.failures_ok;
     }) c.put.ensures

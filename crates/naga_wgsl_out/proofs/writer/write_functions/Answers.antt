@@ -1,6 +1,5 @@
-use Rattle.std.proofs.Common.{◌≡◌, ◌<◌, arith, length, subst, sym}
-use Rattle.naga_wgsl_out.specs.Refusals.{HasNamedBefore}
-use Rattle.naga_wgsl_out.proofs.Functions.{up_to_all, up_to_more, up_to_none}
+use Rattle.std.proofs.Common.{◌≡◌, ◌<◌, arith, length}
+use Rattle.naga_wgsl_out.proofs.Functions.{named_at, named_before, up_to_all, up_to_more, up_to_none}
 use Rattle.naga_wgsl_out.proofs.Functions.{up_to_stopped, up_to_unplanned}
 use Rattle.naga_wgsl_out.proofs.writer.write_functions.Goals as goal
 
@@ -15,7 +14,17 @@ loop-index-preserved g c =
     let within : c.loop-index.index < length c.args.«module».now.functions =
     omega (arith, c.loop-index-test.true, c.len-index-end.ensures) in
     up_to_more _ _ _ c.loop-index.invariant c.from_index-handle.result c.from_index-handle.ensures
-    within c.in_ok-plan.plan _ c.in_ok-plan.ensures.ok c.in_ok-write_function_line.ensures
+    within c.in_ok-plan.plan _
+    (named_at _ _ _ c.loop-index.invariant c.from_index-handle.result c.from_index-handle.ensures
+    within c.in_ok-plan.plan _ c.in_ok-plan.ensures.ok c.in_ok-plan.ensures.named)
+    c.in_ok-write_function_line.ensures
+
+pub write_function_line-requires-clause-named : goal.write_function_line-requires-clause-named
+write_function_line-requires-clause-named g c =
+    let within : c.loop-index.index < length c.args.«module».now.functions =
+    omega (arith, c.loop-index-test.true, c.len-index-end.ensures) in
+    (named_at _ _ _ c.loop-index.invariant c.from_index-handle.result c.from_index-handle.ensures
+    within c.in_ok-plan.plan _ c.in_ok-plan.ensures.ok c.in_ok-plan.ensures.named).names
 
 pub returns-in_err-plan : goal.returns-in_err-plan
 returns-in_err-plan g c =
@@ -23,7 +32,8 @@ returns-in_err-plan g c =
     omega (arith, c.loop-index-test.true, c.len-index-end.ensures) in
     up_to_unplanned _ _ _ c.loop-index.invariant c.from_index-handle.result
     c.from_index-handle.ensures within c.from_residual.result _ c.from_residual.ensures.1
-    c.in_err-plan.ensures.err
+    (c.in_err-plan.ensures.err _ (named_before _ _ _ c.loop-index.invariant
+    c.from_index-handle.result c.from_index-handle.ensures within).labels)
 
 pub returns-in_err-write_function_line : goal.returns-in_err-write_function_line
 returns-in_err-write_function_line g c =
@@ -40,7 +50,5 @@ returns g c =
     omega (arith, c.loop-index-test.false, c.len-index-end.ensures) in
     up_to_all _ _ _ c.loop-index.invariant all
 
-pub plan_of-requires-clause-namer : goal.plan_of-requires-clause-namer
-plan_of-requires-clause-namer g c =
-    subst (λ h. HasNamedBefore c.args.«module».now h c.loop-index.namer)
-    (sym c.from_index-handle.ensures) c.loop-index.invariant.named
+pub plan_of-requires-clause-words : goal.plan_of-requires-clause-words
+plan_of-requires-clause-words g c = c.loop-index.invariant.named.words

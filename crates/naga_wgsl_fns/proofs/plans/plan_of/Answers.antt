@@ -2,13 +2,13 @@ use Rattle.std.proofs.Common.{◌≡◌, ◌<◌, ◌∙◌, length, subst, sym}
 use Rattle.naga_form.proofs.AcceptedFunctions.{functions_counted}
 use Rattle.naga_form.proofs.AcceptedGroups.{fits_in_range, known_is_fit}
 use Rattle.naga_wgsl_fns.specs.FunctionText.{tells_types}
-use Rattle.naga_wgsl_out.proofs.Scopes.{constants_there, function_written, is_of_plan, plan_refusal}
+use Rattle.naga_wgsl_fns.proofs.PlanRefusals.{constants_there, function_written, is_of_plan}
+use Rattle.naga_wgsl_fns.proofs.PlanRefusals.{plan_refusal}
 use Rattle.naga_form.proofs.ToldItems.{written_are_told}
 use Rattle.naga_scope.proofs.WrittenConstants.{globals_in_order}
-use Rattle.naga_wgsl_out.proofs.GivenNames.{named_plan}
-use Rattle.naga_wgsl_out.specs.Refusals.{IsPlanRefusal}
-use Rattle.naga_wgsl_out.specs.Writing.{IsNamedPlan}
-use Rattle.naga_wgsl_out.proofs.writer.plan_of.Goals as goal
+use Rattle.naga_wgsl_fns.specs.Refusals.{IsPlanRefusal}
+use Rattle.naga_scope.specs.Plans.{IsPlanOf}
+use Rattle.naga_wgsl_fns.proofs.plans.plan_of.Goals as goal
 
 pub index-requires-in-Err : goal.index-requires-in-Err
 index-requires-in-Err c =
@@ -39,21 +39,18 @@ pub returns-in-Err-clause-err : goal.returns-in-Err-clause-err
 returns-in-Err-clause-err c =
     let m = c.args.«module».now in
     let info = c.args.info.now in
-    subst (λ explicit. IsPlanRefusal explicit m info c.args.handle c.error_of_plan.result)
+    λ earlier has.
+    subst (λ explicit. IsPlanRefusal explicit m info earlier c.args.handle c.error_of_plan.result)
     c.tells_types.ensures
     (plan_refusal c.tells_types.result m info c.requires.accepted c.requires.written
-    c.args.handle c.index.result.now c.index.ensures c.index-in-Err.result.now c.index-in-Err.ensures
-    _ c.requires.namer c.in-Err.error c.error_of_plan.result
+    c.args.handle c.index.result.now c.index.ensures earlier c.index-in-Err.result.now
+    c.index-in-Err.ensures _ c.requires.words has c.in-Err.error c.error_of_plan.result
     c.in-Err.ensures.err c.error_of_plan.ensures)
 
 pub returns-in-Ok-clause-ok : goal.returns-in-Ok-clause-ok
 returns-in-Ok-clause-ok c =
-    let m = c.args.«module».now in
-    let info = c.args.info.now in
-    subst (λ explicit. IsNamedPlan explicit m info c.args.handle c.of.new.namer c.in-Ok.plan)
-    c.tells_types.ensures
-    (named_plan m c.tells_types.result info c.args.handle _ _ c.in-Ok.plan
-    c.requires.handle c.requires.namer c.in-Ok.ensures.ok c.in-Ok.ensures.named)
+    subst (λ explicit. IsPlanOf explicit c.args.«module».now c.args.info.now c.args.handle c.in-Ok.plan)
+    c.tells_types.ensures c.in-Ok.ensures.ok
 
 pub error_of_plan-requires-clause-ordered : goal.error_of_plan-requires-clause-ordered
 error_of_plan-requires-clause-ordered c =

@@ -4,14 +4,14 @@ ghost use Rattle.std.specs.Prelude.{◌≡◌, ◌<◌, IsFalse, length, not};
 ghost use Rattle.std.specs.List.{find};
 ghost use Rattle.module_meaning.specs.Part.{constant_is_written, global_is_written};
 ghost use Rattle.naga_scope.specs.Marks.{GlobalsStandInOrder, MarksGlobals, is_marked};
-ghost use Rattle.naga_wgsl_out.specs.Refusals.{NamesConstant, NamesGlobal};
+ghost use Rattle.naga_wgsl_fns.specs.Refusals.{NamesConstant, NamesGlobal};
 
 use crate::forms::{literal_without_form, type_without_form};
 use naga_info::TypeResolution;
 use naga_ir::{Constant, Expression, Handle, Module};
 use naga_scope::GlobalExpressions;
-use naga_wgsl_fns::Error;
-use naga_wgsl_fns::error::custom;
+use crate::error::Error;
+use crate::error::custom;
 use std::alloc::Global;
 
 /// The refusal that names a constant that has no form, by the first part of its initialiser that has

@@ -1,7 +1,7 @@
 use Rattle.module_meaning.proofs.Lists.{list_all_at}
 use Rattle.module_meaning.specs.Part.{expression_is_of_part}
 use Rattle.naga_form.proofs.PartFits.{function_parts}
-use Rattle.naga_wgsl_out.proofs.writer.error_of_plan.Goals as goal
+use Rattle.naga_wgsl_fns.proofs.plans.error_of_plan.Goals as goal
 
 pub without_form-requires-clause-named : goal.without_form-requires-clause-named
 without_form-requires-clause-named c =

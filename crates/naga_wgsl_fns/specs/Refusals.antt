@@ -1,8 +1,8 @@
--- Why a module is refused, each reason with what it says.
+-- Why a function is refused, each reason with what it says.
 --
 -- Throughout, m is the module, e an error of memory, and explicit says whether `let`s tell types.
-use Rattle.std.specs.Prelude.{◌≡◌, ⊤, ℕ, ◌<◌, List, ◌⊎◌, codes, string_bytes, IsTrue, IsFalse, Result}
-use Rattle.std.specs.Prelude.{Ok, Err, IsSomeAnd, Option, Some, None, length, slice_get, Bool, true, false}
+use Rattle.std.specs.Prelude.{◌≡◌, ⊤, ℕ, ◌<◌, List, ◌⊎◌, codes, string_bytes, IsTrue, IsFalse}
+use Rattle.std.specs.Prelude.{IsSomeAnd, Option, Some, None, length, slice_get, Bool, true, false}
 use Rattle.std.specs.List.{IsAmong}
 use Rattle.std.specs.Option.{is_some, option_and_then}
 use Rattle.naga_ir.specs.declared.expression.Expression.{Expression}
@@ -32,69 +32,37 @@ use Rattle.naga_ir.specs.declared.expression.Literal.TheVariants as literal
 use Rattle.naga_ir.specs.declared.module.Constant as constant
 use Rattle.naga_ir.specs.declared.module.Function.{Function}
 use Rattle.naga_ir.specs.declared.module.Module.{Module}
-use Rattle.module_meaning.specs.Part.{expression_has_form, is_written_literal, is_written_so_far}
+use Rattle.module_meaning.specs.Part.{expression_has_form, is_written_literal}
 use Rattle.module_meaning.specs.Sampling.{offset_is_written, sampling_is_written}
 use Rattle.module_meaning.specs.LackingScalars.{lacking_scalar}
-use Rattle.module_meaning.specs.Written.{AllWrittenHaveForms, IsSpelledIn, IsWrittenIn}
+use Rattle.module_meaning.specs.Written.{IsSpelledIn, IsWrittenIn, WrittenHaveForms}
 use Rattle.module_meaning.specs.AlikeTypes.{has_form}
 use Rattle.module_meaning.specs.Conversions.{conversion_target}
 use Rattle.module_meaning.specs.ExpressionOperators.{scalar_behind}
 use Rattle.naga_info.specs.declared.info.ExpressionInfo.{ExpressionInfo}
 use Rattle.naga_info.specs.declared.info.ModuleInfo.{ModuleInfo}
-use Rattle.naga_names.specs.Refusal.{SomeNameIsFull, SomeKeyIsFull}
 use Rattle.naga_names.specs.declared.error.NamerError.{NamerError}
 use Rattle.naga_names.specs.declared.error.NamerError.TheVariants as namer_error
-use Rattle.naga_names.specs.Keys.{NameMap}
-use Rattle.naga_names.specs.Reset.{labelled_items}
 use Rattle.module_meaning.specs.GivenLabels.{SomeLabelIsFull}
-use Rattle.module_meaning.specs.Names.{HasNamesOf, labels_before, labels_given, wgsl_names}
+use Rattle.module_meaning.specs.Names.{labels_given, wgsl_names}
 use Rattle.naga_names.specs.Naming.{HasNamed, Names}
 use Rattle.naga_scope.specs.GivenNames.{HasOtherUses}
-use Rattle.module_meaning.specs.Premises.{ScopesHold}
-use Rattle.naga_scope.specs.Plans.{ScopeHoldsIn}
+use Rattle.naga_scope.specs.Plans.{OfFunctionAt, ScopeHoldsIn}
 use Rattle.naga_scope.specs.declared.plan.PlanError.{PlanError}
 use Rattle.naga_scope.specs.declared.plan.PlanError.TheVariants.{LetWithoutForm, OutOfScope}
 use Rattle.naga_scope.specs.declared.plan.PlanError.TheVariants.{TypeWithoutForm, Unnamed}
 use Rattle.naga_scope.specs.declared.plan.PlanError.TheVariants.{WithoutForm}
 use Rattle.naga_scope.specs.declared.plan.PlanError.TheVariants as plan_error
-use Rattle.naga_wgsl_fns.specs.Errors.{IsCustom, IsSinkWant, IsUnimplemented}
+use Rattle.naga_wgsl_fns.specs.Errors.{IsCustom, IsUnimplemented}
 use Rattle.naga_wgsl_fns.specs.declared.error.Error.{Error}
-use Rattle.naga_wgsl_fns.specs.declared.error.Error.TheVariants.{FmtError, Custom, Unimplemented}
+use Rattle.naga_wgsl_fns.specs.declared.error.Error.TheVariants.{FmtError, Custom}
 use Rattle.naga_wgsl_fns.specs.declared.error.Error.TheVariants.{Memory, Unsupported}
 use Rattle.naga_wgsl_fns.specs.declared.error.Error.TheVariants.{UnsupportedRelationalFunction}
 
--- the names of some items of the module can't be told, since so many of them have one base; or those
--- of some labels that front ends gave in the function with this handle, behind all labels in front
--- of them; or, of either, the key of an item is out of range
-abbrev pub ItemsAreFull : Module → Type 0
-ItemsAreFull m = SomeNameIsFull wgsl_names (labelled_items wgsl_names m)
-
-abbrev pub GivenAreFullIn : Module → (handle : ℕ) → Type 0
-GivenAreFullIn m handle = SomeLabelIsFull wgsl_names (labels_before m handle) (labels_given m handle)
-
-abbrev pub NamerIsFull : Module → Type 0
-NamerIsFull m = ItemsAreFull m ⊎ ((handle : ℕ) × GivenAreFullIn m handle)
-
-abbrev pub KeyIsOutOfRange : Module → Type 0
-KeyIsOutOfRange m = SomeKeyIsFull (labelled_items wgsl_names m)
-
--- what a `Custom` error says of names, and that it is so
-abbrev pub IsToldOf : Module → (message : List ℕ) → Type 0
-IsToldOf m message =
-    ((message ≡ codes "namer is full") × NamerIsFull m)
-    ⊎ ((message ≡ codes "name key out of range") × KeyIsOutOfRange m)
-
--- the same of its items alone
-abbrev pub IsToldOfItems : Module → (message : List ℕ) → Type 0
-IsToldOfItems m message =
-    ((message ≡ codes "namer is full") × ItemsAreFull m)
-    ⊎ ((message ≡ codes "name key out of range") × KeyIsOutOfRange m)
-
--- why the items of a module get no names
-abbrev pub IsNamesRefusal : Module → Error → Type 0
-IsNamesRefusal m (Custom message) = IsToldOfItems m (string_bytes message)
-IsNamesRefusal m (Memory e) = ⊤
-IsNamesRefusal m _ = ⊥
+-- the names of some labels that front ends gave in the function with this handle can't be told behind
+-- these earlier labels, since so many of them have one base
+abbrev pub GivenAreFullIn : Module → (earlier : List (List ℕ)) → (handle : ℕ) → Type 0
+GivenAreFullIn m earlier handle = SomeLabelIsFull wgsl_names earlier (labels_given m handle)
 
 -- what is told where a `Namer` answers an error: of its memory as such, else by name
 abbrev pub IsErrorOfNames : NamerError → Error → Type 0
@@ -285,31 +253,7 @@ abbrev pub HasFormlessIn : (explicit : Bool) → Module → ModuleInfo → (hand
 HasFormlessIn explicit m info handle error =
     NamesFormless m info handle error ⊎ NamesFormlessType explicit m info handle error
 
--- so it is in some function
-abbrev pub HasFormless : (explicit : Bool) → Module → ModuleInfo → Error → Type 0
-HasFormless explicit m info error = (handle : ℕ) × HasFormlessIn explicit m info handle error
-
 -- ---- refusals
--- the rules of scope don't hold in some function: an operand is used where it is out of scope, or
--- an `Emit` isn't allowed
-abbrev pub IsOutOfScope : Module → ModuleInfo → (message : List ℕ) → Type 0
-IsOutOfScope m info message = (message ≡ codes "operand out of scope") × (ScopesHold m info → ⊥)
-
--- Why a module is refused, of which this is known, where the sink had failed so often before and
--- has failed so often now: the sink failed, memory ran out, the names can't be told, an operand is
--- out of scope, an expression without a form is written or a type without one spelled, or the module
--- holds what is not written so far.
-abbrev pub IsRefusal : (explicit : Bool) → Module → ModuleInfo → (before now : ℕ) → Error → Type 0
-IsRefusal explicit m info before now (FmtError e) = IsSinkWant before now e
-IsRefusal explicit m info before now (Memory e) = ⊤
-IsRefusal explicit m info before now (Custom message) =
-    IsToldOf m (string_bytes message)
-    ⊎ (IsOutOfScope m info (string_bytes message) ⊎ HasFormless explicit m info (Custom message))
-IsRefusal explicit m info before now (Unimplemented message) =
-    ((string_bytes message ≡ codes "not yet written") × IsFalse (is_written_so_far m))
-    ⊎ HasFormless explicit m info (Unimplemented message)
-IsRefusal explicit m info before now error = HasFormless explicit m info error
-
 -- the error tells of the module, and not of memory or of the sink
 abbrev pub TellsOfModule : Error → Type 0
 TellsOfModule (FmtError e) = ⊥
@@ -333,30 +277,29 @@ abbrev pub TellsOfFullNamer : Error → Type 0
 TellsOfFullNamer (Custom message) = string_bytes message ≡ codes "namer is full"
 TellsOfFullNamer _ = ⊥
 
--- The error tells of one of the functions, of which each is looked at before its text. That a name
--- can't be told, it tells of a function where the items of the module can all be named.
-abbrev pub TellsOfFunction : Module → Error → Type 0
-TellsOfFunction m error =
-    TellsOfScope error
-    ⊎ (TellsOfForm error ⊎ (TellsOfFullNamer error × (ItemsAreFull m → ⊥)))
+-- the rules of scope hold in the function with this handle, each written handle of it and each type
+-- that it spells has a form, and the labels that front ends gave in it can all be named behind these
+pub record IsWritableAt (explicit : Bool) (m : Module) (info : ModuleInfo)
+    (earlier : List (List ℕ)) (handle : ℕ) : Type 0 where
+  pub in_scope : ScopeHoldsIn m info handle
+  pub formed : OfFunctionAt m info handle (WrittenHaveForms explicit m info)
+  pub told : GivenAreFullIn m earlier handle → ⊥
 
--- the error comes before any text: it tells of the module, and not of one of its functions
-abbrev pub ComesBeforeText : Module → Error → Type 0
-ComesBeforeText m error = TellsOfModule error × (TellsOfFunction m error → ⊥)
-
--- why the function with this handle has no plan: the rules of scope don't hold in it, an expression
--- without a form is written in it or a type without one spelled, or a label that a front end gave in
--- it gets no name; or memory ran out
-abbrev pub IsFault : (explicit : Bool) → Module → ModuleInfo → (handle : ℕ) → Error → Type 0
-IsFault explicit m info handle error =
+-- why it has no plan: the rules of scope don't hold in it, an expression without a form is written in
+-- it or a type without one spelled, or a label that a front end gave in it gets no name; or memory ran
+-- out
+abbrev pub IsFault : (explicit : Bool) → Module → ModuleInfo → (earlier : List (List ℕ)) →
+    (handle : ℕ) → Error → Type 0
+IsFault explicit m info earlier handle error =
     (TellsOfScope error × (ScopeHoldsIn m info handle → ⊥))
     ⊎ (HasFormlessIn explicit m info handle error
-    ⊎ (TellsOfFullNamer error × GivenAreFullIn m handle))
+    ⊎ (TellsOfFullNamer error × GivenAreFullIn m earlier handle))
 
-abbrev pub IsPlanRefusal : (explicit : Bool) → Module → ModuleInfo → (handle : ℕ) → Error → Type 0
-IsPlanRefusal explicit m info handle (Memory e) = ⊤
-IsPlanRefusal explicit m info handle error =
-    TellsOfModule error × IsFault explicit m info handle error
+abbrev pub IsPlanRefusal : (explicit : Bool) → Module → ModuleInfo → (earlier : List (List ℕ)) →
+    (handle : ℕ) → Error → Type 0
+IsPlanRefusal explicit m info earlier handle (Memory e) = ⊤
+IsPlanRefusal explicit m info earlier handle error =
+    TellsOfModule error × IsFault explicit m info earlier handle error
 
 -- the handle that an error of a plan tells of has an expression without a form, or one of which a
 -- type is known; and what is told is the name of that, or what else the error says
@@ -378,28 +321,7 @@ TellsPlanError m f known (LetWithoutForm handle) told =
 TellsPlanError m f known (Unnamed e) told = IsErrorOfNames e told
 TellsPlanError m f known (plan_error.Memory e) told = told ≡ Memory e
 
--- no reason stands in the module
-pub record IsWritable (explicit : Bool) (m : Module) (info : ModuleInfo) : Type 0 where
-  pub written : IsTrue (is_written_so_far m)
-  pub in_scope : ScopesHold m info
-  pub formed : AllWrittenHaveForms explicit m info
-  pub told : NamerIsFull m → ⊥
-  pub keys : KeyIsOutOfRange m → ⊥
-
--- an error has its reason, and where there is none no reason stands in the module
-abbrev pub RefusesOnlyFor : Result Unit Error → (explicit : Bool) → Module → ModuleInfo →
-    (before now : ℕ) → Type 0
-RefusesOnlyFor (Ok _) explicit m info before now = IsWritable explicit m info
-RefusesOnlyFor (Err error) explicit m info before now = IsRefusal explicit m info before now error
-
--- the map has the names of all items of the module, which can all be told
-pub record HasAllNames (m : Module) (names : NameMap) : Type 0 where
-  pub named : HasNamesOf m names
-  pub told : ItemsAreFull m → ⊥
-  pub keys : KeyIsOutOfRange m → ⊥
-
--- the namer has the words and prefixes of WGSL, and has named the labels of the module in front of
--- those that front ends gave in this function
-pub record HasNamedBefore (m : Module) (handle : ℕ) (namer : Names) : Type 0 where
+-- the namer has the words and prefixes of WGSL, and has named these labels
+pub record HasNamedLabels (earlier : List (List ℕ)) (namer : Names) : Type 0 where
   pub words : HasOtherUses wgsl_names namer
-  pub labels : HasNamed namer (labels_before m handle)
+  pub labels : HasNamed namer earlier

@@ -3,8 +3,8 @@ use Rattle.std.specs.List.{find}
 use Rattle.std.specs.Prelude.{not}
 use Rattle.naga_scope.specs.Marks.{is_marked}
 use Rattle.naga_scope.proofs.SpelledTypes.{found_here, not_here}
-use Rattle.naga_wgsl_out.proofs.FormlessConstants.{as_it_is}
-use Rattle.naga_wgsl_out.proofs.constants.first_unwritten.Goals as goal
+use Rattle.naga_wgsl_fns.proofs.FormlessConstants.{as_it_is}
+use Rattle.naga_wgsl_fns.proofs.formless_constants.first_unwritten.Goals as goal
 
 pub loop-handle-init : goal.loop-handle-init
 loop-handle-init c =

@@ -3,9 +3,9 @@ use Rattle.std.specs.List.{find}
 use Rattle.std.specs.Prelude.{List, Bool, ℕ, not}
 use Rattle.naga_ir.specs.declared.expression.Expression.TheVariants as expression
 use Rattle.naga_scope.specs.Marks.{is_marked}
-use Rattle.naga_wgsl_out.proofs.FormlessConstants as formless
-use Rattle.naga_wgsl_out.specs.Refusals.NamesGlobal.{OfConstant, OfLiteral, OfOperand, OfOperation, OfType}
-use Rattle.naga_wgsl_out.proofs.constants.+global_without_form.Goals as goal
+use Rattle.naga_wgsl_fns.proofs.FormlessConstants as formless
+use Rattle.naga_wgsl_fns.specs.Refusals.NamesGlobal.{OfConstant, OfLiteral, OfOperand, OfOperation, OfType}
+use Rattle.naga_wgsl_fns.proofs.formless_constants.+global_without_form.Goals as goal
 
 abbrev unwritten : List Bool → ℕ → Bool
 unwritten marks h = not (is_marked marks h)

@@ -9,12 +9,12 @@ ghost use Rattle.module_meaning.specs.Sampling.{sampling_is_written};
 ghost use Rattle.naga_ir.specs.declared.expression.Expression.{Expression};
 ghost use Rattle.naga_scope.specs.Forms.{AreKnownIn};
 ghost use Rattle.naga_scope.specs.Marks.{GlobalsStandInOrder, MarksGlobals};
-ghost use Rattle.naga_wgsl_out.specs.Refusals.{NamesConversion, NamesExpression};
-ghost use Rattle.naga_wgsl_out.specs.Refusals.{NamesFunction, NamesLiteral, NamesSampling};
-ghost use Rattle.naga_wgsl_out.specs.Refusals.{NamesMatrix, NamesScalar, NamesType, converted};
-ghost use Rattle.naga_wgsl_out.specs.Refusals.{NamesConstantsOf, pointed_scalar};
+ghost use Rattle.naga_wgsl_fns.specs.Refusals.{NamesConversion, NamesExpression};
+ghost use Rattle.naga_wgsl_fns.specs.Refusals.{NamesFunction, NamesLiteral, NamesSampling};
+ghost use Rattle.naga_wgsl_fns.specs.Refusals.{NamesMatrix, NamesScalar, NamesType, converted};
+ghost use Rattle.naga_wgsl_fns.specs.Refusals.{NamesConstantsOf, pointed_scalar};
 
-use crate::constants::constant_without_form;
+use crate::formless_constants::constant_without_form;
 use crate::lacking::lacking_scalar;
 use naga_info::{FunctionInfo, TypeResolution};
 use naga_ir::{
@@ -22,8 +22,8 @@ use naga_ir::{
     SwizzleComponent, Type_, TypeInner, UniqueArena,
 };
 use naga_scope::{GlobalExpressions, converted_scalar, sampling_has_form, scalar_behind};
-use naga_wgsl_fns::Error;
-use naga_wgsl_fns::error::{custom, unimplemented};
+use crate::error::Error;
+use crate::error::{custom, unimplemented};
 use std::alloc::Global;
 use wgsl_words::TryToWgsl;
 

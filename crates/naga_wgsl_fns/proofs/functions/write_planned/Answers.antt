@@ -12,7 +12,7 @@ use Rattle.naga_wgsl_fns.specs.FunctionText.{tells_types}
 use Rattle.naga_wgsl_fns.proofs.FunctionRows.{can_write, names_same, reason_told}
 use Rattle.naga_wgsl_fns.proofs.FunctionRows.{text_under_names}
 use Rattle.naga_wgsl_fns.specs.Functions.{text_under}
-use Rattle.naga_wgsl_fns.proofs.functions.write_function.Goals as goal
+use Rattle.naga_wgsl_fns.proofs.functions.write_planned.Goals as goal
 
 pub write_declaration-requires-clause-can : goal.write_declaration-requires-clause-can
 write_declaration-requires-clause-can g c =

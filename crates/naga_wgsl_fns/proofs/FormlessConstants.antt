@@ -19,7 +19,7 @@ use Rattle.naga_scope.proofs.WrittenConstants.{global_same}
 use Rattle.naga_scope.specs.Marks.{GlobalsStandInOrder, MarksGlobals, is_marked}
 use Rattle.naga_wgsl_fns.specs.declared.error.Error.{Error}
 use Rattle.shader_runs.specs.Premises.{AllBelow}
-use Rattle.naga_wgsl_out.specs.Refusals.{NamesConstant, NamesGlobal, is_operation}
+use Rattle.naga_wgsl_fns.specs.Refusals.{NamesConstant, NamesGlobal, is_operation}
 
 pub as_it_is : (xs : List ℕ) → map (λ (x : ℕ). x) xs ≡ xs
 as_it_is [] = refl

@@ -2,7 +2,7 @@ use Rattle.std.proofs.Common.{◌≡◌, drop, map}
 use Rattle.std.specs.List.{find}
 use Rattle.std.specs.Prelude.{not, ℕ}
 use Rattle.naga_scope.specs.Marks.{is_marked}
-use Rattle.naga_wgsl_out.proofs.constants.first_unwritten.Given as goal
+use Rattle.naga_wgsl_fns.proofs.formless_constants.first_unwritten.Given as goal
 
 abbrev pub invariant-loop-handle : goal.invariant-loop-handle
 invariant-loop-handle l =

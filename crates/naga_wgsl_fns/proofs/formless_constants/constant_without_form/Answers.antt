@@ -1,5 +1,5 @@
-use Rattle.naga_wgsl_out.proofs.FormlessConstants.{constant_named, initialiser_fails}
-use Rattle.naga_wgsl_out.proofs.constants.constant_without_form.Goals as goal
+use Rattle.naga_wgsl_fns.proofs.FormlessConstants.{constant_named, initialiser_fails}
+use Rattle.naga_wgsl_fns.proofs.formless_constants.constant_without_form.Goals as goal
 
 pub global_without_form-requires-clause-there : goal.global_without_form-requires-clause-there
 global_without_form-requires-clause-there c =

@@ -1,0 +1,261 @@
+-- A function that is written by itself.
+use Rattle.std.proofs.Common.{◌≡◌, ◌<◌, ◌^◌, ◌∙◌, ◌++◌, ℕ, Bool, List, [], Some, append-nil, append_assoc}
+use Rattle.std.proofs.Common.{ap, arith}
+use Rattle.std.proofs.Common.{inl, inr, length, refl, slice_get, subst, sym, take, unwrap_or}
+use Rattle.std.specs.Prelude.{Err, IfErr, IsErrAnd, IsFalse, IsTrue, Ok, OnErr, OnOk, Result, vec_len}
+use Rattle.std.specs.Option.{option_map_or}
+use Rattle.std.proofs.lemmas.Bool.{and_parts, eqb-true, leb-true}
+use Rattle.std.specs.Prelude.{◌==◌, ◌&&◌, is_none}
+use Rattle.std.specs.List.{list_all}
+use Rattle.naga_ir.specs.declared.module.Function as ir_function
+use Rattle.naga_ir.specs.declared.module.Module.{Module}
+use Rattle.naga_info.specs.declared.info.ExpressionInfo.{ExpressionInfo}
+use Rattle.naga_info.specs.declared.info.ModuleInfo.{ModuleInfo}
+use Rattle.naga_names.specs.Naming.{HasNamed, Names, name_after}
+use Rattle.naga_names.proofs.Refusal.{element}
+use Rattle.module_meaning.specs.Accepted.{is_accepted}
+use Rattle.module_meaning.specs.GivenLabels.{given_labels, name_of_label}
+use Rattle.module_meaning.specs.Names.{item_labels, labels_given, module_names, wgsl_names}
+use Rattle.module_meaning.specs.Part.{is_written_so_far}
+use Rattle.module_meaning.proofs.Part.{written_so_far_parts}
+use Rattle.naga_form.proofs.AcceptedFunctions.{functions_counted}
+use Rattle.naga_form.proofs.Names.{is_identifier}
+use Rattle.naga_form.proofs.Programs.{one_is}
+use Rattle.naga_form.specs.Functions.{function_form}
+use Rattle.naga_back.specs.declared.flags.WriterFlags.{WriterFlags}
+use Rattle.naga_scope.specs.GivenNames.{HasNamedSome, HasOtherUses, NamesLabels}
+use Rattle.naga_scope.specs.Plans.{IsPlanOf, Planned}
+use Rattle.naga_words.specs.Sink.{IsBehind}
+use Rattle.wgsl_text.specs.Functions.{Function, IsFunction}
+use Rattle.wgsl_text.specs.Reading.{HasOneReading, ReadsFunction}
+use Rattle.wgsl_text.specs.Text.{text}
+use Rattle.wgsl_text.specs.Words.{IsIdentifier}
+use Rattle.wgsl_text.proofs.Reading.{function_has_one_reading}
+use Rattle.naga_wgsl_fns.specs.Errors.{IsNotYetWritten, IsWant}
+use Rattle.naga_wgsl_fns.specs.FunctionText.{tells_types}
+use Rattle.naga_wgsl_fns.specs.Functions.{known_of, names_of, text_of, text_under}
+use Rattle.naga_wgsl_fns.specs.Items.{FunctionWriting, IsFunctionRefusal}
+use Rattle.naga_wgsl_fns.specs.Items.{HasNamedItemsOf, OfFunction, given_behind, text_behind}
+use Rattle.naga_back.specs.declared.context.FunctionType.{FunctionType}
+use Rattle.naga_back.specs.declared.context.FunctionType.TheVariants as item
+use Rattle.naga_wgsl_fns.specs.Refusals.{IsPlanRefusal, TellsOfModule}
+use Rattle.naga_wgsl_fns.specs.declared.error.Error.{Error}
+use Rattle.naga_wgsl_fns.specs.declared.error.Error.TheVariants.{FmtError, Memory, Unimplemented}
+use Rattle.naga_wgsl_fns.proofs.GivenNames.{given_are, none_full}
+use Rattle.naga_wgsl_fns.proofs.PlanRefusals.{function_written, planned_holds}
+
+-- a module that is written so far has no entry points
+pub no_entry_point : (m : Module) → IsTrue (is_written_so_far m) → (index : ℕ) →
+    index < vec_len m.entry_points → ⊥
+no_entry_point m written index lt =
+    let declares = (written_so_far_parts m written).0 in
+    let one = and_parts (list_all (λ c. is_none c.name) m.constants)
+    (length m.overrides == 0 && (length m.global_variables == 0 && length m.entry_points.items == 0))
+    declares in
+    let two = and_parts (length m.overrides == 0)
+    (length m.global_variables == 0 && length m.entry_points.items == 0) one.1 in
+    let three = and_parts (length m.global_variables == 0) (length m.entry_points.items == 0) two.1 in
+    let none : length m.entry_points.items ≡ 0 = eqb-true (length m.entry_points.items) 0 three.1 in
+    let counted : m.entry_points.len ≡ length m.entry_points.items = m.entry_points.ok.0 in
+    absurd (omega (arith, lt, none, counted))
+
+-- ---- functions and entry points
+pub of_each : (ty : FunctionType) (Holds : ℕ → Type 0) → ((handle : ℕ) → Holds handle) →
+    OfFunction ty Holds
+of_each (item.Function handle) Holds all = all handle
+of_each (item.EntryPoint index) Holds all = tt
+
+pub of_one : (ty : FunctionType) (handle : ℕ) → ty ≡ item.Function handle → (Holds : ℕ → Type 0) →
+    Holds handle → OfFunction ty Holds
+of_one ty handle is Holds holds = subst (λ t. OfFunction t Holds) (sym is) holds
+
+-- a namer that has named some first labels of a function has named the items in front of them
+pub items_named : (m : Module) (handle : ℕ) (old new : Names) → HasNamedItemsOf m old →
+    HasOtherUses old new → (r : Result Unit Error) →
+    ((earlier : List (List ℕ)) → HasNamed old earlier →
+    OnOk r (HasNamed new (earlier ++ labels_given m handle)) ×
+    OnErr r (HasNamedSome new earlier (labels_given m handle))) →
+    HasNamedItemsOf m new
+items_named m handle old new items same r named =
+    by r (named (item_labels m ++ items.later) items.named.labels)
+  where
+    with_more : (more : List (List ℕ)) → HasNamed new ((item_labels m ++ items.later) ++ more) →
+        HasNamedItemsOf m new
+    with_more more has = record {
+      later = items.later ++ more;
+      named = record {
+        words = same ∙ ap (λ (o : Names). record o { uses = new.uses }) items.named.words;
+        labels = subst (HasNamed new) (append_assoc (item_labels m) items.later more) has;
+      };
+    }
+
+    by : (r : Result Unit Error) →
+        OnOk r (HasNamed new ((item_labels m ++ items.later) ++ labels_given m handle)) ×
+        OnErr r (HasNamedSome new (item_labels m ++ items.later) (labels_given m handle)) →
+        HasNamedItemsOf m new
+    by (Ok _) has = with_more (labels_given m handle) has.0
+    by (Err e) has = with_more has.1.named has.1.has
+
+module _ (m : Module) (info : ModuleInfo) (flags : WriterFlags) (earlier : List (List ℕ))
+    (handle : ℕ) where
+  abbrev explicit : Bool
+  explicit = tells_types flags
+
+  abbrev labels : List (List ℕ)
+  labels = labels_given m handle
+
+  abbrev whole : List ℕ
+  whole = text_behind m info flags earlier handle
+
+  -- ---- in front of the text
+  -- no label was named
+  pub none_named : (namer : Names) → HasNamed namer earlier → HasNamedSome namer earlier labels
+  none_named namer has = record {
+    named = [];
+    left = labels;
+    all = refl;
+    has = subst (HasNamed namer) (sym (append-nil earlier)) has;
+  }
+
+  -- all were
+  all_named : (namer : Names) → HasNamed namer (earlier ++ labels) → HasNamedSome namer earlier labels
+  all_named namer has = record { named = labels; left = []; all = sym (append-nil labels); has = has }
+
+  module _ (held : List ℕ) (before : ℕ) where
+    pub refused : (r : Result Unit Error) (error : Error) (namer : Names) →
+        IsErrAnd r (λ e. e ≡ error) →
+        IsFunctionRefusal explicit m info earlier handle before before error →
+        HasNamedSome namer earlier labels →
+        FunctionWriting m info flags earlier handle r namer held held before before
+    refused (Ok _) error namer told refusal some = absurd told
+    refused (Err e) error namer told refusal some = record {
+      refusals = subst (IsFunctionRefusal explicit m info earlier handle before before) (sym told) refusal;
+      text_ok = tt;
+      reading = tt;
+      failures_ok = tt;
+      text_err = ([], whole, refl, sym (append-nil held));
+      untouched = λ tells. (refl, refl);
+      named_ok = tt;
+      named_err = some;
+    }
+
+    pub for_plan : (error : Error) → IsPlanRefusal explicit m info earlier handle error →
+        IsFunctionRefusal explicit m info earlier handle before before error
+    for_plan (FmtError e) refusal = absurd refusal.0
+    for_plan (Memory e) refusal = tt
+    for_plan (Unimplemented message) refusal = inr refusal.1
+    for_plan _ refusal = refusal.1
+
+    pub for_part : (error : Error) → IsNotYetWritten error → IsFalse (is_written_so_far m) →
+        IsFunctionRefusal explicit m info earlier handle before before error
+    for_part (Unimplemented message) is part = inl (is, part)
+    for_part (Memory e) is part = tt
+    for_part _ is part = absurd is
+
+  -- ---- the text
+  for_want : (before after : ℕ) (error : Error) → IsWant before after error →
+      IsFunctionRefusal explicit m info earlier handle before after error
+  for_want before after (FmtError e) is = is
+  for_want before after (Memory e) is = tt
+  for_want before after _ is = absurd is
+
+  want_tells_nothing : (before after : ℕ) (error : Error) → IsWant before after error →
+      TellsOfModule error → ⊥
+  want_tells_nothing before after (FmtError e) is tells = tells
+  want_tells_nothing before after (Memory e) is tells = tells
+  want_tells_nothing before after _ is tells = is
+
+  identifiers : (f : ir_function.Function) → slice_get m.functions handle ≡ Some f → (k : ℕ) →
+      k < length (given_labels f) → IsIdentifier (given_behind m earlier handle k)
+  identifiers f stands k lt =
+      let label = element (given_labels f) k lt in
+      let same = ap (λ o. name_of_label wgsl_names earlier (option_map_or given_labels o []) k) stands in
+      let name = ap (λ o. option_map_or (name_after wgsl_names (earlier ++ take k (given_labels f))) o [])
+      label.1 in
+      subst IsIdentifier (sym (same ∙ name)) (is_identifier (earlier ++ take k (given_labels f)) label.0)
+
+  module _ (accepted : IsTrue (is_accepted m info)) (written : IsTrue (is_written_so_far m))
+      (there : handle < length m.functions) (old new : Names) (words : HasOtherUses wgsl_names old)
+      (has : HasNamed old earlier) (planned : Planned) (plan : IsPlanOf explicit m info handle planned)
+      (given : NamesLabels old [] labels new planned.given) where
+    f : ir_function.Function
+    f = (element m.functions handle there).0
+
+    stands : slice_get m.functions handle ≡ Some f
+    stands = (element m.functions handle there).1
+
+    known : (es : List ExpressionInfo) × (slice_get info.functions.items handle ≡ Some es)
+    known =
+        let counted = functions_counted m info accepted in
+        element info.functions.items handle (omega (arith, there, counted))
+
+    abbrev form : Function
+    form = function_form explicit (module_names m) (given_behind m earlier handle) m info handle f
+        (known_of info handle)
+
+    is_function : IsFunction form
+    is_function =
+        let here = plan f known.0 stands known.1 in
+        let same : known_of info handle ≡ known.0 = ap (λ o. unwrap_or o []) known.1 in
+        subst
+        (λ es. IsFunction (function_form explicit (module_names m) (given_behind m earlier handle) m info
+            handle f es))
+        (sym same)
+        (one_is explicit m info accepted written (given_behind m earlier handle) handle f stands known.0
+        known.1 (identifiers f stands) (function_written explicit m info accepted written handle f stands)
+        here.formed (leb-true (length f.expressions) (2 ^ 64) here.counted))
+
+    one_reading : HasOneReading ReadsFunction whole form
+    one_reading =
+        subst (λ t. HasOneReading ReadsFunction t form)
+        (sym (ap
+        (λ o. option_map_or
+            (λ f. text_of m info flags (given_behind m earlier handle) handle f (known_of info handle)) o [])
+        stands))
+        (function_has_one_reading form is_function)
+
+    -- the names of the plan are those behind the earlier labels
+    text_same : text_under m info flags (names_of planned) handle ≡ whole
+    text_same =
+        ap (λ names. text_under m info flags names handle)
+        (λ i number. given_are m handle earlier old words planned.given (given.names earlier has) number i)
+
+    new_words : HasOtherUses wgsl_names new
+    new_words = given.words ∙ ap (λ (o : Names). record o { uses = new.uses }) words
+
+    new_named : HasNamed new (earlier ++ labels)
+    new_named = given.labels_named earlier has
+
+    pub writes : (r : Result Unit Error) (held now : List ℕ) (before after : ℕ) →
+        OnOk r (now ≡ held ++ text_under m info flags (names_of planned) handle) →
+        OnErr r (IsBehind held (text_under m info flags (names_of planned) handle) now) →
+        OnOk r (after ≡ before) → IfErr r (IsWant before after) →
+        FunctionWriting m info flags earlier handle r new held now before after
+    writes (Ok _) held now before after text_ok text_err kept reason =
+        let appended = text_ok ∙ ap (λ t. held ++ t) text_same in
+        record {
+          refusals = planned_holds explicit m info earlier handle planned plan
+              (none_full m handle earlier new new_words new_named);
+          text_ok = appended;
+          reading = record {
+            text = whole;
+            appended = appended;
+            function = form;
+            reading = one_reading;
+          };
+          failures_ok = kept;
+          text_err = tt;
+          untouched = tt;
+          named_ok = new_named;
+          named_err = tt;
+        }
+    writes (Err e) held now before after text_ok text_err kept reason = record {
+      refusals = for_want before after e reason;
+      text_ok = tt;
+      reading = tt;
+      failures_ok = tt;
+      text_err = subst (λ t. IsBehind held t now) text_same text_err;
+      untouched = λ tells. absurd (want_tells_nothing before after e reason tells);
+      named_ok = tt;
+      named_err = all_named new new_named;
+    }

@@ -1,0 +1,363 @@
+-- What a plan of a function says, and what is told of one that has none.
+use Rattle.naga_form.proofs.AcceptedFunctions.{accepted_at, function_there, names_are_in_range}
+use Rattle.module_meaning.specs.Ranges.{names_in_range}
+use Rattle.std.proofs.lemmas.Bool.{ltb-true}
+use Rattle.std.proofs.Common.{◌≡◌, ◌<◌, ◌∙◌, ℕ, Bool, true, zero, suc, List, [], ◌∷◌}
+use Rattle.std.proofs.Common.{None, Option, Some, ap, arith, inl, inr, length, refl, subst}
+use Rattle.std.proofs.Common.{codes, sym, ◌++◌}
+use Rattle.std.specs.Prelude.{IfSome, IsFalse, IsSomeAnd, IsTrue, slice_get}
+use Rattle.std.specs.Option.{option_map_or}
+use Rattle.std.proofs.lemmas.Option.{slice_get_within}
+use Rattle.naga_ir.specs.declared.expression.Expression.{Expression}
+use Rattle.naga_ir.specs.declared.expression.Expression.TheVariants.{AccessIndex, As, Compose}
+use Rattle.naga_ir.specs.declared.expression.Expression.TheVariants.{Literal, Math}
+use Rattle.naga_ir.specs.declared.expression.Expression.TheVariants.{ImageSample, ImageLoad}
+use Rattle.naga_ir.specs.declared.expression.Expression.TheVariants.{Relational, ZeroValue}
+use Rattle.naga_ir.specs.declared.expression.Literal.{Literal as LiteralValue}
+use Rattle.naga_ir.specs.declared.expression.Literal.TheVariants as literal
+use Rattle.naga_ir.specs.declared.module.Function as ir_function
+use Rattle.naga_ir.specs.declared.module.Module.{Module}
+use Rattle.naga_info.specs.declared.info.ExpressionInfo.{ExpressionInfo}
+use Rattle.naga_info.specs.declared.info.ModuleInfo.{ModuleInfo}
+use Rattle.shader_runs.specs.Program.{Function}
+use Rattle.shader_runs.specs.ScopeRules.{ScopeHolds}
+use Rattle.module_meaning.specs.Accepted.{is_accepted}
+use Rattle.module_meaning.specs.Part.{expression_has_form, function_is_written}
+use Rattle.module_meaning.specs.Part.{is_written_so_far}
+use Rattle.module_meaning.proofs.Lists.{list_all_at}
+use Rattle.module_meaning.proofs.Part.{functions_are_written}
+use Rattle.module_meaning.specs.LackingScalars.{lacking_scalar}
+use Rattle.module_meaning.specs.Written.{IsSpelledIn}
+use Rattle.module_meaning.specs.FunctionShapes.{function_shape, function_shapes}
+use Rattle.module_meaning.specs.AlikeTypes.{has_form}
+use Rattle.naga_form.proofs.AcceptedFunctions.{functions_counted}
+use Rattle.naga_info.specs.declared.info.TypeResolution.{TypeResolution}
+use Rattle.naga_info.specs.declared.info.TypeResolution.TheVariants.{Handle}
+use Rattle.naga_ir.specs.declared.types.Scalar.{Scalar}
+use Rattle.naga_ir.specs.declared.types.Type_.{Type_}
+use Rattle.naga_ir.specs.declared.types.TypeInner.{TypeInner}
+use Rattle.naga_names.specs.Naming.{HasNamed, Names, label_base, labels_with_base}
+use Rattle.naga_names.specs.declared.error.NamerError.{NamerError}
+use Rattle.naga_names.specs.declared.error.NamerError.TheVariants as namer_error
+use Rattle.naga_names.proofs.Refusal.{element}
+use Rattle.module_meaning.specs.GivenLabels.{SomeLabelIsFull, given_labels}
+use Rattle.module_meaning.specs.Names.{labels_given, wgsl_names}
+use Rattle.naga_scope.specs.GivenNames.{HasOtherUses, IsRefusalOfLabels}
+use Rattle.naga_scope.specs.Plans.{IsPlanOf, IsRefusalToPlanOf, Planned, ScopeHoldsIn}
+use Rattle.naga_scope.specs.declared.plan.PlanError.{PlanError}
+use Rattle.naga_scope.specs.declared.plan.PlanError.TheVariants.{LetWithoutForm, OutOfScope}
+use Rattle.naga_scope.specs.declared.plan.PlanError.TheVariants.{TypeWithoutForm, Unnamed}
+use Rattle.naga_scope.specs.declared.plan.PlanError.TheVariants.{WithoutForm}
+use Rattle.naga_scope.specs.declared.plan.PlanError.TheVariants as plan_error
+use Rattle.naga_scope.proofs.Planned.{shape_found}
+use Rattle.naga_wgsl_fns.specs.declared.error.Error.{Error}
+use Rattle.naga_wgsl_fns.specs.declared.error.Error.TheVariants.{Custom, FmtError, Memory}
+use Rattle.naga_words.specs.declared.sink.SinkError.{SinkError}
+use Rattle.naga_wgsl_fns.specs.Errors.{IsCustom}
+use Rattle.naga_wgsl_fns.specs.Refusals.{GivenAreFullIn, IsErrorOfNames, IsFault, IsWritableAt}
+use Rattle.naga_wgsl_fns.specs.Refusals.{IsOfPlan, IsPlanRefusal}
+use Rattle.naga_wgsl_fns.specs.Refusals.{HasFormlessIn, NamesConversion, NamesExpression}
+use Rattle.naga_wgsl_fns.specs.Refusals.{NamesFormlessType, NamesLacking, NamesType}
+use Rattle.naga_wgsl_fns.specs.Refusals.{NamesFormless, NamesLiteral, NamesMatrix, converted}
+use Rattle.naga_wgsl_fns.specs.Refusals.{NamesConstantsOf, NamesGlobal, OfConstant, OfLiteral}
+use Rattle.naga_wgsl_fns.specs.Refusals.{OfOperand, OfOperation, OfType, pointed_scalar}
+use Rattle.naga_ir.specs.declared.expression.Expression.TheVariants.{Constant}
+use Rattle.naga_ir.specs.declared.module.Constant as constant
+use Rattle.naga_ir.specs.declared.expression.Expression.TheVariants.{CooperativeLoad}
+use Rattle.naga_ir.specs.declared.types.Scalar.{Scalar}
+use Rattle.naga_wgsl_fns.specs.Refusals.{TellsPlanError}
+
+-- ---- functions with a plan
+-- what holds of the shape of each function that there is holds of the shape with its handle
+of_shape : (m : Module) (info : ModuleInfo) (fs : List ir_function.Function)
+    (ess : List (List ExpressionInfo)) (i : ℕ) (Q : Function → Type 0) →
+    ((f : ir_function.Function) (es : List ExpressionInfo) → slice_get fs i ≡ Some f →
+    slice_get ess i ≡ Some es → Q (function_shape m info f es)) →
+    IfSome (slice_get (function_shapes m info fs ess) i) Q
+of_shape m info [] ess i Q each = tt
+of_shape m info (f ∷ fs) [] i Q each = tt
+of_shape m info (f ∷ fs) (es ∷ ess) zero Q each = each f es refl refl
+of_shape m info (f ∷ fs) (es ∷ ess) (suc i) Q each = of_shape m info fs ess i Q each
+
+pub planned_holds : (explicit : Bool) (m : Module) (info : ModuleInfo) (earlier : List (List ℕ))
+    (i : ℕ) (planned : Planned) → IsPlanOf explicit m info i planned →
+    (GivenAreFullIn m earlier i → ⊥) → IsWritableAt explicit m info earlier i
+planned_holds explicit m info earlier i planned plan told = record {
+  in_scope = of_shape m info m.functions info.functions.items i ScopeHolds
+      (λ f es at known. (plan f es at known).in_scope);
+  formed = λ f es at known. (plan f es at known).formed;
+  told = told;
+}
+
+-- ---- functions without one
+-- what is named stands in the function, and has no form
+module _ (m : Module) (info : ModuleInfo) (i : ℕ) (error : Error)
+    (n : NamesFormless m info i error) where
+  pub named : (x : Expression) × (slice_get n.function.expressions n.expression ≡ Some x)
+      × IsFalse (expression_has_form m n.known n.function.expressions x)
+      × NamesExpression m n.known n.function.expressions x error
+  named = by (slice_get n.function.expressions n.expression) refl n.named
+    where
+      by : (o : Option Expression) → slice_get n.function.expressions n.expression ≡ o →
+          IsSomeAnd o
+          (λ e. IsFalse (expression_has_form m n.known n.function.expressions e)
+          × NamesExpression m n.known n.function.expressions e error) →
+          (x : Expression) × (slice_get n.function.expressions n.expression ≡ Some x)
+          × IsFalse (expression_has_form m n.known n.function.expressions x)
+          × NamesExpression m n.known n.function.expressions x error
+      by None at is = absurd is
+      by (Some x) at is = (x, at, is.0, is.1)
+
+  expression_fails : (explicit : Bool) (earlier : List (List ℕ)) →
+      IsWritableAt explicit m info earlier i → ⊥
+  expression_fails explicit earlier w =
+      let formed = (w.formed n.function n.known n.stands n.is_known).expressions n.expression named.0 named.1 n.written in
+      let formless = named.2 in
+      absurd cc
+
+-- so does a type that is spelled
+module _ (explicit : Bool) (m : Module) (info : ModuleInfo) (i : ℕ) (error : Error) where
+  pub formless_fails : HasFormlessIn explicit m info i error → (earlier : List (List ℕ)) →
+      IsWritableAt explicit m info earlier i → ⊥
+  formless_fails (inl n) earlier w = expression_fails m info i error n explicit earlier w
+  formless_fails (inr n) earlier w =
+      let formed = (w.formed n.function n.known n.stands n.is_known).types n.type n.spelled in
+      let formless = n.formless in
+      absurd cc
+
+-- a fault
+pub fault_fails : (explicit : Bool) (m : Module) (info : ModuleInfo) (earlier : List (List ℕ)) (i : ℕ)
+    (error : Error) → IsFault explicit m info earlier i error →
+    IsWritableAt explicit m info earlier i → ⊥
+fault_fails explicit m info earlier i error (inl scope) w = scope.1 w.in_scope
+fault_fails explicit m info earlier i error (inr (inl formless)) w =
+    formless_fails explicit m info i error formless earlier w
+fault_fails explicit m info earlier i error (inr (inr full)) w = w.told full.1
+
+-- ---- what is told of a plan's error
+-- no refusal that names a type is the sink's
+no_type_sink : (types : List Type_) (r : TypeResolution) (reason : SinkError) →
+    NamesType types r (FmtError reason) → ⊥
+no_type_sink types r reason named = by (lacking_scalar types r) named
+  where
+    by : (o : Option Scalar) → NamesLacking o (FmtError reason) → ⊥
+    by (Some s) named = named
+    by None named = named
+
+-- nor one that names a literal, or one of the module's own expressions
+no_literal_sink : (value : LiteralValue) (reason : SinkError) → NamesLiteral value (FmtError reason) → ⊥
+no_literal_sink (literal.F64 bits) reason named = named
+no_literal_sink (literal.F32 bits) reason named = named
+no_literal_sink (literal.F16 bits) reason named = named
+no_literal_sink (literal.AbstractInt value) reason named = named
+no_literal_sink (literal.AbstractFloat bits) reason named = named
+no_literal_sink _ reason named = named
+
+no_global_sink : (m : Module) (reason : SinkError) (h : ℕ) → NamesGlobal m (FmtError reason) h → ⊥
+no_global_sink m reason h (OfLiteral _ value at formless named) = no_literal_sink value reason named
+no_global_sink m reason h (OfType _ ty e at is formless named) =
+    no_type_sink m.types (Handle ty) reason named
+no_global_sink m reason h (OfOperation _ e at is named) = named
+no_global_sink m reason h (OfOperand _ x e at among inside) = no_global_sink m reason x inside
+no_global_sink m reason h (OfConstant _ c k at there inside) = no_global_sink m reason k.init inside
+
+-- nor is one that names an expression
+names_no_sink : (m : Module) (known : List ExpressionInfo) (es : List Expression)
+    (e : Expression) (reason : SinkError) → NamesExpression m known es e (FmtError reason) → ⊥
+names_no_sink m known es (Literal value) reason named = no_literal_sink value reason named
+names_no_sink m known es (Constant handle) reason named = by (slice_get m.constants handle) named
+  where
+    by : (o : Option constant.Constant) →
+        IsSomeAnd o (λ k. NamesGlobal m (FmtError reason) k.init) → ⊥
+    by None named = named
+    by (Some k) named = no_global_sink m reason k.init named
+names_no_sink m known es (CooperativeLoad columns rows role place) reason named =
+    by (pointed_scalar m.types known place.pointer) named
+  where
+    by : (o : Option Scalar) → NamesMatrix o (FmtError reason) → ⊥
+    by None named = named
+    by (Some s) named = named
+names_no_sink m known es (Math fun arg arg1 arg2 arg3) reason named = named
+names_no_sink m known es (Relational fun argument) reason named = absurd cc
+names_no_sink m known es (As operand kind convert) reason named =
+    by (converted m.types known operand kind convert) named
+  where
+    by : (o : Option TypeInner) → NamesConversion o (FmtError reason) → ⊥
+    by None named = named
+    by (Some new) named = named
+names_no_sink m known es
+    (ImageSample image sampler gather coordinate array_index offset level depth_ref clamp) reason
+    (inl named) =
+    named.1
+names_no_sink m known es
+    (ImageSample image sampler gather coordinate array_index offset level depth_ref clamp) reason
+    (inr named) =
+    named.1
+names_no_sink m known es (ImageLoad image coordinate array_index sample level) reason named =
+    named
+names_no_sink m known es (ZeroValue ty) reason named = no_type_sink m.types (Handle ty) reason named
+names_no_sink m known es (Compose ty components) reason named =
+    no_type_sink m.types (Handle ty) reason named
+names_no_sink m known es (AccessIndex base index) reason named = named
+names_no_sink m known es _ reason named = named
+
+module _ (explicit : Bool) (m : Module) (info : ModuleInfo) (accepted : IsTrue (is_accepted m info))
+    (written : IsTrue (is_written_so_far m)) (i : ℕ) (f : ir_function.Function)
+    (stands : slice_get m.functions i ≡ Some f) where
+  counted : length m.functions ≡ length info.functions.items
+  counted = functions_counted m info accepted
+
+  within : i < length m.functions
+  within = slice_get_within m.functions i f stands
+
+  known : (es : List ExpressionInfo) × (slice_get info.functions.items i ≡ Some es)
+  known = element info.functions.items i (omega (arith, within, counted))
+
+  pub function_written : IsTrue (function_is_written f)
+  function_written =
+      list_all_at function_is_written m.functions i f (functions_are_written m written) stands
+
+  -- where the check of the function fails, the rules don't hold in it
+  out_of_scope : (namer : Names) → IsRefusalToPlanOf explicit m info i namer OutOfScope →
+      ScopeHoldsIn m info i → ⊥
+  out_of_scope namer refusal holds =
+      refusal f known.0 stands known.1 (subst (λ o. IfSome o ScopeHolds)
+      (shape_found m info m.functions info.functions.items i f known.0 stands known.1) holds)
+
+  -- a handle of which something is known is in range
+  known_there : (es : List ExpressionInfo) (h : ℕ) (P : ExpressionInfo → Type 0) →
+      IsSomeAnd (slice_get es h) P → h < length es
+  known_there es h P is = by (slice_get es h) refl is
+    where
+      by : (o : Option ExpressionInfo) → slice_get es h ≡ o → IsSomeAnd o P → h < length es
+      by None at is = absurd is
+      by (Some k) at is = slice_get_within es h k at
+
+  pub is_of_plan : (es : List ExpressionInfo) → slice_get info.functions.items i ≡ Some es →
+      (namer : Names) (error : PlanError) → IsRefusalToPlanOf explicit m info i namer error →
+      IsOfPlan m f es error
+  is_of_plan es here namer OutOfScope refusal = tt
+  is_of_plan es here namer (WithoutForm h) refusal = (refusal f es stands here).1
+  is_of_plan es here namer (TypeWithoutForm ty) refusal = tt
+  is_of_plan es here namer (LetWithoutForm h) refusal =
+      known_there es h
+      (λ k. IsSpelledIn explicit m info f es k.ty × IsFalse (has_form m.types k.ty))
+      (refusal f es stands here)
+  is_of_plan es here namer (Unnamed e) refusal = tt
+  is_of_plan es here namer (plan_error.Memory e) refusal = tt
+
+  -- behind these labels
+  module _ (earlier : List (List ℕ)) where
+    for_scope : (told : Error) → IsCustom (codes "operand out of scope") told →
+        (ScopeHoldsIn m info i → ⊥) → IsPlanRefusal explicit m info earlier i told
+    for_scope (Custom message) is fails = (tt, inl (is, fails))
+    for_scope (Memory e) is fails = tt
+    for_scope _ is fails = absurd is
+
+    for_form : (told : Error) → HasFormlessIn explicit m info i told → IsPlanRefusal explicit m info earlier i told
+    for_form (FmtError reason) (inl n) =
+        let at = named m info i (FmtError reason) n in
+        absurd (names_no_sink m n.known n.function.expressions at.0 reason at.3)
+    for_form (FmtError reason) (inr n) = absurd (no_type_sink m.types n.type reason n.named)
+    for_form (Memory e) n = tt
+    for_form _ n = (tt, inr (inl n))
+
+    for_full : (told : Error) → IsCustom (codes "namer is full") told → GivenAreFullIn m earlier i →
+        IsPlanRefusal explicit m info earlier i told
+    for_full (Custom message) is full = (tt, inr (inr (is, full)))
+    for_full (Memory e) is full = tt
+    for_full _ is full = absurd is
+
+    -- the labels of the function are those of its handle
+    labels_are : given_labels f ≡ labels_given m i
+    labels_are = sym (ap (λ o. option_map_or given_labels o []) stands)
+
+    full_is : (namer : Names) → HasOtherUses wgsl_names namer →
+        SomeLabelIsFull namer earlier (given_labels f) → GivenAreFullIn m earlier i
+    full_is namer words full = record {
+      named = full.named;
+      label = full.label;
+      left = full.left;
+      all = sym labels_are ∙ full.all;
+      full = sym (ap (λ (n : Names). labels_with_base n (earlier ++ full.named)
+          (label_base n full.label)) words) ∙ full.full;
+    }
+
+    for_names : (namer : Names) → HasOtherUses wgsl_names namer → (error : NamerError) (told : Error) →
+        IsRefusalOfLabels namer earlier (given_labels f) error →
+        IsErrorOfNames error told → IsPlanRefusal explicit m info earlier i told
+    for_names namer words namer_error.Full told refusal is =
+        for_full told is (full_is namer words refusal)
+    for_names namer words namer_error.KeyFull told refusal is = absurd refusal
+    for_names namer words (namer_error.Memory e) told refusal is =
+        subst (IsPlanRefusal explicit m info earlier i) (sym is) tt
+
+    type_named : (es : List ExpressionInfo) → slice_get info.functions.items i ≡ Some es →
+        (told : Error) (r : TypeResolution) → IsSpelledIn explicit m info f es r →
+        IsFalse (has_form m.types r) → NamesType m.types r told →
+        NamesFormlessType explicit m info i told
+    type_named es at told r spelled formless is = record {
+      function = f;
+      known = es;
+      stands = stands;
+      is_known = at;
+      type = r;
+      spelled = spelled;
+      formless = formless;
+      named = is;
+    }
+
+    pub plan_refusal : (es : List ExpressionInfo) → slice_get info.functions.items i ≡ Some es →
+        (namer : Names) → HasOtherUses wgsl_names namer → HasNamed namer earlier →
+        (error : PlanError) (told : Error) →
+        IsRefusalToPlanOf explicit m info i namer error → TellsPlanError m f es error told →
+        IsPlanRefusal explicit m info earlier i told
+    plan_refusal es at namer words has (Unnamed e) told refusal is =
+        for_names namer words e told (refusal f es stands at earlier has) is
+    plan_refusal es at namer words has OutOfScope told refusal is =
+        for_scope told is (out_of_scope namer refusal)
+    plan_refusal es at namer words has (WithoutForm h) told refusal is =
+        let here = refusal f es stands at in
+        for_form told (inl (record {
+          function = f;
+          known = es;
+          stands = stands;
+          is_known = at;
+          expression = h;
+          written = here.0;
+          named = both _ _ (slice_get f.expressions h) here.1 is;
+        }))
+      where
+        both : (P Q : Expression → Type 0) (o : Option Expression) → IsSomeAnd o P →
+            IsSomeAnd o Q → IsSomeAnd o (λ e. P e × Q e)
+        both P Q None p q = absurd p
+        both P Q (Some e) p q = (p, q)
+    plan_refusal es at namer words has (TypeWithoutForm ty) told refusal is =
+        let here = refusal f es stands at in
+        for_form told (inr (type_named es at told (Handle ty) here.0 here.1 is))
+    plan_refusal es at namer words has (LetWithoutForm h) told refusal is =
+        by (slice_get es h) (refusal f es stands at) is
+      where
+        by : (o : Option ExpressionInfo) →
+            IsSomeAnd o (λ k. IsSpelledIn explicit m info f es k.ty × IsFalse (has_form m.types k.ty)) →
+            IsSomeAnd o (λ k. NamesType m.types k.ty told) → IsPlanRefusal explicit m info earlier i told
+        by None here is = absurd here
+        by (Some k) here is = for_form told (inr (type_named es at told k.ty here.0 here.1 is))
+    plan_refusal es at namer words has (plan_error.Memory e) told refusal is =
+        subst (IsPlanRefusal explicit m info earlier i) (sym is) tt
+
+-- each constant that an expression of an accepted function names is there
+pub constants_there : (m : Module) (info : ModuleInfo) → IsTrue (is_accepted m info) → (i : ℕ)
+    (f : ir_function.Function) → slice_get m.functions i ≡ Some f → (es : List ExpressionInfo) →
+    slice_get info.functions.items i ≡ Some es → (h : ℕ) (e : Expression) →
+    slice_get f.expressions h ≡ Some e → NamesConstantsOf m e
+constants_there m info accepted i f stands es stand h e at =
+    let numbered = function_there m info accepted i f stands in
+    let is = accepted_at m info accepted i f numbered.0 numbered.1 in
+    by is.callees e (names_are_in_range m is.callees f is.ranges h e at)
+  where
+    by : (callees : ℕ) (e : Expression) →
+        names_in_range m callees (length f.arguments.items) (length f.local_variables) e ≡ true →
+        NamesConstantsOf m e
+    by callees (Constant c) range = ltb-true c (length m.constants) range
+    by callees _ range = tt

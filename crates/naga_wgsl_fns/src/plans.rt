@@ -1,0 +1,110 @@
+//! The plan of a function, or why there is none.
+
+ghost use Rattle.std.specs.Prelude.{◌≡◌, ◌<◌, [], ℕ, List, IfErr, IfOk, IsTrue, OnErr, Some};
+ghost use Rattle.std.specs.Prelude.{length, slice_get};
+ghost use Rattle.module_meaning.specs.Accepted.{is_accepted};
+ghost use Rattle.module_meaning.specs.Names.{labels_given, wgsl_names};
+ghost use Rattle.module_meaning.specs.Part.{function_is_written, is_written_so_far};
+ghost use Rattle.naga_ir.specs.declared.expression.Expression.{Expression};
+ghost use Rattle.naga_names.specs.Naming.{HasNamed};
+ghost use Rattle.naga_scope.specs.Forms.{AreKnownIn};
+ghost use Rattle.naga_scope.specs.GivenNames.{HasBegunLabels, HasOtherUses, NamesLabels};
+ghost use Rattle.naga_scope.specs.Marks.{GlobalsStandInOrder, MarksGlobals};
+ghost use Rattle.naga_scope.specs.Plans.{IsPlanOf};
+ghost use Rattle.naga_wgsl_fns.specs.FunctionText.{tells_types};
+ghost use Rattle.naga_wgsl_fns.specs.Refusals.{IsOfPlan, IsPlanRefusal, NamesConstantsOf};
+ghost use Rattle.naga_wgsl_fns.specs.Refusals.{TellsPlanError};
+
+use crate::error::{Error, custom, names_error};
+use crate::forms::{type_without_form, without_form};
+use crate::types::tells_types;
+use naga_back::WriterFlags;
+use naga_info::{FunctionInfo, ModuleInfo, TypeResolution};
+use naga_ir::{Function, Handle, Module};
+use naga_names::namer::Namer;
+use naga_scope::{GlobalExpressions, Plan, PlanError};
+use std::alloc::Global;
+
+/// The plan of a function of an accepted module that is written so far, by the marks of the module's
+/// own expressions: the rules of scope hold in the function, each written expression and each type
+/// that its text spells has a form, and the labels that front ends gave in it have names, which
+/// `namer` has given them in the order of the text. Its words and prefixes are those of WGSL.
+///
+/// Else what keeps the function from having one is told by name, and `namer` has named some first
+/// ones of its labels.
+pub fn plan_of(
+    alloc: Global,
+    module: &Module,
+    info: &ModuleInfo,
+    handle: Handle<Function>,
+    globals: &GlobalExpressions,
+    flags: WriterFlags,
+    namer: &mut Namer,
+) -> Result<Plan, Error>
+    requires accepted { IsTrue (is_accepted «module».now info.now) }
+    requires written { IsTrue (is_written_so_far «module».now) }
+    requires handle { handle < length «module».now.functions }
+    requires globals { MarksGlobals «module».now globals.now }
+    requires words { HasOtherUses wgsl_names namer.old }
+    ensures ok { IfOk result (IsPlanOf (tells_types flags) «module».now info.now handle) }
+    ensures named { IfOk result (λ p.
+        NamesLabels namer.old [] (labels_given «module».now handle) namer.new p.given) }
+    ensures err { IfErr result (λ e. (earlier : List (List ℕ)) → HasNamed namer.old earlier →
+        IsPlanRefusal (tells_types flags) «module».now info.now earlier handle e) }
+    ensures begun { OnErr result
+        (HasBegunLabels namer.old (labels_given «module».now handle) namer.new) }
+{
+    match Plan::of(
+        alloc,
+        module,
+        info,
+        handle,
+        globals,
+        tells_types(flags),
+        namer,
+    ) {
+        Ok(plan) => Ok(plan),
+        Err(error) => Err(error_of_plan(
+            alloc,
+            module,
+            globals,
+            &module.functions[handle],
+            &info[handle],
+            error,
+        )),
+    }
+}
+
+/// What is told of this function where there is no plan of it.
+fn error_of_plan(
+    alloc: Global,
+    module: &Module,
+    globals: &GlobalExpressions,
+    function: &Function,
+    info: &FunctionInfo,
+    error: PlanError,
+) -> Error
+    requires written { IsTrue (function_is_written function.now) }
+    requires known { AreKnownIn «module».now.types info.now }
+    requires ordered { GlobalsStandInOrder «module».now }
+    requires globals { MarksGlobals «module».now globals.now }
+    requires named { (h : ℕ) (e : Expression) → slice_get function.now.expressions h ≡ Some e →
+        NamesConstantsOf «module».now e }
+    requires formless { IsOfPlan «module».now function.now info.now error }
+    ensures { TellsPlanError «module».now function.now info.now error result }
+{
+    match error {
+        PlanError::OutOfScope => custom(alloc, "operand out of scope"),
+        PlanError::WithoutForm(handle) => {
+            without_form(alloc, module, globals, info, &function.expressions[handle])
+        }
+        PlanError::TypeWithoutForm(ty) => {
+            type_without_form(alloc, &module.types, &TypeResolution::Handle(ty))
+        }
+        PlanError::LetWithoutForm(handle) => {
+            type_without_form(alloc, &module.types, &info[handle].ty)
+        }
+        PlanError::Unnamed(error) => names_error(alloc, error),
+        PlanError::Memory(error) => Error::Memory(error),
+    }
+}

@@ -1,0 +1,165 @@
+-- The rules of scope in the functions of a module, one by one and in all.
+use Rattle.std.proofs.Common.{◌≡◌, ◌<◌, ◌^◌, ℕ, Bool, true, zero, suc, List, [], ◌∷◌}
+use Rattle.std.proofs.Common.{Some, arith, inl, inr, length, nat_le, refl, subst}
+use Rattle.std.proofs.Common.{sym}
+use Rattle.std.specs.Prelude.{IfSome, IsTrue, slice_get}
+use Rattle.std.specs.List.{list_all}
+use Rattle.std.proofs.lemmas.Bool.{and_from}
+use Rattle.std.proofs.lemmas.Option.{slice_get_within}
+use mathlib.Core.List.{reverse_aux}
+use Rattle.naga_ir.specs.declared.module.Function as ir_function
+use Rattle.naga_ir.specs.declared.module.Module.{Module}
+use Rattle.naga_info.specs.declared.info.ModuleInfo.{ModuleInfo}
+use Rattle.shader_runs.specs.Program as shapes
+use Rattle.shader_runs.specs.Program.{Function}
+use Rattle.shader_runs.specs.ScopeRules.{ScopeHolds}
+use Rattle.module_meaning.specs.Accepted.{is_accepted}
+use Rattle.module_meaning.specs.Part.{is_written_so_far}
+use Rattle.module_meaning.specs.Written.{AllWrittenHaveForms}
+use Rattle.module_meaning.specs.Premises.{EachScopeHolds, ScopesHold, handles_are_counted}
+use Rattle.module_meaning.specs.FunctionShapes.{function_shapes}
+use Rattle.module_meaning.proofs.ModuleShapes.{declares_functions_alone}
+use Rattle.naga_form.proofs.AcceptedFunctions.{functions_counted}
+use Rattle.naga_names.proofs.Refusal.{element}
+use Rattle.module_meaning.specs.Names.{labels_before}
+use Rattle.naga_scope.specs.Plans.{ScopeHoldsIn}
+use Rattle.naga_wgsl_fns.specs.declared.error.Error.{Error}
+use Rattle.naga_wgsl_fns.specs.declared.error.Error.TheVariants.{Custom, FmtError, Memory}
+use Rattle.naga_wgsl_fns.specs.declared.error.Error.TheVariants.{Unimplemented}
+use Rattle.naga_wgsl_fns.specs.Refusals.{IsFault, IsWritableAt}
+use Rattle.naga_wgsl_fns.specs.Refusals.{HasFormlessIn}
+use Rattle.naga_wgsl_fns.specs.Refusals.{NamesFormless}
+use Rattle.naga_wgsl_fns.specs.Refusals.{NamesFormless}
+use Rattle.naga_wgsl_fns.specs.Refusals.{TellsOfModule}
+use Rattle.naga_wgsl_fns.proofs.PlanRefusals.{named, planned_holds}
+use Rattle.naga_wgsl_out.specs.ModuleRefusals.{IsRefusal, ItemsAreFull, TellsOfFunction}
+use Rattle.naga_wgsl_out.specs.Writing.{HasPlan}
+
+-- ---- a list of functions and its reverse
+turned : (fs behind : List Function) → EachScopeHolds fs → EachScopeHolds behind →
+    EachScopeHolds (reverse_aux fs behind)
+turned [] behind each rest = rest
+turned (f ∷ fs) behind each rest = turned fs (f ∷ behind) each.1 (each.0, rest)
+
+turned_back : (fs behind : List Function) → EachScopeHolds (reverse_aux fs behind) →
+    EachScopeHolds fs × EachScopeHolds behind
+turned_back [] behind each = (tt, each)
+turned_back (f ∷ fs) behind each =
+    let parts = turned_back fs (f ∷ behind) each in ((parts.1.0, parts.0), parts.1.1)
+
+each_at : (fs : List Function) → EachScopeHolds fs → (i : ℕ) → IfSome (slice_get fs i) ScopeHolds
+each_at [] each i = tt
+each_at (f ∷ fs) each zero = each.0
+each_at (f ∷ fs) each (suc i) = each_at fs each.1 i
+
+each_from : (fs : List Function) → ((i : ℕ) → i < length fs → IfSome (slice_get fs i) ScopeHolds) →
+    EachScopeHolds fs
+each_from [] at = tt
+each_from (f ∷ fs) at = (at 0 (omega arith), each_from fs (λ i lt. at (suc i) (omega (arith, lt))))
+
+-- where the rules hold in a module, they hold in each function
+pub scope_holds_in : (m : Module) (info : ModuleInfo) → IsTrue (is_written_so_far m) →
+    ScopesHold m info → (i : ℕ) → ScopeHoldsIn m info i
+scope_holds_in m info written rules i =
+    let own = function_shapes m info m.functions info.functions.items in
+    let of_part = subst (λ (p : shapes.Module). EachScopeHolds p.functions)
+    (declares_functions_alone m info written) rules in
+    each_at own (turned_back own [] of_part).0 i
+
+-- ---- functions with a plan
+pub has_plan_holds : (explicit : Bool) (m : Module) (info : ModuleInfo) (i : ℕ) →
+    HasPlan explicit m info i → IsWritableAt explicit m info (labels_before m i) i
+has_plan_holds explicit m info i has =
+    planned_holds explicit m info (labels_before m i) i has.planned has.plan has.told
+
+-- more shapes than functions there are none
+shapes_below : (m : Module) (info : ModuleInfo) (i : ℕ) →
+    i < length (function_shapes m info m.functions info.functions.items) → i < length m.functions
+shapes_below m info i lt = by m.functions info.functions.items i lt
+  where
+    by : (fs : List ir_function.Function) (ess : List _) (i : ℕ) →
+        i < length (function_shapes m info fs ess) → i < length fs
+    by [] ess i lt = lt
+    by (f ∷ fs) [] i lt = absurd (omega (arith, lt))
+    by (f ∷ fs) (es ∷ ess) zero lt = omega arith
+    by (f ∷ fs) (es ∷ ess) (suc i) lt =
+        let rest = by fs ess i (omega (arith, lt)) in omega (arith, rest)
+
+-- where each function has a plan, the rules of scope hold in the module
+pub all_planned_hold : (explicit : Bool) (m : Module) (info : ModuleInfo) →
+    IsTrue (is_written_so_far m) →
+    ((i : ℕ) → i < length m.functions → HasPlan explicit m info i) → ScopesHold m info
+all_planned_hold explicit m info written planned =
+    let own = function_shapes m info m.functions info.functions.items in
+    subst (λ (p : shapes.Module). EachScopeHolds p.functions)
+    (sym (declares_functions_alone m info written))
+    (turned own []
+    (each_from own (λ i lt. (has_plan_holds explicit m info i (planned i (shapes_below m info i lt))).in_scope)) tt)
+
+-- a test that each item passes
+all_pass : {X : Type 0} (test : X → Bool) (xs : List X) →
+    ((i : ℕ) (x : X) → slice_get xs i ≡ Some x → test x ≡ true) → list_all test xs ≡ true
+all_pass test [] at = refl
+all_pass test (x ∷ xs) at =
+    and_from (test x) (list_all test xs) (at 0 x refl)
+    (all_pass test xs (λ i y is. at (suc i) y is))
+
+-- and its handles are counted
+pub all_planned_counted : (explicit : Bool) (m : Module) (info : ModuleInfo) →
+    IsTrue (is_accepted m info) →
+    ((i : ℕ) → i < length m.functions → HasPlan explicit m info i) → IsTrue (handles_are_counted m)
+all_planned_counted explicit m info accepted planned =
+    all_pass (λ f. nat_le (length f.expressions) (2 ^ 64)) m.functions at
+  where
+    at : (i : ℕ) (f : ir_function.Function) → slice_get m.functions i ≡ Some f →
+        nat_le (length f.expressions) (2 ^ 64) ≡ true
+    at i f is =
+        let within = slice_get_within m.functions i f is in
+        let counted = functions_counted m info accepted in
+        let known = element info.functions.items i (omega (arith, within, counted)) in
+        ((planned i within).plan f known.0 is known.1).counted
+
+-- and each written handle and each type that is spelled has a form
+pub all_planned_formed : (explicit : Bool) (m : Module) (info : ModuleInfo) →
+    ((i : ℕ) → i < length m.functions → HasPlan explicit m info i) →
+    AllWrittenHaveForms explicit m info
+all_planned_formed explicit m info planned g f known at is =
+    ((planned g (slice_get_within m.functions g f at)).plan f known at is).formed
+
+-- ---- functions without one
+expression_told : (m : Module) (info : ModuleInfo) (i : ℕ) (error : Error) →
+    NamesFormless m info i error → TellsOfModule error → TellsOfFunction m error
+expression_told m info i error n tells =
+    let at = named m info i error n in
+    inr (inl (tells, inl (m, n.known, n.function.expressions, at.0, at.3)))
+
+formless_told : (explicit : Bool) (m : Module) (info : ModuleInfo) (i : ℕ) (error : Error) →
+    HasFormlessIn explicit m info i error → TellsOfModule error → TellsOfFunction m error
+formless_told explicit m info i error (inl n) tells = expression_told m info i error n tells
+formless_told explicit m info i error (inr n) tells = inr (inl (tells, inr (m.types, n.type, n.named)))
+
+-- what a fault tells
+module _ (explicit : Bool) (m : Module) (info : ModuleInfo) (i : ℕ) where
+  pub fault_told : (ItemsAreFull m → ⊥) → (error : Error) → TellsOfModule error →
+      IsFault explicit m info (labels_before m i) i error → TellsOfFunction m error
+  fault_told items error tells (inl scope) = inl scope.0
+  fault_told items error tells (inr (inl formless)) = formless_told explicit m info i error formless tells
+  fault_told items error tells (inr (inr full)) = inr (inr (full.0, items))
+
+  pub fault_refuses : (before after : ℕ) → IsTrue (is_written_so_far m) → (error : Error) →
+      TellsOfModule error → IsFault explicit m info (labels_before m i) i error → IsRefusal explicit m info before after error
+  fault_refuses before after written (FmtError e) tells fault = absurd tells
+  fault_refuses before after written (Memory e) tells fault = absurd tells
+  fault_refuses before after written (Custom message) tells (inl scope) =
+      inr (inl (scope.0, λ rules. scope.1 (scope_holds_in m info written rules i)))
+  fault_refuses before after written (Custom message) tells (inr (inl formless)) =
+      inr (inr (i, formless))
+  fault_refuses before after written (Custom message) tells (inr (inr full)) =
+      inl (inl (full.0, inr (i, full.1)))
+  fault_refuses before after written (Unimplemented message) tells (inl scope) = absurd scope.0
+  fault_refuses before after written (Unimplemented message) tells (inr (inl formless)) =
+      inr (i, formless)
+  fault_refuses before after written (Unimplemented message) tells (inr (inr full)) = absurd full.0
+  fault_refuses before after written _ tells (inl scope) = absurd scope.0
+  fault_refuses before after written _ tells (inr (inl formless)) = (i, formless)
+  fault_refuses before after written _ tells (inr (inr full)) = absurd full.0

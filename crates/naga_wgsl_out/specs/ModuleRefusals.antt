@@ -1,0 +1,113 @@
+-- Why a module is refused, each reason with what it says.
+--
+-- Throughout, m is the module, e an error of memory, and explicit says whether `let`s tell types.
+use Rattle.std.specs.Prelude.{◌≡◌, ⊤, ℕ, List, ◌⊎◌, codes, string_bytes, IsTrue, IsFalse, Result}
+use Rattle.std.specs.Prelude.{Ok, Err, Bool}
+use Rattle.naga_ir.specs.declared.module.Module.{Module}
+use Rattle.naga_info.specs.declared.info.ModuleInfo.{ModuleInfo}
+use Rattle.module_meaning.specs.Part.{is_written_so_far}
+use Rattle.module_meaning.specs.Written.{AllWrittenHaveForms}
+use Rattle.module_meaning.specs.Names.{HasNamesOf, labels_before, wgsl_names}
+use Rattle.module_meaning.specs.Premises.{ScopesHold}
+use Rattle.naga_names.specs.Keys.{NameMap}
+use Rattle.naga_names.specs.Naming.{Names}
+use Rattle.naga_names.specs.Refusal.{SomeNameIsFull, SomeKeyIsFull}
+use Rattle.naga_names.specs.Reset.{labelled_items}
+use Rattle.naga_wgsl_fns.specs.Errors.{IsSinkWant}
+use Rattle.naga_wgsl_fns.specs.Refusals.{GivenAreFullIn, HasFormlessIn, HasNamedLabels}
+use Rattle.naga_wgsl_fns.specs.Refusals.{TellsOfForm, TellsOfFullNamer, TellsOfModule, TellsOfScope}
+use Rattle.naga_wgsl_fns.specs.declared.error.Error.{Error}
+use Rattle.naga_wgsl_fns.specs.declared.error.Error.TheVariants.{FmtError, Custom, Unimplemented}
+use Rattle.naga_wgsl_fns.specs.declared.error.Error.TheVariants.{Memory}
+
+-- the names of some items of the module can't be told, since so many of them have one base; or those
+-- of some labels that front ends gave in a function, behind all labels in front of them; or, of either,
+-- the key of an item is out of range
+abbrev pub ItemsAreFull : Module → Type 0
+ItemsAreFull m = SomeNameIsFull wgsl_names (labelled_items wgsl_names m)
+
+abbrev pub NamerIsFull : Module → Type 0
+NamerIsFull m =
+    ItemsAreFull m ⊎ ((handle : ℕ) × GivenAreFullIn m (labels_before m handle) handle)
+
+abbrev pub KeyIsOutOfRange : Module → Type 0
+KeyIsOutOfRange m = SomeKeyIsFull (labelled_items wgsl_names m)
+
+-- what a `Custom` error says of names, and that it is so
+abbrev pub IsToldOf : Module → (message : List ℕ) → Type 0
+IsToldOf m message =
+    ((message ≡ codes "namer is full") × NamerIsFull m)
+    ⊎ ((message ≡ codes "name key out of range") × KeyIsOutOfRange m)
+
+-- the same of its items alone
+abbrev pub IsToldOfItems : Module → (message : List ℕ) → Type 0
+IsToldOfItems m message =
+    ((message ≡ codes "namer is full") × ItemsAreFull m)
+    ⊎ ((message ≡ codes "name key out of range") × KeyIsOutOfRange m)
+
+-- why the items of a module get no names
+abbrev pub IsNamesRefusal : Module → Error → Type 0
+IsNamesRefusal m (Custom message) = IsToldOfItems m (string_bytes message)
+IsNamesRefusal m (Memory e) = ⊤
+IsNamesRefusal m _ = ⊥
+
+-- an expression or a type without a form stands in some function, and is named
+abbrev pub HasFormless : (explicit : Bool) → Module → ModuleInfo → Error → Type 0
+HasFormless explicit m info error = (handle : ℕ) × HasFormlessIn explicit m info handle error
+
+-- ---- refusals
+-- the rules of scope don't hold in some function: an operand is used where it is out of scope, or
+-- an `Emit` isn't allowed
+abbrev pub IsOutOfScope : Module → ModuleInfo → (message : List ℕ) → Type 0
+IsOutOfScope m info message = (message ≡ codes "operand out of scope") × (ScopesHold m info → ⊥)
+
+-- Why a module is refused, of which this is known, where the sink had failed so often before and
+-- has failed so often now: the sink failed, memory ran out, the names can't be told, an operand is
+-- out of scope, an expression without a form is written or a type without one spelled, or the module
+-- holds what is not written so far.
+abbrev pub IsRefusal : (explicit : Bool) → Module → ModuleInfo → (before now : ℕ) → Error → Type 0
+IsRefusal explicit m info before now (FmtError e) = IsSinkWant before now e
+IsRefusal explicit m info before now (Memory e) = ⊤
+IsRefusal explicit m info before now (Custom message) =
+    IsToldOf m (string_bytes message)
+    ⊎ (IsOutOfScope m info (string_bytes message) ⊎ HasFormless explicit m info (Custom message))
+IsRefusal explicit m info before now (Unimplemented message) =
+    ((string_bytes message ≡ codes "not yet written") × IsFalse (is_written_so_far m))
+    ⊎ HasFormless explicit m info (Unimplemented message)
+IsRefusal explicit m info before now error = HasFormless explicit m info error
+
+-- The error tells of one of the functions, of which each is looked at before its text. That a name
+-- can't be told, it tells of a function where the items of the module can all be named.
+abbrev pub TellsOfFunction : Module → Error → Type 0
+TellsOfFunction m error =
+    TellsOfScope error
+    ⊎ (TellsOfForm error ⊎ (TellsOfFullNamer error × (ItemsAreFull m → ⊥)))
+
+-- the error comes before any text: it tells of the module, and not of one of its functions
+abbrev pub ComesBeforeText : Module → Error → Type 0
+ComesBeforeText m error = TellsOfModule error × (TellsOfFunction m error → ⊥)
+
+-- no reason stands in the module
+pub record IsWritable (explicit : Bool) (m : Module) (info : ModuleInfo) : Type 0 where
+  pub written : IsTrue (is_written_so_far m)
+  pub in_scope : ScopesHold m info
+  pub formed : AllWrittenHaveForms explicit m info
+  pub told : NamerIsFull m → ⊥
+  pub keys : KeyIsOutOfRange m → ⊥
+
+-- an error has its reason, and where there is none no reason stands in the module
+abbrev pub RefusesOnlyFor : Result Unit Error → (explicit : Bool) → Module → ModuleInfo →
+    (before now : ℕ) → Type 0
+RefusesOnlyFor (Ok _) explicit m info before now = IsWritable explicit m info
+RefusesOnlyFor (Err error) explicit m info before now = IsRefusal explicit m info before now error
+
+-- the map has the names of all items of the module, which can all be told
+pub record HasAllNames (m : Module) (names : NameMap) : Type 0 where
+  pub named : HasNamesOf m names
+  pub told : ItemsAreFull m → ⊥
+  pub keys : KeyIsOutOfRange m → ⊥
+
+-- the namer has the words and prefixes of WGSL, and has named the labels of the module in front of
+-- those that front ends gave in this function
+abbrev pub HasNamedBefore : Module → (handle : ℕ) → Names → Type 0
+HasNamedBefore m handle namer = HasNamedLabels (labels_before m handle) namer
