@@ -186,7 +186,8 @@ fn part_is_written_at(
     match &module.types[whole].inner {
         TypeInner::Struct { members, .. } => {
             !is_undeclared(&module.special_types, whole)
-                || ((index as usize) < members.len() && has_member_word(module, names, whole, index))
+                || ((index as usize) < members.len()
+                    && has_member_word(module, names, whole, index))
         }
         _ => true,
     }

@@ -18,14 +18,11 @@ use naga_acceptance::is_spelled;
 use naga_acceptance::undeclared::names_undeclared;
 use naga_info::FunctionInfo;
 use naga_ir::{
-    Expression, Function, FunctionArgument, FunctionResult, Handle, Module, Place, Range, Statement,
-    Type_,
+    Expression, Function, FunctionArgument, FunctionResult, Handle, Module, Place, Range,
+    Statement, Type_,
 };
 
-fn argument_without_form(
-    module: &Module,
-    arguments: &[FunctionArgument],
-) -> Option<Handle<Type_>>
+fn argument_without_form(module: &Module, arguments: &[FunctionArgument]) -> Option<Handle<Type_>>
     ensures { result ≡ find (is_formless «module».now) (map (λ a. a.ty) arguments.now) }
 {
     for argument in arguments {
@@ -36,10 +33,7 @@ fn argument_without_form(
     None
 }
 
-fn result_without_form(
-    module: &Module,
-    answer: &Option<FunctionResult>,
-) -> Option<Handle<Type_>>
+fn result_without_form(module: &Module, answer: &Option<FunctionResult>) -> Option<Handle<Type_>>
     ensures { result
         ≡ find (is_formless «module».now) (option_to_list (option_map (λ r. r.ty) answer.now)) }
 {
@@ -69,10 +63,7 @@ fn local_without_form(module: &Module, function: &Function) -> Option<Handle<Typ
 
 /// The first type of the function's arguments, its result and its locals that no text can spell, if
 /// there is one.
-pub(crate) fn declared_without_form(
-    module: &Module,
-    function: &Function,
-) -> Option<Handle<Type_>>
+pub(crate) fn declared_without_form(module: &Module, function: &Function) -> Option<Handle<Type_>>
     ensures { result ≡ declared_formless «module».now function.now }
 {
     if let Some(ty) = argument_without_form(module, &function.arguments) {
@@ -86,11 +77,7 @@ pub(crate) fn declared_without_form(
 
 /// Whether the type of the expression with this handle is known, names no struct that no text
 /// declares, and has no form.
-fn is_known_formless(
-    module: &Module,
-    info: &FunctionInfo,
-    handle: Handle<Expression>,
-) -> bool
+fn is_known_formless(module: &Module, info: &FunctionInfo, handle: Handle<Expression>) -> bool
     ensures { result
         ≡ option_map_or (λ k. is_told_formless «module».now k.ty) (slice_get info.now handle) false }
 {

@@ -5,7 +5,7 @@ use Rattle.std.specs.Prelude.{IsSomeAnd, not}
 use Rattle.std.specs.List.{IsAmong, find, list_all}
 use Rattle.std.specs.Option.{option_map_or}
 use Rattle.module_meaning.proofs.Stepwise.{by_those_before}
-use Rattle.module_meaning.specs.AlikeTypes.{has_form}
+use Rattle.module_meaning.specs.Undeclared.{is_spellable}
 use Rattle.module_meaning.specs.Part.{constant_is_written, global_is_written, global_is_written_over}
 use Rattle.module_meaning.specs.Part.{global_is_written_within, is_written_literal}
 use Rattle.naga_info.specs.declared.info.TypeResolution.TheVariants.{Handle}
@@ -77,15 +77,15 @@ module _ (m : Module) (ordered : GlobalsStandInOrder m) (h : ℕ)
   literal_fails e value at same = fails_over (expression.Literal value) (at ∙ ap Some same)
 
   pub zero_fails : (e : Expression) (ty : ℕ) → slice_get m.global_expressions h ≡ Some e →
-      e ≡ expression.ZeroValue ty → has_form m.types (Handle ty) ≡ false
+      e ≡ expression.ZeroValue ty → is_spellable m (Handle ty) ≡ false
   zero_fails e ty at same = fails_over (expression.ZeroValue ty) (at ∙ ap Some same)
 
   pub composed_fails : (e : Expression) (ty : ℕ) (parts : _) →
       slice_get m.global_expressions h ≡ Some e → e ≡ expression.Compose ty parts →
-      list_all (global_is_written m) parts.items ≡ true → has_form m.types (Handle ty) ≡ false
+      list_all (global_is_written m) parts.items ≡ true → is_spellable m (Handle ty) ≡ false
   composed_fails e ty parts at same all =
-      by (has_form m.types (Handle ty))
-      (ap (λ b. has_form m.types (Handle ty) && b) (sym all)
+      by (is_spellable m (Handle ty))
+      (ap (λ b. is_spellable m (Handle ty) && b) (sym all)
       ∙ fails_over (expression.Compose ty parts) (at ∙ ap Some same))
     where
       by : (b : Bool) → (b && true) ≡ false → b ≡ false

@@ -29,7 +29,7 @@ use Rattle.module_meaning.proofs.Part.{functions_are_written}
 use Rattle.module_meaning.specs.LackingScalars.{lacking_scalar}
 use Rattle.module_meaning.specs.Written.{IsSpelledIn}
 use Rattle.module_meaning.specs.FunctionShapes.{function_shape, function_shapes}
-use Rattle.module_meaning.specs.AlikeTypes.{has_form}
+use Rattle.module_meaning.specs.Undeclared.{is_spellable, names_undeclared}
 use Rattle.naga_form.proofs.AcceptedFunctions.{functions_counted}
 use Rattle.naga_info.specs.declared.info.TypeResolution.{TypeResolution}
 use Rattle.naga_info.specs.declared.info.TypeResolution.TheVariants.{Handle}
@@ -57,7 +57,10 @@ use Rattle.naga_wgsl_fns.specs.Errors.{IsCustom}
 use Rattle.naga_wgsl_fns.specs.Refusals.{GivenAreFullIn, IsErrorOfNames, IsFault, IsWritableAt}
 use Rattle.naga_wgsl_fns.specs.Refusals.{IsOfPlan, IsPlanRefusal}
 use Rattle.naga_wgsl_fns.specs.Refusals.{HasFormlessIn, NamesConversion, NamesExpression}
-use Rattle.naga_wgsl_fns.specs.Refusals.{NamesFormlessType, NamesLacking, NamesType}
+use Rattle.naga_wgsl_fns.specs.Refusals.{NamesFormlessType, NamesPart, NamesType}
+use Rattle.naga_wgsl_fns.specs.Refusals.{NamesUnspelled}
+use Rattle.module_meaning.specs.ExpressionOperators.{has_parts}
+use Rattle.module_meaning.specs.Part.{known_passes}
 use Rattle.naga_wgsl_fns.specs.Refusals.{NamesFormless, NamesLiteral, NamesMatrix, converted}
 use Rattle.naga_wgsl_fns.specs.Refusals.{NamesConstantsOf, NamesGlobal, OfConstant, OfLiteral}
 use Rattle.naga_wgsl_fns.specs.Refusals.{OfOperand, OfOperation, OfType, pointed_scalar}
@@ -136,13 +139,14 @@ fault_fails explicit m info earlier i error (inr (inr full)) w = w.told full.1
 
 -- ---- what is told of a plan's error
 -- no refusal that names a type is the sink's
-no_type_sink : (types : List Type_) (r : TypeResolution) (reason : SinkError) →
-    NamesType types r (FmtError reason) → ⊥
-no_type_sink types r reason named = by (lacking_scalar types r) named
+no_type_sink : (m : Module) (r : TypeResolution) (reason : SinkError) →
+    NamesType m r (FmtError reason) → ⊥
+no_type_sink m r reason named = by (names_undeclared m r) (lacking_scalar m.types r) named
   where
-    by : (o : Option Scalar) → NamesLacking o (FmtError reason) → ⊥
-    by (Some s) named = named
-    by None named = named
+    by : (b : Bool) (o : Option Scalar) → NamesUnspelled b o (FmtError reason) → ⊥
+    by true o named = named
+    by false (Some s) named = named
+    by false None named = named
 
 -- nor one that names a literal, or one of the module's own expressions
 no_literal_sink : (value : LiteralValue) (reason : SinkError) → NamesLiteral value (FmtError reason) → ⊥
@@ -156,7 +160,7 @@ no_literal_sink _ reason named = named
 no_global_sink : (m : Module) (reason : SinkError) (h : ℕ) → NamesGlobal m (FmtError reason) h → ⊥
 no_global_sink m reason h (OfLiteral _ value at formless named) = no_literal_sink value reason named
 no_global_sink m reason h (OfType _ ty e at is formless named) =
-    no_type_sink m.types (Handle ty) reason named
+    no_type_sink m (Handle ty) reason named
 no_global_sink m reason h (OfOperation _ e at is named) = named
 no_global_sink m reason h (OfOperand _ x e at among inside) = no_global_sink m reason x inside
 no_global_sink m reason h (OfConstant _ c k at there inside) = no_global_sink m reason k.init inside
@@ -195,10 +199,15 @@ names_no_sink m known es
     named.1
 names_no_sink m known es (ImageLoad image coordinate array_index sample level) reason named =
     named
-names_no_sink m known es (ZeroValue ty) reason named = no_type_sink m.types (Handle ty) reason named
+names_no_sink m known es (ZeroValue ty) reason named = no_type_sink m (Handle ty) reason named
 names_no_sink m known es (Compose ty components) reason named =
-    no_type_sink m.types (Handle ty) reason named
-names_no_sink m known es (AccessIndex base index) reason named = named
+    no_type_sink m (Handle ty) reason named
+names_no_sink m known es (AccessIndex base index) reason named =
+    by (known_passes m.types known (has_parts m.types) base) named
+  where
+    by : (b : Bool) → NamesPart b (FmtError reason) → ⊥
+    by true named = named
+    by false named = named
 names_no_sink m known es _ reason named = named
 
 module _ (explicit : Bool) (m : Module) (info : ModuleInfo) (accepted : IsTrue (is_accepted m info))
@@ -241,7 +250,7 @@ module _ (explicit : Bool) (m : Module) (info : ModuleInfo) (accepted : IsTrue (
   is_of_plan es here namer (TypeWithoutForm ty) refusal = tt
   is_of_plan es here namer (LetWithoutForm h) refusal =
       known_there es h
-      (λ k. IsSpelledIn explicit m info f es k.ty × IsFalse (has_form m.types k.ty))
+      (λ k. IsSpelledIn explicit m info f es k.ty × IsFalse (is_spellable m k.ty))
       (refusal f es stands here)
   is_of_plan es here namer (Unnamed e) refusal = tt
   is_of_plan es here namer (plan_error.Memory e) refusal = tt
@@ -258,7 +267,7 @@ module _ (explicit : Bool) (m : Module) (info : ModuleInfo) (accepted : IsTrue (
     for_form (FmtError reason) (inl n) =
         let at = named m info i (FmtError reason) n in
         absurd (names_no_sink m n.known n.function.expressions at.0 reason at.3)
-    for_form (FmtError reason) (inr n) = absurd (no_type_sink m.types n.type reason n.named)
+    for_form (FmtError reason) (inr n) = absurd (no_type_sink m n.type reason n.named)
     for_form (Memory e) n = tt
     for_form _ n = (tt, inr (inl n))
 
@@ -294,7 +303,7 @@ module _ (explicit : Bool) (m : Module) (info : ModuleInfo) (accepted : IsTrue (
 
     type_named : (es : List ExpressionInfo) → slice_get info.functions.items i ≡ Some es →
         (told : Error) (r : TypeResolution) → IsSpelledIn explicit m info f es r →
-        IsFalse (has_form m.types r) → NamesType m.types r told →
+        IsFalse (is_spellable m r) → NamesType m r told →
         NamesFormlessType explicit m info i told
     type_named es at told r spelled formless is = record {
       function = f;
@@ -339,8 +348,8 @@ module _ (explicit : Bool) (m : Module) (info : ModuleInfo) (accepted : IsTrue (
         by (slice_get es h) (refusal f es stands at) is
       where
         by : (o : Option ExpressionInfo) →
-            IsSomeAnd o (λ k. IsSpelledIn explicit m info f es k.ty × IsFalse (has_form m.types k.ty)) →
-            IsSomeAnd o (λ k. NamesType m.types k.ty told) → IsPlanRefusal explicit m info earlier i told
+            IsSomeAnd o (λ k. IsSpelledIn explicit m info f es k.ty × IsFalse (is_spellable m k.ty)) →
+            IsSomeAnd o (λ k. NamesType m k.ty told) → IsPlanRefusal explicit m info earlier i told
         by None here is = absurd here
         by (Some k) here is = for_form told (inr (type_named es at told k.ty here.0 here.1 is))
     plan_refusal es at namer words has (plan_error.Memory e) told refusal is =

@@ -32,11 +32,12 @@ use Rattle.naga_ir.specs.declared.expression.Literal.TheVariants as literal
 use Rattle.naga_ir.specs.declared.module.Constant as constant
 use Rattle.naga_ir.specs.declared.module.Function.{Function}
 use Rattle.naga_ir.specs.declared.module.Module.{Module}
-use Rattle.module_meaning.specs.Part.{expression_has_form, is_written_literal}
+use Rattle.module_meaning.specs.Part.{expression_has_form, is_written_literal, known_passes}
 use Rattle.module_meaning.specs.Sampling.{offset_is_written, sampling_is_written}
 use Rattle.module_meaning.specs.LackingScalars.{lacking_scalar}
 use Rattle.module_meaning.specs.Written.{IsSpelledIn, IsWrittenIn, WrittenHaveForms}
-use Rattle.module_meaning.specs.AlikeTypes.{has_form}
+use Rattle.module_meaning.specs.ExpressionOperators.{has_parts}
+use Rattle.module_meaning.specs.Undeclared.{is_spellable, names_undeclared}
 use Rattle.module_meaning.specs.Conversions.{conversion_target}
 use Rattle.module_meaning.specs.ExpressionOperators.{scalar_behind}
 use Rattle.naga_info.specs.declared.info.ExpressionInfo.{ExpressionInfo}
@@ -105,8 +106,23 @@ abbrev pub NamesLacking : Option Scalar → Error → Type 0
 NamesLacking (Some s) error = NamesScalar error
 NamesLacking None error = IsCustom (codes "type without a WGSL form") error
 
-abbrev pub NamesType : List Type_ → TypeResolution → Error → Type 0
-NamesType types r error = NamesLacking (lacking_scalar types r) error
+-- a struct that no text declares would be named
+abbrev pub NamesUndeclared : Error → Type 0
+NamesUndeclared error = IsCustom (codes "predeclared struct") error
+
+abbrev pub NamesUnspelled : (undeclared : Bool) → (lacking : Option Scalar) → Error → Type 0
+NamesUnspelled true lacking error = NamesUndeclared error
+NamesUnspelled false lacking error = NamesLacking lacking error
+
+-- a type that no text can spell
+abbrev pub NamesType : Module → TypeResolution → Error → Type 0
+NamesType m r error = NamesUnspelled (names_undeclared m r) (lacking_scalar m.types r) error
+
+-- a part at an index: of what has none, or a member of a struct that no text declares which no text
+-- can name
+abbrev pub NamesPart : (has_parts : Bool) → Error → Type 0
+NamesPart true error = NamesUndeclared error
+NamesPart false error = IsCustom (codes "cannot index") error
 
 -- what is converted is no scalar, vector or matrix, or has other scalars then that have no word
 abbrev pub NamesConversion : (new : Option TypeInner) → Error → Type 0
@@ -170,8 +186,8 @@ pub data NamesGlobal (m : Module) (error : Error) : (handle : ℕ) → Type 0 wh
       slice_get m.global_expressions h ≡ Some (Literal value) →
       IsFalse (is_written_literal value) → NamesLiteral value error → NamesGlobal m error h
   OfType : (h ty : ℕ) (e : Expression) → slice_get m.global_expressions h ≡ Some e →
-      made_type e ≡ Some ty → IsFalse (has_form m.types (Handle ty)) →
-      NamesType m.types (Handle ty) error → NamesGlobal m error h
+      made_type e ≡ Some ty → IsFalse (is_spellable m (Handle ty)) →
+      NamesType m (Handle ty) error → NamesGlobal m error h
   OfOperation : (h : ℕ) (e : Expression) → slice_get m.global_expressions h ≡ Some e →
       IsTrue (is_operation e) → IsCustom (codes "operator in a constant") error →
       NamesGlobal m error h
@@ -207,10 +223,10 @@ NamesExpression m known es
     (offset_is_written es offset) error
 NamesExpression m known es (ImageLoad image coordinate array_index sample level) error =
     IsCustom (codes "image load with sample and level") error
-NamesExpression m known es (ZeroValue ty) error = NamesType m.types (Handle ty) error
-NamesExpression m known es (Compose ty components) error = NamesType m.types (Handle ty) error
+NamesExpression m known es (ZeroValue ty) error = NamesType m (Handle ty) error
+NamesExpression m known es (Compose ty components) error = NamesType m (Handle ty) error
 NamesExpression m known es (AccessIndex base index) error =
-    IsCustom (codes "cannot index") error
+    NamesPart (known_passes m.types known (has_parts m.types) base) error
 NamesExpression m known es (CooperativeLoad columns rows role place) error =
     NamesMatrix (pointed_scalar m.types known place.pointer) error
 NamesExpression m known es (CallResult function) error = NamesResult error
@@ -246,8 +262,8 @@ pub record NamesFormlessType (explicit : Bool) (m : Module) (info : ModuleInfo) 
   pub is_known : slice_get info.functions.items handle ≡ Some known
   pub type : TypeResolution
   pub spelled : IsSpelledIn explicit m info function known type
-  pub formless : IsFalse (has_form m.types type)
-  pub named : NamesType m.types type error
+  pub formless : IsFalse (is_spellable m type)
+  pub named : NamesType m type error
 
 abbrev pub HasFormlessIn : (explicit : Bool) → Module → ModuleInfo → (handle : ℕ) → Error → Type 0
 HasFormlessIn explicit m info handle error =
@@ -270,7 +286,7 @@ abbrev pub TellsOfForm : Error → Type 0
 TellsOfForm error =
     TellsOfModule error × (((m : Module) × (known : List ExpressionInfo)
     × (es : List Expression) × (e : Expression) × NamesExpression m known es e error)
-    ⊎ ((types : List Type_) × (r : TypeResolution) × NamesType types r error))
+    ⊎ ((m : Module) × (r : TypeResolution) × NamesType m r error))
 
 -- the error tells that a name can't be told
 abbrev pub TellsOfFullNamer : Error → Type 0
@@ -315,9 +331,9 @@ TellsPlanError m f known OutOfScope told = IsCustom (codes "operand out of scope
 TellsPlanError m f known (WithoutForm handle) told =
     IsSomeAnd (slice_get f.expressions handle) (λ e.
     NamesExpression m known f.expressions e told)
-TellsPlanError m f known (TypeWithoutForm ty) told = NamesType m.types (Handle ty) told
+TellsPlanError m f known (TypeWithoutForm ty) told = NamesType m (Handle ty) told
 TellsPlanError m f known (LetWithoutForm handle) told =
-    IsSomeAnd (slice_get known handle) (λ k. NamesType m.types k.ty told)
+    IsSomeAnd (slice_get known handle) (λ k. NamesType m k.ty told)
 TellsPlanError m f known (Unnamed e) told = IsErrorOfNames e told
 TellsPlanError m f known (plan_error.Memory e) told = told ≡ Memory e
 

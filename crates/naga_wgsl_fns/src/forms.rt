@@ -2,8 +2,8 @@
 
 ghost use Rattle.std.specs.Prelude.{Bool, IsFalse, IsTrue, List, ◌&&◌};
 ghost use Rattle.module_meaning.specs.Part.{expression_has_form, expression_is_of_part};
-ghost use Rattle.module_meaning.specs.Part.{is_written_literal};
-ghost use Rattle.module_meaning.specs.ExpressionOperators.{scalar_behind};
+ghost use Rattle.module_meaning.specs.Part.{is_written_literal, known_passes};
+ghost use Rattle.module_meaning.specs.ExpressionOperators.{has_parts, scalar_behind};
 ghost use Rattle.module_meaning.specs.Conversions.{conversion_target};
 ghost use Rattle.module_meaning.specs.Sampling.{sampling_is_written};
 ghost use Rattle.naga_ir.specs.declared.expression.Expression.{Expression};
@@ -11,19 +11,21 @@ ghost use Rattle.naga_scope.specs.Forms.{AreKnownIn};
 ghost use Rattle.naga_scope.specs.Marks.{GlobalsStandInOrder, MarksGlobals};
 ghost use Rattle.naga_wgsl_fns.specs.Refusals.{NamesConversion, NamesExpression};
 ghost use Rattle.naga_wgsl_fns.specs.Refusals.{NamesFunction, NamesLiteral, NamesSampling};
-ghost use Rattle.naga_wgsl_fns.specs.Refusals.{NamesMatrix, NamesScalar, NamesType, converted};
+ghost use Rattle.naga_wgsl_fns.specs.Refusals.{NamesMatrix, NamesPart, NamesScalar, NamesType};
+ghost use Rattle.naga_wgsl_fns.specs.Refusals.{NamesUndeclared, converted};
 ghost use Rattle.naga_wgsl_fns.specs.Refusals.{NamesConstantsOf, pointed_scalar};
 
+use crate::error::{Error, custom, unimplemented};
 use crate::formless_constants::constant_without_form;
 use crate::lacking::lacking_scalar;
+use naga_acceptance::parts::known_has_parts;
+use naga_acceptance::undeclared::names_undeclared;
 use naga_info::{FunctionInfo, TypeResolution};
 use naga_ir::{
     Expression, Handle, Literal, MathFunction, Module, SampleLevel, Scalar, ScalarKind,
     SwizzleComponent, Type_, TypeInner, UniqueArena,
 };
 use naga_scope::{GlobalExpressions, converted_scalar, sampling_has_form, scalar_behind};
-use crate::error::Error;
-use crate::error::{custom, unimplemented};
 use std::alloc::Global;
 use wgsl_words::TryToWgsl;
 
@@ -68,11 +70,11 @@ pub(crate) fn without_form(
             ..
         } => sampling_without_form(alloc, *gather, *level, depth_ref.is_some(), *clamp_to_edge),
         Expression::ImageLoad { .. } => custom(alloc, "image load with sample and level"),
-        Expression::ZeroValue(ty) => type_without_form(alloc, types, &TypeResolution::Handle(*ty)),
+        Expression::ZeroValue(ty) => type_without_form(alloc, module, &TypeResolution::Handle(*ty)),
         Expression::Compose { ty, .. } => {
-            type_without_form(alloc, types, &TypeResolution::Handle(*ty))
+            type_without_form(alloc, module, &TypeResolution::Handle(*ty))
         }
-        Expression::AccessIndex { .. } => custom(alloc, "cannot index"),
+        Expression::AccessIndex { base, .. } => part_without_form(alloc, types, info, *base),
         Expression::CooperativeLoad { data_, .. } => {
             load_without_form(alloc, types, info, data_.pointer)
         }
@@ -88,17 +90,40 @@ pub(crate) fn without_form(
     }
 }
 
-/// What is told of a type without a form: a scalar has no word, or it has no form for another reason.
-pub(crate) fn type_without_form(
-    alloc: Global,
-    types: &UniqueArena<Type_>,
-    ty: &TypeResolution,
-) -> Error
-    ensures { NamesType types.now ty.now result }
+/// What is told of a type that no text can spell: it names a struct that no text declares, a scalar
+/// has no word, or it has no form for another reason.
+pub(crate) fn type_without_form(alloc: Global, module: &Module, ty: &TypeResolution) -> Error
+    ensures { NamesType «module».now ty.now result }
 {
-    match lacking_scalar(types, ty) {
+    if names_undeclared(module, ty) {
+        return undeclared(alloc);
+    }
+    match lacking_scalar(&module.types, ty) {
         Some(scalar) => scalar_without_word(alloc, scalar),
         None => custom(alloc, "type without a WGSL form"),
+    }
+}
+
+/// A struct that no text declares would be named, or a member of one that no text can name.
+fn undeclared(alloc: Global) -> Error
+    ensures { NamesUndeclared result }
+{
+    custom(alloc, "predeclared struct")
+}
+
+/// What is told of a part at an index: there is none, or it is such a member.
+fn part_without_form(
+    alloc: Global,
+    types: &UniqueArena<Type_>,
+    info: &FunctionInfo,
+    base: Handle<Expression>,
+) -> Error
+    ensures { NamesPart (known_passes types.now info.now (has_parts types.now) base) result }
+{
+    if known_has_parts(types, info.expressions.as_slice(), base) {
+        undeclared(alloc)
+    } else {
+        custom(alloc, "cannot index")
     }
 }
 

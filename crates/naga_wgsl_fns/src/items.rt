@@ -97,6 +97,6 @@ fn write_by_plan<W: TextSink>(
     ensures words { HasOtherUses namer.old namer.new }
 {
     let globals = GlobalExpressions::of(alloc, module)?;
-    let plan = plan_of(alloc, module, info, handle, &globals, flags, namer)?;
+    let plan = plan_of(alloc, module, info, handle, &globals, names, flags, namer)?;
     write_planned(alloc, module, info, names, flags, handle, plan, out)
 }

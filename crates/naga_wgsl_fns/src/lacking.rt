@@ -2,8 +2,9 @@
 
 ghost use Rattle.std.specs.Prelude.{◌≡◌};
 ghost use Rattle.module_meaning.specs.LackingScalars.{handle_lacks, image_lacks, lacking_scalar};
-ghost use Rattle.module_meaning.specs.LackingScalars.{over, own_lacks, wordless};
+ghost use Rattle.module_meaning.specs.LackingScalars.{own_lacks, wordless};
 
+use naga_acceptance::undeclared::over;
 use naga_info::TypeResolution;
 use naga_ir::{Handle, ImageClass, Scalar, Type_, TypeInner, UniqueArena};
 use wgsl_words::TryToWgsl;
@@ -24,18 +25,6 @@ fn image_lacks(class: ImageClass) -> Option<Scalar>
 {
     match class {
         ImageClass::Sampled { kind, .. } => wordless(Scalar { kind, width: 4 }),
-        _ => None,
-    }
-}
-
-/// The type that a pointer or an array is over.
-fn over(inner: &TypeInner) -> Option<Handle<Type_>>
-    ensures { result ≡ over inner.now }
-{
-    match inner {
-        TypeInner::Pointer { base, .. }
-        | TypeInner::Array { base, .. }
-        | TypeInner::BindingArray { base, .. } => Some(*base),
         _ => None,
     }
 }

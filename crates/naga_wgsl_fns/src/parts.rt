@@ -24,9 +24,7 @@ ghost use Rattle.naga_wgsl_fns.specs.FunctionText.{CanWrite, IsInText, around, s
 
 use crate::functions::FunctionText;
 use itoa::Buffer;
-use naga_ir::{
-    Expression, Handle, SwizzleComponent, Type_, TypeInner, UniqueArena, VectorSize,
-};
+use naga_ir::{Expression, Handle, SwizzleComponent, Type_, TypeInner, UniqueArena, VectorSize};
 use naga_scope::{Scope, Standing, whole_known};
 use naga_words::{Output, TextSink};
 use std::alloc::Global;

@@ -3,9 +3,10 @@
 ghost use Rattle.std.specs.Prelude.{◌≡◌, ◌<◌, [], ℕ, List, IfErr, IfOk, IsTrue, OnErr, Some};
 ghost use Rattle.std.specs.Prelude.{length, slice_get};
 ghost use Rattle.module_meaning.specs.Accepted.{is_accepted};
-ghost use Rattle.module_meaning.specs.Names.{labels_given, wgsl_names};
+ghost use Rattle.module_meaning.specs.Names.{HasNamesOf, labels_given, wgsl_names};
 ghost use Rattle.module_meaning.specs.Part.{function_is_written, is_written_so_far};
 ghost use Rattle.naga_ir.specs.declared.expression.Expression.{Expression};
+ghost use Rattle.naga_names.specs.Keys.{names_in};
 ghost use Rattle.naga_names.specs.Naming.{HasNamed};
 ghost use Rattle.naga_scope.specs.Forms.{AreKnownIn};
 ghost use Rattle.naga_scope.specs.GivenNames.{HasBegunLabels, HasOtherUses, NamesLabels};
@@ -21,13 +22,15 @@ use crate::types::tells_types;
 use naga_back::WriterFlags;
 use naga_info::{FunctionInfo, ModuleInfo, TypeResolution};
 use naga_ir::{Function, Handle, Module};
+use naga_names::NameKey;
 use naga_names::namer::Namer;
 use naga_scope::{GlobalExpressions, Plan, PlanError};
 use std::alloc::Global;
+use std::collections::HashMap;
 
 /// The plan of a function of an accepted module that is written so far, by the marks of the module's
-/// own expressions: the rules of scope hold in the function, each written expression and each type
-/// that its text spells has a form, and the labels that front ends gave in it have names, which
+/// own expressions and the names of its items: the rules of scope hold in the function, each written expression and each type
+/// that its text spells can be spelled, and the labels that front ends gave in it have names, which
 /// `namer` has given them in the order of the text. Its words and prefixes are those of WGSL.
 ///
 /// Else what keeps the function from having one is told by name, and `namer` has named some first
@@ -38,6 +41,7 @@ pub fn plan_of(
     info: &ModuleInfo,
     handle: Handle<Function>,
     globals: &GlobalExpressions,
+    names: &HashMap<NameKey, String>,
     flags: WriterFlags,
     namer: &mut Namer,
 ) -> Result<Plan, Error>
@@ -45,6 +49,7 @@ pub fn plan_of(
     requires written { IsTrue (is_written_so_far «module».now) }
     requires handle { handle < length «module».now.functions }
     requires globals { MarksGlobals «module».now globals.now }
+    requires names { HasNamesOf «module».now (names_in names.now) }
     requires words { HasOtherUses wgsl_names namer.old }
     ensures ok { IfOk result (IsPlanOf (tells_types flags) «module».now info.now handle) }
     ensures named { IfOk result (λ p.
@@ -60,6 +65,7 @@ pub fn plan_of(
         info,
         handle,
         globals,
+        names,
         tells_types(flags),
         namer,
     ) {
@@ -99,11 +105,9 @@ fn error_of_plan(
             without_form(alloc, module, globals, info, &function.expressions[handle])
         }
         PlanError::TypeWithoutForm(ty) => {
-            type_without_form(alloc, &module.types, &TypeResolution::Handle(ty))
+            type_without_form(alloc, module, &TypeResolution::Handle(ty))
         }
-        PlanError::LetWithoutForm(handle) => {
-            type_without_form(alloc, &module.types, &info[handle].ty)
-        }
+        PlanError::LetWithoutForm(handle) => { type_without_form(alloc, module, &info[handle].ty) }
         PlanError::Unnamed(error) => names_error(alloc, error),
         PlanError::Memory(error) => Error::Memory(error),
     }

@@ -1,6 +1,6 @@
 -- What a `Namer` that was reset by a module knows of the module's names.
 use Rattle.std.proofs.Common.{◌≡◌, ℕ, zero, suc, ◌<◌, ◌≤◌, ◌^◌, true, false, List, length, Some}
-use Rattle.std.proofs.Common.{sym, ap, subst, ◌∙◌, arith, append-nil}
+use Rattle.std.proofs.Common.{None, sym, ap, subst, unwrap_or, [], ◌∙◌, arith, append-nil}
 use Rattle.std.specs.Prelude.{slice_get, map, Result, Ok, Err, OnOk, IfErr, IsErr}
 use Rattle.std.specs.FinSet as set
 use Rattle.std.proofs.lemmas.Bool.{ltb-true}
@@ -13,9 +13,11 @@ use Rattle.naga_names.specs.Refusal.{SomeNameIsFull, SomeKeyIsFull, IsResetRefus
 use Rattle.naga_names.specs.declared.error.NamerError.{NamerError}
 use Rattle.wgsl_text.specs.Keywords.{reserved_words, builtin_words}
 use Rattle.naga_names.specs.Keys.{NameMap}
-use Rattle.naga_names.specs.Reset.{labelled_items, key_fits, HasNamedItems}
+use Rattle.naga_names.specs.Reset.{HasNamedItems, PutsInto, key_fits, labelled_items, named_items}
+use Rattle.naga_names.specs.Reset.{type_label}
+use Rattle.naga_names.proofs.Members.{member_named}
 use Rattle.naga_names.specs.declared.key.NameKey.TheVariants as key
-use Rattle.naga_names.proofs.NamedItems.{named_there, local_stands}
+use Rattle.naga_names.proofs.NamedItems.{named_there, local_stands, type_stands}
 use Rattle.module_meaning.specs.Names.{reserved_prefixes, wgsl_names, module_names, function_name}
 use Rattle.module_meaning.specs.Names.{HasNamesOf, item_labels}
 use Rattle.naga_form.proofs.Names.{name_is, function_item, argument_item, function_there}
@@ -24,6 +26,11 @@ use Rattle.naga_names.proofs.Refusal.{element}
 use Rattle.module_meaning.proofs.Lists.{list_all_at}
 use Rattle.naga_form.proofs.Fits.{local_item}
 use Rattle.naga_wgsl_out.specs.ModuleRefusals.{ItemsAreFull, KeyIsOutOfRange, HasAllNames, HasNamedBefore}
+
+puts : (m : Module) →
+    PutsInto (λ _. None) (named_items wgsl_names (labelled_items wgsl_names m)) (module_names m)
+unfolding module_names
+puts m = record { finds = λ key. refl }
 
 module _ (m : Module) (before now : NameMap) (names : Names) (has : HasNamedItems wgsl_names before (labelled_items wgsl_names m) names now) where
   -- the map has an item's name
@@ -34,6 +41,15 @@ module _ (m : Module) (before now : NameMap) (names : Names) (has : HasNamedItem
 
   pub has_names : HasNamesOf m now
   has_names = record {
+    types = λ h t at.
+        let s = type_stands wgsl_names m h t at in
+        let item = (key.Type_ h, type_label m.entry_points.items h t) in
+        named_there wgsl_names before m names now has item s ∙ ap Some (sym (name_is m item s));
+    members = λ h t at i a there.
+        let own = record { words = has.words; labels = has.labels; keys = has.keys; put = puts m } in
+        let here = member_named wgsl_names m h t at i a there before now names has in
+        let named = member_named wgsl_names m h t at i a there (λ _. None) (module_names m) names own in
+        here ∙ ap Some (sym (ap (λ o. unwrap_or o []) named));
     functions = λ g lt. let f = element m.functions g lt in function_is g f.0 f.1;
     arguments = λ g f found n lt.
         let a = element f.arguments.items n lt in

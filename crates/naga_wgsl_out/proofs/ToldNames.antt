@@ -5,7 +5,10 @@ use Rattle.std.proofs.Common.{inr, nat_eq, refl, subst, sym}
 use Rattle.std.proofs.lemmas.Bool.{false≢true}
 use Rattle.std.specs.Prelude.{Err, IfErr, IsErrAnd, IsSomeAnd, Ok, Result, get_or, slice_get}
 use Rattle.std.specs.Prelude.{string_bytes}
+use Rattle.module_meaning.specs.ExpressionOperators.{has_parts}
 use Rattle.module_meaning.specs.LackingScalars.{lacking_scalar}
+use Rattle.module_meaning.specs.Part.{known_passes}
+use Rattle.module_meaning.specs.Undeclared.{names_undeclared}
 use Rattle.naga_info.specs.declared.info.TypeResolution.{TypeResolution}
 use Rattle.naga_info.specs.declared.info.TypeResolution.TheVariants.{Handle}
 use Rattle.naga_ir.specs.declared.module.Constant.{Constant}
@@ -24,7 +27,7 @@ use Rattle.naga_wgsl_fns.specs.declared.error.Error.TheVariants.{Custom, Memory,
 use Rattle.naga_wgsl_out.specs.ModuleRefusals.{IsNamesRefusal, IsToldOfItems, TellsOfFunction}
 use Rattle.naga_wgsl_fns.specs.Refusals.{NamesConversion}
 use Rattle.naga_wgsl_fns.specs.Refusals.{NamesExpression, NamesFunction, NamesLiteral, NamesMatrix}
-use Rattle.naga_wgsl_fns.specs.Refusals.{NamesGlobal, NamesLacking, NamesScalar, NamesType}
+use Rattle.naga_wgsl_fns.specs.Refusals.{NamesGlobal, NamesPart, NamesScalar, NamesType, NamesUnspelled}
 use Rattle.naga_wgsl_fns.specs.Refusals.{OfConstant, OfLiteral, OfOperand, OfOperation, OfType}
 use Rattle.naga_wgsl_fns.specs.Refusals.{converted, pointed_scalar}
 
@@ -78,18 +81,24 @@ matrix_other : (o : Option Scalar) (error : Error) → NamesMatrix o error → i
 matrix_other None error named = custom_other _ error named refl
 matrix_other (Some s) error named = scalar_other error named
 
-type_other : (types : List Type_) (r : TypeResolution) (error : Error) → NamesType types r error →
+type_other : (m : Module) (r : TypeResolution) (error : Error) → NamesType m r error →
     is_of_names error ≡ false
-type_other types r error named = by (lacking_scalar types r) named
+type_other m r error named = by (names_undeclared m r) (lacking_scalar m.types r) named
   where
-    by : (o : Option Scalar) → NamesLacking o error → is_of_names error ≡ false
-    by None named = custom_other (codes "type without a WGSL form") error named refl
-    by (Some s) named = scalar_other error named
+    by : (b : Bool) (o : Option Scalar) → NamesUnspelled b o error → is_of_names error ≡ false
+    by true o named = custom_other (codes "predeclared struct") error named refl
+    by false None named = custom_other (codes "type without a WGSL form") error named refl
+    by false (Some s) named = scalar_other error named
+
+part_other : (has_parts : Bool) (error : Error) → NamesPart has_parts error →
+    is_of_names error ≡ false
+part_other true error named = custom_other (codes "predeclared struct") error named refl
+part_other false error named = custom_other (codes "cannot index") error named refl
 
 global_other : (m : Module) (error : Error) (h : ℕ) → NamesGlobal m error h →
     is_of_names error ≡ false
 global_other m error h (OfLiteral _ value at formless named) = literal_other value error named
-global_other m error h (OfType _ ty e at is formless named) = type_other m.types (Handle ty) error named
+global_other m error h (OfType _ ty e at is formless named) = type_other m (Handle ty) error named
 global_other m error h (OfOperation _ e at is named) =
     custom_other (codes "operator in a constant") error named refl
 global_other m error h (OfOperand _ x e at among inside) = global_other m error x inside
@@ -137,11 +146,11 @@ expression_other m known es (expression.RayQueryGetIntersection query committed)
 expression_other m known es (expression.RayQueryVertexPositions query committed) error named =
     unimplemented_other (codes "ray query") error named refl
 expression_other m known es (expression.ZeroValue ty) error named =
-    type_other m.types (Handle ty) error named
+    type_other m (Handle ty) error named
 expression_other m known es (expression.Compose ty components) error named =
-    type_other m.types (Handle ty) error named
+    type_other m (Handle ty) error named
 expression_other m known es (expression.AccessIndex base index) error named =
-    custom_other (codes "cannot index") error named refl
+    part_other (known_passes m.types known (has_parts m.types) base) error named
 expression_other m known es (expression.Constant handle) error named =
     by (slice_get m.constants handle) named
   where
@@ -163,9 +172,9 @@ tells_of_none m (Custom message) refusal (inr (inl (tells, inl (other, known, es
     false≢true
     (sym (expression_other other known es e (Custom message) named)
     ∙ told_begins m (string_bytes message) refusal)
-tells_of_none m (Custom message) refusal (inr (inl (tells, inr (types, r, named)))) =
+tells_of_none m (Custom message) refusal (inr (inl (tells, inr (other, r, named)))) =
     false≢true
-    (sym (type_other types r (Custom message) named)
+    (sym (type_other other r (Custom message) named)
     ∙ told_begins m (string_bytes message) refusal)
 tells_of_none m (Custom message) (inl told) (inr (inr full)) = full.1 told.1
 tells_of_none m (Custom message) (inr told) (inr (inr full)) =

@@ -193,7 +193,7 @@ fn write_functions<W: TextSink>(
 {
     for index in 0..module.functions.len() {
         let handle = Place::from_index(index);
-        let plan = plan_of(alloc, module, info, handle, globals, flags, namer)?;
+        let plan = plan_of(alloc, module, info, handle, globals, names, flags, namer)?;
         write_function_line(alloc, module, info, names, flags, handle, plan, out)?;
     }
     Ok(())

@@ -4,7 +4,8 @@ use crate::sample::Sample;
 use naga_info::TypeResolution;
 use naga_ir::{
     AddressSpace, ArraySize, BinaryOperator, Expression, Handle, ImageClass, ImageDimension,
-    Literal, SampleLevel, Scalar, ScalarKind, Type_, TypeInner, UnaryOperator, VectorSize,
+    Literal, MathFunction, PredeclaredType, SampleLevel, Scalar, ScalarKind, Type_, TypeInner,
+    UnaryOperator, VectorSize,
 };
 use std::alloc::AllocError;
 use std::num::NonZeroU32;
@@ -175,4 +176,35 @@ pub fn build_sample(sample: &mut Sample) -> Result<(), AllocError> {
     )?;
     sample.emit(sampled, sampled)?;
     sample.end_with(sampled)
+}
+
+/// Adds both parts of a number, which are the members of a struct that WGSL's own function gives.
+pub fn build_modf(sample: &mut Sample) -> Result<(), AllocError> {
+    let f32_type = sample.scalar(Scalar::F32)?;
+    let parts = sample.predeclared(
+        PredeclaredType::ModfResult {
+            size: None,
+            scalar: Scalar::F32,
+        },
+        "__modf_result_f32",
+        &[("fract", f32_type), ("whole", f32_type)],
+    )?;
+    sample.label("m")?;
+    sample.returns(f32_type);
+    let x = sample.argument_value("x", 0, f32_type)?;
+    let base = sample.expression(
+        Expression::Math {
+            fun: MathFunction::Modf,
+            arg: x,
+            arg1: None,
+            arg2: None,
+            arg3: None,
+        },
+        parts,
+    )?;
+    let fract = sample.expression(Expression::AccessIndex { base, index: 0 }, f32_type)?;
+    let whole = sample.expression(Expression::AccessIndex { base, index: 1 }, f32_type)?;
+    let sum = sample.binary(BinaryOperator::Add, fract, whole, f32_type)?;
+    sample.emit(base, sum)?;
+    sample.end_with(sum)
 }

@@ -1,7 +1,8 @@
 //! The rows: sample modules under their names.
 
 use crate::expression_rows::{
-    build_double, build_float, build_idle, build_negate, build_pointer, build_sample, build_select,
+    build_double, build_float, build_idle, build_modf, build_negate, build_pointer, build_sample,
+    build_select,
 };
 use crate::sample::Sample;
 use naga_ir::{BinaryOperator, Expression, Handle, Literal, Scalar, Type_};
@@ -46,6 +47,8 @@ pub enum Row {
     Idle,
     /// A function that samples an image at level zero.
     Sampled,
+    /// A function that adds both parts of a number.
+    Modf,
 }
 
 impl Row {
@@ -70,6 +73,7 @@ impl Row {
             "float" => Some(Row::Float),
             "idle" => Some(Row::Idle),
             "sample" => Some(Row::Sampled),
+            "modf" => Some(Row::Modf),
             _ => None,
         }
     }
@@ -95,6 +99,7 @@ impl Row {
             Row::Float => build_float(sample),
             Row::Idle => build_idle(sample),
             Row::Sampled => build_sample(sample),
+            Row::Modf => build_modf(sample),
         }
     }
 }

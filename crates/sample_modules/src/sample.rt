@@ -3,7 +3,8 @@
 use naga_info::{ExpressionInfo, FunctionInfo, ModuleInfo, TypeResolution};
 use naga_ir::{
     AddressSpace, BinaryOperator, Constant, Expression, Function, FunctionArgument, FunctionResult,
-    Handle, Literal, LocalVariable, Module, Range, Scalar, Statement, Type_, TypeInner,
+    Handle, Literal, LocalVariable, Module, PredeclaredType, Range, Scalar, Statement,
+    StructMember, Type_, TypeInner,
 };
 use std::alloc::{AllocError, Global};
 use std::mem;
@@ -44,6 +45,43 @@ impl Sample {
     /// The unnamed scalar type.
     pub fn scalar(&mut self, scalar: Scalar) -> Result<Handle<Type_>, AllocError> {
         self.inner(TypeInner::Scalar(scalar))
+    }
+
+    /// The struct of this label, with members of these labels and types, which is the module's type
+    /// of what WGSL's own function gives. All members stand at offset 0.
+    pub fn predeclared(
+        &mut self,
+        of: PredeclaredType,
+        label: &str,
+        members: &[(&str, Handle<Type_>)],
+    ) -> Result<Handle<Type_>, AllocError> {
+        let ty = self.structure(label, members)?;
+        self.module.special_types.predeclared_types.insert(of, ty)?;
+        Ok(ty)
+    }
+
+    /// The struct of this label, with members of these labels and types. All stand at offset 0.
+    pub fn structure(
+        &mut self,
+        label: &str,
+        members: &[(&str, Handle<Type_>)],
+    ) -> Result<Handle<Type_>, AllocError> {
+        let mut listed = Vec::new(self.alloc);
+        for (label, ty) in members {
+            let name = Some(String::from_str(self.alloc, *label)?);
+            listed.push(StructMember {
+                name,
+                ty: *ty,
+                binding: None,
+                offset: 0,
+            })?;
+        }
+        let name = Some(String::from_str(self.alloc, label)?);
+        let inner = TypeInner::Struct {
+            members: listed,
+            span: 0,
+        };
+        self.module.types.insert(Type_ { name, inner })
     }
 
     /// Adds an expression of this type to the module's own.

@@ -103,6 +103,10 @@ const ROWS: &[(&str, &str)] = &[
         "fn neg(v: vec3<i32>) -> i32 {\n    return (-(v)).x;\n}\n\n",
     ),
     ("idle", "fn u() -> i32 {\n    return 1i;\n}\n\n"),
+    (
+        "modf",
+        "fn m(x: f32) -> f32 {\n    let _e1 = modf(x);\n    return (_e1.fract + _e1.whole);\n}\n\n",
+    ),
 ];
 
 #[test]

@@ -4,7 +4,6 @@ use Rattle.naga_form.proofs.AcceptedGroups.{fits_in_range, known_is_fit}
 use Rattle.naga_wgsl_fns.specs.FunctionText.{tells_types}
 use Rattle.naga_wgsl_fns.proofs.PlanRefusals.{constants_there, function_written, is_of_plan}
 use Rattle.naga_wgsl_fns.proofs.PlanRefusals.{plan_refusal}
-use Rattle.naga_form.proofs.ToldItems.{written_are_told}
 use Rattle.naga_scope.proofs.WrittenConstants.{globals_in_order}
 use Rattle.naga_wgsl_fns.specs.Refusals.{IsPlanRefusal}
 use Rattle.naga_scope.specs.Plans.{IsPlanOf}
@@ -55,7 +54,6 @@ returns-in-Ok-clause-ok c =
 pub error_of_plan-requires-clause-ordered : goal.error_of_plan-requires-clause-ordered
 error_of_plan-requires-clause-ordered c =
     globals_in_order c.args.«module».now c.args.info.now c.requires.accepted
-    (written_are_told c.args.«module».now c.requires.written).types
 
 pub error_of_plan-requires-clause-named : goal.error_of_plan-requires-clause-named
 error_of_plan-requires-clause-named c =

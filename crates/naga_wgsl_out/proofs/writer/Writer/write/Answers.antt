@@ -1,6 +1,5 @@
 use Rattle.std.proofs.Common.{◌≡◌, ◌∙◌, ap, subst, sym, true}
 use Rattle.module_meaning.specs.Part.{is_written_so_far}
-use Rattle.naga_form.proofs.ToldItems.{written_are_told}
 use Rattle.naga_scope.proofs.WrittenConstants.{globals_in_order}
 use Rattle.naga_wgsl_out.proofs.Faithful.{Concludes, concludes}
 use Rattle.naga_wgsl_out.proofs.ToldNames.{names_tell_of_none, not_written_tells_of_none}
@@ -45,9 +44,7 @@ returns-in_err-names-clause-written_before g c =
 pub of-requires : goal.of-requires
 of-requires g c = record {
   ordered =
-      globals_in_order c.args.«module».now c.args.info.now c.requires.accepted
-      (written_are_told c.args.«module».now
-      (sym c.is_written_so_far.ensures ∙ c.if-not-is_written_so_far.false)).types;
+      globals_in_order c.args.«module».now c.args.info.now c.requires.accepted;
 }
 
 pub returns-then-not-is_written_so_far-clause-written_before :
