@@ -20,7 +20,7 @@ use Rattle.naga_form.proofs.Operators.{SpellsIf, SpellsTypes, constructor_spelle
 use Rattle.naga_form.proofs.Operators.{untyped, zero_read}
 use Rattle.naga_form.proofs.TypeTrees.{resolution_row}
 use Rattle.std.specs.Prelude.{◌||◌}
-use Rattle.module_meaning.proofs.Part.{has_form_parts}
+use Rattle.module_meaning.proofs.Part.{form_of_spellable, has_form_parts}
 use Rattle.module_meaning.specs.ExpressionOperators.{is_depth_image, level_of, sample_operator}
 use Rattle.module_meaning.specs.ExpressionOperators.{type_known}
 use Rattle.module_meaning.specs.ExpressionShapes.{constant_tree, offset_left, trees, written_zero}

@@ -1,7 +1,8 @@
 -- The `let`s of what is written are those of the bound handles.
 use Rattle.std.proofs.Common.{◌≡◌, ℕ, ◌+◌, ◌-◌, Bool, true, false, List, [], ◌∷◌, ◌++◌, map, Option}
 use Rattle.std.proofs.Common.{Some, None, refl, sym, ap, ◌∙◌}
-use Rattle.std.specs.Prelude.{IsTrue, slice_get, cond}
+use Rattle.std.specs.Prelude.{IsTrue, slice_get, cond, if◌then◌else◌}
+use Rattle.module_meaning.specs.Undeclared.{names_undeclared}
 use Rattle.std.proofs.lemmas.List.{map-append}
 use Rattle.naga_ir.specs.StatementTree.{SimpleStatement, emit, store, return, StatementTree, simple}
 use Rattle.naga_ir.specs.StatementTree.{block}

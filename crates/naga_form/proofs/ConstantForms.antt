@@ -12,7 +12,9 @@ use Rattle.std.specs.Option.{is_none, is_some, option_and_then, option_map, opti
 use Rattle.std.proofs.lemmas.Bool.{and_parts}
 use Rattle.std.proofs.lemmas.Option.{slice_get_within}
 use Rattle.module_meaning.proofs.Lists.{list_all_at}
+use Rattle.module_meaning.proofs.Part.{form_of_spellable}
 use Rattle.module_meaning.specs.AlikeTypes.{has_form}
+use Rattle.module_meaning.specs.Undeclared.{is_spellable}
 use Rattle.module_meaning.specs.ExpressionOperators.{Surroundings, constructor}
 use Rattle.module_meaning.specs.ExpressionShapes.{Declared, built, tree_over, tree_then, tree_within}
 use Rattle.module_meaning.specs.ExpressionShapes.{trees, trees_of}

@@ -243,7 +243,7 @@ module _ (m : Module) (info : ModuleInfo) (types : TypesAreFit m) (named : Names
   -- the name of a struct is none that the text of the function uses, and asks for nothing
   struct_operates : (h : ℕ) (t : Type_) → slice_get m.types h ≡ Some t →
       OperatesBy p own (name_in (module_names m) (key.Type_ h))
-  struct_operates h t at = (no_request w (item_is_identifier m item there), functions, no_name)
+  struct_operates h t at = (no_request w (item_is_identifier m item there), (functions, no_name))
     where
       item : LabelledItem
       item = (key.Type_ h, type_label m.entry_points.items h t)
@@ -284,7 +284,7 @@ module _ (m : Module) (info : ModuleInfo) (types : TypesAreFit m) (named : Names
       no_name (FixedKey (GlobalName i)) is e = none_listed i p.global_types globals is
       no_name (NumberedKey k) is e = item_not_numbered m item k there (sym e)
       no_name (GivenKey k) is e =
-          given_no_item m g f found named k (given_in k is) item there e
+          given_no_item m g f found named k (given_in k is) item there (sym e)
 
   -- what is spelled by a type is called by that, or by what no text has where it has no form
   spelled_words : (r : TypeResolution) → IsFit m r → (P : Operator → Type 0) →

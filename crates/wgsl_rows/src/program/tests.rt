@@ -25,6 +25,7 @@ mod names;
 mod operators;
 mod parts;
 mod pointed;
+mod predeclared;
 mod results;
 mod samplings;
 mod shorts;
