@@ -1,7 +1,6 @@
 //! Tests that need a crate of their own, so that what they test is proved once and its edits wait
-//! for no test: names, spellings of types, which expressions are in scope where, whether what
-//! modules name is there, which modules are accepted, and where one is not; beside them a context
-//! and a sink as a user would write them.
+//! for no test: names, spellings of types, whether what modules name is there, which modules are
+//! accepted, and where one is not; beside them a context and a sink as a user would write them.
 #![tactic(auto)]
 
 pub mod limited;
@@ -18,7 +17,5 @@ mod names;
 mod places;
 #[cfg(test)]
 mod ranges;
-#[cfg(test)]
-mod scopes;
 #[cfg(test)]
 mod spellings;

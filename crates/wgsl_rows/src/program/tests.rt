@@ -28,6 +28,7 @@ mod pointed;
 mod predeclared;
 mod results;
 mod samplings;
+mod scopes;
 mod shorts;
 mod types;
 mod values;

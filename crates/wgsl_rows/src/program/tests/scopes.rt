@@ -1,8 +1,9 @@
-use naga_acceptance::{accepts, is_written_so_far};
-use naga_info::ModuleInfo;
-use naga_ir::{BinaryOperator, Expression, Handle, Literal, Module, Place, Scalar, Type_};
-use naga_names::namer::Namer;
-use naga_scope::{GlobalExpressions, Plan, PlanError};
+//! Which uses and `Emit`s are in scope: others are refused as `operand out of scope`.
+
+use bitflags::Flags;
+use naga_wgsl_out::info::accepts;
+use naga_wgsl_out::ir::{BinaryOperator, Expression, Handle, Literal, Scalar, Type_};
+use naga_wgsl_out::wgsl::{Error, WriterFlags, write_string};
 use sample_modules::Sample;
 use std::alloc::{AllocError, Global};
 use std::process::Abort;
@@ -124,57 +125,34 @@ fn pointer_sums(sample: &mut Sample, ty: Handle<Type_>, apart: bool) -> Result<(
     sample.end_with(sum)
 }
 
-fn built_holds(alloc: Global, sample: &mut Sample, row: Row) -> Result<Option<bool>, AllocError> {
-    build(sample, row)?;
-    sample_holds(alloc, sample)
-}
-
-/// Whether there is a plan of the sample's one function, if it is one that is asked about.
-fn sample_holds(alloc: Global, sample: &Sample) -> Result<Option<bool>, AllocError> {
-    match first_holds(alloc, &sample.module, &sample.info) {
-        Ok(holds) => Ok(holds),
-        Err(_) => first_holds(alloc, &sample.module, &sample.info),
+/// Whether the sample is written, and not refused as out of scope, if it is accepted and not refused
+/// otherwise.
+fn sample_holds(alloc: Global, sample: &Sample) -> Option<bool> {
+    if !accepts(&sample.module, &sample.info) {
+        return None;
+    }
+    match write_string(alloc, &sample.module, &sample.info, WriterFlags::empty()) {
+        Ok(_) => Some(true),
+        Err(Error::Custom(told)) => {
+            if told.as_str() == "operand out of scope" {
+                Some(false)
+            } else {
+                None
+            }
+        }
+        Err(_) => None,
     }
 }
 
-/// The same of the module. Where memory refuses a plan, another one may be asked for.
-fn first_holds(
-    alloc: Global,
-    module: &Module,
-    info: &ModuleInfo,
-) -> Result<Option<bool>, AllocError> {
-    if !accepts(module, info) || !is_written_so_far(module) || module.functions.len() != 1 {
-        return Ok(None);
-    }
-    let globals = GlobalExpressions::of(alloc, module)?;
-    let mut namer = Namer::default(alloc);
-    match Plan::of(
-        alloc,
-        module,
-        info,
-        Place::from_index(0),
-        &globals,
-        false,
-        &mut namer,
-    ) {
-        Ok(_) => Ok(Some(true)),
-        Err(PlanError::OutOfScope) => Ok(Some(false)),
-        Err(PlanError::WithoutForm(_))
-        | Err(PlanError::TypeWithoutForm(_))
-        | Err(PlanError::LetWithoutForm(_))
-        | Err(PlanError::Unnamed(_)) => Ok(None),
-        Err(PlanError::Memory(error)) => Err(error),
-    }
-}
-
-/// Builds the row on a sample of its own, and asks whether it holds. The sample is dropped by a
-/// call, which is proved faster than a drop at the end of a scope, since that takes the sample
-/// apart here.
+/// Whether the row holds. The sample is dropped by a call, which is proved faster than a drop at the
+/// end of a scope, since that takes the sample apart here.
 fn row_holds(alloc: Global, row: Row) -> Result<Option<bool>, AllocError> {
     let mut sample = Sample::new(alloc);
-    let holds = built_holds(alloc, &mut sample, row);
+    let built = build(&mut sample, row);
+    let holds = sample_holds(alloc, &sample);
     drop(sample);
-    holds
+    built?;
+    Ok(holds)
 }
 
 /// Whether the row holds as it should.
