@@ -59,6 +59,13 @@ no_entry_point m written index lt =
     let counted : m.entry_points.len ≡ length m.entry_points.items = m.entry_points.ok.0 in
     absurd (omega (arith, lt, none, counted))
 
+-- what comes from the sink or from memory tells of no module
+pub want_tells_nothing : (before after : ℕ) (error : Error) → IsWant before after error →
+    TellsOfModule error → ⊥
+want_tells_nothing before after (FmtError e) is tells = tells
+want_tells_nothing before after (Memory e) is tells = tells
+want_tells_nothing before after _ is tells = is
+
 -- ---- functions and entry points
 pub of_each : (ty : FunctionType) (Holds : ℕ → Type 0) → ((handle : ℕ) → Holds handle) →
     OfFunction ty Holds
@@ -158,12 +165,6 @@ module _ (m : Module) (info : ModuleInfo) (flags : WriterFlags) (earlier : List 
   for_want before after (FmtError e) is = is
   for_want before after (Memory e) is = tt
   for_want before after _ is = absurd is
-
-  want_tells_nothing : (before after : ℕ) (error : Error) → IsWant before after error →
-      TellsOfModule error → ⊥
-  want_tells_nothing before after (FmtError e) is tells = tells
-  want_tells_nothing before after (Memory e) is tells = tells
-  want_tells_nothing before after _ is tells = is
 
   identifiers : (f : ir_function.Function) → slice_get m.functions handle ≡ Some f → (k : ℕ) →
       k < length (given_labels f) → IsIdentifier (given_behind m earlier handle k)
