@@ -200,7 +200,7 @@ module _ (m : Module) (info : ModuleInfo) (flags : WriterFlags) (earlier : List 
         let same : known_of info handle ≡ known.0 = ap (λ o. unwrap_or o []) known.1 in
         subst
         (λ es. IsFunction (function_form explicit (module_names m) (given_behind m earlier handle) m info
-            handle f es))
+        handle f es))
         (sym same)
         (one_is explicit m info accepted written (given_behind m earlier handle) handle f stands known.0
         known.1 (identifiers f stands) (function_written explicit m info accepted written handle f stands)
@@ -211,7 +211,7 @@ module _ (m : Module) (info : ModuleInfo) (flags : WriterFlags) (earlier : List 
         subst (λ t. HasOneReading ReadsFunction t form)
         (sym (ap
         (λ o. option_map_or
-            (λ f. text_of m info flags (given_behind m earlier handle) handle f (known_of info handle)) o [])
+        (λ f. text_of m info flags (given_behind m earlier handle) handle f (known_of info handle)) o [])
         stands))
         (function_has_one_reading form is_function)
 
