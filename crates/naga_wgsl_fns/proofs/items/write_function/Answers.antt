@@ -47,5 +47,5 @@ returns-in-Function-clause-named g c =
 pub unreachable-requires : goal.unreachable-requires
 unreachable-requires g c =
     no_entry_point c.args.«module».now
-    (sym c.is_written_so_far.ensures ∙ c.if-not-is_written_so_far.false) c.in-EntryPoint._
+    (sym c.is_written_so_far.ensures ∙ c.if-not-is_written_so_far.false) _
     (subst (λ t. IsFunctionOf t c.args.«module».now) c.in-EntryPoint.is c.requires.there)
