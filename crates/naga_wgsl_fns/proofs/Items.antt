@@ -3,9 +3,9 @@ use Rattle.std.proofs.Common.{◌≡◌, ◌<◌, ◌^◌, ◌∙◌, ◌++◌, 
 use Rattle.std.proofs.Common.{ap, arith}
 use Rattle.std.proofs.Common.{inl, inr, length, refl, slice_get, subst, sym, take, unwrap_or}
 use Rattle.std.specs.Prelude.{Err, IfErr, IsErrAnd, IsFalse, IsTrue, Ok, OnErr, OnOk, Result, vec_len}
-use Rattle.std.specs.Option.{option_map_or}
+use Rattle.std.specs.Option.{is_none, option_map_or}
 use Rattle.std.proofs.lemmas.Bool.{and_parts, eqb-true, leb-true}
-use Rattle.std.specs.Prelude.{◌==◌, ◌&&◌, is_none}
+use Rattle.std.specs.Prelude.{◌==◌, ◌&&◌}
 use Rattle.std.specs.List.{list_all}
 use Rattle.naga_ir.specs.declared.module.Function as ir_function
 use Rattle.naga_ir.specs.declared.module.Module.{Module}
@@ -49,15 +49,19 @@ pub no_entry_point : (m : Module) → IsTrue (is_written_so_far m) → (index : 
     index < vec_len m.entry_points → ⊥
 no_entry_point m written index lt =
     let declares = (written_so_far_parts m written).0 in
-    let one = and_parts (list_all (λ c. is_none c.name) m.constants)
-    (length m.overrides == 0 && (length m.global_variables == 0 && length m.entry_points.items == 0))
-    declares in
-    let two = and_parts (length m.overrides == 0)
-    (length m.global_variables == 0 && length m.entry_points.items == 0) one.1 in
+    let one = and_parts (list_all (λ c. is_none c.name) m.constants) _ declares in
+    let two = and_parts (length m.overrides == 0) _ one.1 in
     let three = and_parts (length m.global_variables == 0) (length m.entry_points.items == 0) two.1 in
     let none : length m.entry_points.items ≡ 0 = eqb-true (length m.entry_points.items) 0 three.1 in
     let counted : m.entry_points.len ≡ length m.entry_points.items = m.entry_points.ok.0 in
     absurd (omega (arith, lt, none, counted))
+
+-- what comes from the sink or from memory tells of no module
+pub want_tells_nothing : (before after : ℕ) (error : Error) → IsWant before after error →
+    TellsOfModule error → ⊥
+want_tells_nothing before after (FmtError e) is tells = tells
+want_tells_nothing before after (Memory e) is tells = tells
+want_tells_nothing before after _ is tells = is
 
 -- ---- functions and entry points
 pub of_each : (ty : FunctionType) (Holds : ℕ → Type 0) → ((handle : ℕ) → Holds handle) →
@@ -158,12 +162,6 @@ module _ (m : Module) (info : ModuleInfo) (flags : WriterFlags) (earlier : List 
   for_want before after (FmtError e) is = is
   for_want before after (Memory e) is = tt
   for_want before after _ is = absurd is
-
-  want_tells_nothing : (before after : ℕ) (error : Error) → IsWant before after error →
-      TellsOfModule error → ⊥
-  want_tells_nothing before after (FmtError e) is tells = tells
-  want_tells_nothing before after (Memory e) is tells = tells
-  want_tells_nothing before after _ is tells = is
 
   identifiers : (f : ir_function.Function) → slice_get m.functions handle ≡ Some f → (k : ℕ) →
       k < length (given_labels f) → IsIdentifier (given_behind m earlier handle k)
