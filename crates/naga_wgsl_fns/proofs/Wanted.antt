@@ -3,7 +3,7 @@ use Rattle.std.proofs.Common.{Vec, Global}
 use Rattle.std.proofs.Common.{◌≡◌, ℕ, ◌+◌, Bool, ◌<◌, true, false, List, [], ◌++◌, codes, length}
 use Rattle.std.proofs.Common.{Option, Some, None, refl, sym, ap, subst, ◌∙◌, IsTrue, arith}
 use Rattle.std.proofs.lemmas.Option.{same_Some}
-use Rattle.std.specs.Prelude.{slice_get, cond, nat_lt, unwrap_or}
+use Rattle.std.specs.Prelude.{◌&&◌, ◌||◌, not, slice_get, cond, nat_lt, unwrap_or}
 use Rattle.std.specs.List.{list_all}
 use Rattle.std.specs.Option.{is_some, option_map, option_map_or, option_and_then, option_to_list}
 use Rattle.std.proofs.lemmas.Bool.{and_parts, ltb-true}
@@ -30,7 +30,7 @@ use Rattle.naga_ir.specs.declared.types.CooperativeSize.{CooperativeSize}
 use Rattle.naga_ir.specs.declared.types.VectorSize.{VectorSize}
 use Rattle.naga_info.specs.declared.info.ExpressionInfo.{ExpressionInfo}
 use Rattle.module_meaning.proofs.Lists.{list_all_at}
-use Rattle.module_meaning.proofs.Part.{has_form_parts}
+use Rattle.module_meaning.proofs.Part.{form_of_spellable, has_form_parts, written_so_far_parts}
 use Rattle.module_meaning.specs.Sampling.{own_offset_is_written}
 use Rattle.naga_ir.specs.declared.expression.ImageQuery.{ImageQuery}
 use Rattle.naga_ir.specs.declared.expression.SampleLevel.{SampleLevel}
@@ -38,10 +38,10 @@ use Rattle.std.proofs.Common.{Bool, max}
 use Rattle.naga_wgsl_fns.specs.FunctionText.{given_in}
 use Rattle.naga_wgsl_fns.specs.FunctionText.{AreInText}
 use Rattle.module_meaning.specs.FunctionShapes.{statement_shape}
-use Rattle.module_meaning.specs.Names.{module_names, numbered_name}
+use Rattle.module_meaning.specs.Names.{module_names, name_in, numbered_name}
 use Rattle.module_meaning.specs.OperatorTable.{relational_word}
 use Rattle.module_meaning.specs.AlikeTypes.{has_form}
-use Rattle.module_meaning.specs.Part.{constant_is_written, expression_is_written}
+use Rattle.module_meaning.specs.Part.{constant_is_written, expression_is_written, known_passes}
 use Rattle.module_meaning.specs.Part.{is_written_literal}
 use Rattle.naga_form.proofs.AcceptedGroups.{fits_in_range, known_fits, known_is_fit}
 use Rattle.naga_form.proofs.PartTypes.{known_before}
@@ -51,7 +51,7 @@ use Rattle.module_meaning.specs.ExpressionOperators.{has_parts, is_composite, ty
 use Rattle.module_meaning.specs.ExpressionShapes.{Declared, component_letters, own_selector}
 use Rattle.module_meaning.specs.ExpressionShapes.{part_selector, selector}
 use Rattle.naga_form.proofs.AllowedParts.{LoadedMatrix, conversion, known_base, loaded_matrix}
-use Rattle.naga_form.proofs.AllowedParts.{selector_is}
+use Rattle.naga_form.proofs.AllowedParts.{selector_is, whole_is}
 use Rattle.naga_form.proofs.AllowedParts.{type_known_is as known_type_is}
 use Rattle.naga_ir.specs.declared.types.ScalarKind.{ScalarKind}
 use Rattle.module_meaning.specs.Conversions.{conversion_target}
@@ -62,9 +62,18 @@ use Rattle.naga_ir.specs.declared.types.AddressSpace.{AddressSpace}
 use Rattle.naga_ir.specs.declared.types.Type_.{Type_}
 use Rattle.naga_ir.specs.declared.types.TypeInner.{TypeInner}
 use Rattle.naga_ir.specs.declared.types.TypeInner.TheVariants as inner
+use Rattle.naga_info.proofs.Options.{then_some}
 use Rattle.naga_names.proofs.Refusal.{element}
-use Rattle.naga_wgsl_fns.specs.Expressions.{base_of}
-use Rattle.naga_wgsl_fns.specs.Expressions.{has_components, is_of_components, is_vector, selector_of}
+use Rattle.naga_names.specs.Keys.{names_in}
+use Rattle.naga_names.specs.Reset.{members_of}
+use Rattle.naga_names.specs.declared.key.NameKey.TheVariants as key
+use Rattle.module_meaning.specs.Undeclared.{is_spellable, is_undeclared, member_is_written}
+use Rattle.module_meaning.specs.Undeclared.{member_words, names_undeclared, part_is_written_at}
+use Rattle.module_meaning.specs.Undeclared.{whole_known, whole_of}
+use Rattle.shader_runs.specs.Value.{MemberNamed}
+use Rattle.wgsl_text.specs.Words.{stands_in}
+use Rattle.naga_wgsl_fns.specs.Expressions.{base_of, is_of_components, struct_at, struct_known}
+use Rattle.naga_wgsl_fns.specs.Expressions.{has_components, is_vector, selector_of}
 use Rattle.naga_wgsl_fns.specs.FunctionText.{source}
 use Rattle.std.proofs.lemmas.Option.{slice_get_within}
 use Rattle.std.specs.Prelude.{if◌then◌else◌}
@@ -86,7 +95,7 @@ use Rattle.naga_form.specs.TypeTrees.{resolution_tree}
 use Rattle.naga_form.specs.Types.{told_type}
 use Rattle.wgsl_text.specs.Reading.{type_layout}
 use Rattle.wgsl_words.specs.Words.{math_word}
-use Rattle.wgsl_text.specs.Types.{Named}
+use Rattle.wgsl_text.specs.Types.{Named, TypeSpecifier}
 use Rattle.naga_wgsl_fns.specs.declared.functions.FunctionText.{FunctionText}
 use Rattle.naga_wgsl_fns.specs.FunctionText.{CanWrite, IsEmitted, IsInText, around, bound, naming}
 use Rattle.naga_wgsl_fns.specs.FunctionText.{tells_types}

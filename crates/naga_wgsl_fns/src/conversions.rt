@@ -1,6 +1,6 @@
 //! Conversions to other scalars.
 
-ghost use Rattle.std.specs.Prelude.{◌≡◌, ◌<◌, IsTrue, Some, length, slice_get};
+ghost use Rattle.std.specs.Prelude.{◌≡◌, ◌<◌, IsTrue, Some, length};
 ghost use Rattle.std.specs.Option.{is_some};
 ghost use Rattle.module_meaning.specs.Conversions.{conversion_target, keeps_bits};
 ghost use Rattle.module_meaning.specs.AlikeTypes.{has_form};

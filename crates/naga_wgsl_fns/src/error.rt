@@ -1,6 +1,6 @@
 //! Why a module is not written.
 
-ghost use Rattle.std.specs.Prelude.{◌≡◌, codes};
+ghost use Rattle.std.specs.Prelude.{◌≡◌};
 ghost use Rattle.naga_wgsl_fns.specs.declared.error.Error.TheVariants.{Memory};
 ghost use Rattle.naga_wgsl_fns.specs.Errors.{error_of_sink, IsCustom, IsErrorOf, IsNotYetWritten};
 ghost use Rattle.naga_wgsl_fns.specs.Errors.{IsUnimplemented};

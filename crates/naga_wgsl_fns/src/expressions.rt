@@ -4,19 +4,15 @@ ghost use Rattle.std.specs.Prelude.{[], ◌∷◌, ◌<◌, ◌≡◌, length, I
 ghost use Rattle.std.specs.Option.{is_some};
 ghost use Rattle.module_meaning.specs.OperatorTable.{Mathematical, Relation, relational_word};
 ghost use Rattle.module_meaning.specs.OperatorTable.{Derivative, run_word};
-ghost use Rattle.module_meaning.specs.ExpressionShapes.{letter, swizzle_letters};
 ghost use Rattle.module_meaning.specs.AlikeTypes.{has_form};
 ghost use Rattle.naga_info.specs.declared.info.TypeResolution.TheVariants as resolution;
-ghost use Rattle.naga_form.specs.Expressions.{as_value};
 ghost use Rattle.naga_form.specs.Operators.{Infix, Prefix, operator_form, unary_form};
 ghost use Rattle.naga_words.specs.Output.{Writes};
 ghost use Rattle.naga_wgsl_fns.specs.FunctionText.{CanWrite, IsInText};
 ghost use Rattle.naga_wgsl_fns.specs.Expressions.{address_text, applied_text, called_text};
 ghost use Rattle.naga_wgsl_fns.specs.Expressions.{made_text, made_type, next_operand_text};
 ghost use Rattle.naga_wgsl_fns.specs.Expressions.{operands_text};
-ghost use Rattle.naga_wgsl_fns.specs.Expressions.{base_text, form_at, is_signed, letter_at};
-ghost use Rattle.naga_wgsl_fns.specs.Expressions.{member_text, own_text, parenthesized_text};
-ghost use Rattle.naga_wgsl_fns.specs.Expressions.{base_of};
+ghost use Rattle.naga_wgsl_fns.specs.Expressions.{own_text};
 ghost use Rattle.naga_wgsl_fns.specs.Expressions.{pointed_text, reference_text, value_text};
 ghost use Rattle.wgsl_words.specs.Words.{math_word, unary_text};
 

@@ -3,7 +3,6 @@
 ghost use Rattle.std.specs.Prelude.{◌≡◌, ◌<◌, ◌++◌, IfErr, IsTrue, OnErr, OnOk, Some, length};
 ghost use Rattle.std.specs.Prelude.{slice_get};
 ghost use Rattle.module_meaning.specs.Accepted.{is_accepted};
-ghost use Rattle.module_meaning.specs.Ranges.{is_below};
 ghost use Rattle.module_meaning.specs.AlikeTypes.{has_form};
 ghost use Rattle.module_meaning.specs.Part.{is_written_so_far};
 ghost use Rattle.naga_info.specs.declared.info.TypeResolution.TheVariants as resolution;
@@ -20,7 +19,7 @@ ghost use Rattle.naga_wgsl_fns.specs.Functions.{StartsAt, answer_text, argument_
 ghost use Rattle.naga_wgsl_fns.specs.Functions.{arguments_text, body_text, first_text};
 ghost use Rattle.naga_wgsl_fns.specs.Functions.{first_value_text, function_text, group_end_text};
 ghost use Rattle.naga_wgsl_fns.specs.Functions.{head_text, local_text, locals_text};
-ghost use Rattle.naga_wgsl_fns.specs.Functions.{next_argument_text, result_text, separator};
+ghost use Rattle.naga_wgsl_fns.specs.Functions.{next_argument_text, result_text};
 ghost use Rattle.naga_wgsl_fns.specs.Functions.{names_of, text_under};
 
 use crate::Error;

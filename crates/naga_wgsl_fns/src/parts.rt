@@ -1,7 +1,7 @@
 //! Parts of values and of what is pointed at: components, columns, elements and swizzles.
 
 ghost use Rattle.std.specs.Prelude.{◌≡◌, ◌<◌, IsTrue, None, Some, length, slice_get};
-ghost use Rattle.std.specs.Option.{is_some, option_map};
+ghost use Rattle.std.specs.Option.{option_map};
 ghost use Rattle.module_meaning.specs.ExpressionShapes.{component_letters, letter, part_selector};
 ghost use Rattle.module_meaning.specs.ExpressionShapes.{swizzle_letters};
 ghost use Rattle.naga_form.specs.Expressions.{as_value, points};

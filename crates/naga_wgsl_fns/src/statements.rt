@@ -3,7 +3,7 @@
 ghost use Rattle.std.specs.Prelude.{◌≡◌, ◌+◌, ◌<◌, ◌-◌, ◌≤◌, ◌^◌, IsTrue, length};
 ghost use Rattle.module_meaning.specs.GivenLabels.{block_labels, labels_in, labels_of_each};
 ghost use Rattle.module_meaning.specs.Part.{block_is_written, statement_is_written};
-ghost use Rattle.module_meaning.specs.Ranges.{block_in_range, is_below, statement_in_range};
+ghost use Rattle.module_meaning.specs.Ranges.{block_in_range, statement_in_range};
 ghost use Rattle.naga_back.specs.Indentation.{indentation};
 ghost use Rattle.module_meaning.specs.FunctionShapes.{statement_shape};
 ghost use Rattle.naga_ir.specs.StatementViews.{tree_of};

@@ -1,4 +1,3 @@
-use Rattle.naga_form.proofs.ToldItems.{written_are_told}
 use Rattle.naga_scope.proofs.WrittenConstants.{globals_in_order}
 use Rattle.naga_wgsl_fns.proofs.Items.{for_plan, none_named, refused, writes}
 use Rattle.naga_wgsl_fns.specs.declared.error.Error.TheVariants.{Memory}
@@ -7,8 +6,7 @@ use Rattle.naga_wgsl_fns.proofs.items.write_by_plan.Goals as goal
 pub of-requires : goal.of-requires
 of-requires g c = record {
   ordered =
-      globals_in_order c.args.«module».now c.args.info.now c.requires.accepted
-      (written_are_told c.args.«module».now c.requires.written).types;
+      globals_in_order c.args.«module».now c.args.info.now c.requires.accepted;
 }
 
 pub returns-in_err-globals-clause-function : goal.returns-in_err-globals-clause-function
