@@ -6,7 +6,7 @@ pub mod FormlessConstants
 pub mod FunctionRows
 pub mod GivenNames
 pub mod ImageRows
-pub mod Items
+pub mod SingleFunctions
 pub mod Literals
 pub mod LoadRows
 pub mod Members
