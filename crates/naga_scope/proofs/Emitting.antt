@@ -2,7 +2,7 @@
 use Rattle.std.proofs.Common.{◌≡◌, ℕ, zero, suc, ◌+◌, ◌-◌, ◌<◌, ◌≤◌, ◌&&◌, ◌||◌, Bool, true, false}
 use Rattle.std.proofs.Common.{nat_eq, List, [], ◌∷◌, length, get_or, refl, sym, ap, ap₂, ◌∙◌, arith}
 use Rattle.std.proofs.Common.{slice_set, eqb-true, add-one, length-append}
-use Rattle.std.specs.Prelude.{IsTrue, cond, not}
+use Rattle.std.specs.Prelude.{cond, not}
 use Rattle.std.specs.Option.{is_some, option_to_list}
 use Rattle.std.proofs.lemmas.Bool.{cases_lt, eqb-false}
 use mathlib.Core.Logic.{inl, inr}
@@ -12,7 +12,6 @@ use Rattle.std.proofs.lemmas.Grind.{get_or-set_at}
 use Rattle.std.proofs.lemmas.Option.{slice_get_past}
 use Rattle.module_meaning.specs.FunctionShapes.{function_shape}
 use Rattle.module_meaning.specs.Namings.{function_naming}
-use Rattle.module_meaning.specs.Part.{function_is_written}
 use Rattle.naga_ir.specs.declared.module.Function as ir_function
 use Rattle.naga_ir.specs.declared.module.Module.{Module}
 use Rattle.naga_info.specs.declared.info.ExpressionInfo.{ExpressionInfo}
@@ -27,7 +26,7 @@ use Rattle.shader_runs.specs.Scope.{with_emitted_handle, after_one, after_emit, 
 use Rattle.shader_runs.specs.Scope.{may_emit}
 use Rattle.shader_runs.specs.Scope.{may_emit_all}
 use Rattle.module_meaning.specs.GivenLabels.{label_of, labels_of_each}
-use Rattle.module_meaning.specs.Names.{given_name, numbered_name}
+use Rattle.module_meaning.specs.Names.{numbered_name}
 use Rattle.naga_form.proofs.Fits.{given_is, given_one}
 use Rattle.naga_form.proofs.ModulePlaces.{no_expression_at}
 use Rattle.naga_scope.specs.declared.points.BoundName.{BoundName}

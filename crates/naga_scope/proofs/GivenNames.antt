@@ -1,5 +1,5 @@
 -- Labels that are named one behind another.
-use Rattle.std.proofs.Common.{◌≡◌, ◌++◌, ◌^◌, ◌∙◌, ℕ, List, [], ◌∷◌, append-nil, append_assoc, ap, refl}
+use Rattle.std.proofs.Common.{◌≡◌, ◌++◌, ◌∙◌, ℕ, List, [], ◌∷◌, append-nil, append_assoc, ap, refl}
 use Rattle.std.proofs.Common.{arith, length-append, subst, sym}
 use Rattle.module_meaning.specs.GivenLabels.{SomeLabelIsFull}
 use Rattle.naga_names.specs.Naming.{HasNamed, Names, Uses, label_base, labels_with_base, name_after}
@@ -7,7 +7,7 @@ use Rattle.naga_names.specs.Naming.{with_use}
 use Rattle.naga_names.specs.Refusal.{IsRefusalOf}
 use Rattle.naga_names.specs.declared.error.NamerError.{NamerError}
 use Rattle.naga_names.specs.declared.error.NamerError.TheVariants.{Full, KeyFull, Memory}
-use Rattle.naga_scope.specs.GivenNames.{HasBegunLabels, HasNamedSome, HasOtherUses}
+use Rattle.naga_scope.specs.GivenNames.{HasBegunLabels, HasOtherUses}
 use Rattle.naga_scope.specs.GivenNames.{IsRefusalOfLabels, NamesLabels, RefusesLabels, names_behind}
 
 -- ---- names of labels

@@ -1,6 +1,6 @@
 -- The check over the locals, the statements and the functions in turn.
 use Rattle.std.proofs.Common.{◌≡◌, ℕ, suc, ◌+◌, ◌<◌, ◌≤◌, ◌&&◌, Bool, true, false, zero, Option, arith}
-use Rattle.std.proofs.Common.{List, [], ◌∷◌, map, drop, length, refl, sym, ap, ap₂, ◌∙◌}
+use Rattle.std.proofs.Common.{List, [], ◌∷◌, map, drop, length, refl, sym, ap, ◌∙◌}
 use Rattle.std.proofs.Common.{slice_index_or, ◌++◌, ◌^◌, length-append}
 use Rattle.std.specs.Prelude.{IsTrue}
 use Rattle.std.specs.List.{enumerate_from}

@@ -3,15 +3,14 @@
 use Rattle.std.proofs.Common.{◌≡◌, ℕ, zero, suc, ◌<◌, ◌&&◌, ◌||◌, Bool, true, false, List, [], ◌∷◌}
 use Rattle.std.proofs.Common.{◌++◌, length, nat_eq, Option, Some, None, refl, sym, ap, ap₂, ◌∙◌}
 use Rattle.std.proofs.Common.{arith, subst, eqb-true, slice_get}
-use Rattle.std.specs.Prelude.{IsTrue, cond}
-use Rattle.std.specs.Option.{is_some, option_and_then, option_map, option_map_or, option_to_list}
+use Rattle.std.specs.Prelude.{cond}
+use Rattle.std.specs.Option.{is_some, option_and_then, option_map_or, option_to_list}
 use Rattle.std.proofs.lemmas.Option.{slice_get_within}
 use Rattle.module_meaning.proofs.ExpressionShapes.{shape_operands}
 use Rattle.module_meaning.specs.ExpressionOperators.{constructor}
 use Rattle.module_meaning.specs.ExpressionShapes.{Declared, built, constant_tree, offset_left}
 use Rattle.module_meaning.specs.ExpressionShapes.{shape_of, tree_over, tree_then, tree_within, trees_of}
 use Rattle.module_meaning.specs.FunctionShapes.{function_shape}
-use Rattle.module_meaning.specs.Namings.{function_naming}
 use Rattle.module_meaning.specs.OperatorTable.{Operator, Splat}
 use Rattle.module_meaning.specs.Premises.{OperandsStandBefore}
 use Rattle.module_meaning.specs.Surroundings.{declared, types_known}
@@ -24,7 +23,6 @@ use Rattle.naga_ir.specs.declared.expression.Expression as ir
 use Rattle.naga_ir.specs.declared.expression.Expression.TheVariants as expression
 use Rattle.naga_ir.specs.declared.module.Function as ir_function
 use Rattle.naga_ir.specs.declared.module.Module.{Module}
-use Rattle.naga_names.specs.Keys.{NameMap}
 use Rattle.module_meaning.specs.FunctionShapes.{statement_shape}
 use Rattle.module_meaning.specs.Part.{statement_is_written}
 use Rattle.module_meaning.specs.StatementShapes.{store_shape}
@@ -37,10 +35,10 @@ use Rattle.naga_scope.proofs.Shaped.{pure_at, usable_is}
 use Rattle.naga_scope.specs.Standings.{KeepsStart, is_constant_kind, is_pure_kind, operands_at}
 use Rattle.naga_scope.specs.Standings.{usable_by}
 use Rattle.std.proofs.Common.{◌-◌}
-use Rattle.shader_runs.specs.Program.{ConstantTree, Function, binds, expression_of, from, operands_of}
+use Rattle.shader_runs.specs.Program.{ConstantTree, Function, expression_of, from, operands_of}
 use Rattle.shader_runs.specs.Scope.{Absent, Barred, Everywhere, Handles, Inline, Named, Naming}
-use Rattle.shader_runs.specs.Scope.{Standing, after_emit, after_one, all_constant, at_start}
-use Rattle.shader_runs.specs.Scope.{after, bound_name, given_after, is_present, is_pure}
+use Rattle.shader_runs.specs.Scope.{Standing, after_emit, after_one, all_constant}
+use Rattle.shader_runs.specs.Scope.{after, given_after, is_present}
 use Rattle.shader_runs.specs.Scope.{start_standing}
 use Rattle.shader_runs.specs.Scope.{standing_without_name, usable, usable_all, with_emitted_handle}
 use Rattle.shader_runs.specs.World.{update}

@@ -23,8 +23,7 @@ use Rattle.naga_info.specs.declared.info.TypeResolution.TheVariants.{Handle}
 use Rattle.naga_ir.specs.declared.module.Function.{Function}
 use Rattle.naga_ir.specs.declared.module.FunctionResult.{FunctionResult}
 use Rattle.naga_ir.specs.declared.module.Module.{Module}
-use Rattle.naga_ir.specs.declared.types.Type_.{Type_}
-use Rattle.naga_scope.specs.SpelledTypes.{declared_formless, declared_types, is_formless, tells_formless}
+use Rattle.naga_scope.specs.SpelledTypes.{declared_formless, is_formless, tells_formless}
 use Rattle.naga_scope.specs.SpelledTypes.{is_told_formless, told_formless}
 use Rattle.shader_runs.specs.Program.{binds}
 

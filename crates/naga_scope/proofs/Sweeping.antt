@@ -1,12 +1,11 @@
 -- A sweep over a function's expressions from the last to the first, which marks what is written.
-use Rattle.std.proofs.Common.{◌≡◌, ℕ, zero, suc, ◌<◌, ◌≤◌, ◌-◌, Bool, true, false, List, [], ◌∷◌}
+use Rattle.std.proofs.Common.{◌≡◌, ℕ, zero, suc, ◌<◌, ◌≤◌, Bool, true, false, List, [], ◌∷◌}
 use Rattle.std.proofs.Common.{◌&&◌, ◌||◌, ◌⊎◌, inl, inr, refl, sym, ap, ◌∙◌, subst, length, arith}
 use Rattle.std.proofs.Common.{nat_eq, nat_lt, Some, slice_get, eqb-true, ap₂}
 use Rattle.std.specs.Prelude.{IsTrue}
 use Rattle.std.specs.List.{IsAmong}
 use Rattle.std.proofs.lemmas.Bool.{and_parts, cases_order, eqb-false, false≢true, lt-ltb}
 use Rattle.std.proofs.lemmas.Option.{same_Some, slice_get_within}
-use Rattle.module_meaning.specs.Premises.{OperandsStandBefore}
 use Rattle.module_meaning.specs.Written.{IsWritten, OperandOf, Root}
 use Rattle.naga_ir.specs.Operands.{expression_operands}
 use Rattle.naga_ir.specs.declared.expression.Expression.{Expression}

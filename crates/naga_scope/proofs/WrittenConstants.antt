@@ -1,6 +1,6 @@
 -- Which expressions may be written out as constants, and which of a module's own are written, by one
 -- pass over them in their order.
-use Rattle.std.proofs.Common.{◌≡◌, ℕ, zero, suc, ◌+◌, ◌<◌, ◌≤◌, ◌&&◌, Bool, true, false, List, [], ◌∷◌}
+use Rattle.std.proofs.Common.{◌≡◌, ℕ, ◌+◌, ◌<◌, ◌≤◌, ◌&&◌, Bool, true, false, List, [], ◌∷◌}
 use Rattle.std.proofs.Common.{Option, Some, None, refl, sym, ap, ap₂, ◌∙◌, arith, subst, length}
 use Rattle.std.proofs.Common.{below_more, get_or, nat_lt, slice_get, slice_set}
 use Rattle.std.specs.List.{list_all}

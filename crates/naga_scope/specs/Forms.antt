@@ -1,11 +1,8 @@
 -- What is asked of types where it is decided whether expressions have forms, and how often one is
 -- used that a `let` binds.
 use Rattle.std.specs.Prelude.{◌≡◌, ℕ, List, Some, slice_get}
-use Rattle.naga_back.specs.Baking.{count_to_bind}
 use Rattle.naga_info.specs.Resolution.{InRange}
 use Rattle.naga_info.specs.declared.info.ExpressionInfo.{ExpressionInfo}
-use Rattle.naga_ir.specs.declared.expression.Expression.{Expression}
-use Rattle.naga_ir.specs.declared.expression.Expression.TheVariants.{CooperativeLoad}
 use Rattle.naga_ir.specs.declared.types.Type_.{Type_}
 
 -- each type that is known of an expression is one of these or one by itself

@@ -215,11 +215,10 @@ fn has_member_word(
 fn is_member_word(name: &str) -> bool
     ensures { result ≡ stands_in member_words name.now }
 {
-    name == "fract"
-        || name == "whole"
-        || name == "exp"
-        || name == "old_value"
-        || name == "exchanged"
+    match name {
+        "fract" | "whole" | "exp" | "old_value" | "exchanged" => true,
+        _ => false,
+    }
 }
 
 pub(crate) fn literal_has_form(literal: Literal) -> bool

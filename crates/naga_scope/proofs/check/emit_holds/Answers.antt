@@ -1,4 +1,4 @@
-use Rattle.std.proofs.Common.{◌+◌, ◌-◌, ◌<◌, ◌^◌, ℕ, List, ap, arith, length, refl, subst, sym, ◌∙◌}
+use Rattle.std.proofs.Common.{◌+◌, ◌-◌, ◌<◌, ◌^◌, ℕ, List, ap, arith, length, subst, sym, ◌∙◌}
 use Rattle.module_meaning.specs.Names.{module_names}
 use Rattle.naga_scope.proofs.Offsets.{one_keeps}
 use Rattle.std.specs.Option.{option_to_list}

@@ -2,7 +2,6 @@ use Rattle.std.proofs.Common.{◌&&◌, ap, ap₂, sym, ◌∙◌}
 use Rattle.naga_ir.specs.StatementViews.{tree_of}
 use Rattle.shader_runs.specs.Scope.{after, fits, usable}
 use Rattle.module_meaning.specs.FunctionShapes.{statement_shape}
-use Rattle.module_meaning.specs.Names.{given_name}
 use Rattle.module_meaning.specs.Namings.{function_naming}
 use Rattle.module_meaning.specs.Surroundings.{declared, types_known}
 use Rattle.naga_scope.specs.Standings.{handles_of}

@@ -1,9 +1,8 @@
-use Rattle.std.proofs.Common.{[], ◌+◌, ◌++◌, ◌≡◌, List, ℕ, ap, drop, map, string_bytes, subst, ◌∙◌, sym}
-use Rattle.module_meaning.specs.GivenLabels.{block_labels, given_labels, labels_in}
+use Rattle.std.proofs.Common.{[], ap, map, string_bytes, subst, ◌∙◌, sym}
+use Rattle.module_meaning.specs.GivenLabels.{block_labels, given_labels}
 use Rattle.module_meaning.specs.Part.{block_is_written}
 use Rattle.naga_form.proofs.PartFits.{function_parts}
 use Rattle.naga_ir.specs.StatementTree.{BlockTree}
-use Rattle.naga_ir.specs.StatementViews.{block_of, tree_of}
 use Rattle.naga_names.proofs.Reset.{if_err}
 use Rattle.naga_scope.specs.GivenNames.{RefusesLabels}
 use Rattle.naga_scope.proofs.GivenNames.{NamedSoFar, so_far_all, so_far_more, so_far_none}

@@ -1,4 +1,4 @@
-use Rattle.std.proofs.Common.{◌+◌, ◌-◌, ◌++◌, ◌≡◌, List, ℕ, ap, map, string_bytes, subst, ◌∙◌, sym}
+use Rattle.std.proofs.Common.{◌+◌, ◌-◌, ◌++◌, ◌≡◌, ap, ◌∙◌, sym}
 use Rattle.std.specs.Option.{option_to_list}
 use Rattle.module_meaning.specs.GivenLabels.{label_of, labels_of_each}
 use Rattle.shader_runs.specs.Program.{from}

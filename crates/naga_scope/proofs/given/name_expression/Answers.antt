@@ -1,4 +1,4 @@
-use Rattle.std.proofs.Common.{List, ℕ, ◌∷◌, [], ap, map, string_bytes, sym, subst, ◌∙◌}
+use Rattle.std.proofs.Common.{ap, map, string_bytes, sym, subst, ◌∙◌}
 use Rattle.std.specs.Prelude.{IfErr, OnOk}
 use Rattle.std.specs.Option.{option_map, option_to_list}
 use Rattle.naga_scope.specs.GivenNames.{NamesLabels, RefusesLabels}

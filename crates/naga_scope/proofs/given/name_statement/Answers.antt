@@ -1,9 +1,8 @@
-use Rattle.std.proofs.Common.{List, ℕ, ap, map, string_bytes, sym, subst}
+use Rattle.std.proofs.Common.{map, string_bytes, sym, subst}
 use Rattle.std.specs.Prelude.{IfErr, OnOk}
 use Rattle.module_meaning.specs.GivenLabels.{labels_in}
 use Rattle.naga_ir.specs.StatementViews.{tree_of}
 use Rattle.naga_scope.specs.GivenNames.{NamesLabels, RefusesLabels}
-use Rattle.naga_scope.proofs.GivenNames.{names_none}
 use Rattle.naga_scope.proofs.Holding.{no_other}
 use Rattle.naga_scope.proofs.given.name_statement.Goals as goal
 

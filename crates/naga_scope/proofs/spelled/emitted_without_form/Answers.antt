@@ -1,4 +1,4 @@
-use Rattle.std.proofs.Common.{◌+◌, ◌-◌, ℕ, Bool, Some, ap, refl, sym, ◌∙◌}
+use Rattle.std.proofs.Common.{◌+◌, ◌-◌, Bool, Some, ap, refl, sym, ◌∙◌}
 use Rattle.std.specs.Prelude.{cond}
 use Rattle.std.specs.List.{find}
 use Rattle.module_meaning.specs.FunctionShapes.{function_shape}

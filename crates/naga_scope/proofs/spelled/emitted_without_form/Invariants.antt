@@ -1,4 +1,4 @@
-use Rattle.std.proofs.Common.{◌≡◌, ℕ, ◌-◌}
+use Rattle.std.proofs.Common.{◌≡◌, ◌-◌}
 use Rattle.std.specs.List.{find}
 use Rattle.module_meaning.specs.FunctionShapes.{function_shape}
 use Rattle.naga_info.specs.declared.info.ModuleInfo.{ModuleInfo}

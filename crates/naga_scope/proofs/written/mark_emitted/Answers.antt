@@ -1,4 +1,4 @@
-use Rattle.std.proofs.Common.{◌≡◌, ◌∷◌, [], ◌∙◌, ℕ, ◌+◌, ◌-◌, ap, sym, refl, length, nat_lt}
+use Rattle.std.proofs.Common.{◌∷◌, [], ◌∙◌, ◌+◌, ◌-◌, ap, sym, refl, length, nat_lt}
 use Rattle.std.specs.List.{filter}
 use Rattle.std.specs.Prelude.{if◌then◌else◌}
 use Rattle.module_meaning.specs.FunctionShapes.{function_shape}

@@ -1,9 +1,9 @@
-use Rattle.std.proofs.Common.{◌≡◌, ◌<◌, ◌≤◌, ◌-◌, ℕ, suc, arith, ap, sym, subst, ◌∙◌, length, false, true, get_or}
-use Rattle.std.proofs.Common.{Some, slice_get}
+use Rattle.std.proofs.Common.{◌≡◌, ◌<◌, ◌≤◌, ◌-◌, suc, arith, ap, sym, subst, ◌∙◌, length}
+use Rattle.std.proofs.Common.{slice_get}
 use Rattle.std.specs.Prelude.{IsFalse, IsSomeAnd}
 use Rattle.module_meaning.specs.Part.{expression_has_form}
 use Rattle.naga_scope.proofs.Sweeping.{Swept, begun, ended, next, passed}
-use Rattle.naga_scope.specs.Marks.{is_marked, marked_with}
+use Rattle.naga_scope.specs.Marks.{is_marked}
 use Rattle.naga_scope.proofs.written.sweep.Goals as goal
 
 pub loop-end-init : goal.loop-end-init

@@ -1,4 +1,4 @@
-use Rattle.std.proofs.Common.{[], ◌≡◌, ◌<◌, ◌∙◌, ap, length, refl, subst, sym}
+use Rattle.std.proofs.Common.{[], ◌≡◌, ◌<◌, ◌∙◌, ap, length, subst, sym}
 use Rattle.std.specs.Option.{option_map_or}
 use Rattle.module_meaning.specs.GivenLabels.{given_labels}
 use Rattle.module_meaning.specs.Names.{labels_given}
@@ -34,6 +34,7 @@ of_function-requires c =
       written = list_all_at function_is_written m.functions g f
           (functions_are_written m c.requires.written) c.index.ensures;
       globals = c.requires.globals;
+      names = c.requires.names;
       known = λ h k at. fits_in_range (length m.overrides) m.types k.ty
           (known_is_fit m info c.requires.accepted g c.index-2.result.now c.index-2.ensures h k at);
     }

@@ -1,4 +1,4 @@
-use Rattle.std.proofs.Common.{◌+◌, ◌<◌, ◌^◌, ◌≡◌, ◌∙◌, ap, List, ℕ, None, Some, arith, length, map, string_bytes}
+use Rattle.std.proofs.Common.{◌+◌, ◌<◌, ◌^◌, ◌≡◌, ◌∙◌, List, ℕ, None, arith, length, map, string_bytes}
 use Rattle.std.proofs.Common.{[], refl, subst, sym, true≢false}
 use Rattle.std.specs.declared.string.String.{String}
 use Rattle.module_meaning.specs.GivenLabels.{given_labels}

@@ -1,5 +1,4 @@
 use Rattle.std.proofs.Common.{ap, slice_set, ◌∙◌}
-use Rattle.module_meaning.specs.Names.{given_name}
 use Rattle.naga_scope.specs.Standings.{TextPoint, handles_of}
 use Rattle.naga_scope.proofs.Emitting.{any_emitted}
 use Rattle.naga_scope.proofs.points.Scope.emit.Goals as goal
