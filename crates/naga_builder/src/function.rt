@@ -236,7 +236,8 @@ impl FunctionBuilder {
     ) -> Result<Handle<Expression>, AllocError>
         ensures handle { IfOk result (λ h. h ≡ length self.old.function.expressions) }
         ensures ok { OnOk result
-            (AddsExpression (expression.Binary op left right) (type_of.Handle ty) self.old self.new) }
+            (AddsExpression (expression.Binary op left right) (type_of.Handle ty)
+            self.old self.new) }
         ensures err { OnErr result (Keeps self.old self.new) }
     {
         self.expression(Expression::Binary { op, left, right }, ty)
@@ -312,7 +313,8 @@ impl FunctionBuilder {
     ) -> Result<Handle<Expression>, AllocError>
         ensures handle { IfOk result (λ h. h ≡ length self.old.function.expressions) }
         ensures ok { OnOk result
-            (AddsExpression (expression.Compose ty components) (type_of.Handle ty) self.old self.new) }
+            (AddsExpression (expression.Compose ty components) (type_of.Handle ty)
+            self.old self.new) }
         ensures err { OnErr result (Keeps self.old self.new) }
     {
         self.expression(Expression::Compose { ty, components }, ty)
