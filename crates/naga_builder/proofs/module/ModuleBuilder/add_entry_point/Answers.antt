@@ -1,0 +1,27 @@
+use Rattle.std.proofs.Common.{arith, refl, None}
+use Rattle.std.proofs.lemmas.Grind.{common_steps}
+use Rattle.naga_builder.proofs.module.ModuleBuilder.add_entry_point.Goals as goal
+
+pub returns-clause-ok : goal.returns-clause-ok
+returns-clause-ok c = record {
+  point = record {
+    name = c.in_ok-name.name;
+    stage = c.args.stage;
+    workgroup_size = c.args.workgroup_size;
+    function = c.into_parts-function.result.0;
+    mesh_info = None;
+    task_payload = None;
+    incoming_ray_payload = None;
+  };
+  entry_points = grind (arith, common_steps);
+  labelled = c.in_ok-name.ensures.ok;
+  stage_is = refl;
+  size = refl;
+  function = c.into_parts-function.ensures.function;
+  no_mesh = refl;
+  no_task = refl;
+  no_ray = refl;
+  others = refl;
+  known = grind (arith, common_steps);
+  rest = refl;
+}

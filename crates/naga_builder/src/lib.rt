@@ -1,0 +1,18 @@
+//! Builds modules, each with what is known of it.
+//!
+//! A [`ModuleBuilder`] holds types, constants and global variables, and takes functions, each of
+//! which a [`FunctionBuilder`] has made; a function's statements stand in its [`BlockBuilder`].
+//! What is built is a module of `naga_ir` with its infos of `naga_info`, of whose expressions no
+//! use is counted yet. Nothing is asked of them: whether they are accepted is told afterwards.
+//!
+//! Each builder has a `drop` of its own, so that a program over this crate is proved without a
+//! proof of how modules are dropped, which is long.
+#![tactic(auto)]
+
+pub mod block;
+pub mod function;
+pub mod module;
+
+pub use block::BlockBuilder;
+pub use function::FunctionBuilder;
+pub use module::ModuleBuilder;
