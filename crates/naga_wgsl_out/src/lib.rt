@@ -7,13 +7,19 @@
 #![tactic(auto)]
 
 pub mod back;
+pub mod builder;
+mod checked;
 mod constants;
 pub mod diagnostics;
+mod flags;
 mod forms;
 pub mod info;
 mod lacking;
+pub mod proc;
+pub mod sinks;
 pub mod to_wgsl;
 pub mod types;
+pub mod valid;
 pub mod wgsl;
 mod writer;
 
