@@ -1,3 +1,4 @@
 pub mod Writing
 pub mod ModuleRefusals
 pub mod Headline
+pub mod Checked

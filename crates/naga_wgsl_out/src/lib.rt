@@ -7,10 +7,16 @@
 #![tactic(auto)]
 
 pub mod back;
+pub mod builder;
+mod checked;
 pub mod diagnostics;
+mod flags;
 pub mod info;
+pub mod proc;
+pub mod sinks;
 pub mod to_wgsl;
 pub mod types;
+pub mod valid;
 pub mod wgsl;
 mod writer;
 

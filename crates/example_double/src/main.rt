@@ -1,0 +1,29 @@
+//! Prints the text of a function that doubles its argument.
+#![tactic(auto)]
+
+use naga_wgsl_out::builder::{FunctionBuilder, ModuleBuilder};
+use naga_wgsl_out::ir::{BinaryOperator, Scalar};
+use naga_wgsl_out::wgsl::{no_flags, write_checked};
+use std::alloc::{AllocError, Global};
+
+/// `fn double(x: i32) -> i32 { return (x + x); }`
+fn add_double(alloc: Global, shader: &mut ModuleBuilder) -> Result<(), AllocError> {
+    let i32_type = shader.scalar(Scalar::I32)?;
+    let mut double = FunctionBuilder::new(alloc, "double")?;
+    let x = double.argument("x", i32_type)?;
+    double.returns(i32_type);
+    let sum = double.binary(BinaryOperator::Add, x, x, i32_type)?;
+    double.body.emit(sum, sum)?;
+    double.body.return_value(sum)?;
+    shader.add_function(double)?;
+    Ok(())
+}
+
+fn main(rt: HostRuntime) -> anyhow::Result<()> {
+    let alloc = rt.alloc();
+    let mut shader = ModuleBuilder::new(alloc);
+    add_double(alloc, &mut shader)?;
+    let text = write_checked(alloc, &shader.module, &mut shader.info, no_flags())?;
+    print!(rt; "{text}")?;
+    Ok(())
+}

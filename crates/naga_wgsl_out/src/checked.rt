@@ -1,0 +1,75 @@
+//! The writer, behind the question whether a module is accepted.
+
+ghost use Rattle.std.specs.Prelude.{◌≡◌, [], OnOk};
+ghost use Rattle.std.specs.Option.{IfSome, is_none};
+ghost use Rattle.module_meaning.specs.Accepted.{is_accepted};
+ghost use Rattle.module_meaning.specs.Bindings.{BindsAs};
+ghost use Rattle.module_meaning.specs.Resolution.{ResolvesAs};
+ghost use Rattle.naga_acceptance.specs.Faults.{Fails};
+ghost use Rattle.naga_wgsl_fns.specs.FunctionText.{tells_types};
+ghost use Rattle.naga_wgsl_out.specs.Checked.{IsCounted, fault_of, written_of};
+ghost use Rattle.naga_wgsl_out.specs.Headline.{EachReading, FaithfulWriting, answer_of, text_of};
+ghost use Rattle.naga_wgsl_out.specs.Writing.{written_text};
+
+use crate::writer::write_string;
+use naga_acceptance::{Unaccepted, count, unaccepted};
+use naga_back::WriterFlags;
+use naga_info::ModuleInfo;
+use naga_ir::Module;
+use naga_wgsl_fns::Error;
+use std::alloc::Global;
+use thiserror::Error as DisplayedError;
+
+/// Why [`write_checked`] gives no text.
+#[derive(Debug, Drop, DisplayedError)]
+pub enum CheckedError {
+    /// The module is not accepted: at this place, for a fault of this kind.
+    #[error("not accepted: {0}")]
+    NotAccepted(Unaccepted),
+    /// The module is accepted, and the writer refuses it, or memory was wanting.
+    #[error("{0}")]
+    Refused(Error),
+}
+
+/// Asks whether the module is accepted with what is known of it, counts how often each of its
+/// expressions is used, and gives its WGSL text.
+///
+/// [`CheckedError::NotAccepted`] comes exactly where the module is not accepted, and what is known
+/// of it is then as it was. Otherwise the uses are counted in it, whatever the call answers, and the
+/// text and the refusals are those of [`write_string`].
+///
+/// ```text
+/// match write_checked(alloc, &shader.module, &mut shader.info, no_flags()) {
+///     Ok(text) => println!(rt; "{text}")?,
+///     Err(error) => println!(rt; "no text: {error}")?,
+/// }
+/// ```
+pub fn write_checked(
+    alloc: Global,
+    module: &Module,
+    info: &mut ModuleInfo,
+    flags: WriterFlags,
+) -> Result<String, CheckedError>
+    ensures accepted { is_none (fault_of result) ≡ is_accepted «module».now info.old }
+    ensures fault { IfSome (fault_of result) (Fails «module».now info.old) }
+    ensures untouched { IfSome (fault_of result) (λ _. info.new ≡ info.old) }
+    ensures counted { IfSome (written_of result)
+        (λ _. IsCounted «module».now info.old info.new) }
+    ensures faithful { IfSome (written_of result) (λ r.
+        FaithfulWriting (tells_types flags) «module».now info.new (answer_of r) [] (text_of r) 0 0) }
+    ensures resolution { IfSome (written_of result) (λ r. OnOk (answer_of r)
+        (EachReading [] (text_of r) (ResolvesAs «module».now info.new))) }
+    ensures bindings { IfSome (written_of result) (λ r. OnOk (answer_of r)
+        (EachReading [] (text_of r) (BindsAs «module».now info.new (tells_types flags)))) }
+    ensures text { IfSome (written_of result) (λ r. OnOk (answer_of r)
+        (text_of r ≡ written_text «module».now info.new flags)) }
+{
+    if let Some(fault) = unaccepted(module, info) {
+        return Err(CheckedError::NotAccepted(fault));
+    }
+    count(info, module);
+    match write_string(alloc, module, info, flags) {
+        Ok(text) => Ok(text),
+        Err(error) => Err(CheckedError::Refused(error)),
+    }
+}

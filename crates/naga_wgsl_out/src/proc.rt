@@ -1,0 +1,3 @@
+//! naga's path to the namer.
+
+pub use naga_names::namer;
