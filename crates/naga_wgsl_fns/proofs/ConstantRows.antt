@@ -1,16 +1,15 @@
 -- The text of a constant without a name, by its initialiser, and from what is written of that in turn.
-use Rattle.std.proofs.Common.{◌≡◌, ℕ, suc, ◌<◌, Bool, true, false, List, [], ◌∷◌, length, Option, Some}
-use Rattle.std.proofs.Common.{None, codes, refl, sym, ap, ap₂, ◌∙◌, arith, map, slice_get}
-use Rattle.std.specs.Prelude.{IsTrue, if◌then◌else◌, unwrap_or, ◌&&◌}
+use Rattle.std.proofs.Common.{◌≡◌, ℕ, ◌<◌, Bool, true, false, List, [], ◌∷◌, length, Option, Some}
+use Rattle.std.proofs.Common.{None, codes, refl, sym, ap, ap₂, ◌∙◌, map, slice_get}
+use Rattle.std.specs.Prelude.{if◌then◌else◌, unwrap_or}
 use Rattle.std.specs.List.{AllByRecursion, list_all}
 use Rattle.std.specs.Option.{option_map_or}
 use Rattle.std.proofs.lemmas.Bool.{and_parts}
 use Rattle.std.proofs.lemmas.Option.{slice_get_within}
-use Rattle.module_meaning.proofs.Stepwise.{by_those_before, levels_same}
+use Rattle.module_meaning.proofs.Stepwise.{by_those_before}
 use Rattle.module_meaning.specs.AlikeTypes.{has_form}
-use Rattle.module_meaning.specs.ExpressionOperators.{Surroundings, constructor}
 use Rattle.module_meaning.specs.OperatorTable.{Splat, run_word}
-use Rattle.module_meaning.specs.Part.{constant_is_written, global_is_written}
+use Rattle.module_meaning.specs.Part.{global_is_written}
 use Rattle.module_meaning.specs.Part.{global_is_written_over, global_is_written_within}
 use Rattle.module_meaning.specs.Part.{initialiser_passes, is_written_literal}
 use Rattle.module_meaning.specs.Surroundings.{surroundings}
@@ -18,8 +17,7 @@ use Rattle.naga_form.proofs.Operators.{constructor_called, typed_notation}
 use Rattle.naga_form.proofs.WrittenTypes.{tree_there}
 use Rattle.naga_form.specs.ConstantForms.{built_form, constant_form_over, global_form}
 use Rattle.naga_form.specs.ConstantForms.{global_form_within, initialiser_form, no_constant_form}
-use Rattle.naga_form.specs.Literals.{literal_form}
-use Rattle.naga_form.specs.Operators.{Called, applied_form, notation}
+use Rattle.naga_form.specs.Operators.{applied_form, notation}
 use Rattle.naga_form.specs.TypeTrees.{type_tree}
 use Rattle.naga_info.specs.declared.info.TypeResolution.TheVariants.{Handle}
 use Rattle.naga_ir.specs.Operands.{expression_operands}
@@ -49,7 +47,7 @@ use Rattle.wgsl_text.proofs.Expressions.{argument_text as argument_row_text}
 use Rattle.wgsl_text.proofs.Expressions.{call_text as call_row_text}
 use Rattle.wgsl_text.proofs.Expressions.{next_argument_text as next_argument_row_text}
 use Rattle.wgsl_text.proofs.Types.{named_text}
-use Rattle.wgsl_text.specs.Expressions.{Call, Constant, Expression, operands as arguments_of}
+use Rattle.wgsl_text.specs.Expressions.{Call, Expression, operands as arguments_of}
 use Rattle.wgsl_text.specs.Reading.{expression_layout}
 use Rattle.wgsl_text.specs.Types.{Named}
 

@@ -29,7 +29,6 @@ use Rattle.module_meaning.specs.ExpressionOperators.{applied_operator, construct
 use Rattle.module_meaning.specs.ExpressionOperators.{load_operator}
 use Rattle.module_meaning.specs.AlikeTypes.{has_form}
 use Rattle.naga_info.specs.declared.info.TypeResolution.TheVariants.{Handle}
-use Rattle.module_meaning.specs.Names.{module_names}
 use Rattle.naga_form.proofs.WrittenTypes.{tree_there}
 use Rattle.naga_form.specs.Expressions.{operator_type}
 use Rattle.naga_form.specs.TypeTrees.{type_tree}

@@ -1,22 +1,21 @@
 -- The texts of operations on images, from what is written of them in turn.
 use Rattle.std.proofs.Common.{◌≡◌, ℕ, zero, suc, ◌<◌, Bool, true, false, List, [], ◌∷◌, ◌++◌, codes}
 use Rattle.std.proofs.Common.{Option, Some, None, refl, sym, ap, ap₂, ◌∙◌, arith, length, map}
-use Rattle.std.proofs.Common.{append_assoc, decimal, IsTrue}
+use Rattle.std.proofs.Common.{append_assoc, decimal}
 use Rattle.std.specs.Prelude.{slice_get, ◌||◌, if◌then◌else◌}
 use Rattle.std.specs.List.{list_all}
 use Rattle.std.specs.Option.{is_none, is_some, option_map_or, option_to_list}
 use Rattle.std.proofs.lemmas.Bool.{and_parts}
 use Rattle.std.proofs.lemmas.List.{append-nil}
-use Rattle.module_meaning.specs.ExpressionOperators.{is_depth_image, level_of, query_operator}
-use Rattle.module_meaning.specs.ExpressionOperators.{sample_operator, texel_of, type_known}
+use Rattle.module_meaning.specs.ExpressionOperators.{level_of, query_operator}
+use Rattle.module_meaning.specs.ExpressionOperators.{sample_operator, texel_of}
 use Rattle.module_meaning.specs.OperatorTable.{Sample, Splat, Texel, if_word, run_word}
-use Rattle.module_meaning.specs.Sampling.{sampling_is_written}
 use Rattle.module_meaning.specs.Writable.{is_written_out, written_out_over, written_out_within}
 use Rattle.naga_form.proofs.Operators.{IsCalled}
 use Rattle.naga_form.specs.ConstantForms.{constant_form_over, constant_form_within, no_constant_form}
 use Rattle.naga_form.specs.ConstantForms.{built_form}
-use Rattle.naga_form.specs.Expressions.{PlainForm, as_value, constant_form, own_if, own_plain}
-use Rattle.naga_form.specs.Expressions.{plain_form, sampling_operands, value_forms}
+use Rattle.naga_form.specs.Expressions.{as_value, constant_form, own_if, own_plain}
+use Rattle.naga_form.specs.Expressions.{value_forms}
 use Rattle.naga_form.specs.Images.{component_number, component_then, gathered_component}
 use Rattle.naga_form.specs.Images.{operands_then, sampling_form, sampling_word, zero_is_written}
 use Rattle.naga_form.specs.Images.{zero_then}
@@ -27,16 +26,14 @@ use Rattle.naga_ir.specs.declared.expression.Expression.TheVariants as expressio
 use Rattle.naga_ir.specs.declared.expression.ImageQuery.{ImageQuery}
 use Rattle.naga_ir.specs.declared.expression.ImageQuery.TheVariants as query
 use Rattle.naga_ir.specs.declared.expression.SampleLevel.{SampleLevel}
-use Rattle.naga_ir.specs.declared.expression.SampleLevel.TheVariants as level
 use Rattle.naga_ir.specs.declared.expression.SwizzleComponent.{SwizzleComponent}
 use Rattle.naga_ir.specs.declared.expression.SwizzleComponent.TheVariants as component
 use Rattle.std.specs.Fmt.{digits}
-use Rattle.naga_scope.specs.Standings.{handles_of}
 use Rattle.naga_scope.specs.declared.points.Standing.{Standing}
 use Rattle.naga_words.specs.Output.{joined_texts}
 use Rattle.naga_wgsl_fns.proofs.ExpressionRows.{application_at, cell_form}
-use Rattle.naga_wgsl_fns.proofs.Wanted.{all_before, expression_formed, offset_has_form}
-use Rattle.naga_wgsl_fns.specs.Expressions.{applied_text, form_at, next_operand_text, own_form}
+use Rattle.naga_wgsl_fns.proofs.Wanted.{all_before, expression_formed}
+use Rattle.naga_wgsl_fns.specs.Expressions.{applied_text, form_at, next_operand_text}
 use Rattle.naga_wgsl_fns.specs.Expressions.{own_text, value_text}
 use Rattle.naga_wgsl_fns.specs.FunctionText.{CanWrite, IsInText, around, expressions, naming, source}
 use Rattle.naga_wgsl_fns.specs.FunctionText.{type_names_of}
@@ -48,9 +45,9 @@ use Rattle.wgsl_text.proofs.Expressions.{argument_text, call_text, next_argument
 use Rattle.wgsl_text.proofs.Text.{plain_text}
 use Rattle.wgsl_text.proofs.Types.{named_text}
 use Rattle.wgsl_text.specs.Expressions.{Argument, Arguments, Call, Expression, NoArguments}
-use Rattle.wgsl_text.specs.Expressions.{NumberArgument, arguments_pieces, more_arguments_pieces}
+use Rattle.wgsl_text.specs.Expressions.{NumberArgument, more_arguments_pieces}
 use Rattle.wgsl_text.specs.Expressions.{operands as arguments_of}
-use Rattle.wgsl_text.specs.Reading.{expression_layout, type_layout}
+use Rattle.wgsl_text.specs.Reading.{expression_layout}
 use Rattle.wgsl_text.specs.Text.{text}
 use Rattle.wgsl_text.specs.Types.{Named}
 

@@ -2,7 +2,7 @@
 use Rattle.naga_form.proofs.AcceptedFunctions.{accepted_at, function_there, names_are_in_range}
 use Rattle.module_meaning.specs.Ranges.{names_in_range}
 use Rattle.std.proofs.lemmas.Bool.{ltb-true}
-use Rattle.std.proofs.Common.{◌≡◌, ◌<◌, ◌∙◌, ℕ, Bool, true, zero, suc, List, [], ◌∷◌}
+use Rattle.std.proofs.Common.{◌≡◌, ◌<◌, ◌∙◌, ℕ, Bool, false, true, zero, suc, List, [], ◌∷◌}
 use Rattle.std.proofs.Common.{None, Option, Some, ap, arith, inl, inr, length, refl, subst}
 use Rattle.std.proofs.Common.{codes, sym, ◌++◌}
 use Rattle.std.specs.Prelude.{IfSome, IsFalse, IsSomeAnd, IsTrue, slice_get}
@@ -34,7 +34,6 @@ use Rattle.naga_form.proofs.AcceptedFunctions.{functions_counted}
 use Rattle.naga_info.specs.declared.info.TypeResolution.{TypeResolution}
 use Rattle.naga_info.specs.declared.info.TypeResolution.TheVariants.{Handle}
 use Rattle.naga_ir.specs.declared.types.Scalar.{Scalar}
-use Rattle.naga_ir.specs.declared.types.Type_.{Type_}
 use Rattle.naga_ir.specs.declared.types.TypeInner.{TypeInner}
 use Rattle.naga_names.specs.Naming.{HasNamed, Names, label_base, labels_with_base}
 use Rattle.naga_names.specs.declared.error.NamerError.{NamerError}
@@ -141,12 +140,12 @@ fault_fails explicit m info earlier i error (inr (inr full)) w = w.told full.1
 -- no refusal that names a type is the sink's
 no_type_sink : (m : Module) (r : TypeResolution) (reason : SinkError) →
     NamesType m r (FmtError reason) → ⊥
-no_type_sink m r reason named = by (names_undeclared m r) (lacking_scalar m.types r) named
+no_type_sink m r reason is = by (names_undeclared m r) (lacking_scalar m.types r) is
   where
     by : (b : Bool) (o : Option Scalar) → NamesUnspelled b o (FmtError reason) → ⊥
-    by true o named = named
-    by false (Some s) named = named
-    by false None named = named
+    by true o is = is
+    by false (Some s) is = is
+    by false None is = is
 
 -- nor one that names a literal, or one of the module's own expressions
 no_literal_sink : (value : LiteralValue) (reason : SinkError) → NamesLiteral value (FmtError reason) → ⊥

@@ -5,7 +5,7 @@ use Rattle.std.proofs.Common.{inl, inr, length, refl, slice_get, subst, sym, tak
 use Rattle.std.specs.Prelude.{Err, IfErr, IsErrAnd, IsFalse, IsTrue, Ok, OnErr, OnOk, Result, vec_len}
 use Rattle.std.specs.Option.{is_none, option_map_or}
 use Rattle.std.proofs.lemmas.Bool.{and_parts, eqb-true, leb-true}
-use Rattle.std.specs.Prelude.{◌==◌, ◌&&◌}
+use Rattle.std.specs.Prelude.{◌==◌}
 use Rattle.std.specs.List.{list_all}
 use Rattle.naga_ir.specs.declared.module.Function as ir_function
 use Rattle.naga_ir.specs.declared.module.Module.{Module}
@@ -28,7 +28,6 @@ use Rattle.naga_scope.specs.Plans.{IsPlanOf, Planned}
 use Rattle.naga_words.specs.Sink.{IsBehind}
 use Rattle.wgsl_text.specs.Functions.{Function, IsFunction}
 use Rattle.wgsl_text.specs.Reading.{HasOneReading, ReadsFunction}
-use Rattle.wgsl_text.specs.Text.{text}
 use Rattle.wgsl_text.specs.Words.{IsIdentifier}
 use Rattle.wgsl_text.proofs.Reading.{function_has_one_reading}
 use Rattle.naga_wgsl_fns.specs.Errors.{IsNotYetWritten, IsWant}

@@ -1,13 +1,13 @@
 -- What is said of a type's spelling, for types that have a form.
-use Rattle.std.proofs.Common.{◌≡◌, ℕ, ◌<◌, true, false, codes, List, [], ◌∷◌, ◌++◌, Option, Some, None}
-use Rattle.std.proofs.Common.{refl, sym, ap, subst, ◌∙◌, ◌≤◌, arith, slice_get, length}
+use Rattle.std.proofs.Common.{◌≡◌, ℕ, ◌<◌, true, codes, List, [], ◌∷◌, ◌++◌, Option, Some, None}
+use Rattle.std.proofs.Common.{refl, sym, ap, subst, ◌∙◌, slice_get, length}
 use Rattle.std.specs.Prelude.{Bool, IsTrue, unwrap_or}
 use Rattle.std.specs.Option.{is_some, option_map}
 use Rattle.std.proofs.lemmas.Option.{slice_get_within}
 use Rattle.naga_ir.specs.declared.types.Type_.{Type_}
 use Rattle.naga_ir.specs.declared.types.TypeInner.{TypeInner}
 use Rattle.naga_ir.specs.declared.types.TypeInner.TheVariants as inner
-use Rattle.wgsl_text.specs.Types.{TypeSpecifier, Named}
+use Rattle.wgsl_text.specs.Types.{Named}
 use Rattle.wgsl_text.proofs.Text.{text-append}
 use Rattle.naga_form.proofs.TypeTrees.{only_text, lacks_unknown, type_row, inner_tree_row}
 use Rattle.naga_names.specs.Keys.{NameMap, names_in}
@@ -20,7 +20,7 @@ use Rattle.naga_words.specs.Contexts.{names_of, names_context}
 use Rattle.naga_words.specs.Spelling.{FitsResolution, IsInOrder}
 use Rattle.naga_words.specs.Spelling.{knows_override, type_parts, resolution_parts}
 use Rattle.naga_words.specs.Sink.{IsBehind}
-use Rattle.naga_form.specs.TypeTrees.{type_tree, resolution_tree}
+use Rattle.naga_form.specs.TypeTrees.{resolution_tree}
 use Rattle.naga_words.specs.declared.error.TypeTextError.{TypeTextError}
 use Rattle.wgsl_text.specs.Reading.{type_layout}
 use Rattle.module_meaning.specs.Names.{module_names}

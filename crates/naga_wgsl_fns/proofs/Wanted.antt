@@ -4,7 +4,6 @@ use Rattle.std.proofs.Common.{◌≡◌, ℕ, ◌+◌, Bool, ◌<◌, true, fals
 use Rattle.std.proofs.Common.{Option, Some, None, refl, sym, ap, subst, ◌∙◌, IsTrue, arith}
 use Rattle.std.proofs.lemmas.Option.{same_Some}
 use Rattle.std.specs.Prelude.{◌&&◌, ◌||◌, not, slice_get, cond, nat_lt, unwrap_or}
-use Rattle.std.specs.List.{list_all}
 use Rattle.std.specs.Option.{is_some, option_map, option_map_or, option_and_then, option_to_list}
 use Rattle.std.proofs.lemmas.Bool.{and_parts, ltb-true}
 use Rattle.naga_ir.specs.Operands.{expression_operands}
@@ -286,7 +285,7 @@ module _ (t : FunctionText) (can : CanWrite t) where
       let s = found_struct m whole.0 h whole.2 in
       let written = (and_parts (known_passes m.types es (has_parts m.types) base) _ may).1 in
       let lt =
-      by s.type.inner s.is
+      by s.type.inner s.is whole.0
       (struct_undeclared m (written_so_far_parts m can.of_part).1 whole.0 s.type s.there s.is)
       (sym
       (ap (λ o. option_map_or
@@ -304,15 +303,15 @@ module _ (t : FunctionText) (can : CanWrite t) where
       inside true one count word written = (and_parts count word written).0
       inside false one count word written = absurd cc
 
-      by : (it : TypeInner) → is_struct it ≡ true → {k : ℕ} →
+      by : (it : TypeInner) → is_struct it ≡ true → (k : ℕ) →
           is_undeclared m.special_types k ≡ true →
           (not (is_struct it) || member_is_written m k (members_of it) index) ≡ true →
           nat_lt index (length (members_of it)) ≡ true
-      by (inner.Struct members span) is {k} undeclared written =
+      by (inner.Struct members span) is k undeclared written =
           inside (is_undeclared m.special_types k) undeclared
           (nat_lt index (length members.items))
           (stands_in member_words (name_in (module_names m) (key.StructMember k index))) written
-      by _ is undeclared written = absurd cc
+      by _ is k undeclared written = absurd cc
 
   -- the letter of a component, where a vector has it or one that is pointed at
   letter_of : (d : Declared) (whole : Option ℕ) (it : TypeInner) (index : ℕ) →

@@ -8,7 +8,6 @@ use Rattle.std.specs.Prelude.{length, [], ◌^◌, string_bytes}
 use Rattle.std.specs.Option.{option_map_or}
 use Rattle.naga_scope.specs.declared.points.Standing.{Standing}
 use Rattle.naga_scope.specs.Standings.{handles_of}
-use Rattle.std.specs.List.{list_all}
 use Rattle.naga_ir.specs.declared.expression.Expression.{Expression}
 use Rattle.module_meaning.specs.Accepted.{is_accepted}
 use Rattle.module_meaning.specs.Part.{function_is_written, is_written_so_far}

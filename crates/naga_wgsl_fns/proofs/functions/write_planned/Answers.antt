@@ -1,7 +1,6 @@
-use Rattle.std.proofs.Common.{[], ℕ, ◌≡◌, ◌<◌, ◌∙◌, Global, List, Some, arith, ap, get_or, length, slice_get}
+use Rattle.std.proofs.Common.{[], ℕ, ◌≡◌, ◌<◌, ◌∙◌, List, Some, arith, ap, length, slice_get}
 use Rattle.std.proofs.Common.{string_bytes, subst, sym}
 use Rattle.std.specs.Option.{option_map_or}
-use Rattle.std.specs.declared.string.String.{String}
 use Rattle.naga_scope.specs.Standings.{TextPoint, handles_of}
 use Rattle.naga_form.proofs.AcceptedFunctions.{functions_counted}
 use Rattle.naga_words.proofs.Writing.{held_part_as, held_whole_as, never_formless, reason_given}

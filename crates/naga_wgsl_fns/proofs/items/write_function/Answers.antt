@@ -1,4 +1,4 @@
-use Rattle.std.proofs.Common.{◌≡◌, ◌∙◌, refl, subst, sym}
+use Rattle.std.proofs.Common.{◌∙◌, refl, subst, sym}
 use Rattle.naga_wgsl_fns.specs.Items.{IsEntryPoint, IsFunctionOf}
 use Rattle.naga_wgsl_fns.proofs.SingleFunctions.{for_part, items_named, no_entry_point, none_named, of_each}
 use Rattle.naga_wgsl_fns.proofs.SingleFunctions.{of_one, refused}

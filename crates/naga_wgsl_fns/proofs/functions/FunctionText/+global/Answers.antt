@@ -1,7 +1,5 @@
-use Rattle.std.proofs.Common.{[], arith, ap, ◌∙◌, refl, subst, sym, true, Some}
+use Rattle.std.proofs.Common.{[], arith, ap, ◌∙◌, subst, sym, true}
 use Rattle.std.specs.Option.{option_map_or}
-use Rattle.std.proofs.lemmas.Option.{same_Some, slice_get_within}
-use Rattle.module_meaning.specs.Part.{global_is_written}
 use Rattle.naga_ir.specs.Operands.{expression_operands}
 use Rattle.naga_words.proofs.Writing.{leaves_as, leaves_last, leaves_more, leaves_start, writes_as}
 use Rattle.naga_wgsl_fns.proofs.ConstantRows.{ArePartsBelow, composed_passes, composed_row}

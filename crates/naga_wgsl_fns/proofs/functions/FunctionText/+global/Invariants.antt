@@ -3,7 +3,6 @@ use Rattle.naga_words.specs.Output.{OutputView, output_view}
 use Rattle.naga_words.proofs.Writing.{Leaves}
 use Rattle.naga_wgsl_fns.proofs.ConstantRows.{ArePartsBelow}
 use Rattle.naga_wgsl_fns.specs.Constants.{parts_left, parts_text}
-use Rattle.naga_wgsl_fns.specs.FunctionText.{CanWrite}
 use Rattle.naga_wgsl_fns.specs.declared.functions.FunctionText.{FunctionText}
 use Rattle.naga_wgsl_fns.proofs.functions.FunctionText.+global.Given as goal
 

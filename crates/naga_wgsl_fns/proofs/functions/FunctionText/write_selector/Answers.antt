@@ -6,8 +6,11 @@ use Rattle.naga_wgsl_fns.proofs.functions.FunctionText.write_selector.Goals as g
 
 pub write_named_member-requires : goal.write_named_member-requires
 write_named_member-requires g c =
-    member_there c.args.self.now c.requires.can c.args.base c.args.index c.in-Some.whole c.requires.written
-    (sym c.struct_known.ensures ∙ c.in-Some.is)
+    record {
+      named =
+          member_there c.args.self.now c.requires.can c.args.base c.args.index c.in-Some.whole
+          c.requires.written (sym c.struct_known.ensures ∙ c.in-Some.is);
+    }
 
 pub returns-in-Some : goal.returns-in-Some
 returns-in-Some g c =
