@@ -6,7 +6,7 @@ from operators import LITERALS, conversion_word, wanted_scalar
 from spelling import (
     BOOL, F32, F64, FUNCTION, HALVES, I16, I32, I64, INTEGERS, SCALAR_KINDS, U16, U32, U64, alike, bases_of,
     count_of_parts, has_parts, held, part_of, pointed_at, pointer_to, points, scalar_of, whole_of, with_scalar)
-from words import MATH, QUERIES, RELATIONAL
+from words import MATH, MEMBERS, QUERIES, RELATIONAL
 
 RANGES = {
     I32: (-2**31, 2**31 - 1), U32: (0, 2**32 - 1), I64: (-2**63, 2**63 - 1), U64: (0, 2**63 - 1),
@@ -47,7 +47,7 @@ class StructMaker:
         r, named = self.r, []
         for _ in range(r.choice([1, 1, 2, 3])):
             self.given_for(self.some_giver())
-        if r.random() < 0.03:
+        if r.random() < 0.07:
             self.put(self.some_members())
         if r.random() < 0.05:
             # a special type that is no struct, or is nowhere
@@ -96,6 +96,9 @@ class StructMaker:
             "modf": [("fract", value), ("whole", value)],
             "frexp": [("fract", value), ("exp", with_scalar(value, I32))],
             "exchange": [("old_value", value), ("exchanged", ("scalar", BOOL))]}.get(name, self.some_members())
+        if members and r.random() < 0.1:
+            at = r.randrange(len(members))
+            members[at] = (members[at][0], self.some_member_type())
         what = r.random()
         if what < 0.6:
             return members
@@ -111,11 +114,12 @@ class StructMaker:
 
     def some_members(self):
         r = self.r
-        return [(some_member_label(r), self.some_member_type()) for _ in range(r.choice([0, 1, 2, 2, 3, 4, 5]))]
+        labels = MEMBERS if r.random() < 0.4 else [some_member_label(r) for _ in MEMBERS]
+        return [(label, self.some_member_type()) for label in r.sample(labels, r.choice([0, 1, 2, 2, 3, 4, 5]))]
 
     def some_member_type(self):
         known = [ty for ty in self.module.types if ty[0] == "struct"]
-        if known and self.r.random() < 0.2:
+        if known and self.r.random() < 0.5:
             return self.some_over(self.r.choice(known))
         return some_number(self.r) if self.r.random() < 0.95 else some_type(self.r)
 
@@ -392,15 +396,17 @@ class FunctionMaker:
             # now and then of another type
             struct = self.r.choice(self.structs()) if self.chance(0.003) or struct is None else struct
             self.put("math", struct, [MATH_NUMBERS[word]], [x])
-        elif what < 0.88:
+        elif what < 0.9:
             self.make_struct_pointer(x)
-        elif what < 0.91:
-            over = StructMaker(self.r, self.module).some_over(self.r.choice(self.structs()))
-            self.put("derivative", over, [0, 0], [x])
-        elif what < 0.97:
+        elif what < 0.96:
+            self.put("derivative", self.some_over_struct(), [0, 0], [x])
+        elif what < 0.98:
             self.make_struct_value(x)
-        for _ in range(self.r.choice([0, 1, 1, 2])):
+        for _ in range(self.r.choice([0, 1, 1, 2, 3])):
             self.make_member()
+
+    def some_over_struct(self):
+        return StructMaker(self.r, self.module).some_over(self.r.choice(self.structs()))
 
     def make_struct_pointer(self, x):
         """A pointer to a struct, or an array of one, that is no local and no argument. `abs` has two operands here, so
@@ -409,12 +415,12 @@ class FunctionMaker:
         if self.chance(0.4):
             self.put("math", pointer_to(struct, FUNCTION), [MATH_NUMBERS["abs"]], [x, x])
         else:
-            over = StructMaker(self.r, self.module).some_over(self.r.choice(self.structs()))
+            over = self.some_over_struct()
             self.put("derivative", over if points(over) else pointer_to(over, FUNCTION), [1, 0], [x])
 
     def make_struct_value(self, x):
         """A zero value or a composition of a struct or of what is over one, which a text can't have."""
-        ty = StructMaker(self.r, self.module).some_over(self.r.choice(self.structs()))
+        ty = self.some_over_struct()
         self.module.handle_of(ty)
         if self.chance(0.5):
             self.put_typed("zero", ty)
@@ -422,7 +428,9 @@ class FunctionMaker:
             self.put_typed("compose", ty, [x] * self.r.choice([0, 1, 2]))
 
     def make_member(self):
-        bases = self.handles(lambda e: whole_of(e.type)[0] == "struct")
+        """A member, most often of one of the newest structs, or an element of an array of these."""
+        bases = self.handles(
+            lambda e: "struct" in (whole_of(e.type)[0], *(base[0] for base in bases_of(whole_of(e.type)))))
         if bases:
             self.make_part_of(self.some_of(bases[-3:]))
 
