@@ -74,7 +74,7 @@ class StructMaker:
     def given_for(self, giver):
         """The struct that is given for this, which is made if there is none."""
         known = dict(self.module.special)
-        if giver in known and self.r.random() < 0.999:
+        if giver in known and self.r.random() < 0.995:
             return known[giver]
         ty = self.put(self.members_for(giver))
         self.module.special.append((giver, ty))
