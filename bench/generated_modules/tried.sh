@@ -5,6 +5,6 @@ folder=$(mktemp -d)
 trap 'rm -rf "$folder"' EXIT
 mkdir "$folder/cases"
 split -l 100 -a 4 - "$folder/cases/modules_"
-rt try --cases "$folder/cases" > "$folder/answers" 2> "$folder/told" || { cat "$folder/told" >&2; exit 1; }
+rt try --steps 1 --cases "$folder/cases" > "$folder/answers" 2> "$folder/told" || { cat "$folder/told" >&2; exit 1; }
 # each case has a line of its own in front of what it prints
 sed '/^== modules_[a-z]*$/d' "$folder/answers"

@@ -20,7 +20,7 @@ BOOL, I32, U32, I64, U64, F32, F64 = [
 I16, U16, F16 = [("sint", 2), ("uint", 2), ("float", 2)]
 HALVES = {I16: "i16", U16: "u16", F16: "f16"}
 SCALARS = {BOOL: "bool", I32: "i32", U32: "u32", I64: "i64", U64: "u64", F32: "f32", F64: "f64", **HALVES}
-INTEGERS = [("scalar", s) for s in (I32, U32, I64, U64)]
+INTEGERS = [("scalar", s) for s in (I16, U16, I32, U32, I64, U64)]
 DIMENSIONS = ["1d", "2d", "3d", "cube"]
 LOAD, STORE, ATOMIC = 1, 2, 4
 
