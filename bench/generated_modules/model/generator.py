@@ -81,7 +81,7 @@ class StructMaker:
         return ty
 
     def put(self, members):
-        # now and then of no label
+        """A struct that no other one of the module is the same as, now and then without a label."""
         count = sum(ty[0] == "struct" for ty in self.module.types)
         ty = ("struct", tuple(members), 16 * count)
         label = "__modf_result_f32" if self.r.random() < 0.8 else some_label(self.r)
@@ -89,7 +89,7 @@ class StructMaker:
         return ty
 
     def members_for(self, giver):
-        """Most often the right members, else under other labels, or others."""
+        """Most often the right members, else in another order, under doubled or other labels, or others."""
         (name, size, scalar), r = giver, self.r
         value = ("vector", size, scalar) if size else ("scalar", scalar)
         members = {
@@ -105,7 +105,6 @@ class StructMaker:
         if what < 0.65:
             return members[::-1]
         if what < 0.7:
-            # doubled
             return [(members[0][0], ty) for _, ty in members] if members else members
         if what < 0.93:
             share = r.choice([0.3, 1])
