@@ -1,6 +1,7 @@
 #!/bin/sh
 # Answers for the modules on the standard input as the program in this folder does, which is tried: it is built once,
-# and run on a hundred modules at a time, since what it may take and print has limits.
+# and run on a hundred modules at a time, since what it may take and print has limits. The interpreter, which would
+# give up on so many, gets no time.
 folder=$(mktemp -d)
 trap 'rm -rf "$folder"' EXIT
 mkdir "$folder/cases"
