@@ -20,8 +20,9 @@ from generator import generate
 from modules import EVENTS, PARTS
 from rows import check_rows
 from runs import ModuleRun, TextRun
-from spelling import points
-from writer import answers_of
+from spelling import points, whole_of
+from words import MATH
+from writer import answers_of, written_of
 
 BATCH = 5000
 
@@ -119,8 +120,23 @@ class Tally:
         for kind in (*EVENTS, "array length"):
             self.add(f"written, with {kind}", any(f.expressions[h].kind == kind for f, h in emitted))
         self.add("written, with constants without names", any(e.kind == "constant" for e in expressions))
+        self.add("written, with structs", any(ty[0] == "struct" for ty in module.types))
+        self.add_splits(module)
         firsts = [f.expressions[h].kind for f in module.functions for _, _, h in f.locals if h is not None]
         self.add("written, with first values that are no literals", any(kind != "literal" for kind in firsts))
+
+
+    def add_splits(self, module):
+        """What is written of `modf`, `frexp` and members."""
+        written = [(f, f.expressions[h]) for f in module.functions for h in written_of(f)]
+        for word in ("modf", "frexp"):
+            splits = [e for _, e in written if e.kind == "math" and MATH[e.what[0]][0] == word]
+            self.add(f"written, with {word}", any(e.type[0] == "struct" for e in splits))
+        members = [f.type_of(e.operands[0]) for f, e in written if e.kind == "access index"]
+        members = [ty for ty in members if whole_of(ty)[0] == "struct"]
+        self.add("written, with members", members != [])
+        self.add("written, with members through pointers", any(map(points, members)))
+        self.add("members written", len(members))
 
 
 def emitted_in(f):

@@ -3,15 +3,18 @@
 from modules import EVENTS, PARTS
 from operators import LITERALS, word_of
 from spelling import (
-    BOOL, FUNCTION, INTEGERS, alike, count_of_parts, has_pointer_to_handle, held, identity, part_of, pointed_at,
-    pointer_to, points, scalar_of)
+    BOOL, FUNCTION, INTEGERS, alike, count_of_parts, has_parts, has_pointer_to_handle, held, identity, part_of,
+    pointed_at, pointer_to, points, scalar_of)
 
 
 def is_accepted(module):
     return (
         own_ranges_fit(module)
         and all(map(ranges_fit, module.functions))
+        and None not in module.special_types()
         and not any(has_pointer_to_handle(ty) for ty in types_of(module))
+        # a struct does not stand by itself
+        and all(e.by_handle or e.type[0] != "struct" for f in module.groups() for e in f.expressions)
         and all(function_is_sound(f) for f in module.groups())
         and all(alike(module.own.type_of(init), ty) for ty, init in module.constants)
         and operators_agree(module))
@@ -85,15 +88,15 @@ def expression_is_sound(f, e):
 
 
 def part_is_sound(e, of):
-    """A computed index is an integer and of what has parts; a known one is below their number."""
-    part = part_of(of[0])
-    if part is None:
-        # a known part of what has none is accepted, of any type
-        return e.kind == "access index"
+    """A computed index is an integer and of what has parts that are no members; a known one is below their number."""
     if e.kind == "access":
-        return of[1] in INTEGERS and alike(e.type, part)
+        part = part_of(of[0])
+        return part is not None and of[1] in INTEGERS and alike(e.type, part)
+    if not has_parts(of[0]):
+        # a known part of what has none is accepted, of any type
+        return True
     count = count_of_parts(of[0])
-    return (count is None or e.what[0] < count) and alike(e.type, part)
+    return (count is None or e.what[0] < count) and alike(e.type, part_of(of[0], e.what[0]))
 
 
 def statement_is_sound(f, s):
@@ -123,6 +126,6 @@ def operators_agree(module):
 
 def operator_of(f, e):
     """An operator's word, or all that it is beside its operands where it has none."""
-    has_part = e.kind not in PARTS or part_of(f.type_of(e.operands[0])) is not None
+    has_part = e.kind not in PARTS or has_parts(f.type_of(e.operands[0]))
     word = word_of(f, e) if has_part else None
     return word or (e.kind, *e.what)

@@ -10,6 +10,11 @@ LABELS = [
     "vec3", "min", "textureLoad", "i32", "__x", "_naga", "_naga_a", "a:b<c>", "", "_", "9_", "é", "1x", "²y", "x²",
     "\u0663k", "a b", "param", "local", "function", "function_1", "self", "Self", "unnamed", "gen_", "gen__naga",
     "coop_mat8x8", "rgba8unorm", "read", "x_", "_x", "x__1", "ß,x", "😀", "x_plane0", "x_params", "param_plane2"]
+# labels of members: the good words, what becomes one of these, and others
+MEMBER_LABELS = [
+    "fract", "fract", "whole", "exp", "old_value", "exchanged", "fract_", "_fract", "__fract", "1exp", "exp2", "exp:",
+    "old__value", "old:value", "exchanged_1", "FRACT", "part", "member", "fn", "self", "Self", "struct", "min", "f32",
+    "texture_2d", "", "é", "_naga_exp", "fract<whole>", None]
 PIECES = ["x", "x", "_", "1", "é", ":", "a", "_1", "²", "naga"]
 
 
@@ -17,6 +22,10 @@ def some_label(r):
     if r.random() < 0.8:
         return r.choice(LABELS)
     return "".join(r.choice(PIECES) for _ in range(r.randint(0, 5)))
+
+
+def some_member_label(r):
+    return r.choice(MEMBER_LABELS) if r.random() < 0.85 else some_label(r)
 
 
 def some_scalar(r):

@@ -1,18 +1,19 @@
 """Modules by chance."""
 
-from chance import some_label, some_scalar, some_type
+from chance import some_label, some_member_label, some_number, some_scalar, some_type
 from modules import LEAVES, Expression, Function, Module, Sampling
 from operators import LITERALS, conversion_word, wanted_scalar
 from spelling import (
-    BOOL, F32, F64, FUNCTION, HALVES, I16, I32, I64, INTEGERS, SCALAR_KINDS, U16, U32, U64, alike, bases_of, count_of_parts,
-    held, part_of, pointed_at, pointer_to, points, scalar_of, with_scalar)
-from words import MATH, QUERIES, RELATIONAL
+    BOOL, F32, F64, FUNCTION, HALVES, I16, I32, I64, INTEGERS, SCALAR_KINDS, U16, U32, U64, alike, bases_of,
+    count_of_parts, has_parts, held, part_of, pointed_at, pointer_to, points, scalar_of, whole_of, with_scalar)
+from words import MATH, MEMBERS, QUERIES, RELATIONAL
 
 RANGES = {
     I32: (-2**31, 2**31 - 1), U32: (0, 2**32 - 1), I64: (-2**63, 2**63 - 1), U64: (0, 2**63 - 1),
     I16: (-2**15, 2**15 - 1), U16: (0, 2**16 - 1)}
 COMPARISONS = range(5, 11)
 LOGICAL = (14, 15)
+MATH_NUMBERS = {word: number for number, (word, _) in enumerate(MATH)}
 # kinds of images' types, with what is sampled with them
 IMAGE_KINDS = ("image", "sampler")
 
@@ -23,6 +24,9 @@ def generate(r):
     if r.random() < 0.35:
         types += [("image", 1, r.random() < 0.3, r.choice([("sampled", "float", False), ("depth", False)]))]
         types += [("sampler", r.random() < 0.3), ("vector", 2, F32), ("scalar", r.choice([I32, F32]))]
+    if r.random() < 0.35:
+        structs = StructMaker(r, module)
+        types += [("scalar", F32), ("vector", r.randint(2, 4), F32)] + structs.make_named()
     if r.random() < 0.4:
         OwnMaker(r, module, types).make_own()
     for _ in range(r.choice([1, 1, 1, 2, 3])):
@@ -30,6 +34,93 @@ def generate(r):
         own = [ty for ty in types if r.random() < 0.8] or types
         module.functions.append(FunctionMaker(r, module, own).make())
     return module
+
+
+class StructMaker:
+    """Structs, of which most are declared by no text."""
+
+    def __init__(self, r, module):
+        self.r, self.module = r, module
+
+    def make_named(self):
+        """Special structs, and now and then others; and the types over these that a function may spell."""
+        r, named = self.r, []
+        for _ in range(r.choice([1, 1, 2, 3])):
+            self.given_for(self.some_giver())
+        if r.random() < 0.07:
+            self.put(self.some_members())
+        if r.random() < 0.05:
+            # a special type that is no struct, or is nowhere
+            ty = some_number(r) if r.random() < 0.9 else None
+            if ty is not None:
+                self.module.handle_of(ty)
+            self.module.special.append((self.some_giver(), ty))
+        for _ in range(r.choice([0, 0, 0, 1])):
+            named.append(self.some_over(r.choice([ty for ty in self.module.types if ty[0] == "struct"])))
+        return named
+
+    def some_giver(self):
+        r = self.r
+        giver = r.choice(["modf", "modf", "frexp", "frexp", "exchange", "params", "transfer"])
+        if giver in ("modf", "frexp"):
+            return (giver, r.choice([0, 0, 2, 3, 4]), F32 if r.random() < 0.95 else F64)
+        return (giver, 0, r.choice([I32, U32])) if giver == "exchange" else (giver, 0, F32)
+
+    def some_over(self, ty):
+        """The type, an array of it, or a pointer to one of these."""
+        ty = ("array", ty, self.r.choice([0, 2, 3]), 16) if self.r.random() < 0.4 else ty
+        return pointer_to(ty, FUNCTION) if self.r.random() < 0.4 else ty
+
+    def given_for(self, giver):
+        """The struct that is given for this, which is made if there is none."""
+        known = dict(self.module.special)
+        if giver in known and self.r.random() < 0.995:
+            return known[giver]
+        ty = self.put(self.members_for(giver))
+        self.module.special.append((giver, ty))
+        return ty
+
+    def put(self, members):
+        """A struct that no other one of the module is the same as, now and then without a label."""
+        count = sum(ty[0] == "struct" for ty in self.module.types)
+        ty = ("struct", tuple(members), 16 * count)
+        label = "__modf_result_f32" if self.r.random() < 0.8 else some_label(self.r)
+        self.module.handle_of(ty, label if self.r.random() < 0.9 else None)
+        return ty
+
+    def members_for(self, giver):
+        """Most often the right members, else in another order, under doubled or other labels, or others."""
+        (name, size, scalar), r = giver, self.r
+        value = ("vector", size, scalar) if size else ("scalar", scalar)
+        members = {
+            "modf": [("fract", value), ("whole", value)],
+            "frexp": [("fract", value), ("exp", with_scalar(value, I32))],
+            "exchange": [("old_value", value), ("exchanged", ("scalar", BOOL))]}.get(name, self.some_members())
+        if members and r.random() < 0.1:
+            at = r.randrange(len(members))
+            members[at] = (members[at][0], self.some_member_type())
+        what = r.random()
+        if what < 0.6:
+            return members
+        if what < 0.65:
+            return members[::-1]
+        if what < 0.7:
+            return [(members[0][0], ty) for _, ty in members] if members else members
+        if what < 0.93:
+            share = r.choice([0.3, 1])
+            return [(some_member_label(r) if r.random() < share else label, ty) for label, ty in members]
+        return self.some_members()
+
+    def some_members(self):
+        r = self.r
+        labels = MEMBERS if r.random() < 0.4 else [some_member_label(r) for _ in MEMBERS]
+        return [(label, self.some_member_type()) for label in r.sample(labels, r.choice([0, 1, 2, 2, 3, 4, 5]))]
+
+    def some_member_type(self):
+        known = [ty for ty in self.module.types if ty[0] == "struct"]
+        if known and self.r.random() < 0.5:
+            return self.some_over(self.r.choice(known))
+        return some_number(self.r) if self.r.random() < 0.95 else some_type(self.r)
 
 
 class FunctionMaker:
@@ -107,7 +198,7 @@ class FunctionMaker:
         ty = self.r.choice(self.types) if self.chance(0.002) else ty
         ty = self.told(ty)
         e = Expression(kind, ty, what, operands)
-        e.by_handle = ty in self.module.types and self.chance(0.7)
+        e.by_handle = ty in self.module.types and self.chance(0.9995 if ty[0] == "struct" else 0.7)
         self.f.add(e)
 
     def put_typed(self, kind, ty, operands=()):
@@ -118,7 +209,7 @@ class FunctionMaker:
         if ty[0] == "pointer" and ty[1][0] in ("scalar", "vector") and ty not in self.module.types and self.chance(0.7):
             size = ty[1][1] if ty[1][0] == "vector" else 0
             return ("value pointer", size, scalar_of(ty[1]), ty[2])
-        for base in bases_of(ty):
+        for base in [ty] if ty[0] == "struct" else bases_of(ty):
             self.module.handle_of(base)
         return ty
 
@@ -178,6 +269,8 @@ class FunctionMaker:
             (0.03, self.make_composed), (0.03, self.make_swizzle), (0.04, self.make_conversion),
             (0.02, self.make_derivative), (0.06, self.make_sampling), (0.03, self.make_image_load),
             (0.03, self.make_query), (0.03, self.make_length), (0.01, self.make_sum_of_products)]
+        if self.structs():
+            makers.append((0.3, self.make_split))
         weights = [share for share, _ in makers]
         self.r.choices(makers, weights)[0][1]()
 
@@ -283,29 +376,94 @@ class FunctionMaker:
             ty = some_type(self.r) if self.chance(0.1) else self.f.type_of(x)
             self.put("derivative", ty, [self.r.randrange(3), self.r.randrange(3)], [x])
 
+    # ---- structs
+    def structs(self):
+        """Those that are given for something, the first ones first."""
+        return [ty for _, ty in self.module.special if ty is not None and ty[0] == "struct"]
+
+    def make_split(self):
+        """What `modf` or `frexp` gives, or another value of a struct or over one; and some of its members."""
+        floats = self.handles(lambda e: e.type[0] in ("scalar", "vector") and scalar_of(e.type) == F32)
+        x = self.some_of(floats) if floats and self.chance(0.97) else self.some_operand()
+        if x is None:
+            return
+        ty, what = self.f.type_of(x), self.r.random()
+        if what < 0.8:
+            size = ty[1] if ty[0] == "vector" else 0
+            word = self.r.choice(["modf", "frexp"])
+            struct = StructMaker(self.r, self.module).given_for((word, size, scalar_of(ty) or F32))
+            # now and then of another type
+            struct = self.r.choice(self.structs()) if self.chance(0.003) or struct is None else struct
+            self.put("math", struct, [MATH_NUMBERS[word]], [x])
+        elif what < 0.9:
+            self.make_struct_pointer(x)
+        elif what < 0.96:
+            self.put("derivative", self.some_over_struct(), [0, 0], [x])
+        elif what < 0.98:
+            self.make_struct_value(x)
+        for _ in range(self.r.choice([0, 1, 1, 2, 3])):
+            self.make_member()
+
+    def some_over_struct(self):
+        return StructMaker(self.r, self.module).some_over(self.r.choice(self.structs()))
+
+    def make_struct_pointer(self, x):
+        """A pointer to a struct, or an array of one, that is no local and no argument. `abs` has two operands here, so
+        that all its uses agree."""
+        struct = self.structs()[0]
+        if self.chance(0.4):
+            self.put("math", pointer_to(struct, FUNCTION), [MATH_NUMBERS["abs"]], [x, x])
+        else:
+            over = self.some_over_struct()
+            self.put("derivative", over if points(over) else pointer_to(over, FUNCTION), [1, 0], [x])
+
+    def make_struct_value(self, x):
+        """A zero value or a composition of a struct or of what is over one, which a text can't have."""
+        ty = self.some_over_struct()
+        self.module.handle_of(ty)
+        if self.chance(0.5):
+            self.put_typed("zero", ty)
+        else:
+            self.put_typed("compose", ty, [x] * self.r.choice([0, 1, 2]))
+
+    def make_member(self):
+        """A member, most often of one of the newest structs, or an element of an array of these."""
+        bases = self.handles(
+            lambda e: "struct" in (whole_of(e.type)[0], *(base[0] for base in bases_of(whole_of(e.type)))))
+        if bases:
+            self.make_part_of(self.some_of(bases[-3:]))
+
     # ---- parts
     def make_part(self):
         """A part at a computed or a known index; now and then of what has none, or where none is."""
-        bases = self.handles(lambda e: part_of(e.type) is not None or self.chance(0.001))
+        bases = self.handles(lambda e: has_parts(e.type) or self.chance(0.001))
         if not bases:
             return
         signed = [h for h in bases if self.f.expressions[h].kind == "unary"]
         base = self.some_of(signed if signed and self.chance(0.5) else bases)
         # now and then of the newest, which is often a part itself
-        base = bases[-1] if self.chance(0.3) else base
+        self.make_part_of(bases[-1] if self.chance(0.3) else base)
+
+    def make_part_of(self, base):
         of = self.f.type_of(base)
-        part = part_of(of)
+        if has_parts(of) and count_of_parts(of) == 0 and not self.chance(0.01):
+            return
         indexes = self.handles(lambda e: e.type in INTEGERS or self.chance(0.0005))
-        if part is None:
+        # no member has a computed index
+        is_computed = indexes and self.chance(0.4 if whole_of(of)[0] != "struct" else 0.001)
+        if not has_parts(of):
             self.put("access index", of, [self.r.randrange(3)], [base])
-        elif indexes and self.chance(0.4):
-            self.put("access", part, [], [base, self.r.choice(indexes)])
+        elif is_computed:
+            self.put("access", part_of(of) or of, [], [base, self.r.choice(indexes)])
         else:
-            self.put("access index", part, [self.some_index(count_of_parts(of))], [base])
+            index = self.some_index(count_of_parts(of))
+            self.put("access index", part_of(of, index) or of, [index], [base])
 
     def some_index(self, count):
         if count is None:
             return self.r.choice([0, 1, 9, 2**32 - 1])
+        if count == 0:
+            return 0
         if self.chance(0.002):
             return count + self.r.choice([0, 1, 9])
         return min(self.r.choice([0, 1, self.r.randrange(count)]), count - 1)
@@ -403,7 +561,9 @@ class FunctionMaker:
 
     def make_return(self):
         f = self.f
-        values = self.handles(lambda e: not points(e.type) or self.chance(0.2))
+        values = self.handles(
+            lambda e: self.chance(0.05) if self.module.names_undeclared(e.type)
+            else not points(e.type) or self.chance(0.2))
         if values and self.chance(0.9):
             h = self.r.choice(values[-4:])
             f.result = self.told(f.type_of(h))

@@ -1,6 +1,6 @@
 """Modules of functions, and the numbers by which the builder makes them."""
 
-from spelling import bases_of, type_numbers
+from spelling import SCALAR_KINDS, bases_of, label_numbers, type_numbers
 
 KINDS = [
     "literal", "argument", "local", "load", "unary", "binary", "select", "math", "relational", "splat", "compose",
@@ -14,6 +14,9 @@ IMAGES = ("sample", "image load", "image query")
 # these are events where they are used at all, and the images' anyhow
 READS = ("load", "derivative")
 EVENTS = (*READS, *IMAGES)
+
+# what gives structs that no text declares: functions, by the size and the scalar of what they give, and external images
+GIVERS = ["modf", "frexp", "exchange", "params", "transfer"]
 
 
 class Expression:
@@ -59,11 +62,13 @@ class Function:
 
 
 class Module:
-    """Types with their labels; constants without names, by type and initialiser, which is one of the module's own
-    expressions; and functions."""
+    """Types with their labels; the special ones, each with what gives it, its size and its scalar, or none where its
+    handle is nowhere; constants without names, by type and initialiser, which is one of the module's own expressions;
+    and functions."""
 
     def __init__(self):
         self.types, self.labels, self.functions = [], [], []
+        self.special = []
         self.own, self.constants = Function(None, self), []
 
     def groups(self):
@@ -79,6 +84,23 @@ class Module:
             self.labels.append(label)
         return self.types.index(ty)
 
+    def special_types(self):
+        """Of the types that are given for the same, the last is special."""
+        return list(dict(self.special).values())
+
+    def names_undeclared(self, ty):
+        """Whether a type is a struct that no text declares, or is over one."""
+        if ty[0] == "struct":
+            return ty in self.special_types()
+        return ty[0] in ("array", "pointer") and self.names_undeclared(ty[1])
+
+    def special_numbers(self):
+        special = []
+        for (giver, size, (kind, width)), ty in self.special:
+            handle = len(self.types) if ty is None else self.types.index(ty)
+            special += [GIVERS.index(giver), size, SCALAR_KINDS.index(kind), width, handle]
+        return [len(self.special), *special]
+
     def numbers(self):
         functions = [n for f in self.functions for n in self.function_numbers(f)]
         types = []
@@ -87,8 +109,8 @@ class Module:
         own = [n for e in self.own.expressions for n in self.expression_numbers(e)]
         constants = [n for ty, init in self.constants for n in (self.types.index(ty), init)]
         return [
-            len(self.types), *types, len(self.own.expressions), *own, len(self.constants), *constants,
-            len(self.functions), *functions]
+            len(self.types), *types, *self.special_numbers(), len(self.own.expressions), *own, len(self.constants),
+            *constants, len(self.functions), *functions]
 
     def function_numbers(self, f):
         handle = self.types.index
@@ -126,7 +148,3 @@ class Module:
         if e.kind == "sample":
             return e.what[0].numbers()
         return [int(n) for n in e.what]
-
-
-def label_numbers(label):
-    return [-1] if label is None else [len(label), *map(ord, label)]

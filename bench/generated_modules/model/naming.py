@@ -2,7 +2,7 @@
 
 import unicodedata
 
-from words import KEYWORDS
+from words import KEYWORDS, RESERVED
 
 PREFIXES = ("__", "_naga")
 EXTERNAL_IMAGE = ("external",)
@@ -33,8 +33,8 @@ def base_of(label):
 
 
 class Namer:
-    def __init__(self):
-        self.times = {}
+    def __init__(self, words=KEYWORDS):
+        self.words, self.times = words, {}
 
     def name(self, label):
         """A base that comes again gets `_` and how often it came before."""
@@ -43,7 +43,7 @@ class Namer:
         self.times[base] = count + 1
         if count:
             return f"{base}_{count}"
-        return base + "_" if base[-1].isdigit() or base in KEYWORDS else base
+        return base + "_" if base[-1].isdigit() or base in self.words else base
 
     def name_or(self, label, fallback):
         return self.name(fallback if label is None else label)
@@ -59,6 +59,12 @@ class FunctionNames:
                 for extra in EXTRA:
                     namer.name(("param" if label is None else label) + "_" + extra)
         self.locals = [namer.name_or(label, "local") for label, _, _ in function.locals]
+
+
+def member_names(labels):
+    """The names of a struct's members, which are told apart from one another and from reserved words alone."""
+    namer = Namer(RESERVED)
+    return [namer.name_or(label, "member") for label in labels]
 
 
 def names_of(module):

@@ -1,7 +1,8 @@
 """The words of operators and of what is asked of the world."""
 
+from naming import member_names
 from spelling import (
-    BOOL, F32, F64, I16, I32, I64, SCALAR_KINDS, SCALARS, U16, U32, U64, pointed_at, scalar_of, spelled,
+    BOOL, F32, F64, I16, I32, I64, SCALAR_KINDS, SCALARS, U16, U32, U64, scalar_of, spelled, whole_of,
     with_scalar)
 from words import AXES, BINARY, CONTROLS, MATH, QUERIES, RELATIONAL, UNARY
 
@@ -45,8 +46,11 @@ def conversion_word(ty, what):
 
 
 def part_word(base, index):
-    """A component of a vector, or of what a pointer to a vector points at, has a letter; any other part a number."""
-    whole = pointed_at(base) if base[0] == "pointer" else base
+    """A component of a vector, or of what a pointer to a vector points at, has a letter, and a member so its name; any
+    other part a number."""
+    whole = whole_of(base) if base[0] == "pointer" else base
+    if whole[0] == "struct":
+        return "." + member_names([label for label, _ in whole[1]])[index]
     return "." + "xyzw"[index] if whole[0] == "vector" else f"[{index}]"
 
 

@@ -2,14 +2,16 @@
 
 from acceptance import is_accepted
 from modules import Expression, Function, Module, Sampling
-from naming import Namer
+from naming import Namer, member_names
 from runs import ModuleRun, TextRun
 from spelling import BOOL, F32, FUNCTION, I32, SCALAR_KINDS, pointer_to
-from writer import answers_of
+from words import MATH
+from writer import NOT_YET_WRITTEN, UNDECLARED, answers_of, refusal
 
 INT, TRUTH, FLOAT = ("scalar", I32), ("scalar", BOOL), ("scalar", F32)
 PAIR, TRIPLE, COLOUR = ("vector", 2, F32), ("vector", 3, I32), ("vector", 4, F32)
 ADD, MULTIPLY = 0, 2
+MODF, FREXP = [[word for word, _ in MATH].index(word) for word in ("modf", "frexp")]
 
 LABELS = [
     (["x", "x", "x1", "__x", "1___x"], ["x", "x_1", "x1_", "_x", "_x_1"]),
@@ -22,12 +24,26 @@ LABELS = [
     (["Self", "self", "self"], ["Self_", "self_", "self_1"]),
     (["x_1", "x", "x"], ["x_1_", "x", "x_1"])]
 
+MEMBERS = [
+    (["fract", "whole", "exp", "old_value", "exchanged"], ["fract", "whole", "exp", "old_value", "exchanged"]),
+    (["fract", "fract", "fract_"], ["fract", "fract_1", "fract_2"]),
+    (["__fract", "1exp", "old__value", "exp2"], ["_fract", "exp", "old_value", "exp2_"]),
+    (["min", "fn", "self", "texture_2d", "_naga_a", None, None],
+     ["min", "fn_", "self_", "texture_2d", "gen__naga_a", "member", "member_1"])]
+
+
+def of_module(kind, ty, what, operands=()):
+    """An expression whose type is told by its handle."""
+    e = Expression(kind, ty, what, operands)
+    e.by_handle = True
+    return e
+
 
 def function(label, result, *arguments):
     f = Function(label)
     f.result, f.arguments = result, list(arguments)
     for number, (_, ty) in enumerate(arguments):
-        f.add(Expression("argument", ty, [number]))
+        f.add(of_module("argument", ty, [number]))
     return f
 
 
@@ -147,6 +163,116 @@ def converted(width):
     return f
 
 
+# ---- structs that no text declares
+def parts(*labels):
+    return ("struct", tuple((label, FLOAT) for label in labels), 8)
+
+
+PARTS, POWER = parts("fract", "whole"), ("struct", (("fract", FLOAT), ("exp", INT)), 8)
+
+
+def member(f, base, index):
+    struct = f.type_of(base)
+    return f.add(Expression("access index", struct[1][index][1], [index], [base]))
+
+
+def split(struct, index, word=MODF, label=None):
+    """A function that returns a member of what `modf` or `frexp` gives."""
+    f = function("m", struct[1][index][1], ("x", FLOAT))
+    base = f.add(of_module("math", struct, [word], [0]))
+    part = member(f, base, index)
+    f.labels = {base: label} if label else {}
+    f.body = [("emit", base, part), ("return", part)]
+    return f
+
+
+def both():
+    f = function("b", FLOAT, ("x", FLOAT))
+    base = f.add(of_module("math", PARTS, [MODF], [0]))
+    total = f.add(Expression("binary", FLOAT, [ADD], [member(f, base, 0), member(f, base, 1)]))
+    f.body = [("emit", base, total), ("return", total)]
+    return f
+
+
+def through_pointer(label=None):
+    f = function("t", None, ("x", FLOAT))
+    base = f.add(Expression("derivative", pointer_to(PARTS, FUNCTION), [0, 0], [0]))
+    part = f.add(Expression("access index", pointer_to(FLOAT, FUNCTION), [1], [base]))
+    f.labels = {base: label} if label else {}
+    f.body = [("emit", base, part), ("store", part, 0)]
+    return f
+
+
+def made(kind, ty, is_used):
+    """A zero value or a composition, of which a part is returned or nothing is."""
+    f = function("m", FLOAT, ("x", FLOAT))
+    base = f.add(of_module(kind, ty, [ty], [] if kind == "zero" else [0, 0]))
+    whole = base
+    if ty[0] == "array":
+        whole = f.add(of_module("access index", PARTS, [0], [base]))
+    part = member(f, whole, 0)
+    f.body = [("emit", base + (kind == "zero"), part), ("return", part if is_used else 0)]
+    return f
+
+
+def declared(ty, what):
+    f = function("d", None, ("x", FLOAT))
+    if what == "argument":
+        return function("d", None, ("x", ty))
+    if what == "local":
+        f.locals.append(("a", ty, None))
+    else:
+        f.result = ty
+        h = f.add(of_module("math", ty, [MODF], [0]))
+        f.body = [("emit", h, h), ("return", h)]
+    return f
+
+
+OVER = [PARTS, ("array", PARTS, 2, 8), pointer_to(PARTS, FUNCTION), pointer_to(("array", PARTS, 0, 8), FUNCTION)]
+ONE = "fn m(x: f32) -> {0} {{\n    return {1};\n}}\n\n"
+# the text is the same where `let`s tell types
+SPLIT = [
+    (split(PARTS, 0), ONE.format("f32", "modf(x).fract")),
+    (split(PARTS, 1), ONE.format("f32", "modf(x).whole")),
+    (split(POWER, 1, FREXP), ONE.format("i32", "frexp(x).exp")),
+    (split(parts("min", "9fract_"), 1), ONE.format("f32", "modf(x).fract")),
+    (split(PARTS, 0, label="q"), "fn m(x: f32) -> f32 {\n    let q = modf(x);\n    return q.fract;\n}\n\n"),
+    (both(), "fn b(x: f32) -> f32 {\n    let _e1 = modf(x);\n    return (_e1.fract + _e1.whole);\n}\n\n"),
+    (through_pointer(), "fn t(x: f32) {\n    let _e1 = dpdx(x);\n    (*_e1).whole = x;\n}\n\n"),
+    (through_pointer("whole"), "fn t(x: f32) {\n    let whole = dpdx(x);\n    (*whole).whole = x;\n}\n\n"),
+    *((made(kind, ty, False), ONE.format("f32", "x")) for kind in ("zero", "compose") for ty in OVER[:2]),
+    *((f, refusal(UNDECLARED)) for f in (
+        split(parts("part", "whole"), 0), split(parts("fract", "fract"), 1), split(parts("exp", "exp2"), 1),
+        split(parts("FRACT"), 0), split(parts(None), 0),
+        *(made(kind, ty, True) for kind in ("zero", "compose") for ty in OVER[:2]),
+        *(declared(ty, what) for ty in OVER for what in ("argument", "local", "result"))))]
+
+
+def module_of(functions, special=()):
+    """A module of these functions, and of the types that they name."""
+    module = Module()
+    module.functions, module.special = functions, [(("modf", 0, F32), ty) for ty in special]
+    for f in functions:
+        f.module = module
+        for ty in [*(e.type for e in f.expressions), *(ty for _, ty in f.arguments), *(ty for _, ty, _ in f.locals)]:
+            module.handle_of(ty)
+    return module
+
+
+def check_structs():
+    for labels, names in MEMBERS:
+        assert member_names(labels) == names, labels
+    for f, told in SPLIT:
+        struct = [ty for ty in module_of([f]).types if ty[0] == "struct"]
+        for explicit in (False, True):
+            module = module_of([f], struct)
+            wanted = not told.startswith("refused"), {told}
+            assert is_accepted(module) and answers_of(module, explicit) == wanted, (answers_of(module, explicit), told)
+            # a text declares the struct
+            module = module_of([f])
+            assert refusal(NOT_YET_WRITTEN) in answers_of(module, explicit)[1], told
+
+
 SAMPLED = (
     "fn sp(t: texture_2d<f32>, s: sampler, p: vec2<f32>) -> vec4<f32> {{\n"
     "    let {0} = {1};\n    return {0};\n}}\n\n")
@@ -178,9 +304,9 @@ def check_rows():
         namer = Namer()
         assert [namer.name(label) for label in labels] == names, labels
     for functions, text in TEXTS:
-        module = Module()
-        module.functions = functions
+        module = module_of(functions)
         assert is_accepted(module) and answers_of(module, False) == (True, {text}), (answers_of(module, False), text)
+    check_structs()
     told, meant = TextRun(TEXTS[2][1].removesuffix("}\n\n")).run(), ModuleRun(late()).run()
     answer = ("answer", 1)
     assert told == meant == (

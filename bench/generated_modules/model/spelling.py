@@ -5,8 +5,10 @@ A scalar is its kind and its width in bytes. A type is a tuple that begins with 
     scalar S; vector SIZE S; matrix COLUMNS ROWS S; array BASE LENGTH STRIDE (no length: 0)
     pointer BASE SPACE; value pointer SIZE S SPACE (to one scalar: 0)
     image DIMENSION ARRAYED CLASS; sampler COMPARISON; ray query VERTICES; atomic S
+    struct MEMBERS SPAN
 
-A space is its word and what may be done there, if it is `storage`: 1 load, 2 store, 4 atomics.
+A space is its word and what may be done there, if it is `storage`: 1 load, 2 store, 4 atomics. A member of a struct is
+its label, or none, and its type; the spans tell the structs of one module apart.
 """
 
 from words import FORMATS
@@ -18,7 +20,7 @@ BOOL, I32, U32, I64, U64, F32, F64 = [
 I16, U16, F16 = [("sint", 2), ("uint", 2), ("float", 2)]
 HALVES = {I16: "i16", U16: "u16", F16: "f16"}
 SCALARS = {BOOL: "bool", I32: "i32", U32: "u32", I64: "i64", U64: "u64", F32: "f32", F64: "f64", **HALVES}
-INTEGERS = [("scalar", s) for s in (I32, U32, I64, U64)]
+INTEGERS = [("scalar", s) for s in (I16, U16, I32, U32, I64, U64)]
 DIMENSIONS = ["1d", "2d", "3d", "cube"]
 LOAD, STORE, ATOMIC = 1, 2, 4
 
@@ -53,6 +55,9 @@ def spelled(ty):
         return "sampler_comparison" if ty[1] else "sampler"
     if kind == "atomic":
         return with_word("atomic<{}>", SCALARS.get(ty[1]))
+    if kind == "struct":
+        # a word for itself alone, which comes into no text
+        return f"#{ty[2]}"
     return "ray_query<vertex_return>" if ty[1] else "ray_query"
 
 
@@ -142,8 +147,10 @@ def with_scalar(ty, scalar):
     return (*ty[:-1], scalar)
 
 
-def value_part(ty):
-    """A component, a column or an element."""
+def value_part(ty, index):
+    """A component, a column, an element, or the member at a known index."""
+    if ty[0] == "struct":
+        return ty[1][index][1] if index is not None and index < len(ty[1]) else None
     if ty[0] == "vector":
         return ("scalar", ty[2])
     if ty[0] == "matrix":
@@ -151,12 +158,19 @@ def value_part(ty):
     return ty[1] if ty[0] == "array" else None
 
 
-def part_of(ty):
-    """The type of a part, or of a pointer to a part; none of what has no parts."""
-    if not points(ty):
-        return value_part(ty)
-    part = value_part(pointed_at(ty))
-    return part and pointer_to(part, space_of(ty))
+def whole_of(ty):
+    """What parts are taken of: the type itself, or what it points at."""
+    return pointed_at(ty) if points(ty) else ty
+
+
+def has_parts(ty):
+    return whole_of(ty)[0] in ("vector", "matrix", "array", "struct")
+
+
+def part_of(ty, index=None):
+    """The type of the part at a computed index, or a known one, or of a pointer to it; none where there is none."""
+    part = value_part(whole_of(ty), index)
+    return part and (pointer_to(part, space_of(ty)) if points(ty) else part)
 
 
 def space_of(pointer):
@@ -169,12 +183,16 @@ def pointer_to(ty, space):
 
 def count_of_parts(ty):
     """How many parts there are; none where no number is told."""
-    whole = pointed_at(ty) if points(ty) else ty
+    whole = whole_of(ty)
+    if whole[0] == "struct":
+        return len(whole[1])
     return whole[2] or None if whole[0] == "array" else whole[1]
 
 
 def bases_of(ty):
     """The types that a type is made of, which stand in its module in front of it."""
+    if ty[0] == "struct":
+        return [member for _, member in ty[1]]
     return [ty[1]] if ty[0] in ("array", "pointer") else []
 
 
@@ -191,9 +209,16 @@ def space_numbers(space):
     return [SPACE_WORDS.index(space[0]), space[1]]
 
 
+def label_numbers(label):
+    return [-1] if label is None else [len(label), *map(ord, label)]
+
+
 def type_numbers(ty, handle_of):
     """The numbers of a type, in which `handle_of` gives that of another one."""
     kind, *rest = ty
+    if kind == "struct":
+        members = [n for label, member in rest[0] for n in (*label_numbers(label), handle_of(member))]
+        return [10, len(rest[0]), *members, rest[1]]
     if kind in ("scalar", "vector", "matrix"):
         *sizes, scalar = rest
         return [len(sizes), *sizes, *scalar_numbers(scalar)]

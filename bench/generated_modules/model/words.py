@@ -74,10 +74,13 @@ UNARY = ["-", "!", "~"]
 # the functions of mathematics that are generated, by the builder's numbers, with how many operands they take
 MATH = [
     ("abs", 1), ("min", 2), ("clamp", 3), ("insertBits", 4), ("dot", 2), ("fma", 3), ("smoothstep", 3),
-    ("Outer", 2), ("Inverse", 1)]
+    ("Outer", 2), ("Inverse", 1), ("modf", 1), ("frexp", 1)]
 RELATIONAL = ["all", "any", "IsNan", "IsInf"]
 AXES = ["dpdx", "dpdy", "fwidth"]
 CONTROLS = ["", "Coarse", "Fine"]
+
+# the members of the structs that WGSL's own functions give
+MEMBERS = ["fract", "whole", "exp", "old_value", "exchanged"]
 
 # questions to images, by their numbers
 QUERIES = ["textureDimensions", "textureNumLevels", "textureNumLayers", "textureNumSamples"]

@@ -5,11 +5,12 @@ from naming import names_of
 from operators import (
     conversion_word, literal_text, numbers_around, offset_of, wanted_scalar, word_of)
 from spelling import (
-    lacking_scalar, part_of, points, points_to_atomic, scalar_of, spelled, waits)
-from words import MATH, RELATIONAL
+    has_parts, lacking_scalar, points, points_to_atomic, scalar_of, spelled, waits, whole_of)
+from words import MATH, MEMBERS, RELATIONAL
 
 NOT_YET_WRITTEN = "not yet written"
 OUT_OF_SCOPE = "operand out of scope"
+UNDECLARED = "predeclared struct"
 # what an offset may be made of
 CONSTANTS = ("literal", "zero", "constant", "compose", "splat")
 
@@ -43,7 +44,16 @@ def binds(f, h, uses):
 
 def is_partless(f, e):
     """Whether the expression is a part of what has no parts."""
-    return e.kind in PARTS and part_of(f.type_of(e.operands[0])) is None
+    return e.kind in PARTS and not has_parts(f.type_of(e.operands[0]))
+
+
+def is_other_member(f, e):
+    """Whether the expression is a member of a struct that no text declares, for which WGSL has no word."""
+    if e.kind != "access index":
+        return False
+    whole = whole_of(f.type_of(e.operands[0]))
+    is_member = whole[0] == "struct" and f.module.names_undeclared(whole)
+    return is_member and word_of(f, e).removeprefix(".") not in MEMBERS
 
 
 def constants_of(f):
@@ -70,7 +80,8 @@ def answers_of(module, explicit):
     names, namer = names_of(module)
     text = ""
     for f, own in zip(module.functions, names):
-        standing = {formless(f, h) for h in written_of(f)} | set(map(formless_type, spelled_by(f, explicit)))
+        standing = {formless(f, h) for h in written_of(f)}
+        standing |= {formless_type(module, ty) for ty in spelled_by(f, explicit)}
         standing.discard(None)
         try:
             own_text = Writer(f, own, namer, explicit).write()
@@ -83,8 +94,9 @@ def answers_of(module, explicit):
 
 
 def is_of_part(module):
-    """No type that is declared waits."""
-    return not any(map(waits, module.types))
+    """No type that is declared waits, and none is a struct, but for those that no text declares."""
+    structs = [ty for ty in module.types if ty[0] == "struct"]
+    return not any(map(waits, module.types)) and all(map(module.names_undeclared, structs))
 
 
 def written_of(f):
@@ -103,16 +115,19 @@ def written_of(f):
 
 
 def spelled_by(f, explicit):
-    """The types of arguments, the result and locals, and those that `let`s tell."""
+    """The types of arguments, the result and locals, and those that `let`s tell, if a text can."""
     uses = uses_of(f)
     emitted = [h for s in f.body if s[0] == "emit" for h in range(s[1], s[2] + 1)]
     told = [f.type_of(h) for h in emitted if explicit and binds(f, h, uses)]
+    told = [ty for ty in told if not f.module.names_undeclared(ty)]
     declared = [ty for _, ty in f.arguments] + [ty for _, ty, _ in f.locals]
     return declared + [f.result] * (f.result is not None) + told
 
 
-def formless_type(ty):
-    """How a type without a form is named."""
+def formless_type(module, ty):
+    """How a type without a form is named, or one that names a struct which no text declares."""
+    if module.names_undeclared(ty):
+        return UNDECLARED
     if spelled(ty) is not None:
         return None
     scalar = lacking_scalar(ty)
@@ -135,11 +150,13 @@ def formless(f, h):
     if e.kind == "relational" and word_of(f, e) is None:
         return "Unsupported relational function: " + RELATIONAL[e.what[0]]
     if e.kind in ("zero", "compose"):
-        return formless_type(e.type)
+        return formless_type(f.module, e.type)
     if e.kind == "constant":
         return formless_own(f.module, f.module.constants[e.what[0]][1])
     if is_partless(f, e):
         return "cannot index"
+    if is_other_member(f, e):
+        return UNDECLARED
     if e.kind == "conversion":
         return formless_conversion(f.type_of(e.operands[0]), e.what)
     if e.kind == "sample":
@@ -218,7 +235,8 @@ class Writer:
                 raise Refused
             text = self.value(h)
             name = self.namer.name(self.f.labels[h]) if h in self.f.labels else f"_e{h}"
-            told = f": {spelled(e.type)}" if self.explicit else ""
+            is_told = self.explicit and not self.f.module.names_undeclared(e.type)
+            told = f": {spelled(e.type)}" if is_told else ""
             lines.append(f"    let {name}{told} = {text};")
             self.bound[h] = name
         elif e.kind in READS:
