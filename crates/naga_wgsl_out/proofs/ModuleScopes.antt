@@ -136,7 +136,7 @@ expression_told m info i error n tells =
 formless_told : (explicit : Bool) (m : Module) (info : ModuleInfo) (i : ℕ) (error : Error) →
     HasFormlessIn explicit m info i error → TellsOfModule error → TellsOfFunction m error
 formless_told explicit m info i error (inl n) tells = expression_told m info i error n tells
-formless_told explicit m info i error (inr n) tells = inr (inl (tells, inr (m.types, n.type, n.named)))
+formless_told explicit m info i error (inr n) tells = inr (inl (tells, inr (m, n.type, n.named)))
 
 -- what a fault tells
 module _ (explicit : Bool) (m : Module) (info : ModuleInfo) (i : ℕ) where

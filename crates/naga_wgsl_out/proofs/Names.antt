@@ -1,6 +1,6 @@
 -- What a `Namer` that was reset by a module knows of the module's names.
 use Rattle.std.proofs.Common.{◌≡◌, ℕ, zero, suc, ◌<◌, ◌≤◌, ◌^◌, true, false, List, length, Some}
-use Rattle.std.proofs.Common.{None, sym, ap, subst, unwrap_or, [], ◌∙◌, arith, append-nil}
+use Rattle.std.proofs.Common.{None, refl, sym, ap, subst, unwrap_or, [], ◌∙◌, arith, append-nil}
 use Rattle.std.specs.Prelude.{slice_get, map, Result, Ok, Err, OnOk, IfErr, IsErr}
 use Rattle.std.specs.FinSet as set
 use Rattle.std.proofs.lemmas.Bool.{ltb-true}
@@ -13,7 +13,7 @@ use Rattle.naga_names.specs.Refusal.{SomeNameIsFull, SomeKeyIsFull, IsResetRefus
 use Rattle.naga_names.specs.declared.error.NamerError.{NamerError}
 use Rattle.wgsl_text.specs.Keywords.{reserved_words, builtin_words}
 use Rattle.naga_names.specs.Keys.{NameMap}
-use Rattle.naga_names.specs.Reset.{HasNamedItems, PutsInto, key_fits, labelled_items, named_items}
+use Rattle.naga_names.specs.Reset.{HasNamedItems, LabelledItem, PutsInto, key_fits, labelled_items, named_items}
 use Rattle.naga_names.specs.Reset.{type_label}
 use Rattle.naga_names.proofs.Members.{member_named}
 use Rattle.naga_names.specs.declared.key.NameKey.TheVariants as key
@@ -30,7 +30,7 @@ use Rattle.naga_wgsl_out.specs.ModuleRefusals.{ItemsAreFull, KeyIsOutOfRange, Ha
 puts : (m : Module) →
     PutsInto (λ _. None) (named_items wgsl_names (labelled_items wgsl_names m)) (module_names m)
 unfolding module_names
-puts m = record { finds = λ key. refl }
+puts m = record { finds = λ k. refl }
 
 module _ (m : Module) (before now : NameMap) (names : Names) (has : HasNamedItems wgsl_names before (labelled_items wgsl_names m) names now) where
   -- the map has an item's name
@@ -43,10 +43,11 @@ module _ (m : Module) (before now : NameMap) (names : Names) (has : HasNamedItem
   has_names = record {
     types = λ h t at.
         let s = type_stands wgsl_names m h t at in
-        let item = (key.Type_ h, type_label m.entry_points.items h t) in
+        let item : LabelledItem = (key.Type_ h, type_label m.entry_points.items h t) in
         named_there wgsl_names before m names now has item s ∙ ap Some (sym (name_is m item s));
     members = λ h t at i a there.
-        let own = record { words = has.words; labels = has.labels; keys = has.keys; put = puts m } in
+        let own : HasNamedItems wgsl_names (λ _. None) (labelled_items wgsl_names m) names (module_names m) =
+            record { words = has.words; labels = has.labels; keys = has.keys; put = puts m } in
         let here = member_named wgsl_names m h t at i a there before now names has in
         let named = member_named wgsl_names m h t at i a there (λ _. None) (module_names m) names own in
         here ∙ ap Some (sym (ap (λ o. unwrap_or o []) named));

@@ -4,7 +4,10 @@ use bitflags::Flags;
 use naga_wgsl_out::back::FunctionType;
 use naga_wgsl_out::info::{accepts, count, unaccepted};
 use naga_wgsl_out::ir::Place;
-use naga_wgsl_out::wgsl::{Error, Writer, WriterFlags, names_of, write_function, write_string};
+use naga_wgsl_out::wgsl::{
+    CheckedError, Error, Writer, WriterFlags, names_of, no_flags, write_checked, write_function,
+    write_string,
+};
 use sample_modules::{Row, Sample};
 use std::alloc::Global;
 use std::process::Abort;
@@ -67,6 +70,25 @@ fn a_function_is_written_by_itself(rt: HostRuntime) -> Result<(), Fail> {
     drop(sample);
     written?;
     Ok(())
+}
+
+/// A module is asked for, counted and written at once, and not without what is known of its function.
+fn checks_and_writes(rt: &impl Abort, alloc: Global, sample: &mut Sample) -> Result<(), Fail> {
+    Row::Store.build(sample)?;
+    let text = write_checked(alloc, &sample.module, &mut sample.info, no_flags())?;
+    reads(rt, text.as_str(), STORE);
+    sample.info.functions.clear();
+    let answer = write_checked(alloc, &sample.module, &mut sample.info, no_flags());
+    assert!(rt; matches!(answer, Err(CheckedError::NotAccepted(_))));
+    Ok(())
+}
+
+#[test]
+fn a_module_is_asked_for_and_written(rt: HostRuntime) -> Result<(), Fail> {
+    let mut sample = Sample::new(rt.alloc());
+    let written = checks_and_writes(&rt, rt.alloc(), &mut sample);
+    drop(sample);
+    written
 }
 
 #[test]
