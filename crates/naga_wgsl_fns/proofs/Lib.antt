@@ -9,6 +9,7 @@ pub mod ImageRows
 pub mod Items
 pub mod Literals
 pub mod LoadRows
+pub mod ModuleTexts
 pub mod NameRows
 pub mod PartForms
 pub mod PartRows

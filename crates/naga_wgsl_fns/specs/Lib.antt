@@ -7,6 +7,7 @@ pub mod Functions
 pub mod Images
 pub mod Items
 pub mod Literals
+pub mod ModuleText
 pub mod Names
 pub mod Refusals
 pub mod Statements

@@ -17,6 +17,7 @@ pub mod items;
 mod lacking;
 pub mod literal;
 mod loads;
+mod module_text;
 mod names;
 mod parts;
 pub mod plans;
