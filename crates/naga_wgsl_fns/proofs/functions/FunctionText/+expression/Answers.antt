@@ -1,10 +1,11 @@
 use Rattle.std.proofs.Common.{[], false, ap, arith, ◌∙◌, refl, subst, sym, true}
-use Rattle.std.specs.Option.{option_map_or}
+use Rattle.std.specs.Option.{is_some, option_map_or}
 use Rattle.std.proofs.Common.{Some}
 use Rattle.naga_ir.specs.Operands.{expression_operands}
 use Rattle.std.specs.List.{AllByRecursion}
 use Rattle.naga_words.proofs.Writing.{leaves_as, leaves_last, leaves_more, leaves_start}
 use Rattle.naga_words.proofs.Writing.{writes_as, writes_nothing, writes_then}
+use Rattle.naga_words.specs.Output.{joined_texts}
 use Rattle.module_meaning.specs.Part.{expression_is_written}
 use Rattle.module_meaning.specs.Sampling.{offset_is_written, own_offset_is_written}
 use Rattle.module_meaning.specs.Sampling.{sampling_is_written}

@@ -1,4 +1,4 @@
-use Rattle.std.proofs.Common.{[], ap, length, string_bytes, sym}
+use Rattle.std.proofs.Common.{[], ap, length, string_bytes, sym, ◌∙◌}
 use Rattle.std.proofs.lemmas.Bool.{ltb-false}
 use Rattle.std.specs.Option.{option_map_or}
 use Rattle.std.proofs.lemmas.Option.{slice_get_past}
