@@ -28,7 +28,7 @@ mod types;
 pub use error::Error;
 pub use functions::write_planned;
 pub use implemented::to_wgsl_if_implemented;
-pub use items::write_function;
+pub use items::{write_function, write_global_expression};
 pub use literal::write_literal;
 pub use plans::plan_of;
 pub use sinks::put;
