@@ -1,5 +1,6 @@
 -- A function that is written by itself.
-use Rattle.std.proofs.Common.{◌≡◌, ◌<◌, ◌^◌, ◌∙◌, ◌++◌, ℕ, Bool, false, List, [], Some, append-nil, ap, arith}
+use Rattle.std.proofs.Common.{◌≡◌, ◌<◌, ◌^◌, ◌∙◌, ◌++◌, ℕ, Bool, List, [], Some, append-nil, append_assoc}
+use Rattle.std.proofs.Common.{ap, arith}
 use Rattle.std.proofs.Common.{inl, inr, length, refl, slice_get, subst, sym, take, unwrap_or}
 use Rattle.std.specs.Prelude.{Err, IfErr, IsErrAnd, IsFalse, IsTrue, Ok, OnErr, OnOk, Result, vec_len}
 use Rattle.std.specs.Option.{option_map_or}
@@ -14,36 +15,34 @@ use Rattle.naga_names.specs.Naming.{HasNamed, Names, name_after}
 use Rattle.naga_names.proofs.Refusal.{element}
 use Rattle.module_meaning.specs.Accepted.{is_accepted}
 use Rattle.module_meaning.specs.GivenLabels.{given_labels, name_of_label}
-use Rattle.module_meaning.specs.Names.{labels_given, module_names, wgsl_names}
-use Rattle.module_meaning.specs.Part.{global_is_written, is_written_so_far}
-use Rattle.module_meaning.specs.Types.{type_names}
+use Rattle.module_meaning.specs.Names.{item_labels, labels_given, module_names, wgsl_names}
+use Rattle.module_meaning.specs.Part.{is_written_so_far}
 use Rattle.module_meaning.proofs.Part.{written_so_far_parts}
 use Rattle.naga_form.proofs.AcceptedFunctions.{functions_counted}
 use Rattle.naga_form.proofs.Names.{is_identifier}
-use Rattle.naga_form.proofs.Programs.{one_is, written_global}
-use Rattle.naga_form.specs.ConstantForms.{global_form}
+use Rattle.naga_form.proofs.Programs.{one_is}
 use Rattle.naga_form.specs.Functions.{function_form}
 use Rattle.naga_back.specs.declared.flags.WriterFlags.{WriterFlags}
 use Rattle.naga_scope.specs.GivenNames.{HasNamedSome, HasOtherUses, NamesLabels}
 use Rattle.naga_scope.specs.Plans.{IsPlanOf, Planned}
 use Rattle.naga_words.specs.Sink.{IsBehind}
 use Rattle.wgsl_text.specs.Functions.{Function, IsFunction}
-use Rattle.wgsl_text.specs.Reading.{HasOneReading, ReadsExpression, ReadsFunction}
+use Rattle.wgsl_text.specs.Reading.{HasOneReading, ReadsFunction}
 use Rattle.wgsl_text.specs.Text.{text}
 use Rattle.wgsl_text.specs.Words.{IsIdentifier}
-use Rattle.wgsl_text.proofs.Reading.{expression_has_one_reading, function_has_one_reading}
+use Rattle.wgsl_text.proofs.Reading.{function_has_one_reading}
 use Rattle.naga_wgsl_fns.specs.Errors.{IsNotYetWritten, IsWant}
 use Rattle.naga_wgsl_fns.specs.FunctionText.{tells_types}
 use Rattle.naga_wgsl_fns.specs.Functions.{known_of, names_of, text_of, text_under}
-use Rattle.naga_wgsl_fns.specs.Constants.{global_text}
-use Rattle.naga_wgsl_fns.specs.Items.{FunctionWriting, GlobalWriting, IsFunctionRefusal}
-use Rattle.naga_wgsl_fns.specs.Items.{IsGlobalRefusal}
-use Rattle.naga_wgsl_fns.specs.Items.{given_behind, text_behind}
-use Rattle.naga_wgsl_fns.specs.Refusals.{IsPlanRefusal, NamesGlobal, TellsOfModule}
+use Rattle.naga_wgsl_fns.specs.Items.{FunctionWriting, IsFunctionRefusal}
+use Rattle.naga_wgsl_fns.specs.Items.{HasNamedItemsOf, OfFunction, given_behind, text_behind}
+use Rattle.naga_back.specs.declared.context.FunctionType.{FunctionType}
+use Rattle.naga_back.specs.declared.context.FunctionType.TheVariants as item
+use Rattle.naga_wgsl_fns.specs.Refusals.{IsPlanRefusal, TellsOfModule}
 use Rattle.naga_wgsl_fns.specs.declared.error.Error.{Error}
 use Rattle.naga_wgsl_fns.specs.declared.error.Error.TheVariants.{FmtError, Memory, Unimplemented}
 use Rattle.naga_wgsl_fns.proofs.GivenNames.{given_are, none_full}
-use Rattle.naga_wgsl_fns.proofs.PlanRefusals.{function_written, no_global_sink, planned_holds}
+use Rattle.naga_wgsl_fns.proofs.PlanRefusals.{function_written, planned_holds}
 
 -- a module that is written so far has no entry points
 pub no_entry_point : (m : Module) → IsTrue (is_written_so_far m) → (index : ℕ) →
@@ -61,11 +60,48 @@ no_entry_point m written index lt =
     absurd (omega (arith, lt, none, counted))
 
 -- what comes from the sink or from memory tells of no module
-want_tells_nothing : (before after : ℕ) (error : Error) → IsWant before after error →
+pub want_tells_nothing : (before after : ℕ) (error : Error) → IsWant before after error →
     TellsOfModule error → ⊥
 want_tells_nothing before after (FmtError e) is tells = tells
 want_tells_nothing before after (Memory e) is tells = tells
 want_tells_nothing before after _ is tells = is
+
+-- ---- functions and entry points
+pub of_each : (ty : FunctionType) (Holds : ℕ → Type 0) → ((handle : ℕ) → Holds handle) →
+    OfFunction ty Holds
+of_each (item.Function handle) Holds all = all handle
+of_each (item.EntryPoint index) Holds all = tt
+
+pub of_one : (ty : FunctionType) (handle : ℕ) → ty ≡ item.Function handle → (Holds : ℕ → Type 0) →
+    Holds handle → OfFunction ty Holds
+of_one ty handle is Holds holds = subst (λ t. OfFunction t Holds) (sym is) holds
+
+-- a namer that has named some first labels of a function has named the items in front of them
+pub items_named : (m : Module) (handle : ℕ) (old new : Names) → HasNamedItemsOf m old →
+    HasOtherUses old new → (r : Result Unit Error) →
+    ((earlier : List (List ℕ)) → HasNamed old earlier →
+    OnOk r (HasNamed new (earlier ++ labels_given m handle)) ×
+    OnErr r (HasNamedSome new earlier (labels_given m handle))) →
+    HasNamedItemsOf m new
+items_named m handle old new items same r named =
+    by r (named (item_labels m ++ items.later) items.named.labels)
+  where
+    with_more : (more : List (List ℕ)) → HasNamed new ((item_labels m ++ items.later) ++ more) →
+        HasNamedItemsOf m new
+    with_more more has = record {
+      later = items.later ++ more;
+      named = record {
+        words = same ∙ ap (λ (o : Names). record o { uses = new.uses }) items.named.words;
+        labels = subst (HasNamed new) (append_assoc (item_labels m) items.later more) has;
+      };
+    }
+
+    by : (r : Result Unit Error) →
+        OnOk r (HasNamed new ((item_labels m ++ items.later) ++ labels_given m handle)) ×
+        OnErr r (HasNamedSome new (item_labels m ++ items.later) (labels_given m handle)) →
+        HasNamedItemsOf m new
+    by (Ok _) has = with_more (labels_given m handle) has.0
+    by (Err e) has = with_more has.1.named has.1.has
 
 module _ (m : Module) (info : ModuleInfo) (flags : WriterFlags) (earlier : List (List ℕ))
     (handle : ℕ) where
@@ -223,75 +259,4 @@ module _ (m : Module) (info : ModuleInfo) (flags : WriterFlags) (earlier : List 
       untouched = λ tells. absurd (want_tells_nothing before after e reason tells);
       named_ok = tt;
       named_err = all_named new new_named;
-    }
-
--- ---- one of the module's own expressions
-module _ (m : Module) (handle : ℕ) where
-  module _ (held : List ℕ) (before : ℕ) where
-    pub global_refused : (r : Result Unit Error) (error : Error) → IsErrAnd r (λ e. e ≡ error) →
-        IsGlobalRefusal m handle before before error →
-        GlobalWriting m handle r held held before before
-    global_refused (Ok _) error told refusal = absurd told
-    global_refused (Err e) error told refusal = record {
-      refusals = subst (IsGlobalRefusal m handle before before) (sym told) refusal;
-      text_ok = tt;
-      reading = tt;
-      failures_ok = tt;
-      text_err = ([], global_text m handle, refl, sym (append-nil held));
-      untouched = λ tells. (refl, refl);
-    }
-
-    pub global_for_part : (error : Error) → IsNotYetWritten error → IsFalse (is_written_so_far m) →
-        IsGlobalRefusal m handle before before error
-    global_for_part (Unimplemented message) is part = inl (is, part)
-    global_for_part (Memory e) is part = tt
-    global_for_part _ is part = absurd is
-
-    pub global_for_form : (error : Error) → IsFalse (global_is_written m handle) →
-        NamesGlobal m error handle → IsGlobalRefusal m handle before before error
-    global_for_form (FmtError e) formless named = absurd (no_global_sink m e handle named)
-    global_for_form (Memory e) formless named = tt
-    global_for_form (Unimplemented message) formless named = inr (formless, named)
-    global_for_form _ formless named = (formless, named)
-
-  global_for_want : (before after : ℕ) (error : Error) → IsWant before after error →
-      IsGlobalRefusal m handle before after error
-  global_for_want before after (FmtError e) is = is
-  global_for_want before after (Memory e) is = tt
-  global_for_want before after _ is = absurd is
-
-  module _ (info : ModuleInfo) (accepted : IsTrue (is_accepted m info))
-      (written : IsTrue (is_written_so_far m)) (formed : IsTrue (global_is_written m handle)) where
-    one_expression :
-        HasOneReading ReadsExpression (global_text m handle) (global_form m (type_names m) handle)
-    unfolding global_text
-    one_expression =
-        expression_has_one_reading (global_form m (type_names m) handle)
-        (written_global false m info accepted written handle formed)
-
-    pub global_writes : (r : Result Unit Error) (held now : List ℕ) (before after : ℕ) →
-        OnOk r (now ≡ held ++ global_text m handle) →
-        OnErr r (IsBehind held (global_text m handle) now) →
-        OnOk r (after ≡ before) → IfErr r (IsWant before after) →
-        GlobalWriting m handle r held now before after
-    global_writes (Ok _) held now before after text_ok text_err kept reason = record {
-      refusals = record { of_part = written; formed = formed };
-      text_ok = text_ok;
-      reading = record {
-        text = global_text m handle;
-        appended = text_ok;
-        expression = global_form m (type_names m) handle;
-        reading = one_expression;
-      };
-      failures_ok = kept;
-      text_err = tt;
-      untouched = tt;
-    }
-    global_writes (Err e) held now before after text_ok text_err kept reason = record {
-      refusals = global_for_want before after e reason;
-      text_ok = tt;
-      reading = tt;
-      failures_ok = tt;
-      text_err = text_err;
-      untouched = λ tells. absurd (want_tells_nothing before after e reason tells);
     }

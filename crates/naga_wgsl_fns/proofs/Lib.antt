@@ -5,6 +5,7 @@ pub mod ExpressionRows
 pub mod FormlessConstants
 pub mod FunctionRows
 pub mod GivenNames
+pub mod GlobalExpressions
 pub mod ImageRows
 pub mod Items
 pub mod Literals

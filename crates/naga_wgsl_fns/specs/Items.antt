@@ -1,18 +1,17 @@
--- What is promised of a call that writes one function of a module, or one of its own expressions.
+-- What is promised of a call that writes one function of a module.
 --
 -- Throughout, m is the module, earlier are labels that were named before, handle is that of the function,
 -- and explicit says whether `let`s tell types.
-use Rattle.std.specs.Prelude.{◌≡◌, ⊤, ℕ, ◌<◌, ◌++◌, Bool, List, ◌⊎◌, codes, string_bytes, IfErr, IsFalse, IsTrue}
+use Rattle.std.specs.Prelude.{◌≡◌, ⊤, ℕ, ◌<◌, ◌++◌, Bool, List, ◌⊎◌, codes, string_bytes, IfErr, IsFalse}
 use Rattle.std.specs.Prelude.{Ok, Err, OnErr, OnOk, Result, length, vec_len}
 use Rattle.naga_ir.specs.declared.module.Module.{Module}
 use Rattle.naga_info.specs.declared.info.ModuleInfo.{ModuleInfo}
 use Rattle.naga_names.specs.Naming.{HasNamed, Names}
 use Rattle.module_meaning.specs.GivenLabels.{name_of_label}
 use Rattle.module_meaning.specs.Names.{item_labels, labels_given, wgsl_names}
-use Rattle.module_meaning.specs.Part.{global_is_written, is_written_so_far}
-use Rattle.wgsl_text.specs.Expressions.{Expression}
+use Rattle.module_meaning.specs.Part.{is_written_so_far}
 use Rattle.wgsl_text.specs.Functions.{Function}
-use Rattle.wgsl_text.specs.Reading.{HasOneReading, ReadsExpression, ReadsFunction}
+use Rattle.wgsl_text.specs.Reading.{HasOneReading, ReadsFunction}
 use Rattle.naga_back.specs.declared.context.FunctionType.{FunctionType}
 use Rattle.naga_back.specs.declared.context.FunctionType.TheVariants as item
 use Rattle.naga_back.specs.declared.flags.WriterFlags.{WriterFlags}
@@ -21,9 +20,7 @@ use Rattle.naga_words.specs.Sink.{IsBehind}
 use Rattle.naga_wgsl_fns.specs.Errors.{IsSinkWant}
 use Rattle.naga_wgsl_fns.specs.FunctionText.{tells_types}
 use Rattle.naga_wgsl_fns.specs.Functions.{text_under}
-use Rattle.naga_wgsl_fns.specs.Constants.{global_text}
-use Rattle.naga_wgsl_fns.specs.Refusals.{HasNamedLabels, IsFault, IsWritableAt, NamesGlobal}
-use Rattle.naga_wgsl_fns.specs.Refusals.{TellsOfModule}
+use Rattle.naga_wgsl_fns.specs.Refusals.{HasNamedLabels, IsFault, IsWritableAt, TellsOfModule}
 use Rattle.naga_wgsl_fns.specs.declared.error.Error.{Error}
 use Rattle.naga_wgsl_fns.specs.declared.error.Error.TheVariants.{FmtError, Memory, Unimplemented}
 
@@ -106,40 +103,3 @@ pub record FunctionWriting (m : Module) (info : ModuleInfo) (flags : WriterFlags
   -- first ones of them.
   pub named_ok : OnOk answer (HasNamed namer (earlier ++ labels_given m handle))
   pub named_err : OnErr answer (HasNamedSome namer earlier (labels_given m handle))
-
--- ---- one of the module's own expressions
--- why it is refused, where the sink had failed so often before and has failed so often now
-abbrev pub IsGlobalRefusal : Module → (handle : ℕ) → (before now : ℕ) → Error → Type 0
-IsGlobalRefusal m handle before now (FmtError e) = IsSinkWant before now e
-IsGlobalRefusal m handle before now (Memory e) = ⊤
-IsGlobalRefusal m handle before now (Unimplemented message) =
-    ((string_bytes message ≡ codes "not yet written") × IsFalse (is_written_so_far m))
-    ⊎ (IsFalse (global_is_written m handle) × NamesGlobal m (Unimplemented message) handle)
-IsGlobalRefusal m handle before now error =
-    IsFalse (global_is_written m handle) × NamesGlobal m error handle
-
--- no reason stands there
-pub record IsWritableGlobal (m : Module) (handle : ℕ) : Type 0 where
-  pub of_part : IsTrue (is_written_so_far m)
-  pub formed : IsTrue (global_is_written m handle)
-
-abbrev pub RefusesGlobalOnlyFor : Result Unit Error → Module → (handle : ℕ) → (before now : ℕ) → Type 0
-RefusesGlobalOnlyFor (Ok _) m handle before now = IsWritableGlobal m handle
-RefusesGlobalOnlyFor (Err error) m handle before now = IsGlobalRefusal m handle before now error
-
--- a text stands behind what the sink held, and it is read as one expression and as no other
-pub record AppendsOneExpression (held now : List ℕ) : Type 0 where
-  pub text : List ℕ
-  pub appended : now ≡ held ++ text
-  pub expression : Expression
-  pub reading : HasOneReading ReadsExpression text expression
-
--- A call was asked to write the expression behind the text that its sink held, as above.
-pub record GlobalWriting (m : Module) (handle : ℕ) (answer : Result Unit Error) (held now : List ℕ)
-    (before after : ℕ) : Type 0 where
-  pub refusals : RefusesGlobalOnlyFor answer m handle before after
-  pub text_ok : OnOk answer (now ≡ held ++ global_text m handle)
-  pub reading : OnOk answer (AppendsOneExpression held now)
-  pub failures_ok : OnOk answer (after ≡ before)
-  pub text_err : OnErr answer (IsBehind held (global_text m handle) now)
-  pub untouched : IfErr answer (λ e. TellsOfModule e → (now ≡ held) × (after ≡ before))

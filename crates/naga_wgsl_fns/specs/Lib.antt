@@ -4,6 +4,7 @@ pub mod Errors
 pub mod Expressions
 pub mod FunctionText
 pub mod Functions
+pub mod GlobalExpressions
 pub mod Images
 pub mod Items
 pub mod Literals

@@ -11,6 +11,7 @@ mod expressions;
 mod formless_constants;
 mod forms;
 pub mod functions;
+pub mod global_expressions;
 mod images;
 pub mod implemented;
 pub mod items;
@@ -27,8 +28,9 @@ mod types;
 
 pub use error::Error;
 pub use functions::write_planned;
+pub use global_expressions::write_global_expression;
 pub use implemented::to_wgsl_if_implemented;
-pub use items::{write_function, write_global_expression};
+pub use items::write_function;
 pub use literal::write_literal;
 pub use plans::plan_of;
 pub use sinks::put;

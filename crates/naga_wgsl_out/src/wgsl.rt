@@ -1,5 +1,5 @@
-//! The writer of modules.
+//! The writer of modules, and of their functions and own expressions one by one.
 
-pub use crate::writer::{Writer, write_string};
+pub use crate::writer::{Writer, names_of, write_string};
 pub use naga_back::WriterFlags;
-pub use naga_wgsl_fns::Error;
+pub use naga_wgsl_fns::{Error, write_function, write_global_expression};

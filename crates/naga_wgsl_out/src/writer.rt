@@ -16,6 +16,7 @@ ghost use Rattle.naga_wgsl_fns.specs.Appends.{Appends};
 ghost use Rattle.naga_wgsl_fns.specs.FunctionText.{tells_types};
 ghost use Rattle.naga_wgsl_fns.specs.Functions.{text_of_function};
 ghost use Rattle.naga_wgsl_out.specs.Headline.{EachReading, FaithfulWriting, answer_of, text_of};
+ghost use Rattle.naga_wgsl_fns.specs.Items.{HasNamedItemsOf};
 ghost use Rattle.naga_wgsl_fns.specs.Refusals.{TellsOfModule};
 ghost use Rattle.naga_wgsl_out.specs.ModuleRefusals.{ComesBeforeText, HasAllNames};
 ghost use Rattle.naga_wgsl_out.specs.ModuleRefusals.{HasNamedBefore, IsNamesRefusal};
@@ -222,10 +223,18 @@ fn write_function_line<W: TextSink>(
     put("\n", out)
 }
 
-/// The names of a module's items in WGSL, and the namer that gave them.
-fn names_of(alloc: Global, module: &Module) -> Result<(HashMap<NameKey, String>, Namer), Error>
+/// The names of a module's items in WGSL, as [`Writer`] gives them, and the namer that gave them, which
+/// can go on from there.
+///
+/// A module of which so many labels are alike that an item gets no name is refused as `Custom`, `namer
+/// is full`, and one with more members, arguments or entry points than a key can tell as `Custom`,
+/// `name key out of range`.
+pub fn names_of(alloc: Global, module: &Module) -> Result<(HashMap<NameKey, String>, Namer), Error>
     ensures ok { IfOk result (λ r. HasAllNames «module».now (names_in r.0)) }
     ensures namer { IfOk result (λ r. HasNamedBefore «module».now 0 r.1) }
+    // As a call asks for them that writes one of the items.
+    ensures names { IfOk result (λ r. HasNamesOf «module».now (names_in r.0)) }
+    ensures items { IfOk result (λ r. HasNamedItemsOf «module».now r.1) }
     ensures err { IfErr result (IsNamesRefusal «module».now) }
 {
     let mut names = HashMap::new(alloc);

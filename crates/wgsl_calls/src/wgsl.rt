@@ -1,8 +1,11 @@
 //! The writer, and what is asked before it.
 use crate::texts::reads;
 use bitflags::Flags;
+use naga_wgsl_out::back::FunctionType;
 use naga_wgsl_out::info::{accepts, count, unaccepted};
-use naga_wgsl_out::wgsl::{Error, Writer, WriterFlags, write_string};
+use naga_wgsl_out::ir::{Expression, Literal, Place, Scalar};
+use naga_wgsl_out::wgsl::{Error, Writer, WriterFlags, names_of, write_function};
+use naga_wgsl_out::wgsl::{write_global_expression, write_string};
 use sample_modules::{Row, Sample};
 use std::alloc::Global;
 use std::process::Abort;
@@ -27,6 +30,71 @@ fn writes(rt: &impl Abort, alloc: Global, sample: &mut Sample) -> Result<(), Err
     written?;
     reads(rt, text.as_str(), STORE_WITH_TYPES);
     assert_eq!(rt; WriterFlags::EXPLICIT_TYPES.bits(), 1);
+    Ok(())
+}
+
+const NAMED: &str = "fn e(x: i32) -> i32 {\n    let x_1 = (x + x);\n    return x_1;\n}\n";
+
+const NAMED_AGAIN: &str = "fn e(x: i32) -> i32 {\n    let x_2 = (x + x);\n    return x_2;\n}\n";
+
+/// A function is written twice behind one `names_of`.
+fn writes_a_function(rt: &impl Abort, alloc: Global, sample: &mut Sample) -> Result<(), Error> {
+    Row::Named.build(sample)?;
+    count(&mut sample.info, &sample.module);
+    assert!(rt; accepts(&sample.module, &sample.info));
+    assert_eq!(rt; sample.module.functions.len(), 1);
+    let (names, mut namer) = names_of(alloc, &sample.module)?;
+    for wanted in [NAMED, NAMED_AGAIN] {
+        let mut text = String::new(alloc);
+        write_function(
+            alloc,
+            &sample.module,
+            &sample.info,
+            FunctionType::Function(Place::from_index(0)),
+            &names,
+            &mut namer,
+            WriterFlags::empty(),
+            &mut text,
+        )?;
+        reads(rt, text.as_str(), wanted);
+    }
+    Ok(())
+}
+
+#[test]
+fn a_function_is_written_by_itself(rt: HostRuntime) -> Result<(), Fail> {
+    let mut sample = Sample::new(rt.alloc());
+    let written = writes_a_function(&rt, rt.alloc(), &mut sample);
+    drop(sample);
+    written?;
+    Ok(())
+}
+
+/// A constant without a name, as an initialiser.
+fn writes_an_initialiser(
+    rt: &impl Abort,
+    alloc: Global,
+    sample: &mut Sample,
+) -> Result<(), Error> {
+    let i32_type = sample.scalar(Scalar::I32)?;
+    let init = sample.global(Expression::Literal(Literal::I32(-5)), i32_type)?;
+    let constant = sample.constant(i32_type, init)?;
+    let handle = sample.global(Expression::Constant(constant), i32_type)?;
+    assert!(rt; accepts(&sample.module, &sample.info));
+    assert!(rt; handle.index() < sample.module.global_expressions.len());
+    let (names, _) = names_of(alloc, &sample.module)?;
+    let mut text = String::new(alloc);
+    write_global_expression(alloc, &sample.module, &names, handle, &mut text)?;
+    reads(rt, text.as_str(), "-5i");
+    Ok(())
+}
+
+#[test]
+fn an_initialiser_is_written_by_itself(rt: HostRuntime) -> Result<(), Fail> {
+    let mut sample = Sample::new(rt.alloc());
+    let written = writes_an_initialiser(&rt, rt.alloc(), &mut sample);
+    drop(sample);
+    written?;
     Ok(())
 }
 
