@@ -1,0 +1,51 @@
+use Rattle.naga_form.proofs.ToldItems.{written_are_told}
+use Rattle.naga_scope.proofs.WrittenConstants.{globals_in_order}
+use Rattle.naga_wgsl_fns.proofs.Items.{for_plan, none_named, refused, writes}
+use Rattle.naga_wgsl_fns.specs.declared.error.Error.TheVariants.{Memory}
+use Rattle.naga_wgsl_fns.proofs.items.write_by_plan.Goals as goal
+
+pub of-requires : goal.of-requires
+of-requires g c = record {
+  ordered =
+      globals_in_order c.args.«module».now c.args.info.now c.requires.accepted
+      (written_are_told c.args.«module».now c.requires.written).types;
+}
+
+pub returns-in_err-globals-clause-function : goal.returns-in_err-globals-clause-function
+returns-in_err-globals-clause-function g c =
+    λ earlier has.
+    refused c.args.«module».now c.args.info.now c.args.flags earlier c.args.handle
+    (g.W.TextSink.text c.args.out.now) (g.W.TextSink.failures c.args.out.now) c.from_residual.result
+    _ c.args.namer.now c.from_residual.ensures.1 tt
+    (none_named c.args.«module».now c.args.info.now c.args.flags earlier c.args.handle
+    c.args.namer.now has)
+
+pub returns-in_err-plan-clause-function : goal.returns-in_err-plan-clause-function
+returns-in_err-plan-clause-function g c =
+    λ earlier has.
+    let m = c.args.«module».now in
+    let info = c.args.info.now in
+    let held = g.W.TextSink.text c.args.out.now in
+    let before = g.W.TextSink.failures c.args.out.now in
+    refused m info c.args.flags earlier c.args.handle held before c.from_residual-in_err-plan.result
+    _ c.plan_of.new.namer c.from_residual-in_err-plan.ensures.1
+    (for_plan m info c.args.flags earlier c.args.handle held before _
+    (c.in_err-plan.ensures.err earlier has))
+    (c.in_err-plan.ensures.begun.some earlier has)
+
+pub returns-in_err-plan-clause-words : goal.returns-in_err-plan-clause-words
+returns-in_err-plan-clause-words g c = c.in_err-plan.ensures.begun.words
+
+pub returns-clause-function : goal.returns-clause-function
+returns-clause-function g c =
+    λ earlier has.
+    writes c.args.«module».now c.args.info.now c.args.flags earlier c.args.handle c.requires.accepted
+    c.requires.written c.requires.handle c.args.namer.now c.plan_of.new.namer c.requires.words has
+    c.in_ok-plan.plan c.in_ok-plan.ensures.ok c.in_ok-plan.ensures.named c.write_planned.result
+    (g.W.TextSink.text c.args.out.now) (g.W.TextSink.text c.write_planned.new.out)
+    (g.W.TextSink.failures c.args.out.now) (g.W.TextSink.failures c.write_planned.new.out)
+    c.write_planned.ensures.text_ok c.write_planned.ensures.text_err
+    c.write_planned.ensures.failures_ok c.write_planned.ensures.reason
+
+pub returns-clause-words : goal.returns-clause-words
+returns-clause-words g c = c.in_ok-plan.ensures.named.words
