@@ -7,7 +7,7 @@ pub mod FunctionRows
 pub mod GivenNames
 pub mod GlobalExpressions
 pub mod ImageRows
-pub mod Items
+pub mod SingleFunctions
 pub mod Literals
 pub mod LoadRows
 pub mod ModuleTexts

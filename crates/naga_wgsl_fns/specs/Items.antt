@@ -1,7 +1,7 @@
 -- What is promised of a call that writes one function of a module.
 --
--- Throughout, m is the module, earlier are labels that were named before, handle is that of the function,
--- and explicit says whether `let`s tell types.
+-- Throughout, m is the module, earlier are labels that were named before, handle is that of the
+-- function, and explicit says whether `let`s tell types.
 use Rattle.std.specs.Prelude.{◌≡◌, ⊤, ℕ, ◌<◌, ◌++◌, Bool, List, ◌⊎◌, codes, string_bytes, IfErr, IsFalse}
 use Rattle.std.specs.Prelude.{Ok, Err, OnErr, OnOk, Result, length, vec_len}
 use Rattle.naga_ir.specs.declared.module.Module.{Module}
@@ -55,9 +55,9 @@ abbrev pub text_behind :
 text_behind m info flags earlier handle =
     text_under m info flags (given_behind m earlier handle) handle
 
--- Why the function is refused, where the sink had failed so often before and has failed so often now:
--- the sink failed, memory ran out, the function has a fault, or the module holds what is not written
--- so far.
+-- Why the function is refused, where the sink had failed so often before and has failed so often
+-- now: the sink failed, memory ran out, the function has a fault, or the module holds what is not
+-- written so far.
 abbrev pub IsFunctionRefusal : (explicit : Bool) → Module → ModuleInfo →
     (earlier : List (List ℕ)) → (handle : ℕ) → (before now : ℕ) → Error → Type 0
 IsFunctionRefusal explicit m info earlier handle before now (FmtError e) = IsSinkWant before now e
@@ -83,14 +83,14 @@ pub record AppendsOneFunction (held now : List ℕ) : Type 0 where
   pub function : Function
   pub reading : HasOneReading ReadsFunction text function
 
--- A call was asked to write the function behind the text that its sink held; it answered, and the sink
--- holds another text now. The sink had failed so often before, and has failed so often now. The namer
--- is that behind the call.
+-- A call was asked to write the function behind the text that its sink held; it answered, and the
+-- sink holds another text now. The sink had failed so often before, and has failed so often now.
+-- The namer is that behind the call.
 pub record FunctionWriting (m : Module) (info : ModuleInfo) (flags : WriterFlags)
     (earlier : List (List ℕ)) (handle : ℕ) (answer : Result Unit Error) (namer : Names)
     (held now : List ℕ) (before after : ℕ) : Type 0 where
-  -- It refuses only for a reason that stands in the function, for what is not written so far, for memory
-  -- or the sink; and where it does not, no reason stands there.
+  -- It refuses only for a reason that stands in the function, for what is not written so far, for
+  -- memory or the sink; and where it does not, no reason stands there.
   pub refusals : RefusesFunctionOnlyFor answer (tells_types flags) m info earlier handle before after
   -- Otherwise it appends the function's text, which has exactly one reading.
   pub text_ok : OnOk answer (now ≡ held ++ text_behind m info flags earlier handle)
@@ -99,7 +99,7 @@ pub record FunctionWriting (m : Module) (info : ModuleInfo) (flags : WriterFlags
   -- A call that gives up leaves a beginning of it, and nothing where it tells of the module.
   pub text_err : OnErr answer (IsBehind held (text_behind m info flags earlier handle) now)
   pub untouched : IfErr answer (λ e. TellsOfModule e → (now ≡ held) × (after ≡ before))
-  -- The namer has named the labels that front ends gave in the function; where the call gives up, some
-  -- first ones of them.
+  -- The namer has named the labels that front ends gave in the function; where the call gives up,
+  -- some first ones of them.
   pub named_ok : OnOk answer (HasNamed namer (earlier ++ labels_given m handle))
   pub named_err : OnErr answer (HasNamedSome namer earlier (labels_given m handle))

@@ -59,8 +59,8 @@ use Rattle.naga_wgsl_fns.specs.declared.error.Error.TheVariants.{FmtError, Custo
 use Rattle.naga_wgsl_fns.specs.declared.error.Error.TheVariants.{Memory, Unsupported}
 use Rattle.naga_wgsl_fns.specs.declared.error.Error.TheVariants.{UnsupportedRelationalFunction}
 
--- the names of some labels that front ends gave in the function with this handle can't be told behind
--- these earlier labels, since so many of them have one base
+-- the names of some labels that front ends gave in the function with this handle can't be told
+-- behind these earlier labels, since so many of them have one base
 abbrev pub GivenAreFullIn : Module → (earlier : List (List ℕ)) → (handle : ℕ) → Type 0
 GivenAreFullIn m earlier handle = SomeLabelIsFull wgsl_names earlier (labels_given m handle)
 
@@ -278,16 +278,16 @@ TellsOfFullNamer (Custom message) = string_bytes message ≡ codes "namer is ful
 TellsOfFullNamer _ = ⊥
 
 -- the rules of scope hold in the function with this handle, each written handle of it and each type
--- that it spells has a form, and the labels that front ends gave in it can all be named behind these
+-- that it spells has a form, and behind these labels those that front ends gave in it can be named
 pub record IsWritableAt (explicit : Bool) (m : Module) (info : ModuleInfo)
     (earlier : List (List ℕ)) (handle : ℕ) : Type 0 where
   pub in_scope : ScopeHoldsIn m info handle
   pub formed : OfFunctionAt m info handle (WrittenHaveForms explicit m info)
   pub told : GivenAreFullIn m earlier handle → ⊥
 
--- why it has no plan: the rules of scope don't hold in it, an expression without a form is written in
--- it or a type without one spelled, or a label that a front end gave in it gets no name; or memory ran
--- out
+-- why it has no plan: the rules of scope don't hold in it, an expression without a form is written
+-- in it or a type without one spelled, or a label that a front end gave in it gets no name; or
+-- memory ran out
 abbrev pub IsFault : (explicit : Bool) → Module → ModuleInfo → (earlier : List (List ℕ)) →
     (handle : ℕ) → Error → Type 0
 IsFault explicit m info earlier handle error =

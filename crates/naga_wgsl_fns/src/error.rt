@@ -102,8 +102,8 @@ pub fn custom(alloc: Global, text: &str) -> Error
     }
 }
 
-/// The refusal of a module of which an item or a label gets no name: `namer is full`, or `name key out
-/// of range`; want of memory where there was none for the name, or is none for the text.
+/// The refusal of a module of which an item or a label gets no name: `namer is full`, or `name key
+/// out of range`; want of memory where there was none for the name, or is none for the text.
 pub fn names_error(alloc: Global, error: NamerError) -> Error
     ensures { IsErrorOfNames error result }
 {

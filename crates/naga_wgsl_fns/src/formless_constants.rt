@@ -6,12 +6,11 @@ ghost use Rattle.module_meaning.specs.Part.{constant_is_written, global_is_writt
 ghost use Rattle.naga_scope.specs.Marks.{GlobalsStandInOrder, MarksGlobals, is_marked};
 ghost use Rattle.naga_wgsl_fns.specs.Refusals.{NamesConstant, NamesGlobal};
 
+use crate::error::{Error, custom};
 use crate::forms::{literal_without_form, type_without_form};
 use naga_info::TypeResolution;
 use naga_ir::{Constant, Expression, Handle, Module};
 use naga_scope::GlobalExpressions;
-use crate::error::Error;
-use crate::error::custom;
 use std::alloc::Global;
 
 /// The refusal that names a constant that has no form, by the first part of its initialiser that has

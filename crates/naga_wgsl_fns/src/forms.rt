@@ -14,6 +14,7 @@ ghost use Rattle.naga_wgsl_fns.specs.Refusals.{NamesFunction, NamesLiteral, Name
 ghost use Rattle.naga_wgsl_fns.specs.Refusals.{NamesMatrix, NamesScalar, NamesType, converted};
 ghost use Rattle.naga_wgsl_fns.specs.Refusals.{NamesConstantsOf, pointed_scalar};
 
+use crate::error::{Error, custom, unimplemented};
 use crate::formless_constants::constant_without_form;
 use crate::lacking::lacking_scalar;
 use naga_info::{FunctionInfo, TypeResolution};
@@ -22,8 +23,6 @@ use naga_ir::{
     SwizzleComponent, Type_, TypeInner, UniqueArena,
 };
 use naga_scope::{GlobalExpressions, converted_scalar, sampling_has_form, scalar_behind};
-use crate::error::Error;
-use crate::error::{custom, unimplemented};
 use std::alloc::Global;
 use wgsl_words::TryToWgsl;
 

@@ -29,12 +29,12 @@ use std::collections::HashMap;
 /// module is accepted with what is known of it, `names` has the names of its items in WGSL, and
 /// `namer` is the one that gave them, with any calls since.
 ///
-/// The text has one reading as a function. It is that which stands in a text of the whole module, but
-/// that the labels which front ends gave in the function get the names that `namer` gives them next,
-/// in the order of the text. The function is looked at before its text: for what stands in it, it is
-/// refused as a module is that has it. Such a refusal leaves the sink as it was, and `namer` has named
-/// some first ones of these labels. After want of memory or a failure of the sink a beginning of the
-/// text may stand behind what the sink held.
+/// The text has one reading as a function. It is that which stands in a text of the whole module,
+/// but that the labels which front ends gave in the function get the names that `namer` gives them
+/// next, in the order of the text. The function is looked at before its text: for what stands in
+/// it, it is refused as a module is that has it. Such a refusal leaves the sink as it was, and
+/// `namer` has named some first ones of these labels. After want of memory or a failure of the sink
+/// a beginning of the text may stand behind what the sink held.
 ///
 /// So far a module of which not every part is written is refused as `Unimplemented`, `not yet
 /// written`, and so each entry point.

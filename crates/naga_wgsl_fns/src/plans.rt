@@ -25,10 +25,10 @@ use naga_names::namer::Namer;
 use naga_scope::{GlobalExpressions, Plan, PlanError};
 use std::alloc::Global;
 
-/// The plan of a function of an accepted module that is written so far, by the marks of the module's
-/// own expressions: the rules of scope hold in the function, each written expression and each type
-/// that its text spells has a form, and the labels that front ends gave in it have names, which
-/// `namer` has given them in the order of the text. Its words and prefixes are those of WGSL.
+/// The plan of a function of an accepted module that is written so far, by the marks of the
+/// module's own expressions: the rules of scope hold in the function, each written expression and
+/// each type that its text spells has a form, and the labels that front ends gave in it have names,
+/// which `namer` has given them in the order of the text. Its words and prefixes are those of WGSL.
 ///
 /// Else what keeps the function from having one is told by name, and `namer` has named some first
 /// ones of its labels.

@@ -20,9 +20,9 @@ use Rattle.naga_wgsl_fns.specs.declared.error.Error.{Error}
 use Rattle.naga_wgsl_fns.specs.declared.error.Error.TheVariants.{FmtError, Custom, Unimplemented}
 use Rattle.naga_wgsl_fns.specs.declared.error.Error.TheVariants.{Memory}
 
--- the names of some items of the module can't be told, since so many of them have one base; or those
--- of some labels that front ends gave in a function, behind all labels in front of them; or, of either,
--- the key of an item is out of range
+-- the names of some items of the module can't be told, since so many of them have one base; or
+-- those of some labels that front ends gave in a function, behind all labels in front of them; or,
+-- of either, the key of an item is out of range
 abbrev pub ItemsAreFull : Module → Type 0
 ItemsAreFull m = SomeNameIsFull wgsl_names (labelled_items wgsl_names m)
 
@@ -63,8 +63,8 @@ IsOutOfScope m info message = (message ≡ codes "operand out of scope") × (Sco
 
 -- Why a module is refused, of which this is known, where the sink had failed so often before and
 -- has failed so often now: the sink failed, memory ran out, the names can't be told, an operand is
--- out of scope, an expression without a form is written or a type without one spelled, or the module
--- holds what is not written so far.
+-- out of scope, an expression without a form is written or a type without one spelled, or the
+-- module holds what is not written so far.
 abbrev pub IsRefusal : (explicit : Bool) → Module → ModuleInfo → (before now : ℕ) → Error → Type 0
 IsRefusal explicit m info before now (FmtError e) = IsSinkWant before now e
 IsRefusal explicit m info before now (Memory e) = ⊤

@@ -1,6 +1,6 @@
 use Rattle.naga_form.proofs.ToldItems.{written_are_told}
 use Rattle.naga_scope.proofs.WrittenConstants.{globals_in_order}
-use Rattle.naga_wgsl_fns.proofs.Items.{for_plan, none_named, refused, writes}
+use Rattle.naga_wgsl_fns.proofs.SingleFunctions.{for_plan, none_named, refused, writes}
 use Rattle.naga_wgsl_fns.specs.declared.error.Error.TheVariants.{Memory}
 use Rattle.naga_wgsl_fns.proofs.items.write_by_plan.Goals as goal
 

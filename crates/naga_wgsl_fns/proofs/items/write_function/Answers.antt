@@ -1,7 +1,7 @@
 use Rattle.std.proofs.Common.{◌≡◌, ◌∙◌, refl, subst, sym}
 use Rattle.naga_wgsl_fns.specs.Items.{IsEntryPoint, IsFunctionOf}
-use Rattle.naga_wgsl_fns.proofs.Items.{for_part, items_named, no_entry_point, none_named, of_each}
-use Rattle.naga_wgsl_fns.proofs.Items.{of_one, refused}
+use Rattle.naga_wgsl_fns.proofs.SingleFunctions.{for_part, items_named, no_entry_point, none_named, of_each}
+use Rattle.naga_wgsl_fns.proofs.SingleFunctions.{of_one, refused}
 use Rattle.naga_wgsl_fns.proofs.items.write_function.Goals as goal
 
 pub returns-then-not-is_written_so_far-clause-function :
@@ -47,5 +47,5 @@ returns-in-Function-clause-named g c =
 pub unreachable-requires : goal.unreachable-requires
 unreachable-requires g c =
     no_entry_point c.args.«module».now
-    (sym c.is_written_so_far.ensures ∙ c.if-not-is_written_so_far.false) c.in-EntryPoint._
+    (sym c.is_written_so_far.ensures ∙ c.if-not-is_written_so_far.false) _
     (subst (λ t. IsFunctionOf t c.args.«module».now) c.in-EntryPoint.is c.requires.there)

@@ -3,9 +3,9 @@ use Rattle.std.proofs.Common.{◌≡◌, ◌<◌, ◌^◌, ◌∙◌, ◌++◌, 
 use Rattle.std.proofs.Common.{ap, arith}
 use Rattle.std.proofs.Common.{inl, inr, length, refl, slice_get, subst, sym, take, unwrap_or}
 use Rattle.std.specs.Prelude.{Err, IfErr, IsErrAnd, IsFalse, IsTrue, Ok, OnErr, OnOk, Result, vec_len}
-use Rattle.std.specs.Option.{option_map_or}
+use Rattle.std.specs.Option.{is_none, option_map_or}
 use Rattle.std.proofs.lemmas.Bool.{and_parts, eqb-true, leb-true}
-use Rattle.std.specs.Prelude.{◌==◌, ◌&&◌, is_none}
+use Rattle.std.specs.Prelude.{◌==◌, ◌&&◌}
 use Rattle.std.specs.List.{list_all}
 use Rattle.naga_ir.specs.declared.module.Function as ir_function
 use Rattle.naga_ir.specs.declared.module.Module.{Module}
@@ -49,11 +49,8 @@ pub no_entry_point : (m : Module) → IsTrue (is_written_so_far m) → (index : 
     index < vec_len m.entry_points → ⊥
 no_entry_point m written index lt =
     let declares = (written_so_far_parts m written).0 in
-    let one = and_parts (list_all (λ c. is_none c.name) m.constants)
-    (length m.overrides == 0 && (length m.global_variables == 0 && length m.entry_points.items == 0))
-    declares in
-    let two = and_parts (length m.overrides == 0)
-    (length m.global_variables == 0 && length m.entry_points.items == 0) one.1 in
+    let one = and_parts (list_all (λ c. is_none c.name) m.constants) _ declares in
+    let two = and_parts (length m.overrides == 0) _ one.1 in
     let three = and_parts (length m.global_variables == 0) (length m.entry_points.items == 0) two.1 in
     let none : length m.entry_points.items ≡ 0 = eqb-true (length m.entry_points.items) 0 three.1 in
     let counted : m.entry_points.len ≡ length m.entry_points.items = m.entry_points.ok.0 in
@@ -200,7 +197,7 @@ module _ (m : Module) (info : ModuleInfo) (flags : WriterFlags) (earlier : List 
         let same : known_of info handle ≡ known.0 = ap (λ o. unwrap_or o []) known.1 in
         subst
         (λ es. IsFunction (function_form explicit (module_names m) (given_behind m earlier handle) m info
-            handle f es))
+        handle f es))
         (sym same)
         (one_is explicit m info accepted written (given_behind m earlier handle) handle f stands known.0
         known.1 (identifiers f stands) (function_written explicit m info accepted written handle f stands)
@@ -211,7 +208,7 @@ module _ (m : Module) (info : ModuleInfo) (flags : WriterFlags) (earlier : List 
         subst (λ t. HasOneReading ReadsFunction t form)
         (sym (ap
         (λ o. option_map_or
-            (λ f. text_of m info flags (given_behind m earlier handle) handle f (known_of info handle)) o [])
+        (λ f. text_of m info flags (given_behind m earlier handle) handle f (known_of info handle)) o [])
         stands))
         (function_has_one_reading form is_function)
 
