@@ -5,7 +5,7 @@ pub mod ExpressionRows
 pub mod FormlessConstants
 pub mod FunctionRows
 pub mod GivenNames
-pub mod GlobalExpressions
+pub mod SingleExpressions
 pub mod ImageRows
 pub mod SingleFunctions
 pub mod Literals

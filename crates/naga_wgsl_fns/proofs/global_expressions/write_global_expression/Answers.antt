@@ -1,8 +1,8 @@
 use Rattle.std.proofs.Common.{◌∙◌, refl, sym}
 use Rattle.naga_form.proofs.ToldItems.{written_are_told}
 use Rattle.naga_scope.proofs.WrittenConstants.{globals_in_order}
-use Rattle.naga_wgsl_fns.proofs.GlobalExpressions.{global_for_form, global_for_part, global_refused}
-use Rattle.naga_wgsl_fns.proofs.GlobalExpressions.{global_writes}
+use Rattle.naga_wgsl_fns.proofs.SingleExpressions.{global_for_form, global_for_part, global_refused}
+use Rattle.naga_wgsl_fns.proofs.SingleExpressions.{global_writes}
 use Rattle.naga_wgsl_fns.proofs.global_expressions.write_global_expression.Goals as goal
 
 pub returns-then-not-is_written_so_far : goal.returns-then-not-is_written_so_far

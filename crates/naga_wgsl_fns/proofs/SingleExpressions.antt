@@ -17,7 +17,7 @@ use Rattle.naga_wgsl_fns.specs.GlobalExpressions.{GlobalWriting, IsGlobalRefusal
 use Rattle.naga_wgsl_fns.specs.Refusals.{NamesGlobal}
 use Rattle.naga_wgsl_fns.specs.declared.error.Error.{Error}
 use Rattle.naga_wgsl_fns.specs.declared.error.Error.TheVariants.{FmtError, Memory, Unimplemented}
-use Rattle.naga_wgsl_fns.proofs.Items.{want_tells_nothing}
+use Rattle.naga_wgsl_fns.proofs.SingleFunctions.{want_tells_nothing}
 use Rattle.naga_wgsl_fns.proofs.PlanRefusals.{no_global_sink}
 
 module _ (m : Module) (handle : ℕ) where
