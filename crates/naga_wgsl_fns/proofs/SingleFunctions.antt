@@ -176,7 +176,7 @@ module _ (m : Module) (info : ModuleInfo) (flags : WriterFlags) (earlier : List 
       (there : handle < length m.functions) (old new : Names) (words : HasOtherUses wgsl_names old)
       (has : HasNamed old earlier) (planned : Planned) (plan : IsPlanOf explicit m info handle planned)
       (given : NamesLabels old [] labels new planned.given) where
-    f : ir_function.Function
+    abbrev f : ir_function.Function
     f = (element m.functions handle there).0
 
     stands : slice_get m.functions handle ≡ Some f

@@ -22,7 +22,7 @@ returns-then-not-is_written_so_far-clause-function g c =
 pub returns-then-not-is_written_so_far-clause-entry_point :
     goal.returns-then-not-is_written_so_far-clause-entry_point
 returns-then-not-is_written_so_far-clause-entry_point g c =
-    λ entry. (c.not_yet_written.ensures, (refl, (refl, refl)))
+    λ entry. (c.not_yet_written.ensures, refl, refl, refl)
 
 pub write_by_plan-requires-clause-handle : goal.write_by_plan-requires-clause-handle
 write_by_plan-requires-clause-handle g c =
@@ -31,15 +31,15 @@ write_by_plan-requires-clause-handle g c =
 pub write_by_plan-requires-clause-words : goal.write_by_plan-requires-clause-words
 write_by_plan-requires-clause-words g c = c.requires.namer.named.words
 
-pub returns-in-Function-clause-function : goal.returns-in-Function-clause-function
-returns-in-Function-clause-function g c =
+pub returns-clause-function : goal.returns-clause-function
+returns-clause-function g c =
     of_one c.args.ty c.in-Function.handle c.in-Function.is _ c.write_by_plan.ensures.function
 
-pub returns-in-Function-clause-entry_point : goal.returns-in-Function-clause-entry_point
-returns-in-Function-clause-entry_point g c = λ entry. absurd (subst IsEntryPoint c.in-Function.is entry)
+pub returns-clause-entry_point : goal.returns-clause-entry_point
+returns-clause-entry_point g c = λ entry. absurd (subst IsEntryPoint c.in-Function.is entry)
 
-pub returns-in-Function-clause-named : goal.returns-in-Function-clause-named
-returns-in-Function-clause-named g c =
+pub returns-clause-named : goal.returns-clause-named
+returns-clause-named g c =
     items_named c.args.«module».now c.in-Function.handle c.args.namer.now c.write_by_plan.new.namer
     c.requires.namer c.write_by_plan.ensures.words c.write_by_plan.result
     (λ earlier has. let w = c.write_by_plan.ensures.function earlier has in (w.named_ok, w.named_err))
