@@ -71,12 +71,7 @@ module _ (m : Module) (handle : ℕ) where
     global_writes (Ok _) held now before after text_ok text_err kept reason = record {
       refusals = record { of_part = written; formed = formed };
       text_ok = text_ok;
-      reading = record {
-        text = global_text m handle;
-        appended = text_ok;
-        expression = global_form m (type_names m) handle;
-        reading = one_expression;
-      };
+      reading = one_expression;
       failures_ok = kept;
       text_err = tt;
       untouched = tt;

@@ -48,7 +48,8 @@ next_part_text m first h = (if first then [] else codes ", ") ++ global_text m h
 -- a value of a type, made of the parts of an expression
 unfoldable pub made_global_text : Module → (ty handle : ℕ) → List ℕ
 made_global_text m ty h =
-    expression_layout (Call (type_form (type_names m) ty) (arguments_of (map (global_at m) (parts_at m h))))
+    expression_layout
+    (Call (type_form (type_names m) ty) (arguments_of (map (global_at m) (parts_at m h))))
 
 -- a word that is called with these
 unfoldable pub called_global_text : Module → (word : List ℕ) → (handle : ℕ) → List ℕ

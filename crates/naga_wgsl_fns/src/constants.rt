@@ -57,7 +57,8 @@ impl ModuleText<'_> {
     )
         requires can { CanWriteIn self.now }
         requires written { IsTrue (global_is_written self.now.shader.now handle) }
-        ensures { Writes W.text W.failures out.old out.new (global_text self.now.shader.now handle) }
+        ensures { Writes W.text W.failures out.old out.new
+            (global_text self.now.shader.now handle) }
     {
         match &self.shader.global_expressions[handle] {
             Expression::Literal(literal) => write_literal(*literal, out),
@@ -86,7 +87,8 @@ impl ModuleText<'_> {
         requires can { CanWriteIn self.now }
         requires formed { IsTrue (has_form self.now.shader.now.types (resolution.Handle ty)) }
         requires written { IsTrue (global_is_written self.now.shader.now handle) }
-        ensures { Writes W.text W.failures out.old out.new (made_global_text self.now.shader.now ty handle) }
+        ensures { Writes W.text W.failures out.old out.new
+            (made_global_text self.now.shader.now ty handle) }
     {
         self.write_type(alloc, ty, out);
         out.put("(");

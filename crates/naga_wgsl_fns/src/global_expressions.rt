@@ -30,10 +30,11 @@ use std::collections::HashMap;
 /// The text has one reading as an expression. A constant is written by its initialiser. What has no
 /// form is refused, by the first part that has none: a float literal as `Unimplemented`, `float
 /// literal`; an abstract one as `Custom`, `Abstract types should not appear in IR presented to
-/// backends`; a value of a type with a scalar without a word as `Unsupported`, of the kind `scalar
-/// type`, and one of any other type without a form as `Custom`, `type without a WGSL form`; an operator
-/// as `Custom`, `operator in a constant`. Such a refusal leaves the sink as it was. After want of
-/// memory or a failure of the sink a beginning of the text may stand behind what the sink held.
+/// backends`; a value of a type that names a struct which no text declares as `Custom`, `predeclared
+/// struct`, one of a type with a scalar without a word as `Unsupported`, of the kind `scalar type`, and
+/// one of any other type without a form as `Custom`, `type without a WGSL form`; an operator as
+/// `Custom`, `operator in a constant`. Such a refusal leaves the sink as it was. After want of memory
+/// or a failure of the sink a beginning of the text may stand behind what the sink held.
 ///
 /// So far a module of which not every part is written, as one whose constants have names or that
 /// declares overrides, is refused as `Unimplemented`, `not yet written`.
@@ -55,7 +56,15 @@ pub fn write_global_expression<W: TextSink>(
     }
     let globals = GlobalExpressions::of(alloc, module)?;
     if globals.is_written(handle) {
-        write_written_global(alloc, ModuleText { shader: module, names }, handle, out)
+        write_written_global(
+            alloc,
+            ModuleText {
+                shader: module,
+                names,
+            },
+            handle,
+            out,
+        )
     } else {
         Err(global_without_form(alloc, module, &globals, handle))
     }
@@ -72,9 +81,9 @@ fn write_written_global<W: TextSink>(
     requires can { CanWriteIn text }
     requires written { IsTrue (global_is_written text.shader.now handle) }
     ensures text_ok { OnOk result
-        (W.text out.new ≡ W.text out.old ++ global_text text.shader.now handle) }
+        (W.text out.new ≡ W.text out.old ++ global_text text.entry.shader.now handle) }
     ensures text_err { OnErr result
-        (IsBehind (W.text out.old) (global_text text.shader.now handle) (W.text out.new)) }
+        (IsBehind (W.text out.old) (global_text text.entry.shader.now handle) (W.text out.new)) }
     ensures failures_ok { OnOk result (W.failures out.new ≡ W.failures out.old) }
     ensures reason { IfErr result (IsWant (W.failures out.old) (W.failures out.new)) }
 {

@@ -60,8 +60,8 @@ global_without_form-requires g c = record {
       ∙ (sym c.is_written.ensures ∙ c.if-is_written.false);
 }
 
-pub returns-else-is_written : goal.returns-else-is_written
-returns-else-is_written g c =
+pub returns : goal.returns
+returns g c =
     let m = c.args.«module».now in
     let held = g.W.TextSink.text c.args.out.now in
     let before = g.W.TextSink.failures c.args.out.now in

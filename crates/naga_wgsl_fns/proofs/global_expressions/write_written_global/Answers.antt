@@ -11,14 +11,14 @@ returns-in-Ok-clause-text_ok g c =
     held_whole_as _ _ _ _ _ (grind arith) (grind arith) c.write_global.ensures
     c.new-written.ensures.want c.in-Ok.ensures.whole
 
-pub returns-clause-text_err : goal.returns-clause-text_err
-returns-clause-text_err g c =
+pub returns-in-Err-clause-text_err : goal.returns-in-Err-clause-text_err
+returns-in-Err-clause-text_err g c =
     let same : c.write_global.new.out.sink.ghost_name ≡ c.new-written.result.sink.ghost_name = same_sink _ _ _ c.write_global.ensures in
     held_part_as _ _ _ _ _ _ (grind arith) (grind arith) c.write_global.ensures
     c.new-written.ensures.want c.in-Err.ensures.wanting
 
-pub returns-clause-reason : goal.returns-clause-reason
-returns-clause-reason g c =
+pub returns-in-Err-clause-reason : goal.returns-in-Err-clause-reason
+returns-in-Err-clause-reason g c =
     let same : c.write_global.new.out.sink.ghost_name ≡ c.new-written.result.sink.ghost_name = same_sink _ _ _ c.write_global.ensures in
     let reason = reason_given _ _ _ c.in-Err.want c.write_global.ensures c.new-written.ensures.want c.in-Err.ensures.wanting in
     let told = reason_told (g.W.TextSink.failures c.new-written.result.sink.now) (g.W.TextSink.failures c.write_global.new.out.sink.now) c.in-Err.want c.error_of_want.result reason c.error_of_want.ensures in

@@ -31,5 +31,5 @@ pub record PartsLeft (start now : OutputView) (m : Module) (handle : ℕ) (first
 abbrev pub invariant-write_parts-loop-part : goal.invariant-write_parts-loop-part
 invariant-write_parts-loop-part g l =
     PartsLeft (output_view g.W.TextSink.text g.W.TextSink.failures l.initial.out)
-    (output_view g.W.TextSink.text g.W.TextSink.failures l.out) l.self.now.shader.now l.fn.handle l.is_first
+    (output_view g.W.TextSink.text g.W.TextSink.failures l.out) l.self.shader.now l.fn.handle l.is_first
     l.part-iterator
