@@ -35,10 +35,11 @@ use Rattle.naga_words.specs.Output.{joined_texts}
 use Rattle.naga_wgsl_fns.specs.Constants.{called_global_text, constant_text, global_at, global_text}
 use Rattle.naga_wgsl_fns.specs.Constants.{made_global_text, next_part_text, parts_at, parts_left}
 use Rattle.naga_wgsl_fns.specs.Constants.{parts_text}
-use Rattle.naga_wgsl_fns.specs.Expressions.{made_type}
-use Rattle.naga_wgsl_fns.specs.FunctionText.{CanWrite, type_names_of}
+use Rattle.naga_form.specs.Types.{type_form}
+use Rattle.module_meaning.specs.Types.{type_names}
+use Rattle.naga_wgsl_fns.specs.ModuleText.{CanWriteOf}
 use Rattle.naga_wgsl_fns.specs.Literals.{literal_text}
-use Rattle.naga_wgsl_fns.specs.Types.{type_text}
+use Rattle.naga_wgsl_fns.specs.Types.{spelled_text}
 use Rattle.naga_wgsl_fns.specs.declared.functions.FunctionText.{FunctionText}
 use Rattle.module_meaning.proofs.Part.{form_of_spellable}
 use Rattle.module_meaning.specs.Undeclared.{is_spellable}
@@ -219,129 +220,129 @@ module _ (m : Module) (ordered : GlobalsStandInOrder m) where
         (λ k h. global_form_within k m t h) (λ k h. refl) over_alike h e at (global_form m t)
         (λ x lt. refl)
 
--- ---- of a function's module
-pub in_order : (f : FunctionText) → CanWrite f → GlobalsStandInOrder f.shader.now
-in_order f can =
-    globals_in_order f.shader.now f.module_info.now can.accepted
+-- ---- of a module that is written
+pub in_order : (m : Module) → CanWriteOf m → GlobalsStandInOrder m
+in_order m can = globals_in_order m can.info can.accepted
 
-own_form_is : (f : FunctionText) → CanWrite f → (h : ℕ) (e own : ir.Expression) →
-    slice_get f.shader.now.global_expressions h ≡ Some e → e ≡ own →
-    over f.shader.now (type_names_of f) (global_at f) own ≡ global_at f h
-own_form_is f can h e own at same =
-    form_over f.shader.now (in_order f can) (type_names_of f) h own (at ∙ ap Some same)
+own_form_is : (m : Module) → CanWriteOf m → (h : ℕ) (e own : ir.Expression) →
+    slice_get m.global_expressions h ≡ Some e → e ≡ own →
+    over m (type_names m) (global_at m) own ≡ global_at m h
+own_form_is m can h e own at same =
+    form_over m (in_order m can) (type_names m) h own (at ∙ ap Some same)
 
 -- a constant has its initialiser's text
 pub constant_row : (f : FunctionText) (c : ℕ) (k : ir_constant.Constant) →
-    slice_get f.shader.now.constants c ≡ Some k → global_text f k.init ≡ constant_text f c
+    slice_get f.shader.now.constants c ≡ Some k →
+    global_text f.shader.now k.init ≡ constant_text f c
 unfolding global_text constant_text
 constant_row f c k there =
-    ap (λ o. expression_layout (option_map_or (λ k. global_at f k.init) o no_constant_form))
+    ap (λ o. expression_layout (option_map_or (λ k. global_at f.shader.now k.init) o no_constant_form))
     (sym there)
 
-pub named_row : (f : FunctionText) → CanWrite f → (h : ℕ) (e : ir.Expression) (c : ℕ)
-    (k : ir_constant.Constant) → slice_get f.shader.now.global_expressions h ≡ Some e →
-    e ≡ expression.Constant c → slice_get f.shader.now.constants c ≡ Some k →
-    global_text f k.init ≡ global_text f h
+pub named_row : (m : Module) → CanWriteOf m → (h : ℕ) (e : ir.Expression) (c : ℕ)
+    (k : ir_constant.Constant) → slice_get m.global_expressions h ≡ Some e →
+    e ≡ expression.Constant c → slice_get m.constants c ≡ Some k →
+    global_text m k.init ≡ global_text m h
 unfolding global_text
-named_row f can h e c k at same there =
-    ap (λ o. expression_layout (option_map_or (λ k. global_at f k.init) o no_constant_form))
+named_row m can h e c k at same there =
+    ap (λ o. expression_layout (option_map_or (λ k. global_at m k.init) o no_constant_form))
     (sym there)
-    ∙ ap expression_layout (own_form_is f can h e (expression.Constant c) at same)
+    ∙ ap expression_layout (own_form_is m can h e (expression.Constant c) at same)
 
-pub literal_row : (f : FunctionText) → CanWrite f → (h : ℕ) (e : ir.Expression) (value : _) →
-    slice_get f.shader.now.global_expressions h ≡ Some e → e ≡ expression.Literal value →
-    literal_text value ≡ global_text f h
+pub literal_row : (m : Module) → CanWriteOf m → (h : ℕ) (e : ir.Expression) (value : _) →
+    slice_get m.global_expressions h ≡ Some e → e ≡ expression.Literal value →
+    literal_text value ≡ global_text m h
 unfolding global_text literal_text
-literal_row f can h e value at same =
-    ap expression_layout (own_form_is f can h e (expression.Literal value) at same)
+literal_row m can h e value at same =
+    ap expression_layout (own_form_is m can h e (expression.Literal value) at same)
 
 -- a value of a type, from the parts of its expression
-made_of : (f : FunctionText) → CanWrite f → (h ty components : ℕ) (e own : ir.Expression) →
-    slice_get f.shader.now.global_expressions h ≡ Some e → e ≡ own →
-    has_form f.shader.now.types (Handle ty) ≡ true →
-    built_form (surroundings f.shader.now (λ x. None)) (type_names_of f) ty components
-    (map (global_at f) (expression_operands own)) ≡
-    over f.shader.now (type_names_of f) (global_at f) own →
-    made_global_text f ty h ≡ global_text f h
+made_of : (m : Module) → CanWriteOf m → (h ty components : ℕ) (e own : ir.Expression) →
+    slice_get m.global_expressions h ≡ Some e → e ≡ own →
+    has_form m.types (Handle ty) ≡ true →
+    built_form (surroundings m (λ x. None)) (type_names m) ty components
+    (map (global_at m) (expression_operands own)) ≡
+    over m (type_names m) (global_at m) own →
+    made_global_text m ty h ≡ global_text m h
 unfolding made_global_text global_text
-made_of f can h ty components e own at same formed is =
-    let tree = tree_there (type_names_of f) (Handle ty) formed in
-    let parts = map (global_at f) (expression_operands own) in
-    let a = surroundings f.shader.now (λ x. None) in
+made_of m can h ty components e own at same formed is =
+    let tree = tree_there (type_names m) (Handle ty) formed in
+    let parts = map (global_at m) (expression_operands own) in
+    let a = surroundings m (λ x. None) in
     ap₂
     (λ o x. expression_layout
     (Call (unwrap_or o (Named []))
-    (arguments_of (map (global_at f) (option_map_or expression_operands x [])))))
+    (arguments_of (map (global_at m) (option_map_or expression_operands x [])))))
     tree.1 (at ∙ ap Some same)
     ∙ (ap (λ n. expression_layout (applied_form n parts))
     (sym
-    (typed_notation _ (constructor_called a (Handle ty) components) (type_tree (type_names_of f) ty)
+    (typed_notation _ (constructor_called a (Handle ty) components) (type_tree (type_names m) ty)
     tree.0 tree.1))
-    ∙ ap expression_layout (is ∙ own_form_is f can h e own at same))
+    ∙ ap expression_layout (is ∙ own_form_is m can h e own at same))
 
-pub zero_row : (f : FunctionText) → CanWrite f → (h ty : ℕ) (e : ir.Expression) →
-    slice_get f.shader.now.global_expressions h ≡ Some e → e ≡ expression.ZeroValue ty →
-    has_form f.shader.now.types (Handle ty) ≡ true → made_global_text f ty h ≡ global_text f h
-zero_row f can h ty e at same formed =
-    made_of f can h ty 0 e (expression.ZeroValue ty) at same formed refl
+pub zero_row : (m : Module) → CanWriteOf m → (h ty : ℕ) (e : ir.Expression) →
+    slice_get m.global_expressions h ≡ Some e → e ≡ expression.ZeroValue ty →
+    has_form m.types (Handle ty) ≡ true → made_global_text m ty h ≡ global_text m h
+zero_row m can h ty e at same formed =
+    made_of m can h ty 0 e (expression.ZeroValue ty) at same formed refl
 
-pub composed_row : (f : FunctionText) → CanWrite f → (h ty : ℕ) (parts : _) (e : ir.Expression) →
-    slice_get f.shader.now.global_expressions h ≡ Some e → e ≡ expression.Compose ty parts →
-    has_form f.shader.now.types (Handle ty) ≡ true → made_global_text f ty h ≡ global_text f h
-composed_row f can h ty parts e at same formed =
-    made_of f can h ty (length parts.items) e (expression.Compose ty parts) at same formed refl
+pub composed_row : (m : Module) → CanWriteOf m → (h ty : ℕ) (parts : _) (e : ir.Expression) →
+    slice_get m.global_expressions h ≡ Some e → e ≡ expression.Compose ty parts →
+    has_form m.types (Handle ty) ≡ true → made_global_text m ty h ≡ global_text m h
+composed_row m can h ty parts e at same formed =
+    made_of m can h ty (length parts.items) e (expression.Compose ty parts) at same formed refl
 
 -- a vector of one value
-pub splat_row : (f : FunctionText) → CanWrite f → (h : ℕ) (size : _) (value : ℕ) (e : ir.Expression)
-    (word : List ℕ) → slice_get f.shader.now.global_expressions h ≡ Some e →
+pub splat_row : (m : Module) → CanWriteOf m → (h : ℕ) (size : _) (value : ℕ) (e : ir.Expression)
+    (word : List ℕ) → slice_get m.global_expressions h ≡ Some e →
     e ≡ expression.Splat size value → word ≡ run_word (Splat size) →
-    called_global_text f word h ≡ global_text f h
+    called_global_text m word h ≡ global_text m h
 unfolding called_global_text global_text
-splat_row f can h size value e word at same named =
+splat_row m can h size value e word at same named =
     ap₂
     (λ w o. expression_layout
-    (Call (Named w) (arguments_of (map (global_at f) (option_map_or expression_operands o [])))))
+    (Call (Named w) (arguments_of (map (global_at m) (option_map_or expression_operands o [])))))
     named (at ∙ ap Some same)
-    ∙ ap expression_layout (own_form_is f can h e (expression.Splat size value) at same)
+    ∙ ap expression_layout (own_form_is m can h e (expression.Splat size value) at same)
 
 -- ---- rows
-pub made_global_row : (f : FunctionText) (ty handle : ℕ) →
-    made_global_text f ty handle ≡
-    joined_texts (type_text f ty) (joined_texts (codes "(") (parts_text f handle))
-unfolding made_global_text type_text parts_text joined_texts
-made_global_row f ty handle =
-    call_row_text (made_type f ty) (arguments_of (map (global_at f) (parts_at f handle)))
+pub made_global_row : (m : Module) (ty handle : ℕ) →
+    made_global_text m ty handle ≡
+    joined_texts (spelled_text m ty) (joined_texts (codes "(") (parts_text m handle))
+unfolding made_global_text spelled_text parts_text joined_texts
+made_global_row m ty handle =
+    call_row_text (type_form (type_names m) ty) (arguments_of (map (global_at m) (parts_at m handle)))
 
-pub called_global_row : (f : FunctionText) (word : List ℕ) (handle : ℕ) →
-    called_global_text f word handle ≡
-    joined_texts word (joined_texts (codes "(") (parts_text f handle))
+pub called_global_row : (m : Module) (word : List ℕ) (handle : ℕ) →
+    called_global_text m word handle ≡
+    joined_texts word (joined_texts (codes "(") (parts_text m handle))
 unfolding called_global_text parts_text joined_texts
-called_global_row f word handle =
-    call_row_text (Named word) (arguments_of (map (global_at f) (parts_at f handle)))
-    ∙ ap (λ w. joined_texts w (joined_texts (codes "(") (parts_left f true (parts_at f handle))))
+called_global_row m word handle =
+    call_row_text (Named word) (arguments_of (map (global_at m) (parts_at m handle)))
+    ∙ ap (λ w. joined_texts w (joined_texts (codes "(") (parts_left m true (parts_at m handle))))
     (named_text word)
 
-pub next_part_row : (f : FunctionText) (first : Bool) (part : ℕ) →
-    next_part_text f first part ≡
-    joined_texts (if first then [] else codes ", ") (global_text f part)
+pub next_part_row : (m : Module) (first : Bool) (part : ℕ) →
+    next_part_text m first part ≡
+    joined_texts (if first then [] else codes ", ") (global_text m part)
 unfolding next_part_text joined_texts
-next_part_row f first part = refl
+next_part_row m first part = refl
 
 -- the next part, and those behind it
-pub parts_more : (f : FunctionText) (first : Bool) (part : ℕ) (more : List ℕ) →
-    parts_left f first (part ∷ more) ≡
-    joined_texts (next_part_text f first part) (parts_left f false more)
+pub parts_more : (m : Module) (first : Bool) (part : ℕ) (more : List ℕ) →
+    parts_left m first (part ∷ more) ≡
+    joined_texts (next_part_text m first part) (parts_left m false more)
 unfolding next_part_text global_text joined_texts
-parts_more f true part more =
-    argument_row_text (global_at f part) (arguments_of (map (global_at f) more))
-parts_more f false part more =
-    next_argument_row_text (global_at f part) (arguments_of (map (global_at f) more))
+parts_more m true part more =
+    argument_row_text (global_at m part) (arguments_of (map (global_at m) more))
+parts_more m false part more =
+    next_argument_row_text (global_at m part) (arguments_of (map (global_at m) more))
 
-pub parts_none : (f : FunctionText) (first : Bool) → parts_left f first [] ≡ codes ")"
-parts_none f true = refl
-parts_none f false = refl
+pub parts_none : (m : Module) (first : Bool) → parts_left m first [] ≡ codes ")"
+parts_none m true = refl
+parts_none m false = refl
 
-pub parts_start : (f : FunctionText) (handle : ℕ) →
-    parts_text f handle ≡ parts_left f true (parts_at f handle)
+pub parts_start : (m : Module) (handle : ℕ) →
+    parts_text m handle ≡ parts_left m true (parts_at m handle)
 unfolding parts_text
-parts_start f handle = refl
+parts_start m handle = refl

@@ -6,14 +6,16 @@ pub mod FormlessConstants
 pub mod FunctionRows
 pub mod GivenNames
 pub mod ImageRows
-pub mod SingleFunctions
 pub mod Literals
 pub mod LoadRows
 pub mod Members
+pub mod ModuleTexts
 pub mod NameRows
 pub mod PartForms
 pub mod PartRows
 pub mod PlanRefusals
+pub mod SingleExpressions
+pub mod SingleFunctions
 pub mod StatementRows
 pub mod TextHandles
 pub mod TypeRows

@@ -156,7 +156,7 @@ no_literal_sink (literal.AbstractInt value) reason named = named
 no_literal_sink (literal.AbstractFloat bits) reason named = named
 no_literal_sink _ reason named = named
 
-no_global_sink : (m : Module) (reason : SinkError) (h : ℕ) → NamesGlobal m (FmtError reason) h → ⊥
+pub no_global_sink : (m : Module) (reason : SinkError) (h : ℕ) → NamesGlobal m (FmtError reason) h → ⊥
 no_global_sink m reason h (OfLiteral _ value at formless named) = no_literal_sink value reason named
 no_global_sink m reason h (OfType _ ty e at is formless named) =
     no_type_sink m (Handle ty) reason named

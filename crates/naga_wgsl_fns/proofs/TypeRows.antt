@@ -23,11 +23,13 @@ use Rattle.naga_words.specs.Sink.{IsBehind}
 use Rattle.naga_form.specs.TypeTrees.{resolution_tree}
 use Rattle.naga_words.specs.declared.error.TypeTextError.{TypeTextError}
 use Rattle.wgsl_text.specs.Reading.{type_layout}
-use Rattle.module_meaning.specs.Names.{module_names}
+use Rattle.module_meaning.specs.Names.{HasNamesOf, module_names}
 use Rattle.naga_words.specs.Output.{Follows, Goes, Lies, PartsFollow, PartsGo, PartsLie, OutputView}
 use Rattle.naga_words.specs.Output.{SpelledParts, Wrote, joined_texts}
 use Rattle.naga_wgsl_fns.specs.declared.functions.FunctionText.{FunctionText}
 use Rattle.naga_wgsl_fns.specs.FunctionText.{CanWrite}
+use Rattle.naga_wgsl_fns.specs.ModuleText.{CanWriteOf}
+use Rattle.naga_wgsl_fns.proofs.ModuleTexts.{can_of}
 use Rattle.module_meaning.specs.AlikeTypes.{form_within, found_form_by, handle_form, has_form}
 use Rattle.module_meaning.specs.Ranges.{resolution_fits}
 use Rattle.module_meaning.specs.Types.{type_names}
@@ -39,7 +41,7 @@ use Rattle.naga_ir.specs.declared.types.ArraySize.{ArraySize}
 use Rattle.naga_ir.specs.declared.types.ArraySize.TheVariants as size
 use Rattle.naga_words.specs.Spelling.{knows_size, length_within}
 use Rattle.std.proofs.lemmas.Bool.{ltb-true}
-use Rattle.naga_wgsl_fns.specs.Types.{annotation_text, resolution_text, type_text}
+use Rattle.naga_wgsl_fns.specs.Types.{annotation_text, resolution_text, spelled_text, type_text}
 
 -- where each part is known, none is refused
 whole_word : (w : List ℕ) (ps : List Part) (t : List ℕ) (o : Option (List ℕ)) → known_text ps ≡ o → ((u : List ℕ) → known_text ps ≡ Some u → before_missing ps ≡ ps) → option_map (λ r. w ++ r) o ≡ Some t → before_missing (Word w ∷ ps) ≡ Word w ∷ ps
@@ -110,44 +112,51 @@ all_known types names (inner.Array base l stride) = all_sizes types names l
 all_known types names (inner.BindingArray base l) = all_sizes types names l
 all_known types names _ = refl
 
--- ---- under the names of a function's module
-module _ (f : FunctionText) (can : CanWrite f) where
-  abbrev m : Module
-  m = f.shader.now
-
-  abbrev names : NameMap
-  names = names_in f.names.now
-
+-- ---- under the names of a module
+module _ (m : Module) (can : CanWriteOf m) (names : NameMap) where
   -- what a context asks for
   pub in_order : IsInOrder (names_context m.types names)
   in_order = record {
-    before = λ h t at. type_before m f.module_info.now can.accepted h t at;
+    before = λ h t at. type_before m can.info can.accepted h t at;
     known = λ h t at. all_known m.types names t.inner;
   }
 
   pub resolution_within : (r : TypeResolution) → IsTrue (resolution_fits (length m.overrides) (length m.types) r) → FitsResolution (names_context m.types names) r
   resolution_within (resolution.Handle h) fits = ltb-true h (length m.types) fits
   resolution_within (resolution.Value it) fits = record {
-    in_range = known_before m f.module_info.now can.accepted (resolution.Value it) fits it refl;
+    in_range = known_before m can.info can.accepted (resolution.Value it) fits it refl;
     knows = all_known m.types names it;
   }
 
-  -- the spelling of a type that has a form, under the map's names, which are the module's
-  formed_known : (r : TypeResolution) → IsTrue (has_form m.types r) → ((it : TypeInner) → r ≡ resolution.Value it → length_within 0 it ≡ true) → known_text (resolution_parts (names_context m.types names) r) ≡ Some (type_layout (unwrap_or (resolution_tree (type_names m) r) (Named [])))
-  formed_known r formed within =
-      let t = tree_there (type_names m) r formed in
-      let same = resolution_same m.types names (module_names m)
-      (named_alike m f.module_info.now can.accepted can.of_part names can.named) r within in
-      row_of m.types names r ∙ ap (option_map type_layout) (same ∙ t.1)
-      ∙ ap (λ o. Some (type_layout (unwrap_or o (Named [])))) (sym t.1)
+  module _ (named : HasNamesOf m names) where
+    -- the spelling of a type that has a form, under the map's names, which are the module's
+    formed_known : (r : TypeResolution) → IsTrue (has_form m.types r) → ((it : TypeInner) → r ≡ resolution.Value it → length_within 0 it ≡ true) → known_text (resolution_parts (names_context m.types names) r) ≡ Some (type_layout (unwrap_or (resolution_tree (type_names m) r) (Named [])))
+    formed_known r formed within =
+        let t = tree_there (type_names m) r formed in
+        let same = resolution_same m.types names (module_names m)
+        (named_alike m can.info can.accepted can.of_part names named) r within in
+        row_of m.types names r ∙ ap (option_map type_layout) (same ∙ t.1)
+        ∙ ap (λ o. Some (type_layout (unwrap_or o (Named [])))) (sym t.1)
 
-  pub type_known : (ty : ℕ) → IsTrue (has_form m.types (resolution.Handle ty)) → known_text (type_parts (names_context m.types names) ty) ≡ Some (type_text f ty)
-  unfolding type_text
-  type_known ty formed = formed_known (resolution.Handle ty) formed (λ it is. absurd (cc))
+    pub type_known : (ty : ℕ) → IsTrue (has_form m.types (resolution.Handle ty)) → known_text (type_parts (names_context m.types names) ty) ≡ Some (spelled_text m ty)
+    unfolding spelled_text
+    type_known ty formed = formed_known (resolution.Handle ty) formed (λ it is. absurd (cc))
 
-  pub resolution_known : (r : TypeResolution) → IsTrue (has_form m.types r) → IsTrue (resolution_fits (length m.overrides) (length m.types) r) → known_text (resolution_parts (names_context m.types names) r) ≡ Some (resolution_text f r)
-  unfolding resolution_text
-  resolution_known r formed fits =
-      formed_known r formed
-      (λ it is. subst (λ n. length_within n it ≡ true) (no_overrides m f.module_info.now can.accepted can.of_part)
-      (known_within m f.module_info.now can.accepted r fits it is))
+    pub resolution_spelled : (r : TypeResolution) → IsTrue (has_form m.types r) → IsTrue (resolution_fits (length m.overrides) (length m.types) r) → known_text (resolution_parts (names_context m.types names) r) ≡ Some (type_layout (unwrap_or (resolution_tree (type_names m) r) (Named [])))
+    resolution_spelled r formed fits =
+        formed_known r formed
+        (λ it is. subst (λ n. length_within n it ≡ true) (no_overrides m can.info can.accepted can.of_part)
+        (known_within m can.info can.accepted r fits it is))
+
+-- ---- of a function's module
+pub type_same : (f : FunctionText) (ty : ℕ) → spelled_text f.shader.now ty ≡ type_text f ty
+unfolding spelled_text type_text
+type_same f ty = refl
+
+pub resolution_known : (f : FunctionText) (can : CanWrite f) (r : TypeResolution) →
+    IsTrue (has_form f.shader.now.types r) →
+    IsTrue (resolution_fits (length f.shader.now.overrides) (length f.shader.now.types) r) →
+    known_text (resolution_parts (names_context f.shader.now.types (names_in f.names.now)) r) ≡
+    Some (resolution_text f r)
+unfolding resolution_text
+resolution_known f can = resolution_spelled f.shader.now (can_of f can) (names_in f.names.now) can.named

@@ -1,13 +1,15 @@
 -- The texts of constants without names, and of the module's own expressions.
 --
--- Throughout, f is the text of a function, h is a handle of one of the module's own expressions, and
--- hs are some.
+-- Throughout, f is the text of a function, m a module, h is a handle of one of the module's own
+-- expressions, and hs are some.
 use Rattle.std.specs.Prelude.{ℕ, Bool, true, false, List, [], ◌++◌, codes, if◌then◌else◌, map}
 use Rattle.std.specs.Prelude.{slice_get}
 use Rattle.std.specs.Option.{option_map_or}
 use Rattle.naga_form.specs.ConstantForms.{global_form, written_constant_form}
 use Rattle.naga_ir.specs.Operands.{expression_operands}
-use Rattle.naga_wgsl_fns.specs.Expressions.{made_type}
+use Rattle.naga_form.specs.Types.{type_form}
+use Rattle.naga_ir.specs.declared.module.Module.{Module}
+use Rattle.module_meaning.specs.Types.{type_names}
 use Rattle.naga_wgsl_fns.specs.FunctionText.{type_names_of}
 use Rattle.naga_wgsl_fns.specs.declared.functions.FunctionText.{FunctionText}
 use Rattle.wgsl_text.specs.Expressions.{Call, Expression, arguments_pieces, more_arguments_pieces}
@@ -21,34 +23,35 @@ unfoldable pub constant_text : FunctionText → (constant : ℕ) → List ℕ
 constant_text f c = expression_layout (written_constant_form f.shader.now (type_names_of f) c)
 
 -- the form of one of the module's own expressions, and its text
-abbrev pub global_at : FunctionText → (handle : ℕ) → Expression
-global_at f h = global_form f.shader.now (type_names_of f) h
+abbrev pub global_at : Module → (handle : ℕ) → Expression
+global_at m h = global_form m (type_names m) h
 
-unfoldable pub global_text : FunctionText → (handle : ℕ) → List ℕ
-global_text f h = expression_layout (global_at f h)
+unfoldable pub global_text : Module → (handle : ℕ) → List ℕ
+global_text m h = expression_layout (global_at m h)
 
 -- its parts
-abbrev pub parts_at : FunctionText → (handle : ℕ) → List ℕ
-parts_at f h = option_map_or expression_operands (slice_get f.shader.now.global_expressions h) []
+abbrev pub parts_at : Module → (handle : ℕ) → List ℕ
+parts_at m h = option_map_or expression_operands (slice_get m.global_expressions h) []
 
 -- parts behind `(`, and behind others where they are no first ones, with the `)` behind them
-abbrev pub parts_left : FunctionText → (first : Bool) → List ℕ → List ℕ
-parts_left f true hs = text (arguments_pieces (arguments_of (map (global_at f) hs)))
-parts_left f false hs = text (more_arguments_pieces (arguments_of (map (global_at f) hs)))
+abbrev pub parts_left : Module → (first : Bool) → List ℕ → List ℕ
+parts_left m true hs = text (arguments_pieces (arguments_of (map (global_at m) hs)))
+parts_left m false hs = text (more_arguments_pieces (arguments_of (map (global_at m) hs)))
 
-unfoldable pub parts_text : FunctionText → (handle : ℕ) → List ℕ
-parts_text f h = parts_left f true (parts_at f h)
+unfoldable pub parts_text : Module → (handle : ℕ) → List ℕ
+parts_text m h = parts_left m true (parts_at m h)
 
 -- a part, and what stands between it and the one before
-unfoldable pub next_part_text : FunctionText → (first : Bool) → (handle : ℕ) → List ℕ
-next_part_text f first h = (if first then [] else codes ", ") ++ global_text f h
+unfoldable pub next_part_text : Module → (first : Bool) → (handle : ℕ) → List ℕ
+next_part_text m first h = (if first then [] else codes ", ") ++ global_text m h
 
 -- a value of a type, made of the parts of an expression
-unfoldable pub made_global_text : FunctionText → (ty handle : ℕ) → List ℕ
-made_global_text f ty h =
-    expression_layout (Call (made_type f ty) (arguments_of (map (global_at f) (parts_at f h))))
+unfoldable pub made_global_text : Module → (ty handle : ℕ) → List ℕ
+made_global_text m ty h =
+    expression_layout
+    (Call (type_form (type_names m) ty) (arguments_of (map (global_at m) (parts_at m h))))
 
 -- a word that is called with these
-unfoldable pub called_global_text : FunctionText → (word : List ℕ) → (handle : ℕ) → List ℕ
-called_global_text f word h =
-    expression_layout (Call (Named word) (arguments_of (map (global_at f) (parts_at f h))))
+unfoldable pub called_global_text : Module → (word : List ℕ) → (handle : ℕ) → List ℕ
+called_global_text m word h =
+    expression_layout (Call (Named word) (arguments_of (map (global_at m) (parts_at m h))))

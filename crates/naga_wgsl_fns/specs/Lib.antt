@@ -4,9 +4,11 @@ pub mod Errors
 pub mod Expressions
 pub mod FunctionText
 pub mod Functions
+pub mod GlobalExpressions
 pub mod Images
 pub mod Items
 pub mod Literals
+pub mod ModuleText
 pub mod Names
 pub mod Refusals
 pub mod Statements

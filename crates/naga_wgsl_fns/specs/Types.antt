@@ -5,10 +5,16 @@ use Rattle.naga_form.specs.Types.{type_form}
 use Rattle.naga_form.specs.TypeTrees.{resolution_tree}
 use Rattle.wgsl_text.specs.Types.{TypeSpecifier, Named}
 use Rattle.wgsl_text.specs.Reading.{type_layout}
+use Rattle.naga_ir.specs.declared.module.Module.{Module}
+use Rattle.module_meaning.specs.Types.{type_names}
 use Rattle.naga_wgsl_fns.specs.declared.functions.FunctionText.{FunctionText}
 use Rattle.naga_wgsl_fns.specs.FunctionText.{let_annotation, type_names_of}
 
--- the type with this handle
+-- the type of a module with this handle
+unfoldable pub spelled_text : Module → (ty : ℕ) → List ℕ
+spelled_text m ty = type_layout (type_form (type_names m) ty)
+
+-- the same of a function's module
 unfoldable pub type_text : FunctionText → (ty : ℕ) → List ℕ
 type_text f ty = type_layout (type_form (type_names_of f) ty)
 

@@ -8,9 +8,11 @@ ghost use Rattle.naga_words.specs.Output.{Writes};
 ghost use Rattle.naga_wgsl_fns.specs.Constants.{called_global_text, constant_text, global_text};
 ghost use Rattle.naga_wgsl_fns.specs.Constants.{made_global_text, next_part_text, parts_text};
 ghost use Rattle.naga_wgsl_fns.specs.FunctionText.{CanWrite};
+ghost use Rattle.naga_wgsl_fns.specs.ModuleText.{CanWriteIn};
 
 use crate::functions::FunctionText;
 use crate::literal::write_literal;
+use crate::module_text::ModuleText;
 use naga_ir::{Constant, Expression, Handle, Type_};
 use naga_words::words::vector_str;
 use naga_words::{Output, TextSink};
@@ -28,20 +30,35 @@ impl FunctionText<'_> {
         requires written { IsTrue (constant_is_written self.now.shader.now constant) }
         ensures { Writes W.text W.failures out.old out.new (constant_text self.now constant) }
     {
-        self.write_global(alloc, self.shader.constants[constant].init, out);
+        self.of_module()
+            .write_global(alloc, self.shader.constants[constant].init, out);
     }
 
+    /// The function's module, and the names of its items.
+    pub(crate) fn of_module(&self) -> ModuleText<'_>
+        ensures shader { result.shader.now ≡ self.now.shader.now }
+        ensures names { result.names.now ≡ self.now.names.now }
+    {
+        ModuleText {
+            shader: self.shader,
+            names: self.names,
+        }
+    }
+}
+
+impl ModuleText<'_> {
     /// One of the module's own expressions.
     #[cycle(global)]
-    fn write_global<W: TextSink>(
+    pub(crate) fn write_global<W: TextSink>(
         &self,
         alloc: Global,
         handle: Handle<Expression>,
         out: &mut Output<'_, W>,
     )
-        requires can { CanWrite self.now }
+        requires can { CanWriteIn self.now }
         requires written { IsTrue (global_is_written self.now.shader.now handle) }
-        ensures { Writes W.text W.failures out.old out.new (global_text self.now handle) }
+        ensures { Writes W.text W.failures out.old out.new
+            (global_text self.now.shader.now handle) }
     {
         match &self.shader.global_expressions[handle] {
             Expression::Literal(literal) => write_literal(*literal, out),
@@ -67,10 +84,11 @@ impl FunctionText<'_> {
         handle: Handle<Expression>,
         out: &mut Output<'_, W>,
     )
-        requires can { CanWrite self.now }
+        requires can { CanWriteIn self.now }
         requires formed { IsTrue (has_form self.now.shader.now.types (resolution.Handle ty)) }
         requires written { IsTrue (global_is_written self.now.shader.now handle) }
-        ensures { Writes W.text W.failures out.old out.new (made_global_text self.now ty handle) }
+        ensures { Writes W.text W.failures out.old out.new
+            (made_global_text self.now.shader.now ty handle) }
     {
         self.write_type(alloc, ty, out);
         out.put("(");
@@ -87,10 +105,10 @@ impl FunctionText<'_> {
         handle: Handle<Expression>,
         out: &mut Output<'_, W>,
     )
-        requires can { CanWrite self.now }
+        requires can { CanWriteIn self.now }
         requires written { IsTrue (global_is_written self.now.shader.now handle) }
         ensures { Writes W.text W.failures out.old out.new
-            (called_global_text self.now word.now handle) }
+            (called_global_text self.now.shader.now word.now handle) }
     {
         out.put(word);
         out.put("(");
@@ -105,9 +123,9 @@ impl FunctionText<'_> {
         handle: Handle<Expression>,
         out: &mut Output<'_, W>,
     )
-        requires can { CanWrite self.now }
+        requires can { CanWriteIn self.now }
         requires written { IsTrue (global_is_written self.now.shader.now handle) }
-        ensures { Writes W.text W.failures out.old out.new (parts_text self.now handle) }
+        ensures { Writes W.text W.failures out.old out.new (parts_text self.now.shader.now handle) }
     {
         let mut is_first = true;
         for part in self.shader.global_expressions[handle].operands() {
@@ -127,10 +145,10 @@ impl FunctionText<'_> {
         part: Handle<Expression>,
         out: &mut Output<'_, W>,
     )
-        requires can { CanWrite self.now }
+        requires can { CanWriteIn self.now }
         requires written { IsTrue (global_is_written self.now.shader.now part) }
         ensures { Writes W.text W.failures out.old out.new
-            (next_part_text self.now is_first part) }
+            (next_part_text self.now.shader.now is_first part) }
     {
         out.put(if is_first { "" } else { ", " });
         self.write_global(alloc, part, out);

@@ -30,8 +30,9 @@ pub(crate) fn constant_without_form(
     global_without_form(alloc, module, globals, module.constants[constant].init)
 }
 
-/// The refusal that names one of the module's own expressions.
-fn global_without_form(
+/// The refusal that names one of the module's own expressions that has no form; want of memory where
+/// there is none for its text.
+pub(crate) fn global_without_form(
     alloc: Global,
     module: &Module,
     globals: &GlobalExpressions,

@@ -14,7 +14,7 @@ use naga_acceptance::undeclared::names_undeclared;
 use naga_back::WriterFlags;
 use naga_info::TypeResolution;
 use naga_ir::{Expression, Handle, Type_};
-use naga_words::types::{write_resolution_in, write_type_in};
+use naga_words::types::write_resolution_in;
 use naga_words::{Output, TextSink, WriterTypeContext};
 use std::alloc::Global;
 
@@ -30,11 +30,7 @@ impl FunctionText<'_> {
         requires formed { IsTrue (has_form self.now.shader.now.types (resolution.Handle ty)) }
         ensures { Writes W.text W.failures out.old out.new (type_text self.now ty) }
     {
-        let context = WriterTypeContext {
-            module: self.shader,
-            names: self.names,
-        };
-        write_type_in(&context, alloc, ty, out);
+        self.of_module().write_type(alloc, ty, out);
     }
 
     /// A colon, and the type of an expression.

@@ -1,7 +1,7 @@
-//! The writer of modules, and of their functions one by one.
+//! The writer of modules, and of their functions and own expressions one by one.
 
 pub use crate::checked::{CheckedError, write_checked};
 pub use crate::flags::no_flags;
 pub use crate::writer::{Writer, names_of, write_string};
 pub use naga_back::WriterFlags;
-pub use naga_wgsl_fns::{Error, write_function};
+pub use naga_wgsl_fns::{Error, write_function, write_global_expression};

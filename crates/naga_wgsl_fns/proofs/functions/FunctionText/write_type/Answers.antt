@@ -1,20 +1,23 @@
-use Rattle.naga_names.specs.Keys.{names_in}
-use Rattle.naga_words.specs.Contexts.{names_context}
-use Rattle.naga_words.specs.Spelling.{type_parts}
-use Rattle.naga_wgsl_fns.specs.Types.{type_text}
-use Rattle.naga_wgsl_fns.proofs.TypeRows.{formed_within, in_order, known_wrote, type_known}
+use Rattle.std.proofs.Common.{◌∙◌, ap}
+use Rattle.module_meaning.specs.AlikeTypes.{has_form}
+use Rattle.naga_info.specs.declared.info.TypeResolution.TheVariants.{Handle}
+use Rattle.naga_words.proofs.Writing.{writes_as}
+use Rattle.naga_wgsl_fns.proofs.ModuleTexts.{can_in}
+use Rattle.naga_wgsl_fns.proofs.TypeRows.{type_same}
+use Rattle.naga_wgsl_fns.specs.Types.{spelled_text}
 use Rattle.naga_wgsl_fns.proofs.functions.FunctionText.write_type.Goals as goal
 
-pub write_type_in-requires-clause-order : goal.write_type_in-requires-clause-order
-write_type_in-requires-clause-order g c = in_order c.args.self.now c.requires.can
+pub write_type-requires-clause-can : goal.write_type-requires-clause-can
+write_type-requires-clause-can g c =
+    can_in c.args.self.now c.requires.can c.of_module.result c.of_module.ensures.shader
+    c.of_module.ensures.names
 
-pub write_type_in-requires-clause-in_range : goal.write_type_in-requires-clause-in_range
-write_type_in-requires-clause-in_range g c =
-    formed_within c.args.self.now.shader.now.types c.args.ty c.requires.formed
+pub write_type-requires-clause-formed : goal.write_type-requires-clause-formed
+write_type-requires-clause-formed g c =
+    ap (λ m. has_form m.types (Handle c.args.ty)) c.of_module.ensures.shader ∙ c.requires.formed
 
 pub returns : goal.returns
 returns g c =
-    let self = c.args.self.now in
-    let context = names_context self.shader.now.types (names_in self.names.now) in
-    known_wrote (type_parts context c.args.ty) (type_text self c.args.ty)
-    (type_known self c.requires.can c.args.ty c.requires.formed) c.write_type_in.ensures
+    writes_as
+    (ap (λ m. spelled_text m c.args.ty) c.of_module.ensures.shader ∙ type_same c.args.self.now c.args.ty)
+    c.write_type.ensures

@@ -2,16 +2,19 @@ use Rattle.naga_names.specs.Keys.{names_in}
 use Rattle.naga_words.specs.Contexts.{names_context}
 use Rattle.naga_words.specs.Spelling.{resolution_parts}
 use Rattle.naga_wgsl_fns.specs.Types.{resolution_text}
+use Rattle.naga_wgsl_fns.proofs.ModuleTexts.{can_of}
 use Rattle.naga_wgsl_fns.proofs.TypeRows.{in_order, known_wrote, resolution_known}
 use Rattle.naga_wgsl_fns.proofs.TypeRows.{resolution_within}
 use Rattle.naga_wgsl_fns.proofs.functions.FunctionText.write_type_of.Goals as goal
 
 pub write_resolution_in-requires-clause-order : goal.write_resolution_in-requires-clause-order
-write_resolution_in-requires-clause-order g c = in_order c.args.self.now c.requires.can
+write_resolution_in-requires-clause-order g c = in_order c.args.self.now.shader.now (can_of c.args.self.now c.requires.can)
+    (names_in c.args.self.now.names.now)
 
 pub write_resolution_in-requires-clause-fits : goal.write_resolution_in-requires-clause-fits
 write_resolution_in-requires-clause-fits g c =
-    resolution_within c.args.self.now c.requires.can c.args.ty.now c.requires.fits
+    resolution_within c.args.self.now.shader.now (can_of c.args.self.now c.requires.can)
+    (names_in c.args.self.now.names.now) c.args.ty.now c.requires.fits
 
 pub returns : goal.returns
 returns g c =

@@ -8,30 +8,30 @@ use Rattle.naga_wgsl_fns.proofs.ConstantRows.{literal_passes, literal_row, named
 use Rattle.naga_wgsl_fns.proofs.ConstantRows.{parts_are_written, parts_more, parts_none, parts_start}
 use Rattle.naga_wgsl_fns.proofs.ConstantRows.{splat_row, zero_passes, zero_row}
 use Rattle.naga_wgsl_fns.specs.Constants.{parts_left, parts_text}
-use Rattle.naga_wgsl_fns.proofs.functions.FunctionText.+global.Goals as goal
+use Rattle.naga_wgsl_fns.proofs.module_text.ModuleText.+global.Goals as goal
 
 pub write_global-index-requires : goal.write_global-index-requires
 write_global-index-requires g t c =
-    let f = c.args.self.now in
-    global_there f.shader.now (in_order f c.requires.can) c.args.handle c.requires.written
+    let m = c.args.self.now.shader.now in
+    global_there m (in_order m c.requires.can.of_module) c.args.handle c.requires.written
 
 pub write_global-write_literal-requires : goal.write_global-write_literal-requires
 write_global-write_literal-requires g t c =
-    let f = c.args.self.now in
-    literal_passes f.shader.now (in_order f c.requires.can) c.args.handle c.index.result.now
+    let m = c.args.self.now.shader.now in
+    literal_passes m (in_order m c.requires.can.of_module) c.args.handle c.index.result.now
     c.in-Literal.literal c.index.ensures c.in-Literal.is c.requires.written
 
 pub write_global-index-requires-in-Constant : goal.write_global-index-requires-in-Constant
 write_global-index-requires-in-Constant g t c =
-    let f = c.args.self.now in
-    constant_there f.shader.now (in_order f c.requires.can) c.args.handle c.index.result.now
+    let m = c.args.self.now.shader.now in
+    constant_there m (in_order m c.requires.can.of_module) c.args.handle c.index.result.now
     c.in-Constant.constant c.index.ensures c.in-Constant.is c.requires.written
 
 pub write_global-write_global-requires : goal.write_global-write_global-requires
 write_global-write_global-requires g t c κs within =
-    let f = c.args.self.now in
+    let m = c.args.self.now.shader.now in
     let one =
-    constant_before f.shader.now (in_order f c.requires.can) c.args.handle c.index.result.now
+    constant_before m (in_order m c.requires.can.of_module) c.args.handle c.index.result.now
     c.in-Constant.constant c.index.ensures c.in-Constant.is c.requires.written
     c.index-in-Constant.result.now c.index-in-Constant.ensures in
     let before = one.0 in
@@ -39,67 +39,67 @@ write_global-write_global-requires g t c κs within =
 
 pub write_global-write_made_global-requires : goal.write_global-write_made_global-requires
 write_global-write_made_global-requires g t c κs within =
-    let f = c.args.self.now in
+    let m = c.args.self.now.shader.now in
     let formed =
-    zero_passes f.shader.now (in_order f c.requires.can) c.args.handle c.index.result.now
+    zero_passes m (in_order m c.requires.can.of_module) c.args.handle c.index.result.now
     c.in-ZeroValue.ty c.index.ensures c.in-ZeroValue.is c.requires.written in
     (omega (arith, c.decreases), (within, (c.requires.can, (formed, c.requires.written))))
 
 pub write_global-write_made_global-requires-in-Compose : goal.write_global-write_made_global-requires-in-Compose
 write_global-write_made_global-requires-in-Compose g t c κs within =
-    let f = c.args.self.now in
+    let m = c.args.self.now.shader.now in
     let formed =
-    composed_passes f.shader.now (in_order f c.requires.can) c.args.handle c.index.result.now
+    composed_passes m (in_order m c.requires.can.of_module) c.args.handle c.index.result.now
     c.in-Compose.ty _ c.index.ensures c.in-Compose.is c.requires.written in
     (omega (arith, c.decreases), (within, (c.requires.can, (formed, c.requires.written))))
 
 pub write_global-returns-in-Literal : goal.write_global-returns-in-Literal
 write_global-returns-in-Literal g t c =
     writes_as
-    (literal_row c.args.self.now c.requires.can c.args.handle c.index.result.now _ c.index.ensures
+    (literal_row c.args.self.now.shader.now c.requires.can.of_module c.args.handle c.index.result.now _ c.index.ensures
     c.in-Literal.is)
     c.write_literal.ensures
 
 pub write_global-returns-in-Constant : goal.write_global-returns-in-Constant
 write_global-returns-in-Constant g t c =
     writes_as
-    (named_row c.args.self.now c.requires.can c.args.handle c.index.result.now
+    (named_row c.args.self.now.shader.now c.requires.can.of_module c.args.handle c.index.result.now
     c.in-Constant.constant c.index-in-Constant.result.now c.index.ensures c.in-Constant.is c.index-in-Constant.ensures)
     c.write_global.ensures
 
 pub write_global-returns-in-ZeroValue : goal.write_global-returns-in-ZeroValue
 write_global-returns-in-ZeroValue g t c =
-    let f = c.args.self.now in
+    let m = c.args.self.now.shader.now in
     let formed =
-    zero_passes f.shader.now (in_order f c.requires.can) c.args.handle c.index.result.now
+    zero_passes m (in_order m c.requires.can.of_module) c.args.handle c.index.result.now
     c.in-ZeroValue.ty c.index.ensures c.in-ZeroValue.is c.requires.written in
     writes_as
-    (zero_row f c.requires.can c.args.handle c.in-ZeroValue.ty c.index.result.now c.index.ensures
+    (zero_row m c.requires.can.of_module c.args.handle c.in-ZeroValue.ty c.index.result.now c.index.ensures
     c.in-ZeroValue.is formed)
     c.write_made_global.ensures
 
 pub write_global-returns-in-Compose : goal.write_global-returns-in-Compose
 write_global-returns-in-Compose g t c =
-    let f = c.args.self.now in
+    let m = c.args.self.now.shader.now in
     let formed =
-    composed_passes f.shader.now (in_order f c.requires.can) c.args.handle c.index.result.now
+    composed_passes m (in_order m c.requires.can.of_module) c.args.handle c.index.result.now
     c.in-Compose.ty _ c.index.ensures c.in-Compose.is c.requires.written in
     writes_as
-    (composed_row f c.requires.can c.args.handle c.in-Compose.ty _ c.index.result.now
+    (composed_row m c.requires.can.of_module c.args.handle c.in-Compose.ty _ c.index.result.now
     c.index.ensures c.in-Compose.is formed)
     c.write_made_global-in-Compose.ensures
 
 pub write_global-returns-in-Splat : goal.write_global-returns-in-Splat
 write_global-returns-in-Splat g t c =
     writes_as
-    (splat_row c.args.self.now c.requires.can c.args.handle c.in-Splat.size _ c.index.result.now _
+    (splat_row c.args.self.now.shader.now c.requires.can.of_module c.args.handle c.in-Splat.size _ c.index.result.now _
     c.index.ensures c.in-Splat.is c.vector_str.ensures)
     c.write_called_global.ensures
 
 pub write_global-unreachable-requires : goal.write_global-unreachable-requires
 write_global-unreachable-requires g t c =
-    let f = c.args.self.now in
-    no_other_global f.shader.now (in_order f c.requires.can) c.args.handle c.index.result.now
+    let m = c.args.self.now.shader.now in
+    no_other_global m (in_order m c.requires.can.of_module) c.args.handle c.index.result.now
     c.index.ensures c.requires.written
     (record {
       literal = c.in_default.not-Literal;
@@ -111,50 +111,50 @@ write_global-unreachable-requires g t c =
 
 pub write_parts-index-requires : goal.write_parts-index-requires
 write_parts-index-requires g t c =
-    let f = c.args.self.now in
-    global_there f.shader.now (in_order f c.requires.can) c.args.handle c.requires.written
+    let m = c.args.self.now.shader.now in
+    global_there m (in_order m c.requires.can.of_module) c.args.handle c.requires.written
 
 pub write_parts-loop-part-init : goal.write_parts-loop-part-init
 write_parts-loop-part-init g t c =
-    let f = c.args.self.now in
+    let m = c.args.self.now.shader.now in
     let h = c.args.handle in
     let items = c.into_iter-part-iterator.ensures.into_iter_gives ∙ c.operands-part-items.ensures in
     let there = ap (λ o. option_map_or expression_operands o []) c.index.ensures in
     record {
       writes = leaves_as
-          (parts_start f h ∙ ap (parts_left f true) (there ∙ sym items))
-          (leaves_start _ (parts_text f h));
-      before = subst (ArePartsBelow f.shader.now h) (sym items)
-          (parts_are_written f.shader.now (in_order f c.requires.can) h c.index.result.now
+          (parts_start m h ∙ ap (parts_left m true) (there ∙ sym items))
+          (leaves_start _ (parts_text m h));
+      before = subst (ArePartsBelow m h) (sym items)
+          (parts_are_written m (in_order m c.requires.can.of_module) h c.index.result.now
           c.index.ensures c.requires.written);
     }
 
 pub write_parts-write_next_part-requires : goal.write_parts-write_next_part-requires
 write_parts-write_next_part-requires g t c κs within =
-    let f = c.args.self.now in
-    let first = (subst (ArePartsBelow f.shader.now c.args.handle) c.in-Some.ensures.steps c.loop-part.invariant.before).0 in
+    let m = c.args.self.now.shader.now in
+    let first = (subst (ArePartsBelow m c.args.handle) c.in-Some.ensures.steps c.loop-part.invariant.before).0 in
     let before = first.0 in
     (omega (arith, before, c.decreases), (within, (c.requires.can, first.1)))
 
 pub write_parts-loop-part-preserved : goal.write_parts-loop-part-preserved
 write_parts-loop-part-preserved g t c =
-    let f = c.args.self.now in
+    let m = c.args.self.now.shader.now in
     let steps = c.in-Some.ensures.steps in
     let first = c.loop-part.is_first in
     record {
       writes = leaves_more _ _ _ _ _ _ _ c.loop-part.invariant.writes
-          (ap (parts_left f first) steps
-          ∙ parts_more f first c.in-Some.part c.next.new.self)
+          (ap (parts_left m first) steps
+          ∙ parts_more m first c.in-Some.part c.next.new.self)
           c.write_next_part.ensures;
-      before = (subst (ArePartsBelow f.shader.now c.args.handle) steps c.loop-part.invariant.before).1;
+      before = (subst (ArePartsBelow m c.args.handle) steps c.loop-part.invariant.before).1;
     }
 
 pub write_parts-returns : goal.write_parts-returns
 write_parts-returns g t c =
-    let f = c.args.self.now in
+    let m = c.args.self.now.shader.now in
     let first = c.loop-part.is_first in
     leaves_last _ _ _ _ _ c.loop-part.invariant.writes
     (writes_as
-    (sym (ap (parts_left f first) c.in-None.ensures.steps.0
-    ∙ parts_none f first))
+    (sym (ap (parts_left m first) c.in-None.ensures.steps.0
+    ∙ parts_none m first))
     c.put.ensures)

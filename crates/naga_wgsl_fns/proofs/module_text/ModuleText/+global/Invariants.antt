@@ -3,8 +3,8 @@ use Rattle.naga_words.specs.Output.{OutputView, output_view}
 use Rattle.naga_words.proofs.Writing.{Leaves}
 use Rattle.naga_wgsl_fns.proofs.ConstantRows.{ArePartsBelow}
 use Rattle.naga_wgsl_fns.specs.Constants.{parts_left, parts_text}
-use Rattle.naga_wgsl_fns.specs.declared.functions.FunctionText.{FunctionText}
-use Rattle.naga_wgsl_fns.proofs.functions.FunctionText.+global.Given as goal
+use Rattle.naga_ir.specs.declared.module.Module.{Module}
+use Rattle.naga_wgsl_fns.proofs.module_text.ModuleText.+global.Given as goal
 
 -- An expression is made of those before it.
 abbrev pub decreases-write_parts : goal.decreases-write_parts
@@ -23,13 +23,13 @@ abbrev pub decreases-write_next_part : goal.decreases-write_next_part
 decreases-write_next_part g l = 4 * l.part + 3
 
 -- what is left to be written of the parts, which stand before the expression and are written
-pub record PartsLeft (start now : OutputView) (f : FunctionText) (handle : ℕ) (first : Bool)
+pub record PartsLeft (start now : OutputView) (m : Module) (handle : ℕ) (first : Bool)
     (left : List ℕ) : Type 0 where
-  pub writes : Leaves start now (parts_text f handle) (parts_left f first left)
-  pub before : ArePartsBelow f.shader.now handle left
+  pub writes : Leaves start now (parts_text m handle) (parts_left m first left)
+  pub before : ArePartsBelow m handle left
 
 abbrev pub invariant-write_parts-loop-part : goal.invariant-write_parts-loop-part
 invariant-write_parts-loop-part g l =
     PartsLeft (output_view g.W.TextSink.text g.W.TextSink.failures l.initial.out)
-    (output_view g.W.TextSink.text g.W.TextSink.failures l.out) l.self l.fn.handle l.is_first
+    (output_view g.W.TextSink.text g.W.TextSink.failures l.out) l.self.shader.now l.fn.handle l.is_first
     l.part-iterator

@@ -1,0 +1,20 @@
+-- What is known of a module from what is known of the text of one of its functions.
+use Rattle.std.proofs.Common.{◌≡◌, subst, sym}
+use Rattle.module_meaning.specs.Names.{HasNamesOf}
+use Rattle.naga_names.specs.Keys.{names_in}
+use Rattle.naga_wgsl_fns.specs.FunctionText.{CanWrite}
+use Rattle.naga_wgsl_fns.specs.ModuleText.{CanWriteIn, CanWriteOf}
+use Rattle.naga_wgsl_fns.specs.declared.functions.FunctionText.{FunctionText}
+use Rattle.naga_wgsl_fns.specs.declared.module_text.ModuleText.{ModuleText}
+
+pub can_of : (f : FunctionText) → CanWrite f → CanWriteOf f.shader.now
+can_of f can = record { info = f.module_info.now; accepted = can.accepted; of_part = can.of_part }
+
+-- a text of its module under its names
+pub can_in : (f : FunctionText) → CanWrite f → (t : ModuleText) → t.shader.now ≡ f.shader.now →
+    t.names.now ≡ f.names.now → CanWriteIn t
+can_in f can t shader names = record {
+  of_module = subst CanWriteOf (sym shader) (can_of f can);
+  named = subst (λ m. HasNamesOf m (names_in t.names.now)) (sym shader)
+      (subst (λ n. HasNamesOf f.shader.now (names_in n)) (sym names) can.named);
+}

@@ -1,0 +1,86 @@
+-- One of a module's own expressions, written by itself.
+use Rattle.std.proofs.Common.{◌≡◌, ◌++◌, ℕ, false, List, [], append-nil, inl, inr, refl, subst, sym}
+use Rattle.std.specs.Prelude.{Err, IfErr, IsErrAnd, IsFalse, IsTrue, Ok, OnErr, OnOk, Result}
+use Rattle.naga_ir.specs.declared.module.Module.{Module}
+use Rattle.naga_info.specs.declared.info.ModuleInfo.{ModuleInfo}
+use Rattle.module_meaning.specs.Accepted.{is_accepted}
+use Rattle.module_meaning.specs.Part.{global_is_written, is_written_so_far}
+use Rattle.module_meaning.specs.Types.{type_names}
+use Rattle.naga_form.proofs.Programs.{written_global}
+use Rattle.naga_form.specs.ConstantForms.{global_form}
+use Rattle.naga_words.specs.Sink.{IsBehind}
+use Rattle.wgsl_text.specs.Reading.{HasOneReading, ReadsExpression}
+use Rattle.wgsl_text.proofs.Reading.{expression_has_one_reading}
+use Rattle.naga_wgsl_fns.specs.Constants.{global_text}
+use Rattle.naga_wgsl_fns.specs.Errors.{IsNotYetWritten, IsWant}
+use Rattle.naga_wgsl_fns.specs.GlobalExpressions.{GlobalWriting, IsGlobalRefusal}
+use Rattle.naga_wgsl_fns.specs.Refusals.{NamesGlobal}
+use Rattle.naga_wgsl_fns.specs.declared.error.Error.{Error}
+use Rattle.naga_wgsl_fns.specs.declared.error.Error.TheVariants.{FmtError, Memory, Unimplemented}
+use Rattle.naga_wgsl_fns.proofs.SingleFunctions.{want_tells_nothing}
+use Rattle.naga_wgsl_fns.proofs.PlanRefusals.{no_global_sink}
+
+module _ (m : Module) (handle : ℕ) where
+  module _ (held : List ℕ) (before : ℕ) where
+    pub global_refused : (r : Result Unit Error) (error : Error) → IsErrAnd r (λ e. e ≡ error) →
+        IsGlobalRefusal m handle before before error →
+        GlobalWriting m handle r held held before before
+    global_refused (Ok _) error told refusal = absurd told
+    global_refused (Err e) error told refusal = record {
+      refusals = subst (IsGlobalRefusal m handle before before) (sym told) refusal;
+      text_ok = tt;
+      reading = tt;
+      failures_ok = tt;
+      text_err = ([], global_text m handle, refl, sym (append-nil held));
+      untouched = λ tells. (refl, refl);
+    }
+
+    pub global_for_part : (error : Error) → IsNotYetWritten error → IsFalse (is_written_so_far m) →
+        IsGlobalRefusal m handle before before error
+    global_for_part (Unimplemented message) is part = inl (is, part)
+    global_for_part (Memory e) is part = tt
+    global_for_part _ is part = absurd is
+
+    pub global_for_form : (error : Error) → IsFalse (global_is_written m handle) →
+        NamesGlobal m error handle → IsGlobalRefusal m handle before before error
+    global_for_form (FmtError e) formless named = absurd (no_global_sink m e handle named)
+    global_for_form (Memory e) formless named = tt
+    global_for_form (Unimplemented message) formless named = inr (formless, named)
+    global_for_form _ formless named = (formless, named)
+
+  global_for_want : (before after : ℕ) (error : Error) → IsWant before after error →
+      IsGlobalRefusal m handle before after error
+  global_for_want before after (FmtError e) is = is
+  global_for_want before after (Memory e) is = tt
+  global_for_want before after _ is = absurd is
+
+  module _ (info : ModuleInfo) (accepted : IsTrue (is_accepted m info))
+      (written : IsTrue (is_written_so_far m)) (formed : IsTrue (global_is_written m handle)) where
+    one_expression :
+        HasOneReading ReadsExpression (global_text m handle) (global_form m (type_names m) handle)
+    unfolding global_text
+    one_expression =
+        expression_has_one_reading (global_form m (type_names m) handle)
+        (written_global false m info accepted written handle formed)
+
+    pub global_writes : (r : Result Unit Error) (held now : List ℕ) (before after : ℕ) →
+        OnOk r (now ≡ held ++ global_text m handle) →
+        OnErr r (IsBehind held (global_text m handle) now) →
+        OnOk r (after ≡ before) → IfErr r (IsWant before after) →
+        GlobalWriting m handle r held now before after
+    global_writes (Ok _) held now before after text_ok text_err kept reason = record {
+      refusals = record { of_part = written; formed = formed };
+      text_ok = text_ok;
+      reading = one_expression;
+      failures_ok = kept;
+      text_err = tt;
+      untouched = tt;
+    }
+    global_writes (Err e) held now before after text_ok text_err kept reason = record {
+      refusals = global_for_want before after e reason;
+      text_ok = tt;
+      reading = tt;
+      failures_ok = tt;
+      text_err = text_err;
+      untouched = λ tells. absurd (want_tells_nothing before after e reason tells);
+    }

@@ -1,0 +1,72 @@
+use Rattle.std.proofs.Common.{◌∙◌, refl, sym}
+use Rattle.naga_scope.proofs.WrittenConstants.{globals_in_order}
+use Rattle.naga_wgsl_fns.proofs.SingleExpressions.{global_for_form, global_for_part, global_refused}
+use Rattle.naga_wgsl_fns.proofs.SingleExpressions.{global_writes}
+use Rattle.naga_wgsl_fns.proofs.global_expressions.write_global_expression.Goals as goal
+
+pub returns-then-not-is_written_so_far : goal.returns-then-not-is_written_so_far
+returns-then-not-is_written_so_far g c =
+    let m = c.args.«module».now in
+    let held = g.W.TextSink.text c.args.out.now in
+    let before = g.W.TextSink.failures c.args.out.now in
+    global_refused m c.args.handle held before _ c.not_yet_written.result refl
+    (global_for_part m c.args.handle held before c.not_yet_written.result c.not_yet_written.ensures
+    (sym c.is_written_so_far.ensures ∙ c.if-not-is_written_so_far.true))
+
+pub of-requires : goal.of-requires
+of-requires g c = record {
+  ordered =
+      globals_in_order c.args.«module».now c.requires.accepted.0 c.requires.accepted.1;
+}
+
+pub returns-in_err-globals : goal.returns-in_err-globals
+returns-in_err-globals g c =
+    global_refused c.args.«module».now c.args.handle (g.W.TextSink.text c.args.out.now)
+    (g.W.TextSink.failures c.args.out.now) c.from_residual.result _ c.from_residual.ensures.1 tt
+
+pub write_written_global-requires : goal.write_written_global-requires
+write_written_global-requires g c = record {
+  can = record {
+    of_module = record {
+      info = c.requires.accepted.0;
+      accepted = c.requires.accepted.1;
+      of_part = sym c.is_written_so_far.ensures ∙ c.if-not-is_written_so_far.false;
+    };
+    named = c.requires.names;
+  };
+  written = sym (c.in_ok-globals.ensures c.args.handle)
+      ∙ (sym c.is_written.ensures ∙ c.if-is_written.true);
+}
+
+pub returns-then-is_written : goal.returns-then-is_written
+returns-then-is_written g c =
+    global_writes c.args.«module».now c.args.handle c.requires.accepted.0 c.requires.accepted.1
+    (sym c.is_written_so_far.ensures ∙ c.if-not-is_written_so_far.false)
+    (sym (c.in_ok-globals.ensures c.args.handle)
+    ∙ (sym c.is_written.ensures ∙ c.if-is_written.true))
+    c.write_written_global.result (g.W.TextSink.text c.args.out.now)
+    (g.W.TextSink.text c.write_written_global.new.out) (g.W.TextSink.failures c.args.out.now)
+    (g.W.TextSink.failures c.write_written_global.new.out) c.write_written_global.ensures.text_ok
+    c.write_written_global.ensures.text_err c.write_written_global.ensures.failures_ok
+    c.write_written_global.ensures.reason
+
+pub global_without_form-requires : goal.global_without_form-requires
+global_without_form-requires g c = record {
+  ordered =
+      globals_in_order c.args.«module».now c.requires.accepted.0 c.requires.accepted.1;
+  globals = c.in_ok-globals.ensures;
+  there = c.requires.there;
+  formless = sym (c.in_ok-globals.ensures c.args.handle)
+      ∙ (sym c.is_written.ensures ∙ c.if-is_written.false);
+}
+
+pub returns : goal.returns
+returns g c =
+    let m = c.args.«module».now in
+    let held = g.W.TextSink.text c.args.out.now in
+    let before = g.W.TextSink.failures c.args.out.now in
+    global_refused m c.args.handle held before _ c.global_without_form.result refl
+    (global_for_form m c.args.handle held before c.global_without_form.result
+    (sym (c.in_ok-globals.ensures c.args.handle)
+    ∙ (sym c.is_written.ensures ∙ c.if-is_written.false))
+    c.global_without_form.ensures)

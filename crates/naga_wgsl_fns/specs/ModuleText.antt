@@ -1,0 +1,20 @@
+-- What the texts of a module's types and of its own expressions want of the module.
+use Rattle.std.specs.Prelude.{IsTrue}
+use Rattle.naga_ir.specs.declared.module.Module.{Module}
+use Rattle.naga_info.specs.declared.info.ModuleInfo.{ModuleInfo}
+use Rattle.module_meaning.specs.Accepted.{is_accepted}
+use Rattle.module_meaning.specs.Names.{HasNamesOf}
+use Rattle.module_meaning.specs.Part.{is_written_so_far}
+use Rattle.naga_names.specs.Keys.{names_in}
+use Rattle.naga_wgsl_fns.specs.declared.module_text.ModuleText.{ModuleText}
+
+-- it is accepted, whatever is known of it, and of the part that is written so far
+pub record CanWriteOf (m : Module) : Type 0 where
+  pub info : ModuleInfo
+  pub accepted : IsTrue (is_accepted m info)
+  pub of_part : IsTrue (is_written_so_far m)
+
+-- and its text has its names
+pub record CanWriteIn (t : ModuleText) : Type 0 where
+  pub of_module : CanWriteOf t.shader.now
+  pub named : HasNamesOf t.shader.now (names_in t.names.now)

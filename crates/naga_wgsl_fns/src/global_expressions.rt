@@ -1,0 +1,96 @@
+//! A module's own expressions, written one by one.
+
+ghost use Rattle.std.specs.Prelude.{◌≡◌, ◌<◌, ◌++◌, IfErr, IsTrue, OnErr, OnOk, length};
+ghost use Rattle.module_meaning.specs.Accepted.{is_accepted};
+ghost use Rattle.module_meaning.specs.Names.{HasNamesOf};
+ghost use Rattle.module_meaning.specs.Part.{global_is_written};
+ghost use Rattle.naga_info.specs.declared.info.ModuleInfo.{ModuleInfo};
+ghost use Rattle.naga_names.specs.Keys.{names_in};
+ghost use Rattle.naga_words.specs.Sink.{IsBehind};
+ghost use Rattle.naga_wgsl_fns.specs.Constants.{global_text};
+ghost use Rattle.naga_wgsl_fns.specs.Errors.{IsWant};
+ghost use Rattle.naga_wgsl_fns.specs.GlobalExpressions.{GlobalWriting};
+ghost use Rattle.naga_wgsl_fns.specs.ModuleText.{CanWriteIn};
+
+use crate::error::{Error, error_of_want, not_yet_written};
+use crate::formless_constants::global_without_form;
+use crate::module_text::ModuleText;
+use naga_acceptance::is_written_so_far;
+use naga_ir::{Expression, Handle, Module};
+use naga_names::NameKey;
+use naga_scope::GlobalExpressions;
+use naga_words::{Output, TextSink};
+use std::alloc::Global;
+use std::collections::HashMap;
+
+/// Writes one of the module's own expressions behind what the sink holds, as the initialiser of what
+/// the module declares. The module is accepted with what is known of it, and `names` has the names of
+/// its items in WGSL.
+///
+/// The text has one reading as an expression. A constant is written by its initialiser. What has no
+/// form is refused, by the first part that has none: a float literal as `Unimplemented`, `float
+/// literal`; an abstract one as `Custom`, `Abstract types should not appear in IR presented to
+/// backends`; a value of a type that names a struct which no text declares as `Custom`, `predeclared
+/// struct`, one of a type with a scalar without a word as `Unsupported`, of the kind `scalar type`, and
+/// one of any other type without a form as `Custom`, `type without a WGSL form`; an operator as
+/// `Custom`, `operator in a constant`. Such a refusal leaves the sink as it was. After want of memory
+/// or a failure of the sink a beginning of the text may stand behind what the sink held.
+///
+/// So far a module of which not every part is written, as one whose constants have names or that
+/// declares overrides, is refused as `Unimplemented`, `not yet written`.
+pub fn write_global_expression<W: TextSink>(
+    alloc: Global,
+    module: &Module,
+    names: &HashMap<NameKey, String>,
+    handle: Handle<Expression>,
+    out: &mut W,
+) -> Result<(), Error>
+    requires accepted { (info : ModuleInfo) × IsTrue (is_accepted «module».now info) }
+    requires there { handle < length «module».now.global_expressions }
+    requires names { HasNamesOf «module».now (names_in names.now) }
+    ensures { GlobalWriting «module».now handle result (W.text out.old) (W.text out.new)
+        (W.failures out.old) (W.failures out.new) }
+{
+    if !is_written_so_far(module) {
+        return Err(not_yet_written(alloc));
+    }
+    let globals = GlobalExpressions::of(alloc, module)?;
+    if globals.is_written(handle) {
+        write_written_global(
+            alloc,
+            ModuleText {
+                shader: module,
+                names,
+            },
+            handle,
+            out,
+        )
+    } else {
+        Err(global_without_form(alloc, module, &globals, handle))
+    }
+}
+
+/// The same of one that is written.
+#[tactic(auto, using(naga_words::proofs::Writing::fresh_output))]
+fn write_written_global<W: TextSink>(
+    alloc: Global,
+    text: ModuleText<'_>,
+    handle: Handle<Expression>,
+    out: &mut W,
+) -> Result<(), Error>
+    requires can { CanWriteIn text }
+    requires written { IsTrue (global_is_written text.shader.now handle) }
+    ensures text_ok { OnOk result
+        (W.text out.new ≡ W.text out.old ++ global_text text.entry.shader.now handle) }
+    ensures text_err { OnErr result
+        (IsBehind (W.text out.old) (global_text text.entry.shader.now handle) (W.text out.new)) }
+    ensures failures_ok { OnOk result (W.failures out.new ≡ W.failures out.old) }
+    ensures reason { IfErr result (IsWant (W.failures out.old) (W.failures out.new)) }
+{
+    let mut written = Output::new(out);
+    text.write_global(alloc, handle, &mut written);
+    match written.outcome() {
+        Ok(()) => Ok(()),
+        Err(want) => Err(error_of_want(want)),
+    }
+}

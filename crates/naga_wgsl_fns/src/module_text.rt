@@ -1,0 +1,42 @@
+//! What the texts of a module's types and of its own expressions are made from.
+
+ghost use Rattle.std.specs.Prelude.{IsTrue};
+ghost use Rattle.module_meaning.specs.AlikeTypes.{has_form};
+ghost use Rattle.naga_info.specs.declared.info.TypeResolution.TheVariants as resolution;
+ghost use Rattle.naga_words.specs.Output.{Writes};
+ghost use Rattle.naga_wgsl_fns.specs.ModuleText.{CanWriteIn};
+ghost use Rattle.naga_wgsl_fns.specs.Types.{spelled_text};
+
+use naga_ir::{Handle, Module, Type_};
+use naga_names::NameKey;
+use naga_words::types::write_type_in;
+use naga_words::{Output, TextSink, WriterTypeContext};
+use std::alloc::Global;
+use std::collections::HashMap;
+
+/// A module, and the names of its items.
+#[derive(Clone, Copy)]
+pub(crate) struct ModuleText<'a> {
+    pub(crate) shader: &'a Module,
+    pub(crate) names: &'a HashMap<NameKey, String>,
+}
+
+impl ModuleText<'_> {
+    /// The type with this handle.
+    pub(crate) fn write_type<W: TextSink>(
+        &self,
+        alloc: Global,
+        ty: Handle<Type_>,
+        out: &mut Output<'_, W>,
+    )
+        requires can { CanWriteIn self.now }
+        requires formed { IsTrue (has_form self.now.shader.now.types (resolution.Handle ty)) }
+        ensures { Writes W.text W.failures out.old out.new (spelled_text self.now.shader.now ty) }
+    {
+        let context = WriterTypeContext {
+            module: self.shader,
+            names: self.names,
+        };
+        write_type_in(&context, alloc, ty, out);
+    }
+}
