@@ -47,7 +47,7 @@ module _ (m : Module) (before now : NameMap) (names : Names) (has : HasNamedItem
         named_there wgsl_names before m names now has item s ∙ ap Some (sym (name_is m item s));
     members = λ h t at i a there.
         let own : HasNamedItems wgsl_names (λ _. None) (labelled_items wgsl_names m) names (module_names m) =
-            record { words = has.words; labels = has.labels; keys = has.keys; put = puts m } in
+        record { words = has.words; labels = has.labels; keys = has.keys; put = puts m } in
         let here = member_named wgsl_names m h t at i a there before now names has in
         let named = member_named wgsl_names m h t at i a there (λ _. None) (module_names m) names own in
         here ∙ ap Some (sym (ap (λ o. unwrap_or o []) named));

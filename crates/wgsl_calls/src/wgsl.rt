@@ -92,11 +92,7 @@ fn a_module_is_asked_for_and_written(rt: HostRuntime) -> Result<(), Fail> {
 }
 
 /// A constant without a name, as an initialiser.
-fn writes_an_initialiser(
-    rt: &impl Abort,
-    alloc: Global,
-    sample: &mut Sample,
-) -> Result<(), Error> {
+fn writes_an_initialiser(rt: &impl Abort, alloc: Global, sample: &mut Sample) -> Result<(), Error> {
     let i32_type = sample.scalar(Scalar::I32)?;
     let init = sample.global(Expression::Literal(Literal::I32(-5)), i32_type)?;
     let constant = sample.constant(i32_type, init)?;

@@ -5,4 +5,4 @@ pub returns-clause-names : goal.returns-clause-names
 returns-clause-names c = c.in_ok-name_items.ensures.ok.named
 
 pub returns-clause-items : goal.returns-clause-items
-returns-clause-items c = record { later = []; named = c.in_ok-name_items.ensures.namer; }
+returns-clause-items c = record { later = []; named = c.in_ok-name_items.ensures.namer }
