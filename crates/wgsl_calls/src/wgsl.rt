@@ -3,10 +3,10 @@ use crate::texts::reads;
 use bitflags::Flags;
 use naga_wgsl_out::back::FunctionType;
 use naga_wgsl_out::info::{accepts, count, unaccepted};
-use naga_wgsl_out::ir::{Expression, Literal, Place, Scalar};
+use naga_wgsl_out::ir::Place;
 use naga_wgsl_out::wgsl::{
     CheckedError, Error, Writer, WriterFlags, names_of, no_flags, write_checked, write_function,
-    write_global_expression, write_string,
+    write_string,
 };
 use sample_modules::{Row, Sample};
 use std::alloc::Global;
@@ -46,20 +46,30 @@ fn writes_a_function(rt: &impl Abort, alloc: Global, sample: &mut Sample) -> Res
     assert!(rt; accepts(&sample.module, &sample.info));
     assert_eq!(rt; sample.module.functions.len(), 1);
     let (names, mut namer) = names_of(alloc, &sample.module)?;
-    for wanted in [NAMED, NAMED_AGAIN] {
-        let mut text = String::new(alloc);
-        write_function(
-            alloc,
-            &sample.module,
-            &sample.info,
-            FunctionType::Function(Place::from_index(0)),
-            &names,
-            &mut namer,
-            WriterFlags::empty(),
-            &mut text,
-        )?;
-        reads(rt, text.as_str(), wanted);
-    }
+    let mut text = String::new(alloc);
+    write_function(
+        alloc,
+        &sample.module,
+        &sample.info,
+        FunctionType::Function(Place::from_index(0)),
+        &names,
+        &mut namer,
+        WriterFlags::empty(),
+        &mut text,
+    )?;
+    reads(rt, text.as_str(), NAMED);
+    let mut text = String::new(alloc);
+    write_function(
+        alloc,
+        &sample.module,
+        &sample.info,
+        FunctionType::Function(Place::from_index(0)),
+        &names,
+        &mut namer,
+        WriterFlags::empty(),
+        &mut text,
+    )?;
+    reads(rt, text.as_str(), NAMED_AGAIN);
     Ok(())
 }
 
@@ -89,30 +99,6 @@ fn a_module_is_asked_for_and_written(rt: HostRuntime) -> Result<(), Fail> {
     let written = checks_and_writes(&rt, rt.alloc(), &mut sample);
     drop(sample);
     written
-}
-
-/// A constant without a name, as an initialiser.
-fn writes_an_initialiser(rt: &impl Abort, alloc: Global, sample: &mut Sample) -> Result<(), Error> {
-    let i32_type = sample.scalar(Scalar::I32)?;
-    let init = sample.global(Expression::Literal(Literal::I32(-5)), i32_type)?;
-    let constant = sample.constant(i32_type, init)?;
-    let handle = sample.global(Expression::Constant(constant), i32_type)?;
-    assert!(rt; accepts(&sample.module, &sample.info));
-    assert!(rt; handle.index() < sample.module.global_expressions.len());
-    let (names, _) = names_of(alloc, &sample.module)?;
-    let mut text = String::new(alloc);
-    write_global_expression(alloc, &sample.module, &names, handle, &mut text)?;
-    reads(rt, text.as_str(), "-5i");
-    Ok(())
-}
-
-#[test]
-fn an_initialiser_is_written_by_itself(rt: HostRuntime) -> Result<(), Fail> {
-    let mut sample = Sample::new(rt.alloc());
-    let written = writes_an_initialiser(&rt, rt.alloc(), &mut sample);
-    drop(sample);
-    written?;
-    Ok(())
 }
 
 #[test]
