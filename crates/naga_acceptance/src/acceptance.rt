@@ -28,6 +28,12 @@ use naga_ir::Module;
 ///
 /// It takes no memory, and answers whatever numbers a module holds, in the time that `accepts`
 /// takes.
+///
+/// ```text
+/// if let Some(fault) = unaccepted(&shader.module, &shader.info) {
+///     println!(rt; "not accepted: {fault}")?;
+/// }
+/// ```
 pub fn unaccepted(module: &Module, info: &ModuleInfo) -> Option<Unaccepted>
     ensures accepted { is_none result ≡ is_accepted «module».now info.now }
     ensures fault { IfSome result (Fails «module».now info.now) }
@@ -59,6 +65,15 @@ pub fn unaccepted(module: &Module, info: &ModuleInfo) -> Option<Unaccepted>
 /// It takes no memory and answers whatever numbers a module holds. Time grows with the module; a
 /// switch whose labels don't ascend, the default behind all, takes the square of its cases, and an
 /// operator that shares its slot of a table with another is looked for from the start.
+///
+/// A module that is accepted may be counted and written:
+///
+/// ```text
+/// if accepts(&shader.module, &shader.info) {
+///     count(&mut shader.info, &shader.module);
+///     let text = write_string(alloc, &shader.module, &shader.info, no_flags())?;
+/// }
+/// ```
 #[tactic(none)]
 pub fn accepts(module: &Module, info: &ModuleInfo) -> bool
     ensures { result ≡ is_accepted «module».now info.now }

@@ -253,6 +253,17 @@ fn count_entry_points(infos: &mut [FunctionInfo], entry_points: &[EntryPoint])
 ///
 /// Where the module has no function or entry point at some place of the info, what stands there
 /// stays as it was, and a handle outside the info counts for nothing.
+///
+/// The writer binds by a `let` what is used twice, so it asks for these counts. They are told so:
+///
+/// ```text
+/// count(&mut shader.info, &shader.module);
+/// for function in shader.info.functions.iter() {
+///     for known in function.expressions.iter() {
+///         println!(rt; "{}", known.ref_count)?;
+///     }
+/// }
+/// ```
 pub fn count(info: &mut ModuleInfo, module: &Module)
     ensures functions { info.new.functions.items ≡
         all_with_counts «module».now.functions info.old.functions.items }

@@ -23,6 +23,13 @@ use std::marker::Model;
 /// the order of their bytes.
 ///
 /// Contracts see it as the finite set of its words' bytes.
+///
+/// ```text
+/// let mut words = KeywordSet::from_slice(alloc, &["let", "fn"])?;
+/// words.extend(["if"].iter().copied())?;
+/// let is_word = words.contains("fn"); // true
+/// let is_word = words.contains("FN"); // false
+/// ```
 #[derive(Drop)]
 pub struct KeywordSet {
     words: SortedWords,
@@ -144,6 +151,11 @@ impl Eq for KeywordSet {
 /// keeps them in the order of their bytes with the ASCII letters in lower case.
 ///
 /// Contracts see it as the finite set of its words' bytes, with the ASCII letters in lower case.
+///
+/// ```text
+/// let words = CaseInsensitiveKeywordSet::from_slice(alloc, &["let", "fn"])?;
+/// let is_word = words.contains("FN"); // true
+/// ```
 #[derive(Drop)]
 pub struct CaseInsensitiveKeywordSet {
     folded: SortedWords,

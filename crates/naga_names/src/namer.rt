@@ -39,6 +39,16 @@ mod uses;
 /// where the base was used before, is a word that means something, or ends in a digit, of an ending
 /// that begins with `_`. Contracts see a `Namer` as its words, its prefixes and the number of uses
 /// of each base.
+///
+/// One that keeps off WGSL's words names the labels of `crates/example_names` so:
+///
+/// ```text
+/// let mut namer = Namer::for_wgsl(alloc)?;
+/// let name = namer.call("x")?;   // x
+/// let name = namer.call("x")?;   // x_1
+/// let name = namer.call("fn")?;  // fn_
+/// let name = namer.call("a b")?; // a_u0020_b
+/// ```
 #[derive(Drop)]
 pub struct Namer {
     alloc: Global,

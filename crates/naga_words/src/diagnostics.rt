@@ -1,4 +1,14 @@
 //! WGSL's words for diagnostics: how bad one is, and which rule it comes from.
+//!
+//! What stands in `diagnostic(off, derivative_uniformity);` is read and told so:
+//!
+//! ```text
+//! let severity = Severity::from_wgsl_ident("off"); // Some(Severity::Off)
+//! let rule = StandardFilterableTriggeringRule::DerivativeUniformity;
+//! let word = rule.to_wgsl_ident(); // derivative_uniformity
+//! let filtered = FilterableTriggeringRule::Standard(rule);
+//! let text = filtered.display_wgsl_ident().to_string(alloc)?; // derivative_uniformity
+//! ```
 
 ghost use Rattle.std.specs.Prelude.{◌≡◌, ℕ, List, Option, Some};
 ghost use Rattle.naga_ir.specs.declared.diagnostics.FilterableTriggeringRule as filterable;

@@ -32,6 +32,15 @@ impl From<AllocError> for SinkError {
 /// A contract sees the text that it has taken, and the number of its failures, which it need not
 /// keep and which has no greatest value. Where a piece is refused, the sink may hold a beginning of
 /// it behind what it held.
+///
+/// A `String` is a sink, and what writes to one asks for no more than this:
+///
+/// ```text
+/// fn write_call<W: TextSink>(function: &str, out: &mut W) -> Result<(), SinkError> {
+///     out.write_str(function)?;
+///     out.write_str("()")
+/// }
+/// ```
 pub trait TextSink {
     ghost text: { Self → List ℕ };
 

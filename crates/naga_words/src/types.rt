@@ -33,6 +33,21 @@ use std::alloc::Global;
 
 /// What the spelling of a type takes from around it: the types that it names, the names of structs
 /// and overrides, and what becomes of a type without a form.
+///
+/// A diagnostic spells types by the labels of a module, as `crates/example_diagnostic` does.
+/// Whether a type names none but earlier ones is asked before:
+///
+/// ```text
+/// let context = GlobalCtx {
+///     types: &module.types,
+///     constants: &module.constants,
+///     overrides: &module.overrides,
+///     global_expressions: &module.global_expressions,
+/// };
+/// if types_in_order(context.types, context.overrides.len()) && ty.index() < context.types.len() {
+///     let spelled = context.type_to_string(alloc, ty)?; // vec3<f32>
+/// }
+/// ```
 pub trait TypeContext {
     /// What the context knows, as the spelling of a type takes it.
     ghost context: { Self → Context };
