@@ -38,12 +38,7 @@ use std::alloc::Global;
 /// Whether a type names none but earlier ones is asked before:
 ///
 /// ```text
-/// let context = GlobalCtx {
-///     types: &module.types,
-///     constants: &module.constants,
-///     overrides: &module.overrides,
-///     global_expressions: &module.global_expressions,
-/// };
+/// let context = module.to_ctx();
 /// if types_in_order(context.types, context.overrides.len()) && ty.index() < context.types.len() {
 ///     let spelled = context.type_to_string(alloc, ty)?; // vec3<f32>
 /// }
