@@ -3,7 +3,7 @@
 
 use anyhow::ensure;
 use naga_wgsl_out::builder::ModuleBuilder;
-use naga_wgsl_out::info::{GlobalCtx, TypeResolution};
+use naga_wgsl_out::info::{ToCtx, TypeResolution};
 use naga_wgsl_out::ir::{ArraySize, Handle, Module, Scalar, Type_, TypeInner, VectorSize};
 use naga_wgsl_out::types::{TypeContext, types_in_order};
 use std::alloc::{AllocError, Global};
@@ -26,12 +26,7 @@ fn add_numbers(shader: &mut ModuleBuilder) -> Result<Handle<Type_>, AllocError> 
 /// That a vector was expected where the module's type at this handle was found. A type by itself
 /// needs no handle.
 fn mismatch(alloc: Global, module: &Module, found: Handle<Type_>) -> anyhow::Result<String> {
-    let context = GlobalCtx {
-        types: &module.types,
-        constants: &module.constants,
-        overrides: &module.overrides,
-        global_expressions: &module.global_expressions,
-    };
+    let context = module.to_ctx();
     ensure!(found.index() < context.types.len(), "no such type");
     ensure!(
         types_in_order(context.types, context.overrides.len()),

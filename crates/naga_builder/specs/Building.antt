@@ -1,7 +1,7 @@
 -- What functions and modules that are being built hold behind a call.
 --
 -- Throughout, old and new are such a function or module before and after a call.
-use Rattle.std.specs.Prelude.{◌≡◌, ℕ, ◌+◌, ◌^◌, ◌-◌, min, List, [], ◌∷◌, ◌++◌, length, string_bytes}
+use Rattle.std.specs.Prelude.{◌≡◌, ℕ, List, [], ◌∷◌, ◌++◌, length, nat_eq, string_bytes}
 use Rattle.std.specs.Prelude.{Bool, IsSomeAnd, Option, None, String}
 use Rattle.std.specs.List.{position_or_len}
 use Rattle.std.specs.declared.alloc.Global.{Global}
@@ -9,8 +9,8 @@ use Rattle.indexmap.specs.IndexMap.{IsUnchanged, insert_entry}
 use Rattle.indexmap.specs.IndexSet.{insert_key}
 use Rattle.naga_ir.specs.declared.types.TypeInner.{TypeInner}
 use Rattle.naga_ir.specs.Empty.{IsEmptyFunction}
+use Rattle.naga_ir.specs.Ranges.{range_of}
 use Rattle.naga_ir.specs.StatementTree.{StatementTree, emit, simple}
-use Rattle.naga_ir.specs.contracts.arena.PlacePartialEq.TheImpl.{eq-value as handle-eq-value}
 use Rattle.naga_ir.specs.contracts.types.PredeclaredTypePartialEq.TheImpl.{
   eq-value as predeclared-eq-value,
 }
@@ -35,7 +35,7 @@ use Rattle.naga_builder.specs.declared.«module».StageParts.{StageParts}
 -- ---- statements
 -- the expressions from the first to the last are evaluated
 abbrev pub emitted : (first last : ℕ) → StatementTree
-emitted first last = simple (emit first (min (last + 1) (2 ^ 64 - 1)))
+emitted first last = let r = range_of first last in simple (emit r.first r.end)
 
 -- ---- functions
 -- what is known of an expression of this type, of which no use is counted
@@ -92,22 +92,19 @@ pub record AddsLocal (l : LocalVariable) (old new : FunctionBuilder) : Type 0 wh
   pub known : new.known ≡ old.known
   pub body : new.body ≡ old.body
 
--- Are two handles of expressions equal?
-abbrev pub handle_eq : ℕ → ℕ → Bool
-handle_eq = handle-eq-value.it
-
 -- the labels of expressions, and nothing else, are others
-abbrev pub IsBesideNames : (old new : FunctionBuilder) → Type 0
-IsBesideNames old new = new ≡ record old {
-  function = record old.function { named_expressions = new.function.named_expressions };
-}
+pub record IsBesideNames (old new : FunctionBuilder) : Type 0 where
+  pub function : new.function ≡
+      record old.function { named_expressions = new.function.named_expressions }
+  pub known : new.known ≡ old.known
+  pub body : new.body ≡ old.body
 
 -- An expression has this label, in the place of one that it had or behind the others.
 pub record NamesExpression (handle : ℕ) (label : List ℕ) (old new : FunctionBuilder) : Type 0 where
   pub name : String Global
   pub labelled : string_bytes name ≡ label
   pub names : new.function.named_expressions.entries
-      ≡ insert_entry handle_eq old.function.named_expressions.entries handle name
+      ≡ insert_entry nat_eq old.function.named_expressions.entries handle name
   pub rest : IsBesideNames old new
 
 -- no label is added

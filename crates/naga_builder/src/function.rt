@@ -1,19 +1,32 @@
 //! Functions.
 
 ghost use Rattle.std.specs.Prelude.{◌≡◌, ◌++◌, ◌∷◌, [], IfOk, OnErr, OnOk, None, Some, length};
-ghost use Rattle.naga_builder.specs.Literals.{literal_scalar};
+ghost use Rattle.naga_ir.specs.Literals.{literal_scalar};
 
 use crate::block::BlockBuilder;
 use naga_info::{ExpressionInfo, TypeResolution};
 use naga_ir::{
     AddressSpace, BinaryOperator, Binding, Constant, Expression, Function, FunctionArgument,
-    FunctionResult, GlobalVariable, Handle, Literal, LocalVariable, Scalar, ScalarKind, Type_,
-    TypeInner, UnaryOperator, VectorSize,
+    FunctionResult, GlobalVariable, Handle, Literal, LocalVariable, Type_, TypeInner,
+    UnaryOperator, VectorSize,
 };
 use std::alloc::{AllocError, Global};
 
 /// A function that is being built, with what is known of its expressions. Where memory is refused,
 /// a call adds nothing.
+///
+/// `fn increased(x: i32) -> i32 { let next = (x + 1i); return next; }`:
+///
+/// ```text
+/// let mut increased = FunctionBuilder::new(alloc, "increased")?;
+/// let x = increased.argument("x", i32_type)?;
+/// increased.returns(i32_type);
+/// let one = increased.literal(Literal::I32(1))?;
+/// let sum = increased.binary(BinaryOperator::Add, x, one, i32_type)?;
+/// increased.name(sum, "next")?;
+/// increased.body.emit(sum, sum)?;
+/// increased.body.return_value(sum)?;
+/// ```
 pub struct FunctionBuilder {
     alloc: Global,
     function: Function,
@@ -282,7 +295,7 @@ impl FunctionBuilder {
             (type_of.Value (inner.Scalar (literal_scalar literal))) self.old self.new) }
         ensures err { OnErr result (Keeps self.old self.new) }
     {
-        let scalar = TypeInner::Scalar(literal_scalar(literal));
+        let scalar = TypeInner::Scalar(literal.scalar());
         self.typed_expression(Expression::Literal(literal), TypeResolution::Value(scalar))
     }
 
@@ -408,31 +421,5 @@ impl FunctionBuilder {
         } = self;
         function.body = body.finish();
         (function, known)
-    }
-}
-
-/// A literal's scalar.
-fn literal_scalar(literal: Literal) -> Scalar
-    ensures { result ≡ literal_scalar literal }
-{
-    match literal {
-        Literal::F64(_) => Scalar::F64,
-        Literal::F32(_) => Scalar::F32,
-        Literal::F16(_) => Scalar::F16,
-        Literal::U16(_) => Scalar::U16,
-        Literal::I16(_) => Scalar::I16,
-        Literal::U32(_) => Scalar::U32,
-        Literal::I32(_) => Scalar::I32,
-        Literal::U64(_) => Scalar::U64,
-        Literal::I64(_) => Scalar::I64,
-        Literal::Bool(_) => Scalar::BOOL,
-        Literal::AbstractInt(_) => Scalar {
-            kind: ScalarKind::AbstractInt,
-            width: 8,
-        },
-        Literal::AbstractFloat(_) => Scalar {
-            kind: ScalarKind::AbstractFloat,
-            width: 8,
-        },
     }
 }

@@ -47,6 +47,18 @@ impl StageParts {
 ///
 /// Its fields are what it has made. Each call keeps them in step: what is known is known of the
 /// functions, entry points and expressions that are there, in their order.
+///
+/// As in `crates/example_double`:
+///
+/// ```text
+/// let mut shader = ModuleBuilder::new(alloc);
+/// let i32_type = shader.scalar(Scalar::I32)?;
+/// let mut same = FunctionBuilder::new(alloc, "same")?;
+/// let x = same.argument("x", i32_type)?;
+/// same.returns(i32_type);
+/// same.body.return_value(x)?;
+/// shader.add_function(same)?;
+/// ```
 pub struct ModuleBuilder {
     alloc: Global,
     /// The module.
