@@ -82,10 +82,10 @@ impl Row {
     pub fn build(self, alloc: Global, shader: &mut ModuleBuilder) -> Result<(), AllocError> {
         match self {
             Row::Empty => Ok(()),
-            Row::Identity => build_argument(alloc, shader, "f", &["x"], 0),
+            Row::Identity => build_argument(alloc, shader, "f", &["x"]),
             Row::Negative => build_negative(alloc, shader),
-            Row::Same => build_argument(alloc, shader, "f", &["x", "x"], 1),
-            Row::Type_ => build_argument(alloc, shader, "type", &["1x"], 0),
+            Row::Same => build_argument(alloc, shader, "f", &["x", "x"]),
+            Row::Type_ => build_argument(alloc, shader, "type", &["1x"]),
             Row::Store => build_store(alloc, shader, true),
             Row::Unused => build_store(alloc, shader, false),
             Row::Late => build_late(alloc, shader),
@@ -115,23 +115,31 @@ pub(crate) fn end_with(
     Ok(())
 }
 
-/// A function of this label that has arguments of these labels and returns its argument of this
-/// number, or nothing where it has none of this number.
+/// Adds arguments of these labels and this type, and gives the value of the last.
+fn add_arguments(
+    function: &mut FunctionBuilder,
+    labels: &[&str],
+    ty: Handle<Type_>,
+) -> Result<Option<Handle<Expression>>, AllocError> {
+    let mut last = None;
+    for label in labels {
+        last = Some(function.argument(*label, ty)?);
+    }
+    Ok(last)
+}
+
+/// A function of this label that has arguments of these labels and returns the last of them.
 pub fn build_argument(
     alloc: Global,
     shader: &mut ModuleBuilder,
     label: &str,
     arguments: &[&str],
-    number: usize,
 ) -> Result<(), AllocError> {
     let i32_type = shader.scalar(Scalar::I32)?;
     let mut function = FunctionBuilder::new(alloc, label)?;
     function.returns(i32_type);
-    for (index, argument) in arguments.iter().enumerate() {
-        let value = function.argument(*argument, i32_type)?;
-        if index == number {
-            function.body.return_value(value)?;
-        }
+    if let Some(value) = add_arguments(&mut function, arguments, i32_type)? {
+        function.body.return_value(value)?;
     }
     shader.add_function(function)?;
     Ok(())
