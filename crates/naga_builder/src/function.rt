@@ -27,6 +27,9 @@ use std::alloc::{AllocError, Global};
 /// increased.body.emit(sum, sum)?;
 /// increased.body.return_value(sum)?;
 /// ```
+///
+/// A loop that adds to it stands in a function that takes it by `&mut`: where a loop's function owns
+/// it, the prover may not find by itself that what is known stays in step.
 pub struct FunctionBuilder {
     alloc: Global,
     function: Function,
