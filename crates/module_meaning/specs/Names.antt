@@ -1,5 +1,5 @@
 -- The names that a module's items and expressions have in its WGSL text.
-use Rattle.std.specs.Prelude.{◌≡◌, ℕ, Bool, true, false, ◌<◌, ◌≤◌, ◌^◌, List, [], ◌∷◌, ◌++◌, length}
+use Rattle.std.specs.Prelude.{◌≡◌, ℕ, Bool, true, false, ◌<◌, ◌^◌, List, [], ◌∷◌, ◌++◌, length}
 use Rattle.std.specs.Prelude.{replicate, slice_get, nat_lt, None, Some, codes, decimal, unwrap_or}
 use Rattle.std.specs.Prelude.{IsTrue, take}
 use Rattle.std.specs.FinSet as set
@@ -9,9 +9,9 @@ use Rattle.naga_ir.specs.declared.module.Function as ir_function
 use Rattle.naga_ir.specs.declared.module.Module.{Module}
 use Rattle.naga_ir.specs.declared.types.StructMember.{StructMember}
 use Rattle.naga_ir.specs.declared.types.Type_.{Type_}
-use Rattle.naga_names.specs.Naming.{Names, new_names, labels_with_base}
+use Rattle.naga_names.specs.Naming.{Names, new_names}
 use Rattle.naga_names.specs.Keys.{NameMap, same_key}
-use Rattle.naga_names.specs.Reset.{keys_fit, labelled_items, labels_of, members_of, named_items}
+use Rattle.naga_names.specs.Reset.{labelled_items, labels_of, members_of, named_items}
 use Rattle.naga_names.specs.declared.key.NameKey.{NameKey}
 use Rattle.naga_names.specs.declared.key.NameKey.TheVariants as key
 use Rattle.naga_words.specs.Spelling.{is_struct}
@@ -80,19 +80,6 @@ module_labels m = item_labels m ++ all_given_labels m.functions
 -- label behind all labels in front of it.
 unfoldable pub given_name : Module → (function : ℕ) → (number : ℕ) → List ℕ
 given_name m g = name_of_label wgsl_names (labels_before m g) (labels_given m g)
-
--- no label's base is used more often than a counter of its uses can tell
-abbrev pub AreCounted : (labels : List (List ℕ)) → Type 0
-AreCounted labels = (base : List ℕ) → labels_with_base wgsl_names labels base ≤ 2 ^ 32
-
-abbrev pub NamesAreCounted : Module → Type 0
-NamesAreCounted m = AreCounted (module_labels m)
-
--- the items' labels are counted, and the key of each item, down to a struct's member, can tell its
--- number
-pub record ItemsAreCounted (m : Module) : Type 0 where
-  pub names : AreCounted (item_labels m)
-  pub keys : keys_fit (labelled_items wgsl_names m) ≡ true
 
 -- ---- names that tell what they name
 -- Structs and overrides have names of their own, so that the spelling of a type tells them apart.

@@ -68,7 +68,7 @@ use Rattle.naga_form.proofs.Names.{function_there, argument_there}
 use Rattle.naga_names.proofs.Refusal.{element}
 use Rattle.module_meaning.specs.Names.{argument_name, numbered_name, wgsl_names, module_names}
 use Rattle.module_meaning.specs.Names.{name_in, function_name, local_name, numbered_text}
-use Rattle.module_meaning.specs.Names.{NamesAreCounted, given_name}
+use Rattle.module_meaning.specs.Names.{given_name}
 use Rattle.module_meaning.specs.Types.{declared_type}
 use Rattle.module_meaning.specs.FunctionShapes.{function_shape, statement_shape, statements_shape}
 use Rattle.module_meaning.specs.Namings.{outer_names, function_naming}
@@ -82,7 +82,7 @@ use Rattle.wgsl_text.specs.Requests.{is_request}
 use Rattle.wgsl_text.specs.Words.{is_builtin}
 use Rattle.naga_form.proofs.Fits.{given_by_all_is, local_item, mapped_length}
 use Rattle.naga_form.proofs.GivenNames.{given_no_item, given_no_word, given_not_numbered}
-use Rattle.naga_form.proofs.GivenNames.{givens_tell, items_counted}
+use Rattle.naga_form.proofs.GivenNames.{givens_tell}
 use Rattle.module_meaning.specs.GivenLabels.{given_labels}
 use Rattle.naga_form.proofs.WellFormed.{any_shape}
 use Rattle.naga_form.proofs.FunctionsFit.{IsLeft}
@@ -169,7 +169,7 @@ none_listed : (i : ℕ) (ts : List ValueType) → ts ≡ [] → i < length ts �
 none_listed i ts e lt = let none : i < 0 = subst (λ ts. i < length ts) e lt in omega (arith, none)
 
 -- ---- one function
-module _ (m : Module) (info : ModuleInfo) (types : TypesAreFit m) (named : NamesAreCounted m) (g : ℕ) (f : ir_function.Function) (found : slice_get m.functions g ≡ Some f) (es : List ExpressionInfo) (callees : ℕ) (ranges : function_in_range m callees f ≡ true) (written : IsTrue (function_is_written f)) (p : shapes.Module) (constants : p.constant_types ≡ []) (globals : p.global_types ≡ []) (counted : length p.functions ≡ length m.functions) where
+module _ (m : Module) (info : ModuleInfo) (types : TypesAreFit m) (g : ℕ) (f : ir_function.Function) (found : slice_get m.functions g ≡ Some f) (es : List ExpressionInfo) (callees : ℕ) (ranges : function_in_range m callees f ≡ true) (written : IsTrue (function_is_written f)) (p : shapes.Module) (constants : p.constant_types ≡ []) (globals : p.global_types ≡ []) (counted : length p.functions ≡ length m.functions) where
   abbrev own : Naming
   own = function_naming (module_names m) (given_name m g) m info g f es
 
@@ -257,7 +257,7 @@ module _ (m : Module) (info : ModuleInfo) (types : TypesAreFit m) (named : Names
       other : (b : LabelledItem) → Stands (labelled_items wgsl_names m) b →
           (b.0 ≡ key.Type_ h → ⊥) → name_in (module_names m) b.0 ≢ w
       other b s differs e =
-          differs (ap (λ item. item.0) (items_tell m (items_counted m named) b item s there e))
+          differs (ap (λ item. item.0) (items_tell m b item s there e))
 
       no_function : (k : ℕ) → key.Function k ≡ key.Type_ h → ⊥
       no_function k e = cc
@@ -284,7 +284,7 @@ module _ (m : Module) (info : ModuleInfo) (types : TypesAreFit m) (named : Names
       no_name (FixedKey (GlobalName i)) is e = none_listed i p.global_types globals is
       no_name (NumberedKey k) is e = item_not_numbered m item k there (sym e)
       no_name (GivenKey k) is e =
-          given_no_item m g f found named k (given_in k is) item there (sym e)
+          given_no_item m g f found k (given_in k is) item there (sym e)
 
   -- what is spelled by a type is called by that, or by what no text has where it has no form
   spelled_words : (r : TypeResolution) → IsFit m r → (P : Operator → Type 0) →
@@ -547,19 +547,19 @@ module _ (m : Module) (info : ModuleInfo) (types : TypesAreFit m) (named : Names
       mixed_keys i j li lj e =
           let a = element f.arguments.items i li in
           let b = element f.local_variables j lj in
-          let same = items_tell m (items_counted m named) (argument_item m g i a.0) (local_item g j b.0) (argument_there m g f i a.0 found a.1) (local_stands wgsl_names m g f j b.0 found b.1) e in
+          let same = items_tell m (argument_item m g i a.0) (local_item g j b.0) (argument_there m g f i a.0 found a.1) (local_stands wgsl_names m g f j b.0 found b.1) e in
           mixed i j (ap (λ item. item.0) same)
 
       apart : (a b : NameKey) → IsName p shape a → IsName p shape b → name_at own.names a ≡ name_at own.names b → a ≡ b
       apart (FixedKey (ArgumentName i)) (FixedKey (ArgumentName j)) la lb e =
           let a = element f.arguments.items i (argument_in i la) in
           let b = element f.arguments.items j (argument_in j lb) in
-          let same = items_tell m (items_counted m named) (argument_item m g i a.0) (argument_item m g j b.0) (argument_there m g f i a.0 found a.1) (argument_there m g f j b.0 found b.1) e in
+          let same = items_tell m (argument_item m g i a.0) (argument_item m g j b.0) (argument_there m g f i a.0 found a.1) (argument_there m g f j b.0 found b.1) e in
           ap (λ k. FixedKey (ArgumentName k)) (one_argument i j (ap (λ item. item.0) same))
       apart (FixedKey (LocalName i)) (FixedKey (LocalName j)) la lb e =
           let a = element f.local_variables i (local_in i la) in
           let b = element f.local_variables j (local_in j lb) in
-          let same = items_tell m (items_counted m named) (local_item g i a.0) (local_item g j b.0) (local_stands wgsl_names m g f i a.0 found a.1) (local_stands wgsl_names m g f j b.0 found b.1) e in
+          let same = items_tell m (local_item g i a.0) (local_item g j b.0) (local_stands wgsl_names m g f i a.0 found a.1) (local_stands wgsl_names m g f j b.0 found b.1) e in
           ap (λ k. FixedKey (LocalName k)) (one_local i j (ap (λ item. item.0) same))
       apart (FixedKey (ArgumentName i)) (FixedKey (LocalName j)) la lb e = absurd (mixed_keys i j (argument_in i la) (local_in j lb) e)
       apart (FixedKey (LocalName i)) (FixedKey (ArgumentName j)) la lb e = absurd (mixed_keys j i (argument_in j lb) (local_in i la) (sym e))
@@ -572,15 +572,15 @@ module _ (m : Module) (info : ModuleInfo) (types : TypesAreFit m) (named : Names
       apart (NumberedKey h) (FixedKey (LocalName i)) la lb e =
           let a = element f.local_variables i (local_in i lb) in absurd (item_not_numbered m (local_item g i a.0) h (local_stands wgsl_names m g f i a.0 found a.1) (sym e))
       apart (NumberedKey h) (NumberedKey k) la lb e = ap NumberedKey (numbered_distinct h k e)
-      apart (GivenKey j) (GivenKey k) la lb e = ap GivenKey (givens_tell m g f found named j k (given_in j la) (given_in k lb) e)
+      apart (GivenKey j) (GivenKey k) la lb e = ap GivenKey (givens_tell m g f found j k (given_in j la) (given_in k lb) e)
       apart (FixedKey (ArgumentName i)) (GivenKey k) la lb e =
-          let a = element f.arguments.items i (argument_in i la) in absurd (given_no_item m g f found named k (given_in k lb) (argument_item m g i a.0) (argument_there m g f i a.0 found a.1) e)
+          let a = element f.arguments.items i (argument_in i la) in absurd (given_no_item m g f found k (given_in k lb) (argument_item m g i a.0) (argument_there m g f i a.0 found a.1) e)
       apart (GivenKey k) (FixedKey (ArgumentName i)) la lb e =
-          let a = element f.arguments.items i (argument_in i lb) in absurd (given_no_item m g f found named k (given_in k la) (argument_item m g i a.0) (argument_there m g f i a.0 found a.1) (sym e))
+          let a = element f.arguments.items i (argument_in i lb) in absurd (given_no_item m g f found k (given_in k la) (argument_item m g i a.0) (argument_there m g f i a.0 found a.1) (sym e))
       apart (FixedKey (LocalName i)) (GivenKey k) la lb e =
-          let a = element f.local_variables i (local_in i la) in absurd (given_no_item m g f found named k (given_in k lb) (local_item g i a.0) (local_stands wgsl_names m g f i a.0 found a.1) e)
+          let a = element f.local_variables i (local_in i la) in absurd (given_no_item m g f found k (given_in k lb) (local_item g i a.0) (local_stands wgsl_names m g f i a.0 found a.1) e)
       apart (GivenKey k) (FixedKey (LocalName i)) la lb e =
-          let a = element f.local_variables i (local_in i lb) in absurd (given_no_item m g f found named k (given_in k la) (local_item g i a.0) (local_stands wgsl_names m g f i a.0 found a.1) (sym e))
+          let a = element f.local_variables i (local_in i lb) in absurd (given_no_item m g f found k (given_in k la) (local_item g i a.0) (local_stands wgsl_names m g f i a.0 found a.1) (sym e))
       apart (GivenKey k) (NumberedKey h) la lb e = absurd (given_not_numbered m g f found k h (given_in k la) e)
       apart (NumberedKey h) (GivenKey k) la lb e = absurd (given_not_numbered m g f found k h (given_in k lb) (sym e))
       apart (FixedKey (ConstantName i)) y la lb e = absurd (none_listed i p.constant_types constants la)
