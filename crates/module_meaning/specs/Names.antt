@@ -1,5 +1,5 @@
 -- The names that a module's items and expressions have in its WGSL text.
-use Rattle.std.specs.Prelude.{◌≡◌, ℕ, Bool, true, false, ◌<◌, ◌^◌, List, [], ◌∷◌, ◌++◌, length}
+use Rattle.std.specs.Prelude.{◌≡◌, ℕ, Bool, true, false, ◌<◌, ◌≤◌, ◌^◌, List, [], ◌∷◌, ◌++◌, length}
 use Rattle.std.specs.Prelude.{replicate, slice_get, nat_lt, None, Some, codes, decimal, unwrap_or}
 use Rattle.std.specs.Prelude.{IsTrue, take}
 use Rattle.std.specs.FinSet as set
