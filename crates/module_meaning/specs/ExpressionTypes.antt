@@ -10,8 +10,7 @@ use Rattle.std.specs.List.{list_all, enumerate_from}
 use Rattle.std.specs.Option.{option_map, option_map_or, option_and_then}
 use Rattle.naga_ir.specs.declared.expression.Expression.{Expression}
 use Rattle.naga_ir.specs.declared.expression.Expression.TheVariants as expression
-use Rattle.naga_ir.specs.declared.expression.Literal.{Literal}
-use Rattle.naga_ir.specs.declared.expression.Literal.TheVariants as literal
+use Rattle.naga_ir.specs.Literals.{literal_scalar, scalar_of}
 use Rattle.naga_ir.specs.declared.module.Function.{Function}
 use Rattle.naga_ir.specs.declared.module.Module.{Module}
 use Rattle.naga_ir.specs.declared.operators.BinaryOperator.{BinaryOperator}
@@ -46,25 +45,6 @@ only (Some r) = LikeThis r
 abbrev pub if_any : Option TypeResolution → WantedType
 if_any None = Anything
 if_any (Some r) = LikeThis r
-
--- the scalar of a kind and a width in bytes
-abbrev pub scalar_of : ScalarKind → (width : ℕ) → Scalar
-scalar_of kind width = record { kind = kind; width = width }
-
--- a literal's scalar
-abbrev pub literal_scalar : Literal → Scalar
-literal_scalar (literal.F64 bits) = scalar_of kind.Float 8
-literal_scalar (literal.F32 bits) = scalar_of kind.Float 4
-literal_scalar (literal.F16 bits) = scalar_of kind.Float 2
-literal_scalar (literal.U16 value) = scalar_of kind.Uint 2
-literal_scalar (literal.I16 value) = scalar_of kind.Sint 2
-literal_scalar (literal.U32 value) = scalar_of kind.Uint 4
-literal_scalar (literal.I32 value) = scalar_of kind.Sint 4
-literal_scalar (literal.U64 value) = scalar_of kind.Uint 8
-literal_scalar (literal.I64 value) = scalar_of kind.Sint 8
-literal_scalar (literal.Bool value) = scalar_of kind.Bool 1
-literal_scalar (literal.AbstractInt value) = scalar_of kind.AbstractInt 8
-literal_scalar (literal.AbstractFloat bits) = scalar_of kind.AbstractFloat 8
 
 -- a variable of the module by its space: itself among the resources, else a pointer to it
 abbrev pub variable_type : AddressSpace → (ty : ℕ) → TypeResolution

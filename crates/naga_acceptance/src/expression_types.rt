@@ -6,7 +6,7 @@ ghost use Rattle.naga_acceptance.specs.KnownTypes.{given, known_types, wanted};
 ghost use Rattle.module_meaning.specs.ExpressionTypes.{argument_type, binary_type, constant_type};
 ghost use Rattle.module_meaning.specs.ExpressionTypes.{global_type, has_its_type};
 ghost use Rattle.module_meaning.specs.ExpressionTypes.{if_any, is_bool, is_wanted};
-ghost use Rattle.module_meaning.specs.ExpressionTypes.{literal_scalar, local_type, logical_type};
+ghost use Rattle.module_meaning.specs.ExpressionTypes.{local_type, logical_type};
 ghost use Rattle.module_meaning.specs.ExpressionTypes.{only, override_type, result_type};
 ghost use Rattle.module_meaning.specs.ExpressionTypes.{splat_type, swizzle_type, variable_type};
 ghost use Rattle.module_meaning.specs.ExpressionTypes.{wanted_type};
@@ -19,7 +19,7 @@ use crate::parts::{
 use naga_info::TypeResolution;
 use naga_ir::{
     AddressSpace, Arena, BinaryOperator, Constant, Expression, Function, GlobalVariable, Handle,
-    Literal, LocalVariable, Module, Override, Scalar, ScalarKind, Type_, TypeInner, UniqueArena,
+    LocalVariable, Module, Override, Scalar, ScalarKind, Type_, TypeInner, UniqueArena,
     VectorSize,
 };
 
@@ -49,32 +49,6 @@ fn if_any(ty: Option<GivenType>) -> Wanted
     match ty {
         Some(ty) => Wanted::LikeThis(ty),
         None => Wanted::Anything,
-    }
-}
-
-/// A literal's scalar.
-pub(crate) fn literal_scalar(literal: Literal) -> Scalar
-    ensures { result ≡ literal_scalar literal }
-{
-    match literal {
-        Literal::F64(_) => Scalar::F64,
-        Literal::F32(_) => Scalar::F32,
-        Literal::F16(_) => Scalar::F16,
-        Literal::U16(_) => Scalar::U16,
-        Literal::I16(_) => Scalar::I16,
-        Literal::U32(_) => Scalar::U32,
-        Literal::I32(_) => Scalar::I32,
-        Literal::U64(_) => Scalar::U64,
-        Literal::I64(_) => Scalar::I64,
-        Literal::Bool(_) => Scalar::BOOL,
-        Literal::AbstractInt(_) => Scalar {
-            kind: ScalarKind::AbstractInt,
-            width: 8,
-        },
-        Literal::AbstractFloat(_) => Scalar {
-            kind: ScalarKind::AbstractFloat,
-            width: 8,
-        },
     }
 }
 
@@ -272,7 +246,7 @@ pub fn wanted_type(
     let types = &module.types;
     match expression {
         Expression::Literal(literal) => {
-            Wanted::LikeThis(GivenType::Scalar(literal_scalar(*literal)))
+            Wanted::LikeThis(GivenType::Scalar(literal.scalar()))
         }
         Expression::Constant(handle) => only(constant_type(module, *handle)),
         Expression::Override(handle) => only(override_type(module, *handle)),

@@ -34,7 +34,8 @@ use Rattle.module_meaning.specs.AgreeingOperators.{Group, module_operators_agree
 use Rattle.module_meaning.specs.AlikeTypes.{type_identity, are_alike}
 use Rattle.module_meaning.specs.ExpressionOperators.{constructor}
 use Rattle.module_meaning.specs.ExpressionShapes.{Declared, trees, tree_then, trees_of, built, tree_over, tree_within, constant_tree}
-use Rattle.module_meaning.specs.ExpressionTypes.{LikeThis, only, is_wanted, wanted_type, literal_scalar, expression_type_fits}
+use Rattle.module_meaning.specs.ExpressionTypes.{LikeThis, only, is_wanted, wanted_type, expression_type_fits}
+use Rattle.naga_ir.specs.Literals.{literal_scalar}
 use Rattle.module_meaning.specs.ExpressionTypes as types
 use Rattle.module_meaning.specs.InfoSizes.{all_paired}
 use Rattle.module_meaning.specs.Initialisers.{initialisers_fit, constant_is_sound, override_is_sound, global_is_sound}

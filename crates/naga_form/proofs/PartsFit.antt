@@ -40,7 +40,8 @@ use Rattle.module_meaning.specs.AgreeingOperators.{Group, function_group}
 use Rattle.module_meaning.specs.AlikeTypes.{type_form, type_identity, handle_form, inner_form, form_within, found_form_by, named_form_by, scalar_form}
 use Rattle.module_meaning.specs.ExpressionOperators.{constructor, cast, cast_to, type_known, points_to_atomic, matrix_load, query_operator}
 use Rattle.module_meaning.specs.ExpressionShapes.{part_selector, part_shape, shape_of, applied_or, asking}
-use Rattle.module_meaning.specs.ExpressionTypes.{scalar_of, is_bool, is_bool_of, logical_type, binary_type, wanted_type, Anything, LikeThis, is_wanted}
+use Rattle.naga_ir.specs.Literals.{scalar_of}
+use Rattle.module_meaning.specs.ExpressionTypes.{is_bool, is_bool_of, logical_type, binary_type, wanted_type, Anything, LikeThis, is_wanted}
 use Rattle.module_meaning.specs.FunctionShapes.{function_shape}
 use Rattle.module_meaning.specs.OperandDemands.{operand_is, is_integer, is_integer_of}
 use Rattle.module_meaning.specs.OperatorTable.{Operator as TableOperator, BinarySign, WithoutForm, Formless, ValueOf, Construct, CooperativeLoad, AtomicLoad, asks, run_word}

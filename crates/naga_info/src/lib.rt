@@ -5,4 +5,4 @@ pub mod info;
 pub mod rules;
 
 pub use info::{ExpressionInfo, FunctionInfo, ModuleInfo, TypeResolution};
-pub use rules::{Conclusion, GlobalCtx, Rule};
+pub use rules::{Conclusion, GlobalCtx, Rule, ToCtx};

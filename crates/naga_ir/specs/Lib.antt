@@ -5,3 +5,6 @@ pub mod StatementSizes
 pub mod Empty
 pub mod Operands
 pub mod Kinds
+pub mod Arenas
+pub mod Literals
+pub mod Ranges

@@ -2,6 +2,7 @@
 
 ghost use Rattle.std.specs.Prelude.{◌≡◌, ℕ, ◌<◌, ◌==◌, List, [], ◌∷◌, ◌++◌, length, drop, OnErr};
 ghost use Rattle.std.specs.Prelude.{IfOk, slice_get, Some};
+ghost use Rattle.std.specs.Borrow.{sem};
 ghost use Rattle.std.specs.Iterator.{YieldsFirstBy, item_count};
 ghost use Rattle.std.specs.List.{enumerate_from};
 
@@ -70,6 +71,8 @@ impl<T> Model for Arena<T> {
 }
 
 impl<T: Item + Drop> Arena<T> {
+    ghost use Rattle.naga_ir.specs.Arenas.{LendsItem};
+
     /// An arena without items. It takes no memory.
     pub fn new(alloc: Global) -> Self
         ensures { result ≡ [] }
@@ -103,6 +106,15 @@ impl<T: Item + Drop> Arena<T> {
         let place = Place::from_index(self.items.len());
         self.items.push(item)?;
         Ok(place)
+    }
+
+    /// The item at `handle`, which is there, to be changed. The other items stay as they are.
+    pub fn get_mut(&mut self, handle: Handle<T>) -> &mut T
+        requires { handle < length self.old }
+        ensures* writes_back { sem 𝓛 (LendsItem T.row self.entry handle result) }
+        ensures item { slice_get self.old handle ≡ Some result.now }
+    {
+        &mut self.items[handle.index]
     }
 
     /// The handles with their items, in order.

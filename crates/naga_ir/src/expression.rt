@@ -1,12 +1,14 @@
 //! Expressions, whose operands are handles of expressions that stand before them.
 
+ghost use Rattle.std.specs.Prelude.{◌≡◌};
+
 use crate::arena::{Handle, Item};
 use crate::module::{Constant, Function, GlobalVariable, LocalVariable, Override};
 use crate::operators::{
     BinaryOperator, DerivativeAxis, DerivativeControl, MathFunction, RelationalFunction,
     UnaryOperator,
 };
-use crate::types::{CooperativeRole, CooperativeSize, ScalarKind, Type_, VectorSize};
+use crate::types::{CooperativeRole, CooperativeSize, Scalar, ScalarKind, Type_, VectorSize};
 
 /// A number or a truth value that is written out. Floating-point numbers are held as their bits.
 #[derive(Debug, Clone, Copy, PartialEq, Eq, Hash)]
@@ -35,6 +37,30 @@ pub enum Literal {
     AbstractInt(i64),
     /// The bits of a floating-point number of WGSL's constant expressions.
     AbstractFloat(u64),
+}
+
+impl Literal {
+    ghost use Rattle.naga_ir.specs.Literals.{literal_scalar};
+
+    /// The scalar that it is a value of. Numbers of WGSL's constant expressions have 8 bytes.
+    pub fn scalar(self) -> Scalar
+        ensures { result ≡ literal_scalar self }
+    {
+        match self {
+            Literal::F64(_) => Scalar::F64,
+            Literal::F32(_) => Scalar::F32,
+            Literal::F16(_) => Scalar::F16,
+            Literal::U16(_) => Scalar::U16,
+            Literal::I16(_) => Scalar::I16,
+            Literal::U32(_) => Scalar::U32,
+            Literal::I32(_) => Scalar::I32,
+            Literal::U64(_) => Scalar::U64,
+            Literal::I64(_) => Scalar::I64,
+            Literal::Bool(_) => Scalar::BOOL,
+            Literal::AbstractInt(_) => Scalar::ABSTRACT_INT,
+            Literal::AbstractFloat(_) => Scalar::ABSTRACT_FLOAT,
+        }
+    }
 }
 
 /// A component of a vector.

@@ -24,6 +24,21 @@ pub struct Range {
     pub end: usize,
 }
 
+impl Range {
+    ghost use Rattle.naga_ir.specs.Ranges.{range_of};
+
+    /// The handles from `first` to `last`, both of them. The greatest `usize`, which no arena's
+    /// handle comes near, is left out of any range.
+    pub fn new_from_bounds(first: Handle<Expression>, last: Handle<Expression>) -> Self
+        ensures { result ≡ range_of first last }
+    {
+        Range {
+            first: first.index(),
+            end: last.index().saturating_add(1),
+        }
+    }
+}
+
 /// The value that a case of a switch is for.
 #[derive(Debug, Clone, Copy, PartialEq, Eq, Hash)]
 pub enum SwitchValue {

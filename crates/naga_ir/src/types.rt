@@ -125,6 +125,18 @@ impl Scalar {
         kind: ScalarKind::Bool,
         width: 1,
     };
+
+    /// An integer of WGSL's constant expressions.
+    pub const ABSTRACT_INT: Self = Scalar {
+        kind: ScalarKind::AbstractInt,
+        width: 8,
+    };
+
+    /// A floating-point number of WGSL's constant expressions.
+    pub const ABSTRACT_FLOAT: Self = Scalar {
+        kind: ScalarKind::AbstractFloat,
+        width: 8,
+    };
 }
 
 /// Where a variable lives, and who shares it.

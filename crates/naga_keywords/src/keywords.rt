@@ -6,6 +6,10 @@
 ghost use Rattle.std.specs.Prelude.{All, map};
 ghost use Rattle.naga_keywords.specs.Plain.{IsPlain};
 
+/// What no identifier begins with: `__`, which WGSL keeps for itself, and `_naga`, which naga keeps for
+/// the names of its own helpers.
+pub const RESERVED_PREFIXES: &[&str] = &["__", "_naga"];
+
 /// The keywords of WGSL and its reserved words, which no identifier may be.
 pub const RESERVED: &[&str] = &[
     // Keywords.

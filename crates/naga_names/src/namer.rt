@@ -1,8 +1,10 @@
 //! Identifiers from labels.
 ghost use Rattle.std.specs.Prelude.{◌≡◌, ◌<◌, ◌^◌, true, ◌∷◌, [], ◌++◌, List, ℕ, map, length};
 ghost use Rattle.std.specs.Prelude.{false, codes, IfOk, IfErr, OnOk, OnErr, IsErr, string_bytes};
+ghost use Rattle.std.specs.FinSet as set;
 ghost use Rattle.naga_names.specs.Starts.{start_of};
-ghost use Rattle.naga_names.specs.Naming.{Names, names_code, no_names, label_or, first_name};
+ghost use Rattle.naga_names.specs.Naming.{Names, names_code, new_names, no_names, label_or};
+ghost use Rattle.naga_names.specs.Naming.{first_name};
 ghost use Rattle.naga_names.specs.Naming.{is_taken, name_of, name_of_base, uses_of, with_use};
 ghost use Rattle.naga_names.specs.Naming.{with_use_of_base, IsFull, HasNamed, name_after};
 ghost use Rattle.naga_names.specs.Members.{PutsName, PutsNoName, HasNamedMembers, RefusesMembers};
@@ -18,7 +20,9 @@ use crate::namer::items::Naming;
 use crate::namer::uses::Uses;
 pub use crate::{EntryPointIndex, ExternalTextureNameKey, NameKey, NamerError};
 use naga_ir::{Handle, Module, StructMember, Type_};
+use naga_keywords::by_bytes::{builtin_words, reserved_words};
 use naga_keywords::keyword_set::{CaseInsensitiveKeywordSet, KeywordSet};
+use naga_keywords::keywords::{BUILTIN_IDENTIFIERS, RESERVED, RESERVED_PREFIXES};
 use std::alloc::{AllocError, Global};
 use std::collections::HashMap;
 use std::marker::Model;
@@ -73,6 +77,25 @@ impl Namer {
             keywords_case_insensitive: CaseInsensitiveKeywordSet::new(alloc),
             reserved_prefixes: Vec::new(alloc),
         }
+    }
+
+    /// A `Namer` that has given no name and keeps off the words of WGSL, [`RESERVED`] and
+    /// [`BUILTIN_IDENTIFIERS`], and off [`RESERVED_PREFIXES`], as that of the writer does.
+    pub fn for_wgsl(alloc: Global) -> Result<Self, AllocError>
+        ensures words { IfOk result (λ n. n ≡ new_names
+            (set.from_list (map (λ word. word.now) RESERVED.now))
+            (set.from_list (map (λ word. word.now) BUILTIN_IDENTIFIERS.now))
+            set.empty (map (λ prefix. prefix.now) RESERVED_PREFIXES.now)) }
+        ensures history { IfOk result (λ n. HasNamed n []) }
+    {
+        Ok(Self {
+            alloc,
+            uses: Uses::new(alloc),
+            keywords: reserved_words(alloc)?,
+            builtin_identifiers: builtin_words(alloc)?,
+            keywords_case_insensitive: CaseInsensitiveKeywordSet::new(alloc),
+            reserved_prefixes: Vec::from_slice(alloc, RESERVED_PREFIXES)?,
+        })
     }
 
     /// The identifier of the label, and one more use of the label's base.

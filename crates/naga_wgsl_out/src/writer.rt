@@ -31,6 +31,7 @@ use naga_info::ModuleInfo;
 use naga_ir::{Function, Handle, Module, Place};
 use naga_names::by_bytes::{builtin_words, reserved_words};
 use naga_names::keyword_set::CaseInsensitiveKeywordSet;
+use naga_names::keywords::RESERVED_PREFIXES;
 use naga_names::namer::{NameKey, Namer, NamerError};
 use naga_scope::{GlobalExpressions, Plan};
 use naga_wgsl_fns::error::{names_error, not_yet_written};
@@ -39,9 +40,6 @@ use naga_words::TextSink;
 use std::alloc::Global;
 use std::collections::HashMap;
 use std::marker::Model;
-
-/// What no identifier begins with.
-const RESERVED_PREFIXES: [&str; 2] = ["__", "_naga"];
 
 /// Writes modules as WGSL to a sink, one behind another.
 #[derive(Drop)]
@@ -278,7 +276,7 @@ fn reset_for_wgsl(
         reserved,
         builtin,
         CaseInsensitiveKeywordSet::new(alloc),
-        &RESERVED_PREFIXES,
+        RESERVED_PREFIXES,
         names,
     )
 }

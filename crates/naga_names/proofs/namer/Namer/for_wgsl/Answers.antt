@@ -1,0 +1,5 @@
+use Rattle.naga_names.proofs.Naming.{has_named_nothing}
+use Rattle.naga_names.proofs.namer.Namer.for_wgsl.Goals as goal
+
+pub returns-clause-history : goal.returns-clause-history
+returns-clause-history c = has_named_nothing _ c.new.ensures
