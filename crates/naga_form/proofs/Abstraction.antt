@@ -253,13 +253,13 @@ index_read _ false is index i read base b same =
 index_read _ true is index i read base b same = absurd cc
 
 -- a variable of the module is read as one, if it is a value just where it has no places
-variable_read : (k : ValueType) (held : Bool) → is_place k ≡ not held →
+global_read : (k : ValueType) (held : Bool) → is_place k ≡ not held →
     (e : tree_expressions.Expression) →
     plain_read (variable_plain held e) ≡ runs.global_form k (expression_read e)
-variable_read (PointerType spelling) false kept e = refl
-variable_read (PointerType spelling) true kept e = absurd cc
-variable_read _ true kept e = refl
-variable_read _ false kept e = absurd cc
+global_read (PointerType spelling) false kept e = refl
+global_read (PointerType spelling) true kept e = absurd cc
+global_read _ true kept e = refl
+global_read _ false kept e = absurd cc
 
 -- operands are read as what is like them
 abbrev ArePlain : (operand : ℕ → PlainForm) (like : ℕ → Plain) → List ℕ → Type 0
@@ -348,7 +348,7 @@ module _ (n : Naming) (code : Source) (spells : SpellsTypes code.declared.around
       (sym known.1.1))
   own_reads operand like k h (expression.Override handle) same w known = ap AsValue known.1
   own_reads operand like k h (expression.GlobalVariable handle) same w known =
-      variable_read k (code.is_held handle) known.1
+      global_read k (code.is_held handle) known.1
       (tree_expressions.Name (n.names.outer.global handle))
   own_reads operand like k h (expression.ZeroValue ty) same w known =
       zero_reads operand like k ty (code.declared.around.known h) known.0
