@@ -48,6 +48,16 @@ argument_name names g n = name_in names (key.FunctionArgument g n)
 abbrev pub local_name : NameMap → (function local : ℕ) → List ℕ
 local_name names g l = name_in names (key.FunctionLocal g l)
 
+-- that of a variable of the module, of a constant and of an override
+abbrev pub global_name : NameMap → (variable : ℕ) → List ℕ
+global_name names v = name_in names (key.GlobalVariable v)
+
+abbrev pub constant_name : NameMap → (constant : ℕ) → List ℕ
+constant_name names c = name_in names (key.Constant c)
+
+abbrev pub override_name : NameMap → (override : ℕ) → List ℕ
+override_name names o = name_in names (key.Override o)
+
 -- the name of a handle, or of a greater number, which has blanks for a name, so that no two numbers
 -- have one
 abbrev pub numbered_text : (is_handle : Bool) → ℕ → List ℕ
@@ -103,7 +113,8 @@ pub record ItemsAreTold (m : Module) : Type 0 where
       name_in (module_names m) (key.StructMember h j) → i ≡ j
 
 -- The map has the name of each type and of each member of a struct, of each function, of each
--- argument, whose numbers are no greater than the greatest `u32`, and of each local.
+-- argument, whose numbers are no greater than the greatest `u32`, of each local, and of each variable,
+-- constant and override of the module.
 pub record HasNamesOf (m : Module) (names : NameMap) : Type 0 where
   pub types : (h : ℕ) (t : Type_) → slice_get m.types h ≡ Some t →
       names (key.Type_ h) ≡ Some (name_in (module_names m) (key.Type_ h))
@@ -120,3 +131,9 @@ pub record HasNamesOf (m : Module) (names : NameMap) : Type 0 where
       names (key.FunctionLocal g l) ≡ Some (local_name (module_names m) g l)
   pub numbers : (g : ℕ) (f : ir_function.Function) → slice_get m.functions g ≡ Some f →
       length f.arguments.items ≤ 2 ^ 32
+  pub globals : (v : ℕ) → v < length m.global_variables →
+      names (key.GlobalVariable v) ≡ Some (global_name (module_names m) v)
+  pub constants : (c : ℕ) → c < length m.constants →
+      names (key.Constant c) ≡ Some (constant_name (module_names m) c)
+  pub overrides : (o : ℕ) → o < length m.overrides →
+      names (key.Override o) ≡ Some (override_name (module_names m) o)

@@ -98,6 +98,6 @@ pub resolves : (m : Module) (info : ModuleInfo) (explicit : Bool) → IsTrue (is
 resolves m info explicit accepted written have scope =
     let names = module_names m in
     ap text_targets (reads_as_shapes m info explicit accepted written have)
-    ∙ resolves_as_meant (module_shape m info) (outer_names names) (namings names m info)
+    ∙ resolves_as_meant (module_shape m info) (outer_names names m) (namings names m info)
     (module_fits m info accepted written ((scopes_are_checked m info accepted written).1 scope))
     (leaves_stand m info accepted 0 m.functions info.functions.items (from_start m.functions) [] tt)

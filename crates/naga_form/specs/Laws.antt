@@ -111,7 +111,7 @@ FunctionsAreRead =
 abbrev pub IsReadAsItsShapes : Type 0
 IsReadAsItsShapes = OfAccepted (λ m info program.
     program_read program
-    ≡ form_module (module_shape m info) (outer_names (module_names m))
+    ≡ form_module (module_shape m info) (outer_names (module_names m) m)
     (namings (module_names m) m info))
 
 -- it does what the module does
