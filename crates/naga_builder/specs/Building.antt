@@ -1,14 +1,21 @@
 -- What functions and modules that are being built hold behind a call.
 --
 -- Throughout, old and new are such a function or module before and after a call.
-use Rattle.std.specs.Prelude.{◌≡◌, ℕ, ◌+◌, ◌^◌, ◌-◌, min, List, [], ◌∷◌, ◌++◌, length, string_bytes}
+use Rattle.std.specs.Prelude.{◌≡◌, ℕ, List, [], ◌∷◌, ◌++◌, length, nat_eq, string_bytes}
 use Rattle.std.specs.Prelude.{Bool, IsSomeAnd, Option, None, String}
 use Rattle.std.specs.List.{position_or_len}
+use Rattle.std.specs.declared.alloc.Global.{Global}
+use Rattle.indexmap.specs.IndexMap.{IsUnchanged, insert_entry}
 use Rattle.indexmap.specs.IndexSet.{insert_key}
 use Rattle.naga_ir.specs.declared.types.TypeInner.{TypeInner}
 use Rattle.naga_ir.specs.Empty.{IsEmptyFunction}
+use Rattle.naga_ir.specs.Ranges.{range_of}
 use Rattle.naga_ir.specs.StatementTree.{StatementTree, emit, simple}
+use Rattle.naga_ir.specs.contracts.types.PredeclaredTypePartialEq.TheImpl.{
+  eq-value as predeclared-eq-value,
+}
 use Rattle.naga_ir.specs.contracts.types.Type_PartialEq.TheImpl.{eq-value}
+use Rattle.naga_ir.specs.declared.types.PredeclaredType.{PredeclaredType}
 use Rattle.naga_ir.specs.declared.types.Type_.{Type_}
 use Rattle.naga_ir.specs.declared.module.EntryPoint.{EntryPoint}
 use Rattle.naga_ir.specs.declared.module.ShaderStage.{ShaderStage}
@@ -23,11 +30,12 @@ use Rattle.naga_info.specs.declared.info.TypeResolution.{TypeResolution}
 use Rattle.naga_info.specs.declared.info.TypeResolution.TheVariants.{Handle}
 use Rattle.naga_builder.specs.declared.function.FunctionBuilder.{FunctionBuilder}
 use Rattle.naga_builder.specs.declared.«module».ModuleBuilder.{ModuleBuilder}
+use Rattle.naga_builder.specs.declared.«module».StageParts.{StageParts}
 
 -- ---- statements
 -- the expressions from the first to the last are evaluated
 abbrev pub emitted : (first last : ℕ) → StatementTree
-emitted first last = simple (emit first (min (last + 1) (2 ^ 64 - 1)))
+emitted first last = let r = range_of first last in simple (emit r.first r.end)
 
 -- ---- functions
 -- what is known of an expression of this type, of which no use is counted
@@ -42,6 +50,12 @@ IsLabel label name = IsSomeAnd name (λ s. string_bytes s ≡ label)
 pub record IsNew (label : List ℕ) (new : FunctionBuilder) : Type 0 where
   pub labelled : IsLabel label new.function.name
   pub empty : IsEmptyFunction (record new.function { name = None })
+  pub known : new.known.items ≡ []
+  pub body : new.body ≡ new.function.body
+
+-- a function with nothing, not even a label
+pub record IsUnlabelled (new : FunctionBuilder) : Type 0 where
+  pub empty : IsEmptyFunction new.function
   pub known : new.known.items ≡ []
   pub body : new.body ≡ new.function.body
 
@@ -78,6 +92,26 @@ pub record AddsLocal (l : LocalVariable) (old new : FunctionBuilder) : Type 0 wh
   pub known : new.known ≡ old.known
   pub body : new.body ≡ old.body
 
+-- the labels of expressions, and nothing else, are others
+pub record IsBesideNames (old new : FunctionBuilder) : Type 0 where
+  pub function : new.function ≡
+      record old.function { named_expressions = new.function.named_expressions }
+  pub known : new.known ≡ old.known
+  pub body : new.body ≡ old.body
+
+-- An expression has this label, in the place of one that it had or behind the others.
+pub record NamesExpression (handle : ℕ) (label : List ℕ) (old new : FunctionBuilder) : Type 0 where
+  pub name : String Global
+  pub labelled : string_bytes name ≡ label
+  pub names : new.function.named_expressions.entries
+      ≡ insert_entry nat_eq old.function.named_expressions.entries handle name
+  pub rest : IsBesideNames old new
+
+-- no label is added
+pub record KeepsNames (old new : FunctionBuilder) : Type 0 where
+  pub names : IsUnchanged old.function.named_expressions new.function.named_expressions
+  pub rest : IsBesideNames old new
+
 -- what is built, with its statements
 abbrev pub function_of : FunctionBuilder → Function
 function_of b = record b.function { body = b.body }
@@ -99,6 +133,34 @@ pub record FindsType (ty : Type_) (old new : ModuleBuilder) (handle : ℕ) : Typ
 -- the same of the type of this form that has no name
 abbrev pub IsTypeOf : TypeInner → ModuleBuilder → ModuleBuilder → (handle : ℕ) → Type 0
 IsTypeOf inner = FindsType (record { name = None; inner = inner })
+
+-- Are two types of what WGSL's own functions give equal?
+abbrev pub predeclared_eq : PredeclaredType → PredeclaredType → Bool
+predeclared_eq = predeclared-eq-value.it
+
+-- what the module tells of the types that WGSL's own functions give, and nothing else, is another
+abbrev pub IsBesidePredeclared : (old new : ModuleBuilder) → Type 0
+IsBesidePredeclared old new = new ≡ record old {
+  «module» = record old.«module» {
+    special_types = record old.«module».special_types {
+      predeclared_types = new.«module».special_types.predeclared_types;
+    };
+  };
+}
+
+-- What a function of WGSL's own gives is this type, in the place of one told before or behind the
+-- others.
+pub record TellsPredeclared (given : PredeclaredType) (ty : ℕ) (old new : ModuleBuilder) : Type 0
+  where
+    pub types : new.«module».special_types.predeclared_types.entries ≡ insert_entry predeclared_eq
+        old.«module».special_types.predeclared_types.entries given ty
+    pub rest : IsBesidePredeclared old new
+
+-- no type is told
+pub record KeepsPredeclared (old new : ModuleBuilder) : Type 0 where
+  pub types : IsUnchanged old.«module».special_types.predeclared_types
+      new.«module».special_types.predeclared_types
+  pub rest : IsBesidePredeclared old new
 
 -- nothing is known yet
 pub record KnowsNothing (info : ModuleInfo) : Type 0 where
@@ -137,10 +199,14 @@ pub record AddsFunction (b : FunctionBuilder) (old new : ModuleBuilder) : Type 0
   pub known : new.info.functions.items ≡ old.info.functions.items ++ b.known.items ∷ []
   pub rest : new.info ≡ record old.info { functions = new.info.functions }
 
+-- nothing that a mesh, a task or a ray stage has beside its function
+abbrev pub no_parts : StageParts
+no_parts = record { mesh_info = None; task_payload = None; incoming_ray_payload = None }
+
 -- An entry point is added, with what is known of its function. It has this label, stage, size of
--- workgroups and function, and nothing that a mesh or a ray stage has beside.
+-- workgroups and function, and these parts of its stage.
 pub record AddsEntryPoint (b : FunctionBuilder) (label : List ℕ) (stage : ShaderStage)
-    (workgroup_size : List ℕ) (old new : ModuleBuilder) : Type 0 where
+    (workgroup_size : List ℕ) (parts : StageParts) (old new : ModuleBuilder) : Type 0 where
   pub point : EntryPoint
   pub entry_points : new.«module».entry_points.items
       ≡ old.«module».entry_points.items ++ point ∷ []
@@ -148,9 +214,9 @@ pub record AddsEntryPoint (b : FunctionBuilder) (label : List ℕ) (stage : Shad
   pub stage_is : point.stage ≡ stage
   pub size : point.workgroup_size ≡ workgroup_size
   pub function : point.function ≡ function_of b
-  pub no_mesh : point.mesh_info ≡ None
-  pub no_task : point.task_payload ≡ None
-  pub no_ray : point.incoming_ray_payload ≡ None
+  pub mesh : point.mesh_info ≡ parts.mesh_info
+  pub task : point.task_payload ≡ parts.task_payload
+  pub ray : point.incoming_ray_payload ≡ parts.incoming_ray_payload
   pub others : new.«module» ≡
       record old.«module» { entry_points = new.«module».entry_points }
   pub known : new.info.entry_points.items ≡ old.info.entry_points.items ++ b.known.items ∷ []

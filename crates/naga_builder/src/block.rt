@@ -12,6 +12,14 @@ use std::marker::Model;
 
 /// Statements that are being built, one behind another. Where memory is refused, a call adds
 /// nothing.
+///
+/// ```text
+/// let mut accept = BlockBuilder::new(alloc);
+/// accept.store(pointer, sum)?;
+/// body.emit(sum, condition)?;
+/// body.if_else(condition, accept, BlockBuilder::new(alloc))?;
+/// body.return_nothing()?;
+/// ```
 pub struct BlockBuilder {
     block: Block,
 }
@@ -70,10 +78,7 @@ impl BlockBuilder {
         ensures ok { OnOk result (self.new ≡ with_statement self.old (emitted first last)) }
         ensures err { OnErr result (self.new ≡ self.old) }
     {
-        self.push(Statement::Emit(Range {
-            first: first.index(),
-            end: last.index().saturating_add(1),
-        }))
+        self.push(Statement::Emit(Range::new_from_bounds(first, last)))
     }
 
     /// Adds a store.

@@ -1,19 +1,32 @@
 //! Functions.
 
 ghost use Rattle.std.specs.Prelude.{◌≡◌, ◌++◌, ◌∷◌, [], IfOk, OnErr, OnOk, None, Some, length};
-ghost use Rattle.naga_builder.specs.Literals.{literal_scalar};
+ghost use Rattle.naga_ir.specs.Literals.{literal_scalar};
 
 use crate::block::BlockBuilder;
 use naga_info::{ExpressionInfo, TypeResolution};
 use naga_ir::{
-    AddressSpace, BinaryOperator, Binding, Expression, Function, FunctionArgument, FunctionResult,
-    Handle, Literal, LocalVariable, Scalar, ScalarKind, Type_, TypeInner, UnaryOperator,
-    VectorSize,
+    AddressSpace, BinaryOperator, Binding, Constant, Expression, Function, FunctionArgument,
+    FunctionResult, GlobalVariable, Handle, Literal, LocalVariable, Type_, TypeInner,
+    UnaryOperator, VectorSize,
 };
 use std::alloc::{AllocError, Global};
 
 /// A function that is being built, with what is known of its expressions. Where memory is refused,
 /// a call adds nothing.
+///
+/// `fn increased(x: i32) -> i32 { let next = (x + 1i); return next; }`:
+///
+/// ```text
+/// let mut increased = FunctionBuilder::new(alloc, "increased")?;
+/// let x = increased.argument("x", i32_type)?;
+/// increased.returns(i32_type);
+/// let one = increased.literal(Literal::I32(1))?;
+/// let sum = increased.binary(BinaryOperator::Add, x, one, i32_type)?;
+/// increased.name(sum, "next")?;
+/// increased.body.emit(sum, sum)?;
+/// increased.body.return_value(sum)?;
+/// ```
 pub struct FunctionBuilder {
     alloc: Global,
     function: Function,
@@ -45,7 +58,8 @@ impl FunctionBuilder {
     ghost use Rattle.naga_ir.specs.declared.module.LocalVariable.{LocalVariable};
     ghost use Rattle.naga_info.specs.declared.info.TypeResolution.TheVariants as type_of;
     ghost use Rattle.naga_builder.specs.Building.{AddsArgument, AddsExpression, AddsLocal};
-    ghost use Rattle.naga_builder.specs.Building.{IsLabel, IsNew, Keeps};
+    ghost use Rattle.naga_builder.specs.Building.{IsLabel, IsNew, IsUnlabelled, Keeps};
+    ghost use Rattle.naga_builder.specs.Building.{KeepsNames, NamesExpression};
     ghost use Rattle.naga_builder.specs.Building.{function_of};
     ghost use Rattle.naga_ir.specs.declared.types.AddressSpace.TheVariants as space;
     ghost use Rattle.naga_ir.specs.declared.types.TypeInner.TheVariants as inner;
@@ -63,6 +77,31 @@ impl FunctionBuilder {
             known: Vec::new(alloc),
             body: BlockBuilder::new(alloc),
         })
+    }
+
+    /// A function without a label, with nothing else. It takes no memory.
+    pub fn unlabelled(alloc: Global) -> Self
+        ensures { IsUnlabelled result }
+    {
+        FunctionBuilder {
+            alloc,
+            function: Function::new(alloc),
+            known: Vec::new(alloc),
+            body: BlockBuilder::new(alloc),
+        }
+    }
+
+    /// Gives the function this label, in place of one that it has.
+    pub fn label(&mut self, label: &str) -> Result<(), AllocError>
+        ensures labelled { OnOk result (IsLabel label.now self.new.function.name) }
+        ensures rest { OnOk result (self.new ≡ record self.old {
+          function = record self.old.function { name = self.new.function.name };
+        }) }
+        ensures err { OnErr result (self.new ≡ self.old) }
+    {
+        let name = String::from_str(self.alloc, label)?;
+        self.function.name = Some(name);
+        Ok(())
     }
 
     /// Adds an argument, and gives the expression that is its value. A function with 2^32
@@ -147,6 +186,17 @@ impl FunctionBuilder {
             .append(LocalVariable { name, ty, init })
     }
 
+    /// Gives an expression the name that a front end has for it, in place of one that it has. Where
+    /// the expression is emitted, a `let` binds it under an identifier made of this label.
+    pub fn name(&mut self, handle: Handle<Expression>, label: &str) -> Result<(), AllocError>
+        ensures ok { OnOk result (NamesExpression handle label.now self.old self.new) }
+        ensures err { OnErr result (KeepsNames self.old self.new) }
+    {
+        let label = String::from_str(self.alloc, label)?;
+        self.function.named_expressions.insert(handle, label)?;
+        Ok(())
+    }
+
     /// Adds an expression of a type that may be none of the module's.
     pub fn typed_expression(
         &mut self,
@@ -200,6 +250,43 @@ impl FunctionBuilder {
         )
     }
 
+    /// Adds the pointer to a global variable of this type in this space. A variable in the space of
+    /// handles, as an image is, is no pointer: it is an [`expression`](FunctionBuilder::expression)
+    /// of its type.
+    pub fn pointer_to_global(
+        &mut self,
+        variable: Handle<GlobalVariable>,
+        ty: Handle<Type_>,
+        space: AddressSpace,
+    ) -> Result<Handle<Expression>, AllocError>
+        ensures handle { IfOk result (λ h. h ≡ length self.old.function.expressions) }
+        ensures ok { OnOk result
+            (AddsExpression (expression.GlobalVariable variable)
+            (type_of.Value (inner.Pointer ty space)) self.old self.new) }
+        ensures err { OnErr result (Keeps self.old self.new) }
+    {
+        let pointer = TypeInner::Pointer { base: ty, space };
+        self.typed_expression(
+            Expression::GlobalVariable(variable),
+            TypeResolution::Value(pointer),
+        )
+    }
+
+    /// Adds the value of one of the module's constants, which has this type.
+    pub fn constant(
+        &mut self,
+        constant: Handle<Constant>,
+        ty: Handle<Type_>,
+    ) -> Result<Handle<Expression>, AllocError>
+        ensures handle { IfOk result (λ h. h ≡ length self.old.function.expressions) }
+        ensures ok { OnOk result
+            (AddsExpression (expression.Constant constant) (type_of.Handle ty)
+            self.old self.new) }
+        ensures err { OnErr result (Keeps self.old self.new) }
+    {
+        self.expression(Expression::Constant(constant), ty)
+    }
+
     /// Adds a literal, whose type is its scalar.
     pub fn literal(&mut self, literal: Literal) -> Result<Handle<Expression>, AllocError>
         ensures handle { IfOk result (λ h. h ≡ length self.old.function.expressions) }
@@ -208,7 +295,7 @@ impl FunctionBuilder {
             (type_of.Value (inner.Scalar (literal_scalar literal))) self.old self.new) }
         ensures err { OnErr result (Keeps self.old self.new) }
     {
-        let scalar = TypeInner::Scalar(literal_scalar(literal));
+        let scalar = TypeInner::Scalar(literal.scalar());
         self.typed_expression(Expression::Literal(literal), TypeResolution::Value(scalar))
     }
 
@@ -334,31 +421,5 @@ impl FunctionBuilder {
         } = self;
         function.body = body.finish();
         (function, known)
-    }
-}
-
-/// A literal's scalar.
-fn literal_scalar(literal: Literal) -> Scalar
-    ensures { result ≡ literal_scalar literal }
-{
-    match literal {
-        Literal::F64(_) => Scalar::F64,
-        Literal::F32(_) => Scalar::F32,
-        Literal::F16(_) => Scalar::F16,
-        Literal::U16(_) => Scalar::U16,
-        Literal::I16(_) => Scalar::I16,
-        Literal::U32(_) => Scalar::U32,
-        Literal::I32(_) => Scalar::I32,
-        Literal::U64(_) => Scalar::U64,
-        Literal::I64(_) => Scalar::I64,
-        Literal::Bool(_) => Scalar::BOOL,
-        Literal::AbstractInt(_) => Scalar {
-            kind: ScalarKind::AbstractInt,
-            width: 8,
-        },
-        Literal::AbstractFloat(_) => Scalar {
-            kind: ScalarKind::AbstractFloat,
-            width: 8,
-        },
     }
 }

@@ -4,23 +4,61 @@ ghost use Rattle.std.specs.Prelude.{◌≡◌, ◌++◌, ◌∷◌, [], IfOk, On
 ghost use Rattle.naga_ir.specs.Empty.{IsEmptyModule};
 ghost use Rattle.naga_info.specs.declared.info.TypeResolution.TheVariants as type_of;
 ghost use Rattle.naga_builder.specs.Building.{AddsEntryPoint, AddsFunction, AddsGlobalExpression};
-ghost use Rattle.naga_builder.specs.Building.{FindsType, IsTypeOf};
+ghost use Rattle.naga_builder.specs.Building.{FindsType, IsLabel, IsTypeOf};
+ghost use Rattle.naga_builder.specs.Building.{KeepsModule, KnowsNothing, no_parts};
+ghost use Rattle.naga_builder.specs.Building.{KeepsPredeclared, TellsPredeclared};
+ghost use Rattle.naga_ir.specs.declared.types.Type_.{Type_};
 ghost use Rattle.naga_ir.specs.declared.types.TypeInner.TheVariants as inner;
-ghost use Rattle.naga_builder.specs.Building.{KeepsModule, KnowsNothing};
 
 use crate::function::FunctionBuilder;
 use naga_info::{FunctionInfo, ModuleInfo, TypeResolution};
 use naga_ir::{
-    Constant, EntryPoint, Expression, Function, GlobalVariable, Handle, Module, Scalar,
-    ShaderStage, Type_, TypeInner, VectorSize,
+    Constant, EntryPoint, Expression, Function, GlobalVariable, Handle, MeshStageInfo, Module,
+    Override, PredeclaredType, Scalar, ShaderStage, StructMember, Type_, TypeInner, VectorSize,
 };
 use std::alloc::{AllocError, Global};
+
+/// What an entry point of a mesh, task or ray stage has beside its function.
+#[derive(Debug, Clone, Copy, PartialEq, Eq)]
+pub struct StageParts {
+    /// What a mesh stage has beside.
+    pub mesh_info: Option<MeshStageInfo>,
+    /// The global variable of the payload between a task and a mesh stage.
+    pub task_payload: Option<Handle<GlobalVariable>>,
+    /// The global variable of the payload that came with the ray.
+    pub incoming_ray_payload: Option<Handle<GlobalVariable>>,
+}
+
+impl StageParts {
+    /// None of them, as of a vertex, fragment or compute stage.
+    pub fn none() -> Self
+        ensures { result ≡ no_parts }
+    {
+        StageParts {
+            mesh_info: None,
+            task_payload: None,
+            incoming_ray_payload: None,
+        }
+    }
+}
 
 /// A module that is being built, with what is known of it. Where memory is refused, a call adds
 /// nothing.
 ///
 /// Its fields are what it has made. Each call keeps them in step: what is known is known of the
 /// functions, entry points and expressions that are there, in their order.
+///
+/// As in `crates/example_double`:
+///
+/// ```text
+/// let mut shader = ModuleBuilder::new(alloc);
+/// let i32_type = shader.scalar(Scalar::I32)?;
+/// let mut same = FunctionBuilder::new(alloc, "same")?;
+/// let x = same.argument("x", i32_type)?;
+/// same.returns(i32_type);
+/// same.body.return_value(x)?;
+/// shader.add_function(same)?;
+/// ```
 pub struct ModuleBuilder {
     alloc: Global,
     /// The module.
@@ -102,6 +140,54 @@ impl ModuleBuilder {
         self.type_of(TypeInner::Vector { size, scalar })
     }
 
+    /// The struct of this label with these members, which takes so many bytes; where there is none
+    /// that equals it, it is added.
+    pub fn structure(
+        &mut self,
+        label: &str,
+        members: Vec<StructMember>,
+        span: u32,
+    ) -> Result<Handle<Type_>, AllocError>
+        ensures ok { IfOk result (λ h. (t : Type_) × IsLabel label.now t.name
+            × (t.inner ≡ inner.Struct members span) × FindsType t self.old self.new h) }
+        ensures err { OnErr result (self.new ≡ self.old) }
+    {
+        let name = Some(String::from_str(self.alloc, label)?);
+        let inner = TypeInner::Struct { members, span };
+        self.add_type(Type_ { name, inner })
+    }
+
+    /// Tells that this type of the module is what a function of WGSL's own gives, in place of what
+    /// was told before.
+    pub fn predeclared(
+        &mut self,
+        given: PredeclaredType,
+        ty: Handle<Type_>,
+    ) -> Result<(), AllocError>
+        ensures ok { OnOk result (TellsPredeclared given ty self.old self.new) }
+        ensures err { OnErr result (KeepsPredeclared self.old self.new) }
+    {
+        let types = &mut self.module.special_types.predeclared_types;
+        types.insert(given, ty)?;
+        Ok(())
+    }
+
+    /// Adds one of the module's own expressions, of a type that may be none of the module's.
+    pub fn typed_global_expression(
+        &mut self,
+        expression: Expression,
+        ty: TypeResolution,
+    ) -> Result<Handle<Expression>, AllocError>
+        ensures handle { IfOk result (λ h. h ≡ length self.old.«module».global_expressions) }
+        ensures ok { OnOk result (AddsGlobalExpression expression ty self.old self.new) }
+        ensures err { OnErr result (KeepsModule self.old self.new) }
+    {
+        self.info.const_expression_types.reserve(1)?;
+        let handle = self.module.global_expressions.append(expression)?;
+        self.info.const_expression_types.push(ty).unwrap();
+        Ok(handle)
+    }
+
     /// Adds one of the module's own expressions, of this type.
     pub fn global_expression(
         &mut self,
@@ -113,13 +199,7 @@ impl ModuleBuilder {
             (AddsGlobalExpression expression (type_of.Handle ty) self.old self.new) }
         ensures err { OnErr result (KeepsModule self.old self.new) }
     {
-        self.info.const_expression_types.reserve(1)?;
-        let handle = self.module.global_expressions.append(expression)?;
-        self.info
-            .const_expression_types
-            .push(TypeResolution::Handle(ty))
-            .unwrap();
-        Ok(handle)
+        self.typed_global_expression(expression, TypeResolution::Handle(ty))
     }
 
     /// Adds a constant.
@@ -133,6 +213,19 @@ impl ModuleBuilder {
         ensures err { OnErr result (self.new ≡ self.old) }
     {
         self.module.constants.append(constant)
+    }
+
+    /// Adds an override.
+    pub fn add_override(&mut self, item: Override) -> Result<Handle<Override>, AllocError>
+        ensures handle { IfOk result (λ h. h ≡ length self.old.«module».overrides) }
+        ensures ok { OnOk result (self.new ≡ record self.old {
+          «module» = record self.old.«module» {
+            overrides = self.old.«module».overrides ++ item ∷ [];
+          };
+        }) }
+        ensures err { OnErr result (self.new ≡ self.old) }
+    {
+        self.module.overrides.append(item)
     }
 
     /// Adds a global variable.
@@ -170,8 +263,8 @@ impl ModuleBuilder {
         Ok(handle)
     }
 
-    /// Adds an entry point under the label by which pipelines name it. Where memory is refused, its
-    /// function is dropped.
+    /// Adds an entry point of a stage that wants nothing beside its function
+    /// ([`ModuleBuilder::add_stage_entry_point`]).
     pub fn add_entry_point(
         &mut self,
         label: &str,
@@ -180,7 +273,24 @@ impl ModuleBuilder {
         function: FunctionBuilder,
     ) -> Result<(), AllocError>
         ensures ok { OnOk result
-            (AddsEntryPoint function label.now stage workgroup_size self.old self.new) }
+            (AddsEntryPoint function label.now stage workgroup_size no_parts self.old self.new) }
+        ensures err { OnErr result (KeepsModule self.old self.new) }
+    {
+        self.add_stage_entry_point(label, stage, workgroup_size, StageParts::none(), function)
+    }
+
+    /// Adds an entry point under the label by which pipelines name it, with the parts of its stage.
+    /// Where memory is refused, its function is dropped.
+    pub fn add_stage_entry_point(
+        &mut self,
+        label: &str,
+        stage: ShaderStage,
+        workgroup_size: [u32; 3],
+        parts: StageParts,
+        function: FunctionBuilder,
+    ) -> Result<(), AllocError>
+        ensures ok { OnOk result
+            (AddsEntryPoint function label.now stage workgroup_size parts self.old self.new) }
         ensures err { OnErr result (KeepsModule self.old self.new) }
     {
         let name = String::from_str(self.alloc, label)?;
@@ -194,9 +304,9 @@ impl ModuleBuilder {
                 stage,
                 workgroup_size,
                 function,
-                mesh_info: None,
-                task_payload: None,
-                incoming_ray_payload: None,
+                mesh_info: parts.mesh_info,
+                task_payload: parts.task_payload,
+                incoming_ray_payload: parts.incoming_ray_payload,
             })
             .unwrap();
         self.info

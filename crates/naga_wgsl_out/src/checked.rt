@@ -38,6 +38,8 @@ pub enum CheckedError {
 /// of it is then as it was. Otherwise the uses are counted in it, whatever the call answers, and the
 /// text and the refusals are those of [`write_string`].
 ///
+/// `crates/example_double` is a program that writes a module by this call.
+///
 /// ```text
 /// match write_checked(alloc, &shader.module, &mut shader.info, no_flags()) {
 ///     Ok(text) => println!(rt; "{text}")?,

@@ -3,5 +3,5 @@
 
 pub use naga_acceptance::{Fault, Item, Part, Unaccepted, accepts, count, unaccepted};
 pub use naga_info::{
-    Conclusion, ExpressionInfo, FunctionInfo, GlobalCtx, ModuleInfo, Rule, TypeResolution,
+    Conclusion, ExpressionInfo, FunctionInfo, GlobalCtx, ModuleInfo, Rule, ToCtx, TypeResolution,
 };

@@ -42,6 +42,15 @@ use std::collections::HashMap;
 use std::marker::Model;
 
 /// Writes modules as WGSL to a sink, one behind another.
+///
+/// ```text
+/// let mut writer = Writer::new(alloc, String::new(alloc), WriterFlags::EXPLICIT_TYPES);
+/// if accepts(&shader.module, &shader.info) {
+///     count(&mut shader.info, &shader.module);
+///     writer.write(&shader.module, &shader.info)?;
+/// }
+/// let text = writer.finish();
+/// ```
 #[derive(Drop)]
 pub struct Writer<W: TextSink> {
     alloc: Global,
@@ -279,6 +288,14 @@ fn reset_for_wgsl(
 /// The WGSL text of a module, which is accepted with what is known of it. Want of memory is told as
 /// [`Error::Memory`]; otherwise the refusals are those of [`Writer::write`], and never
 /// [`Error::FmtError`].
+///
+/// ```text
+/// if accepts(&shader.module, &shader.info) {
+///     count(&mut shader.info, &shader.module);
+///     let text = write_string(alloc, &shader.module, &shader.info, no_flags())?;
+///     print!(rt; "{text}")?;
+/// }
+/// ```
 pub fn write_string(
     alloc: Global,
     module: &Module,

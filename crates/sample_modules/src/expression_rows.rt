@@ -1,144 +1,126 @@
 //! The rows of expressions: each is a function with the expressions that it is about.
 
-use crate::sample::Sample;
+use crate::rows::end_with;
+use crate::structs::add_struct;
+use naga_builder::{FunctionBuilder, ModuleBuilder};
 use naga_info::TypeResolution;
 use naga_ir::{
     AddressSpace, ArraySize, BinaryOperator, Expression, Handle, ImageClass, ImageDimension,
     Literal, MathFunction, PredeclaredType, SampleLevel, Scalar, ScalarKind, Type_, TypeInner,
     UnaryOperator, VectorSize,
 };
-use std::alloc::AllocError;
+use std::alloc::{AllocError, Global};
 use std::num::NonZeroU32;
 
 /// How often an element is doubled by [`build_double`].
 const DOUBLINGS: u32 = 12;
 
-/// The integers, four of them, and what points to these and to one of them.
-struct Pointed {
+/// Four integers.
+fn array_of_four(
+    shader: &mut ModuleBuilder,
     element: Handle<Type_>,
-    array: Handle<Type_>,
-    to_array: TypeResolution,
-    to_element: TypeResolution,
-}
-
-fn pointer_to(base: Handle<Type_>) -> TypeResolution {
-    let space = AddressSpace::Function;
-    TypeResolution::Value(TypeInner::Pointer { base, space })
-}
-
-fn array_of_four(sample: &mut Sample) -> Result<Pointed, AllocError> {
-    let element = sample.scalar(Scalar::I32)?;
+) -> Result<Handle<Type_>, AllocError> {
     let size = match NonZeroU32::new(4) {
         Some(length) => ArraySize::Constant(length),
         None => ArraySize::Dynamic,
     };
-    let array = sample.inner(TypeInner::Array {
+    shader.type_of(TypeInner::Array {
         base: element,
         size,
         stride: 4,
-    })?;
-    Ok(Pointed {
-        element,
-        array,
-        to_array: pointer_to(array),
-        to_element: pointer_to(element),
     })
 }
 
 /// Stores 2 through a pointer to the first element of a local, which a front end named.
-pub fn build_pointer(sample: &mut Sample) -> Result<(), AllocError> {
-    let Pointed {
-        element,
-        array,
-        to_array,
-        to_element,
-    } = array_of_four(sample)?;
-    sample.label("h")?;
-    let local = sample.local("arr", array, None)?;
-    let base = sample.resolved(Expression::LocalVariable(local), to_array, 0)?;
-    let part = sample.resolved(Expression::AccessIndex { base, index: 0 }, to_element, 0)?;
-    let two = sample.literal(Literal::I32(2), element)?;
-    sample.named(part, "p")?;
-    sample.emit(part, part)?;
-    sample.store(part, two)?;
-    sample.end_function()
+pub fn build_pointer(alloc: Global, shader: &mut ModuleBuilder) -> Result<(), AllocError> {
+    let element = shader.scalar(Scalar::I32)?;
+    let array = array_of_four(shader, element)?;
+    let mut function = FunctionBuilder::new(alloc, "h")?;
+    let local = function.local("arr", array, None)?;
+    let base = function.pointer_to(local, array)?;
+    let part = function.typed_expression(
+        Expression::AccessIndex { base, index: 0 },
+        TypeResolution::Value(TypeInner::Pointer {
+            base: element,
+            space: AddressSpace::Function,
+        }),
+    )?;
+    let two = function.literal(Literal::I32(2))?;
+    function.name(part, "p")?;
+    function.body.emit(part, part)?;
+    function.body.store(part, two)?;
+    shader.add_function(function)?;
+    Ok(())
 }
 
 /// Returns one of two arguments, by a third.
-pub fn build_select(sample: &mut Sample) -> Result<(), AllocError> {
-    let bool_type = sample.scalar(Scalar::BOOL)?;
-    let i32_type = sample.begin("sel")?;
-    let condition = sample.argument_value("c", 0, bool_type)?;
-    let accept = sample.argument_value("a", 1, i32_type)?;
-    let reject = sample.argument_value("b", 2, i32_type)?;
-    let chosen = sample.expression(
-        Expression::Select {
-            condition,
-            accept,
-            reject,
-        },
-        i32_type,
-    )?;
-    sample.emit(chosen, chosen)?;
-    sample.end_with(chosen)
+pub fn build_select(alloc: Global, shader: &mut ModuleBuilder) -> Result<(), AllocError> {
+    let bool_type = shader.scalar(Scalar::BOOL)?;
+    let i32_type = shader.scalar(Scalar::I32)?;
+    let mut function = FunctionBuilder::new(alloc, "sel")?;
+    function.returns(i32_type);
+    let condition = function.argument("c", bool_type)?;
+    let accept = function.argument("a", i32_type)?;
+    let reject = function.argument("b", i32_type)?;
+    let chosen = function.select(condition, accept, reject, i32_type)?;
+    function.body.emit(chosen, chosen)?;
+    end_with(shader, function, chosen)
 }
 
 /// Returns a component of a negated vector.
-pub fn build_negate(sample: &mut Sample) -> Result<(), AllocError> {
-    let vector = sample.inner(TypeInner::Vector {
-        size: VectorSize::Tri,
-        scalar: Scalar::I32,
-    })?;
-    let i32_type = sample.begin("neg")?;
-    let expr = sample.argument_value("v", 0, vector)?;
-    let op = UnaryOperator::Negate;
-    let base = sample.expression(Expression::Unary { op, expr }, vector)?;
-    let part = sample.expression(Expression::AccessIndex { base, index: 0 }, i32_type)?;
-    sample.emit(base, part)?;
-    sample.end_with(part)
+pub fn build_negate(alloc: Global, shader: &mut ModuleBuilder) -> Result<(), AllocError> {
+    let vector = shader.vector(VectorSize::Tri, Scalar::I32)?;
+    let i32_type = shader.scalar(Scalar::I32)?;
+    let mut function = FunctionBuilder::new(alloc, "neg")?;
+    function.returns(i32_type);
+    let v = function.argument("v", vector)?;
+    let base = function.unary(UnaryOperator::Negate, v, vector)?;
+    let part = function.expression(Expression::AccessIndex { base, index: 0 }, i32_type)?;
+    function.body.emit(base, part)?;
+    end_with(shader, function, part)
 }
 
 /// Returns an element at the sum of an element with itself, and so on. No `let` binds an element,
 /// so that each sum has its text twice.
-pub fn build_double(sample: &mut Sample) -> Result<(), AllocError> {
-    let vector = sample.inner(TypeInner::Vector {
-        size: VectorSize::Quad,
-        scalar: Scalar::I32,
-    })?;
-    let i32_type = sample.begin("d")?;
-    let base = sample.argument_value("t", 0, vector)?;
-    let index = sample.argument_value("x", 1, i32_type)?;
-    let first = sample.expression(Expression::Access { base, index }, i32_type)?;
+pub fn build_double(alloc: Global, shader: &mut ModuleBuilder) -> Result<(), AllocError> {
+    let vector = shader.vector(VectorSize::Quad, Scalar::I32)?;
+    let i32_type = shader.scalar(Scalar::I32)?;
+    let mut function = FunctionBuilder::new(alloc, "d")?;
+    function.returns(i32_type);
+    let base = function.argument("t", vector)?;
+    let index = function.argument("x", i32_type)?;
+    let first = function.expression(Expression::Access { base, index }, i32_type)?;
     let mut last = first;
     for _ in 0..DOUBLINGS {
-        let index = sample.binary(BinaryOperator::Add, last, last, i32_type)?;
-        last = sample.expression(Expression::Access { base, index }, i32_type)?;
+        let index = function.binary(BinaryOperator::Add, last, last, i32_type)?;
+        last = function.expression(Expression::Access { base, index }, i32_type)?;
     }
-    sample.emit(first, last)?;
-    sample.end_with(last)
+    function.body.emit(first, last)?;
+    end_with(shader, function, last)
 }
 
 /// Returns a float literal, for which no text is written.
-pub fn build_float(sample: &mut Sample) -> Result<(), AllocError> {
-    let f32_type = sample.scalar(Scalar::F32)?;
-    sample.label("w")?;
-    sample.returns(f32_type);
-    let one = sample.literal(Literal::F32(0x3f80_0000), f32_type)?;
-    sample.end_with(one)
+pub fn build_float(alloc: Global, shader: &mut ModuleBuilder) -> Result<(), AllocError> {
+    let f32_type = shader.scalar(Scalar::F32)?;
+    let mut function = FunctionBuilder::new(alloc, "w")?;
+    function.returns(f32_type);
+    let one = function.literal(Literal::F32(0x3f80_0000))?;
+    end_with(shader, function, one)
 }
 
 /// Returns a whole number, beside a float literal that nothing mentions.
-pub fn build_idle(sample: &mut Sample) -> Result<(), AllocError> {
-    let f32_type = sample.scalar(Scalar::F32)?;
-    let i32_type = sample.begin("u")?;
-    sample.literal(Literal::F32(0x3f80_0000), f32_type)?;
-    let one = sample.literal(Literal::I32(1), i32_type)?;
-    sample.end_with(one)
+pub fn build_idle(alloc: Global, shader: &mut ModuleBuilder) -> Result<(), AllocError> {
+    let i32_type = shader.scalar(Scalar::I32)?;
+    let mut function = FunctionBuilder::new(alloc, "u")?;
+    function.returns(i32_type);
+    function.literal(Literal::F32(0x3f80_0000))?;
+    let one = function.literal(Literal::I32(1))?;
+    end_with(shader, function, one)
 }
 
 /// Samples an image at level zero.
-pub fn build_sample(sample: &mut Sample) -> Result<(), AllocError> {
-    let image_type = sample.inner(TypeInner::Image {
+pub fn build_sample(alloc: Global, shader: &mut ModuleBuilder) -> Result<(), AllocError> {
+    let image_type = shader.type_of(TypeInner::Image {
         dim: ImageDimension::D2,
         arrayed: false,
         class: ImageClass::Sampled {
@@ -146,21 +128,15 @@ pub fn build_sample(sample: &mut Sample) -> Result<(), AllocError> {
             multi: false,
         },
     })?;
-    let sampler_type = sample.inner(TypeInner::Sampler { comparison: false })?;
-    let pair = sample.inner(TypeInner::Vector {
-        size: VectorSize::Bi,
-        scalar: Scalar::F32,
-    })?;
-    let color = sample.inner(TypeInner::Vector {
-        size: VectorSize::Quad,
-        scalar: Scalar::F32,
-    })?;
-    sample.label("sp")?;
-    sample.returns(color);
-    let image = sample.argument_value("t", 0, image_type)?;
-    let sampler = sample.argument_value("s", 1, sampler_type)?;
-    let coordinate = sample.argument_value("p", 2, pair)?;
-    let sampled = sample.expression(
+    let sampler_type = shader.type_of(TypeInner::Sampler { comparison: false })?;
+    let pair = shader.vector(VectorSize::Bi, Scalar::F32)?;
+    let color = shader.vector(VectorSize::Quad, Scalar::F32)?;
+    let mut function = FunctionBuilder::new(alloc, "sp")?;
+    function.returns(color);
+    let image = function.argument("t", image_type)?;
+    let sampler = function.argument("s", sampler_type)?;
+    let coordinate = function.argument("p", pair)?;
+    let sampled = function.expression(
         Expression::ImageSample {
             image,
             sampler,
@@ -174,25 +150,34 @@ pub fn build_sample(sample: &mut Sample) -> Result<(), AllocError> {
         },
         color,
     )?;
-    sample.emit(sampled, sampled)?;
-    sample.end_with(sampled)
+    function.body.emit(sampled, sampled)?;
+    end_with(shader, function, sampled)
+}
+
+/// The struct of what `modf` gives for a number.
+fn parts_of_a_number(
+    alloc: Global,
+    shader: &mut ModuleBuilder,
+    number: Handle<Type_>,
+) -> Result<Handle<Type_>, AllocError> {
+    let members = [("fract", number), ("whole", number)];
+    let parts = add_struct(alloc, shader, "__modf_result_f32", &members)?;
+    let given = PredeclaredType::ModfResult {
+        size: None,
+        scalar: Scalar::F32,
+    };
+    shader.predeclared(given, parts)?;
+    Ok(parts)
 }
 
 /// Adds both parts of a number, which are the members of a struct that WGSL's own function gives.
-pub fn build_modf(sample: &mut Sample) -> Result<(), AllocError> {
-    let f32_type = sample.scalar(Scalar::F32)?;
-    let parts = sample.predeclared(
-        PredeclaredType::ModfResult {
-            size: None,
-            scalar: Scalar::F32,
-        },
-        "__modf_result_f32",
-        &[("fract", f32_type), ("whole", f32_type)],
-    )?;
-    sample.label("m")?;
-    sample.returns(f32_type);
-    let x = sample.argument_value("x", 0, f32_type)?;
-    let base = sample.expression(
+pub fn build_modf(alloc: Global, shader: &mut ModuleBuilder) -> Result<(), AllocError> {
+    let f32_type = shader.scalar(Scalar::F32)?;
+    let parts = parts_of_a_number(alloc, shader, f32_type)?;
+    let mut function = FunctionBuilder::new(alloc, "m")?;
+    function.returns(f32_type);
+    let x = function.argument("x", f32_type)?;
+    let base = function.expression(
         Expression::Math {
             fun: MathFunction::Modf,
             arg: x,
@@ -202,9 +187,9 @@ pub fn build_modf(sample: &mut Sample) -> Result<(), AllocError> {
         },
         parts,
     )?;
-    let fract = sample.expression(Expression::AccessIndex { base, index: 0 }, f32_type)?;
-    let whole = sample.expression(Expression::AccessIndex { base, index: 1 }, f32_type)?;
-    let sum = sample.binary(BinaryOperator::Add, fract, whole, f32_type)?;
-    sample.emit(base, sum)?;
-    sample.end_with(sum)
+    let fract = function.expression(Expression::AccessIndex { base, index: 0 }, f32_type)?;
+    let whole = function.expression(Expression::AccessIndex { base, index: 1 }, f32_type)?;
+    let sum = function.binary(BinaryOperator::Add, fract, whole, f32_type)?;
+    function.body.emit(base, sum)?;
+    end_with(shader, function, sum)
 }

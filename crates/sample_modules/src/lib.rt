@@ -1,10 +1,12 @@
-//! Sample modules under their names, each with what is known of it, and a builder of others: what
-//! the programs and tests of this repository write and ask about.
+//! Sample modules under their names, each with what is known of it, and a module with the function
+//! that is being built for it: what the programs and tests of this repository write and ask about.
 #![tactic(auto)]
 
 mod expression_rows;
 pub mod rows;
 pub mod sample;
+pub mod structs;
 
 pub use rows::{Row, build_argument};
 pub use sample::Sample;
+pub use structs::add_struct;

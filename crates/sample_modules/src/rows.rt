@@ -4,9 +4,9 @@ use crate::expression_rows::{
     build_double, build_float, build_idle, build_modf, build_negate, build_pointer, build_sample,
     build_select,
 };
-use crate::sample::Sample;
+use naga_builder::{FunctionBuilder, ModuleBuilder};
 use naga_ir::{BinaryOperator, Expression, Handle, Literal, Scalar, Type_};
-use std::alloc::AllocError;
+use std::alloc::{AllocError, Global};
 
 /// A sample module.
 #[derive(Debug, Clone, Copy, PartialEq, Eq)]
@@ -78,84 +78,114 @@ impl Row {
         }
     }
 
-    /// Builds the row's module, with what is known of it, in an empty sample.
-    pub fn build(self, sample: &mut Sample) -> Result<(), AllocError> {
+    /// Adds the row's function to an empty module, with what is known of it.
+    pub fn build(self, alloc: Global, shader: &mut ModuleBuilder) -> Result<(), AllocError> {
         match self {
             Row::Empty => Ok(()),
-            Row::Identity => build_argument(sample, "f", &["x"], 0),
-            Row::Negative => build_negative(sample),
-            Row::Same => build_argument(sample, "f", &["x", "x"], 1),
-            Row::Type_ => build_argument(sample, "type", &["1x"], 0),
-            Row::Store => build_store(sample, true),
-            Row::Unused => build_store(sample, false),
-            Row::Late => build_late(sample),
-            Row::Inline => build_inline(sample),
-            Row::Twofold => build_twofold(sample),
-            Row::Named => build_named(sample),
-            Row::Pointer => build_pointer(sample),
-            Row::Select => build_select(sample),
-            Row::Negate => build_negate(sample),
-            Row::Double => build_double(sample),
-            Row::Float => build_float(sample),
-            Row::Idle => build_idle(sample),
-            Row::Sampled => build_sample(sample),
-            Row::Modf => build_modf(sample),
+            Row::Identity => build_argument(alloc, shader, "f", &["x"]),
+            Row::Negative => build_negative(alloc, shader),
+            Row::Same => build_argument(alloc, shader, "f", &["x", "x"]),
+            Row::Type_ => build_argument(alloc, shader, "type", &["1x"]),
+            Row::Store => build_store(alloc, shader, true),
+            Row::Unused => build_store(alloc, shader, false),
+            Row::Late => build_late(alloc, shader),
+            Row::Inline => build_inline(alloc, shader),
+            Row::Twofold => build_twofold(alloc, shader),
+            Row::Named => build_named(alloc, shader),
+            Row::Pointer => build_pointer(alloc, shader),
+            Row::Select => build_select(alloc, shader),
+            Row::Negate => build_negate(alloc, shader),
+            Row::Double => build_double(alloc, shader),
+            Row::Float => build_float(alloc, shader),
+            Row::Idle => build_idle(alloc, shader),
+            Row::Sampled => build_sample(alloc, shader),
+            Row::Modf => build_modf(alloc, shader),
         }
     }
 }
 
-/// A function of this label that has arguments of these labels and returns its argument of this
-/// number.
+/// Ends the function with the return of a value, and adds it to the module.
+pub(crate) fn end_with(
+    shader: &mut ModuleBuilder,
+    mut function: FunctionBuilder,
+    value: Handle<Expression>,
+) -> Result<(), AllocError> {
+    function.body.return_value(value)?;
+    shader.add_function(function)?;
+    Ok(())
+}
+
+/// Adds arguments of these labels and this type, and gives the value of the last.
+fn add_arguments(
+    function: &mut FunctionBuilder,
+    labels: &[&str],
+    ty: Handle<Type_>,
+) -> Result<Option<Handle<Expression>>, AllocError> {
+    let mut last = None;
+    for label in labels {
+        last = Some(function.argument(*label, ty)?);
+    }
+    Ok(last)
+}
+
+/// A function of this label that has arguments of these labels and returns the last of them.
 pub fn build_argument(
-    sample: &mut Sample,
+    alloc: Global,
+    shader: &mut ModuleBuilder,
     label: &str,
     arguments: &[&str],
-    number: u32,
 ) -> Result<(), AllocError> {
-    let i32_type = sample.begin(label)?;
-    for argument in arguments {
-        sample.argument(*argument, i32_type)?;
+    let i32_type = shader.scalar(Scalar::I32)?;
+    let mut function = FunctionBuilder::new(alloc, label)?;
+    function.returns(i32_type);
+    if let Some(value) = add_arguments(&mut function, arguments, i32_type)? {
+        function.body.return_value(value)?;
     }
-    let value = sample.expression(Expression::FunctionArgument(number), i32_type)?;
-    sample.end_with(value)
+    shader.add_function(function)?;
+    Ok(())
 }
 
-fn build_negative(sample: &mut Sample) -> Result<(), AllocError> {
-    let bool_type = sample.scalar(Scalar::BOOL)?;
-    let i64_type = sample.scalar(Scalar::I64)?;
-    sample.label("r")?;
-    sample.argument("b", bool_type)?;
-    sample.returns(i64_type);
-    let minus_seven = sample.literal(Literal::I64(-7), i64_type)?;
-    sample.end_with(minus_seven)
+fn build_negative(alloc: Global, shader: &mut ModuleBuilder) -> Result<(), AllocError> {
+    let bool_type = shader.scalar(Scalar::BOOL)?;
+    let i64_type = shader.scalar(Scalar::I64)?;
+    let mut function = FunctionBuilder::new(alloc, "r")?;
+    function.argument("b", bool_type)?;
+    function.returns(i64_type);
+    let minus_seven = function.literal(Literal::I64(-7))?;
+    end_with(shader, function, minus_seven)
 }
 
-fn build_named(sample: &mut Sample) -> Result<(), AllocError> {
-    let i32_type = sample.begin("e")?;
-    sample.argument("x", i32_type)?;
-    let x = sample.expression(Expression::FunctionArgument(0), i32_type)?;
-    let sum = sample.binary(BinaryOperator::Add, x, x, i32_type)?;
-    sample.named(sum, "x")?;
-    sample.emit(sum, sum)?;
-    sample.end_with(sum)
+fn build_named(alloc: Global, shader: &mut ModuleBuilder) -> Result<(), AllocError> {
+    let i32_type = shader.scalar(Scalar::I32)?;
+    let mut function = FunctionBuilder::new(alloc, "e")?;
+    function.returns(i32_type);
+    let x = function.argument("x", i32_type)?;
+    let sum = function.binary(BinaryOperator::Add, x, x, i32_type)?;
+    function.name(sum, "x")?;
+    function.body.emit(sum, sum)?;
+    end_with(shader, function, sum)
 }
 
-/// A local, a literal 1 that is its first value, and a read of it.
-#[derive(Clone, Copy)]
+/// A function with a local, a literal 1 that is its first value, and a read of it.
+#[derive(Drop)]
 struct Held {
+    function: FunctionBuilder,
     i32_type: Handle<Type_>,
     one: Handle<Expression>,
     pointer: Handle<Expression>,
     held: Handle<Expression>,
 }
 
-fn begin_held(sample: &mut Sample, label: &str) -> Result<Held, AllocError> {
-    let i32_type = sample.begin(label)?;
-    let one = sample.literal(Literal::I32(1), i32_type)?;
-    let a = sample.local("a", i32_type, Some(one))?;
-    let pointer = sample.pointer(a, i32_type)?;
-    let held = sample.expression(Expression::Load { pointer }, i32_type)?;
+fn begin_held(alloc: Global, shader: &mut ModuleBuilder, label: &str) -> Result<Held, AllocError> {
+    let i32_type = shader.scalar(Scalar::I32)?;
+    let mut function = FunctionBuilder::new(alloc, label)?;
+    function.returns(i32_type);
+    let one = function.literal(Literal::I32(1))?;
+    let a = function.local("a", i32_type, Some(one))?;
+    let pointer = function.pointer_to(a, i32_type)?;
+    let held = function.load(pointer, i32_type)?;
     Ok(Held {
+        function,
         i32_type,
         one,
         pointer,
@@ -164,72 +194,82 @@ fn begin_held(sample: &mut Sample, label: &str) -> Result<Held, AllocError> {
 }
 
 /// Stores 2 to a local that holds 1, and returns what it held, or 2.
-fn build_store(sample: &mut Sample, is_used: bool) -> Result<(), AllocError> {
+fn build_store(alloc: Global, shader: &mut ModuleBuilder, is_used: bool) -> Result<(), AllocError> {
     let Held {
-        i32_type,
+        mut function,
+        i32_type: _,
         one: _,
         pointer,
         held,
-    } = begin_held(sample, "g")?;
-    let two = sample.literal(Literal::I32(2), i32_type)?;
-    sample.emit(held, held)?;
-    sample.store(pointer, two)?;
-    sample.end_with(if is_used { held } else { two })
+    } = begin_held(alloc, shader, "g")?;
+    let two = function.literal(Literal::I32(2))?;
+    function.body.emit(held, held)?;
+    function.body.store(pointer, two)?;
+    end_with(shader, function, if is_used { held } else { two })
 }
 
-fn build_late(sample: &mut Sample) -> Result<(), AllocError> {
+fn build_late(alloc: Global, shader: &mut ModuleBuilder) -> Result<(), AllocError> {
     let Held {
+        mut function,
         i32_type,
         one,
         pointer,
         held,
-    } = begin_held(sample, "p")?;
-    let sum = sample.binary(BinaryOperator::Add, held, one, i32_type)?;
-    let two = sample.literal(Literal::I32(2), i32_type)?;
-    sample.emit(held, sum)?;
-    sample.store(pointer, two)?;
-    sample.end_with(sum)
+    } = begin_held(alloc, shader, "p")?;
+    let sum = function.binary(BinaryOperator::Add, held, one, i32_type)?;
+    let two = function.literal(Literal::I32(2))?;
+    function.body.emit(held, sum)?;
+    function.body.store(pointer, two)?;
+    end_with(shader, function, sum)
 }
 
-/// The argument's double, and what the local to which it was stored holds.
-#[derive(Clone, Copy)]
+/// A function with its argument's double, and what the local to which it was stored holds.
+#[derive(Drop)]
 struct Doubled {
+    function: FunctionBuilder,
     i32_type: Handle<Type_>,
     sum: Handle<Expression>,
     held: Handle<Expression>,
 }
 
-fn begin_doubled(sample: &mut Sample) -> Result<Doubled, AllocError> {
-    let i32_type = sample.begin("q")?;
-    sample.argument("x", i32_type)?;
-    let a = sample.local("a", i32_type, None)?;
-    let x = sample.expression(Expression::FunctionArgument(0), i32_type)?;
-    let pointer = sample.pointer(a, i32_type)?;
-    let sum = sample.binary(BinaryOperator::Add, x, x, i32_type)?;
-    let held = sample.expression(Expression::Load { pointer }, i32_type)?;
-    sample.emit(sum, sum)?;
-    sample.store(pointer, sum)?;
+fn begin_doubled(alloc: Global, shader: &mut ModuleBuilder) -> Result<Doubled, AllocError> {
+    let i32_type = shader.scalar(Scalar::I32)?;
+    let mut function = FunctionBuilder::new(alloc, "q")?;
+    function.returns(i32_type);
+    let x = function.argument("x", i32_type)?;
+    let a = function.local("a", i32_type, None)?;
+    let pointer = function.pointer_to(a, i32_type)?;
+    let sum = function.binary(BinaryOperator::Add, x, x, i32_type)?;
+    let held = function.load(pointer, i32_type)?;
+    function.body.emit(sum, sum)?;
+    function.body.store(pointer, sum)?;
     Ok(Doubled {
+        function,
         i32_type,
         sum,
         held,
     })
 }
 
-fn build_inline(sample: &mut Sample) -> Result<(), AllocError> {
-    let doubled = begin_doubled(sample)?;
-    sample.emit(doubled.held, doubled.held)?;
-    sample.end_with(doubled.held)
+fn build_inline(alloc: Global, shader: &mut ModuleBuilder) -> Result<(), AllocError> {
+    let Doubled {
+        mut function,
+        i32_type: _,
+        sum: _,
+        held,
+    } = begin_doubled(alloc, shader)?;
+    function.body.emit(held, held)?;
+    end_with(shader, function, held)
 }
 
-fn build_twofold(sample: &mut Sample) -> Result<(), AllocError> {
-    let doubled = begin_doubled(sample)?;
+fn build_twofold(alloc: Global, shader: &mut ModuleBuilder) -> Result<(), AllocError> {
     let Doubled {
+        mut function,
         i32_type,
         sum,
         held,
-    } = doubled;
-    let product = sample.binary(BinaryOperator::Multiply, sum, held, i32_type)?;
-    sample.emit(held, product)?;
-    sample.end_with(product)
+    } = begin_doubled(alloc, shader)?;
+    let product = function.binary(BinaryOperator::Multiply, sum, held, i32_type)?;
+    function.body.emit(held, product)?;
+    end_with(shader, function, product)
 }

@@ -14,6 +14,13 @@ use std::marker::Model;
 ///
 /// Contracts see the writer, the text that was handed to it, and the number of failures. Where
 /// contracts know what the writer holds, they know that each piece that was taken stands behind it.
+///
+/// ```text
+/// let mut sink = IoSink::new(rt.alloc(), rt.stdout());
+/// sink.write_str("// a shader\n")?;
+/// let mut out = sink.finish();
+/// out.flush()?;
+/// ```
 #[derive(Drop)]
 pub struct IoSink<W: Write> {
     out: W,

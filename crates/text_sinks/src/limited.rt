@@ -12,6 +12,14 @@ use std::marker::Model;
 /// later one. So a program that goes on behind a refusal is told by what it wrote.
 ///
 /// Contracts see its text, its limit and the number of its failures.
+///
+/// ```text
+/// let mut sink = Limited::new(alloc, 3);
+/// sink.write_str("ab")?;
+/// let refused = sink.write_str("cd"); // Err(SinkError::Failed)
+/// sink.write_str("e")?;
+/// let text = sink.text(); // abe
+/// ```
 #[derive(Drop)]
 pub struct Limited {
     text: String,

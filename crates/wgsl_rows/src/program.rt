@@ -1,9 +1,10 @@
 //! The program: its words, its answers and its statuses.
 
 use bitflags::Flags;
+use naga_wgsl_out::builder::ModuleBuilder;
 use naga_wgsl_out::info::{accepts, count};
 use naga_wgsl_out::wgsl::{WriterFlags, write_string};
-use sample_modules::{Row, Sample};
+use sample_modules::Row;
 use std::alloc::Global;
 use std::fmt::Display;
 use std::io;
@@ -21,23 +22,23 @@ pub fn run<O: Write, E: Write>(alloc: Global, words: &[String], out: &mut O, err
     let Some((row, flags)) = request(words) else {
         return unknown_row(err);
     };
-    let mut sample = Sample::new(alloc);
-    let status = build_and_answer(alloc, row, &mut sample, flags, out, err);
-    drop(sample);
+    let mut shader = ModuleBuilder::new(alloc);
+    let status = build_and_answer(alloc, row, &mut shader, flags, out, err);
+    drop(shader);
     status
 }
 
-/// Builds the row's module in the empty sample, and prints its text, or why there is none.
+/// Builds the row's module, beginning with an empty one, and prints its text, or why there is none.
 fn build_and_answer<O: Write, E: Write>(
     alloc: Global,
     row: Row,
-    sample: &mut Sample,
+    shader: &mut ModuleBuilder,
     flags: WriterFlags,
     out: &mut O,
     err: &mut E,
 ) -> u8 {
-    match row.build(sample) {
-        Ok(()) => answer(alloc, sample, flags, out, err),
+    match row.build(alloc, shader) {
+        Ok(()) => answer(alloc, shader, flags, out, err),
         Err(_) => refuse("out of memory", err),
     }
 }
@@ -59,16 +60,16 @@ fn request(words: &[String]) -> Option<(Row, WriterFlags)> {
 /// Prints the module's text, or why there is none.
 pub fn answer<O: Write, E: Write>(
     alloc: Global,
-    sample: &mut Sample,
+    shader: &mut ModuleBuilder,
     flags: WriterFlags,
     out: &mut O,
     err: &mut E,
 ) -> u8 {
-    if !accepts(&sample.module, &sample.info) {
+    if !accepts(&shader.module, &shader.info) {
         return refuse("invalid module", err);
     }
-    count(&mut sample.info, &sample.module);
-    match write_string(alloc, &sample.module, &sample.info, flags) {
+    count(&mut shader.info, &shader.module);
+    match write_string(alloc, &shader.module, &shader.info, flags) {
         Ok(text) => print_text(text.as_str(), out, err),
         Err(error) => refuse(error, err),
     }

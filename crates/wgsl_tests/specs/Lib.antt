@@ -1,3 +1,2 @@
-pub mod Limited
 pub mod Numbered
 pub mod Rules

@@ -1,6 +1,6 @@
 //! The types that the tests spell, in a module.
 use super::*;
-use crate::{Limited, NumberedTypes};
+use crate::NumberedTypes;
 use naga_info::{Conclusion, GlobalCtx, Rule, TypeResolution};
 use naga_ir::{
     AddressSpace, ArraySize, BuiltIn, CooperativeRole, CooperativeSize, Handle, ImageClass,
@@ -17,6 +17,7 @@ use std::collections::HashMap;
 use std::num::NonZeroU32;
 use std::process::Abort;
 use std::test::Fail;
+use text_sinks::Limited;
 
 mod handles;
 mod labels;

@@ -3,7 +3,7 @@ use bitflags::Flags;
 use naga_wgsl_out::info::accepts;
 use naga_wgsl_out::ir::{Expression, Literal, Scalar};
 use naga_wgsl_out::wgsl::{Error, Writer, WriterFlags};
-use sample_modules::{Row, Sample, build_argument};
+use sample_modules::{Row, Sample};
 use std::alloc::{AllocError, Global};
 use std::io;
 use std::io::Write;
@@ -253,43 +253,53 @@ enum Case {
 }
 
 impl Case {
-    fn build(self, sample: &mut Sample) -> Result<(), AllocError> {
+    fn build(self, alloc: Global, sample: &mut Sample) -> Result<(), AllocError> {
         match self {
             Case::LocalOfArgument => build_local_of_argument(sample),
             Case::LoadWithoutEmit => build_load_without_emit(sample),
-            Case::Argument(number) => build_argument(sample, "f", &["x"], number),
+            Case::Argument(number) => build_argument(sample, number),
             Case::Return(literal, scalar) => build_return(sample, literal, scalar),
-            Case::WithoutInfo => build_without_info(sample),
+            Case::WithoutInfo => build_without_info(alloc, sample),
         }
     }
 }
 
 fn build_local_of_argument(sample: &mut Sample) -> Result<(), AllocError> {
     let i32_type = sample.begin("g")?;
-    sample.argument("x", i32_type)?;
-    let x = sample.expression(Expression::FunctionArgument(0), i32_type)?;
-    sample.local("a", i32_type, Some(x))?;
+    let x = sample.function.argument("x", i32_type)?;
+    sample.function.local("a", i32_type, Some(x))?;
     sample.end_with(x)
 }
 
 fn build_load_without_emit(sample: &mut Sample) -> Result<(), AllocError> {
     let i32_type = sample.begin("g")?;
-    let a = sample.local("a", i32_type, None)?;
-    let pointer = sample.pointer(a, i32_type)?;
-    let held = sample.expression(Expression::Load { pointer }, i32_type)?;
+    let a = sample.function.local("a", i32_type, None)?;
+    let pointer = sample.function.pointer_to(a, i32_type)?;
+    let held = sample
+        .function
+        .expression(Expression::Load { pointer }, i32_type)?;
     sample.end_with(held)
+}
+
+/// A function with one argument that returns its argument of this number.
+fn build_argument(sample: &mut Sample, number: u32) -> Result<(), AllocError> {
+    let i32_type = sample.begin("f")?;
+    sample.function.argument("x", i32_type)?;
+    let argument = Expression::FunctionArgument(number);
+    let value = sample.function.expression(argument, i32_type)?;
+    sample.end_with(value)
 }
 
 fn build_return(sample: &mut Sample, literal: Literal, scalar: Scalar) -> Result<(), AllocError> {
     let i32_type = sample.begin("f")?;
-    let literal_type = sample.scalar(scalar)?;
+    let literal_type = sample.shader.scalar(scalar)?;
     let value = sample.literal(literal, literal_type)?;
     sample.end_with(value)
 }
 
-fn build_without_info(sample: &mut Sample) -> Result<(), AllocError> {
-    Row::Identity.build(sample)?;
-    sample.info.functions.clear();
+fn build_without_info(alloc: Global, sample: &mut Sample) -> Result<(), AllocError> {
+    Row::Identity.build(alloc, &mut sample.shader)?;
+    sample.shader.info.functions.clear();
     Ok(())
 }
 
@@ -302,10 +312,16 @@ fn built_gives(
     text: &str,
     told: &str,
 ) -> Result<bool, AllocError> {
-    case.build(sample)?;
+    case.build(alloc, sample)?;
     let mut out = Vec::new(alloc);
     let mut err = Vec::new(alloc);
-    let status = answer(alloc, sample, WriterFlags::empty(), &mut out, &mut err);
+    let status = answer(
+        alloc,
+        &mut sample.shader,
+        WriterFlags::empty(),
+        &mut out,
+        &mut err,
+    );
     Ok(
         status == u8::from(!told.is_empty())
             && out.as_slice() == text.as_bytes()
@@ -376,11 +392,11 @@ fn leaves(alloc: Global, sample: &Sample, text: &str) -> Result<bool, AllocError
     let mut want = String::from_str(alloc, "held\n")?;
     want.push_str(text)?;
     let held = String::from_str(alloc, "held\n")?;
-    if !accepts(&sample.module, &sample.info) {
+    if !accepts(&sample.shader.module, &sample.shader.info) {
         return Ok(false);
     }
     let mut writer = Writer::new(alloc, held, WriterFlags::empty());
-    let answer = writer.write(&sample.module, &sample.info);
+    let answer = writer.write(&sample.shader.module, &sample.shader.info);
     let left = writer.finish();
     Ok(is_out_of_scope(&answer) && left.as_str() == want.as_str())
 }
@@ -392,7 +408,7 @@ fn built_leaves(
     text: &str,
 ) -> Result<bool, AllocError> {
     for case in cases.iter() {
-        case.build(sample)?;
+        case.build(alloc, sample)?;
     }
     leaves(alloc, sample, text)
 }

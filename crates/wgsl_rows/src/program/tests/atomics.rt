@@ -23,22 +23,22 @@ enum Place {
 }
 
 fn add_atomic(sample: &mut Sample) -> Result<Handle<Type_>, AllocError> {
-    sample.inner(TypeInner::Atomic(Scalar::U32))
+    sample.shader.type_of(TypeInner::Atomic(Scalar::U32))
 }
 
 /// A local of this type, as a pointer.
 fn add_local(sample: &mut Sample, ty: Handle<Type_>) -> Result<Handle<Expression>, AllocError> {
-    let local = sample.local("a", ty, None)?;
-    sample.pointer(local, ty)
+    let local = sample.function.local("a", ty, None)?;
+    sample.function.pointer_to(local, ty)
 }
 
 /// An argument that points to a value of this type.
 fn add_argument(sample: &mut Sample, ty: Handle<Type_>) -> Result<Handle<Expression>, AllocError> {
-    let pointer = sample.inner(TypeInner::Pointer {
+    let pointer = sample.shader.type_of(TypeInner::Pointer {
         base: ty,
         space: SPACE,
     })?;
-    sample.argument_value("p", 0, pointer)
+    sample.function.argument("p", pointer)
 }
 
 /// The element at 1 of a local array of atomics.
@@ -55,7 +55,7 @@ fn add_element(sample: &mut Sample) -> Result<Handle<Expression>, AllocError> {
         TypeResolution::Value(ty),
         1,
     )?;
-    sample.emit(element, element)?;
+    sample.function.body.emit(element, element)?;
     Ok(element)
 }
 
@@ -71,11 +71,11 @@ fn add_place(sample: &mut Sample, place: Place) -> Result<Handle<Expression>, Al
         }
         Place::Element => add_element(sample),
         Place::PlainLocal => {
-            let number = sample.scalar(Scalar::U32)?;
+            let number = sample.shader.scalar(Scalar::U32)?;
             add_local(sample, number)
         }
         Place::PlainArgument => {
-            let number = sample.scalar(Scalar::U32)?;
+            let number = sample.shader.scalar(Scalar::U32)?;
             add_argument(sample, number)
         }
     }
@@ -84,16 +84,16 @@ fn add_place(sample: &mut Sample, place: Place) -> Result<Handle<Expression>, Al
 /// A function that loads what is at the place, with this count of uses, and stores it there, or, where
 /// it is not used, stores a literal.
 fn build_access(sample: &mut Sample, place: Place, uses: usize) -> Result<(), AllocError> {
-    sample.label("f")?;
-    let number = sample.scalar(Scalar::U32)?;
+    sample.function.label("f")?;
+    let number = sample.shader.scalar(Scalar::U32)?;
     let pointer = add_place(sample, place)?;
     let value = sample.used(Expression::Load { pointer }, number, uses)?;
-    sample.emit(value, value)?;
+    sample.function.body.emit(value, value)?;
     if uses == 0 {
         let five = sample.literal(Literal::U32(5), number)?;
-        sample.store(pointer, five)?;
+        sample.function.body.store(pointer, five)?;
     } else {
-        sample.store(pointer, value)?;
+        sample.function.body.store(pointer, value)?;
     }
     sample.end_function()
 }

@@ -4,7 +4,7 @@ use crate::program::tests::formless::refusal_of;
 use crate::program::tests::operators::is_written;
 use bitflags::Flags;
 use naga_wgsl_out::ir::{
-    BinaryOperator, Expression, Handle, Literal, Scalar, ScalarKind, Type_, TypeInner,
+    BinaryOperator, Constant, Expression, Handle, Literal, Scalar, ScalarKind, Type_, TypeInner,
     UnaryOperator, VectorSize,
 };
 use naga_wgsl_out::wgsl::Error;
@@ -37,23 +37,40 @@ enum Made {
 }
 
 fn vector(sample: &mut Sample, size: VectorSize) -> Result<Handle<Type_>, AllocError> {
-    sample.inner(TypeInner::Vector {
+    sample.shader.type_of(TypeInner::Vector {
         size,
         scalar: Scalar::I32,
     })
 }
 
 fn number(sample: &mut Sample, literal: Literal) -> Result<Handle<Expression>, AllocError> {
-    let ty = sample.scalar(Scalar::I32)?;
-    sample.global(Expression::Literal(literal), ty)
+    let ty = sample.shader.scalar(Scalar::I32)?;
+    sample
+        .shader
+        .global_expression(Expression::Literal(literal), ty)
+}
+
+/// A constant without a name.
+fn add_constant(
+    sample: &mut Sample,
+    ty: Handle<Type_>,
+    init: Handle<Expression>,
+) -> Result<Handle<Constant>, AllocError> {
+    sample.shader.add_constant(Constant {
+        name: None,
+        ty,
+        init,
+    })
 }
 
 /// The constant 7, as one of the module's own expressions.
 fn seven(sample: &mut Sample) -> Result<Handle<Expression>, AllocError> {
-    let ty = sample.scalar(Scalar::I32)?;
+    let ty = sample.shader.scalar(Scalar::I32)?;
     let value = number(sample, INTEGER)?;
-    let constant = sample.constant(ty, value)?;
-    sample.global(Expression::Constant(constant), ty)
+    let constant = add_constant(sample, ty, value)?;
+    sample
+        .shader
+        .global_expression(Expression::Constant(constant), ty)
 }
 
 fn compose(
@@ -66,7 +83,9 @@ fn compose(
     let mut components = Vec::new(alloc);
     components.push(first)?;
     components.push(second)?;
-    sample.global(Expression::Compose { ty, components }, ty)
+    sample
+        .shader
+        .global_expression(Expression::Compose { ty, components }, ty)
 }
 
 /// The type of a constant, and its initialiser.
@@ -75,7 +94,7 @@ fn initialiser(
     sample: &mut Sample,
     made: Made,
 ) -> Result<(Handle<Type_>, Handle<Expression>), AllocError> {
-    let ty = sample.scalar(Scalar::I32)?;
+    let ty = sample.shader.scalar(Scalar::I32)?;
     match made {
         Made::Number => Ok((ty, number(sample, INTEGER)?)),
         Made::Least => Ok((ty, number(sample, Literal::I32(i32::MIN))?)),
@@ -92,11 +111,16 @@ fn initialiser(
                 size: VectorSize::Tri,
                 value,
             };
-            Ok((triple, sample.global(splat, triple)?))
+            Ok((triple, sample.shader.global_expression(splat, triple)?))
         }
         Made::Zero => {
             let pair = vector(sample, VectorSize::Bi)?;
-            Ok((pair, sample.global(Expression::ZeroValue(pair), pair)?))
+            Ok((
+                pair,
+                sample
+                    .shader
+                    .global_expression(Expression::ZeroValue(pair), pair)?,
+            ))
         }
         Made::Constant => Ok((ty, seven(sample)?)),
         Made::OfConstant => {
@@ -106,7 +130,7 @@ fn initialiser(
                 size: VectorSize::Bi,
                 value,
             };
-            Ok((pair, sample.global(splat, pair)?))
+            Ok((pair, sample.shader.global_expression(splat, pair)?))
         }
         Made::Nested => {
             let pair = vector(sample, VectorSize::Bi)?;
@@ -122,7 +146,7 @@ fn initialiser(
                 op: UnaryOperator::Negate,
                 expr,
             };
-            Ok((ty, sample.global(negated, ty)?))
+            Ok((ty, sample.shader.global_expression(negated, ty)?))
         }
         Made::OfSum => {
             let pair = vector(sample, VectorSize::Bi)?;
@@ -132,20 +156,27 @@ fn initialiser(
                 left,
                 right: left,
             };
-            let sum = sample.global(sum, ty)?;
+            let sum = sample.shader.global_expression(sum, ty)?;
             Ok((pair, compose(alloc, sample, pair, left, sum)?))
         }
         Made::Float => {
-            let float = sample.scalar(Scalar::F32)?;
-            let value = sample.global(Expression::Literal(Literal::F32(0)), float)?;
+            let float = sample.shader.scalar(Scalar::F32)?;
+            let value = sample
+                .shader
+                .global_expression(Expression::Literal(Literal::F32(0)), float)?;
             Ok((float, value))
         }
         Made::Wide => {
-            let wide = sample.scalar(Scalar {
+            let wide = sample.shader.scalar(Scalar {
                 kind: ScalarKind::Sint,
                 width: 16,
             })?;
-            Ok((wide, sample.global(Expression::ZeroValue(wide), wide)?))
+            Ok((
+                wide,
+                sample
+                    .shader
+                    .global_expression(Expression::ZeroValue(wide), wide)?,
+            ))
         }
     }
 }
@@ -153,9 +184,9 @@ fn initialiser(
 /// A function that returns a constant made so.
 fn build_constant(alloc: Global, sample: &mut Sample, made: Made) -> Result<(), AllocError> {
     let (ty, init) = initialiser(alloc, sample, made)?;
-    let constant = sample.constant(ty, init)?;
-    sample.label("f")?;
-    sample.returns(ty);
+    let constant = add_constant(sample, ty, init)?;
+    sample.function.label("f")?;
+    sample.function.returns(ty);
     let value = sample.used(Expression::Constant(constant), ty, 1)?;
     sample.end_with(value)
 }
@@ -163,9 +194,11 @@ fn build_constant(alloc: Global, sample: &mut Sample, made: Made) -> Result<(), 
 /// A function in which a constant made so stands, and nothing uses it.
 fn build_idle(alloc: Global, sample: &mut Sample, made: Made) -> Result<(), AllocError> {
     let (ty, init) = initialiser(alloc, sample, made)?;
-    let constant = sample.constant(ty, init)?;
+    let constant = add_constant(sample, ty, init)?;
     let integer = sample.begin("u")?;
-    sample.expression(Expression::Constant(constant), ty)?;
+    sample
+        .function
+        .expression(Expression::Constant(constant), ty)?;
     let value = sample.literal(Literal::I32(1), integer)?;
     sample.end_with(value)
 }
@@ -173,10 +206,12 @@ fn build_idle(alloc: Global, sample: &mut Sample, made: Made) -> Result<(), Allo
 /// A function with a local of this type, which has a constant made so as first value.
 fn build_local(alloc: Global, sample: &mut Sample, made: Made) -> Result<(), AllocError> {
     let (ty, init) = initialiser(alloc, sample, made)?;
-    let constant = sample.constant(ty, init)?;
-    sample.label("f")?;
-    let value = sample.expression(Expression::Constant(constant), ty)?;
-    sample.local("x", ty, Some(value))?;
+    let constant = add_constant(sample, ty, init)?;
+    sample.function.label("f")?;
+    let value = sample
+        .function
+        .expression(Expression::Constant(constant), ty)?;
+    sample.function.local("x", ty, Some(value))?;
     sample.end_function()
 }
 

@@ -1,9 +1,7 @@
 //! Conversions to other scalars, and bits that are kept.
 
 use crate::program::tests::operators::{is_text, is_written};
-use crate::program::tests::values::{
-    MAT3X2_F32, VEC2_F32, VEC2_I32, VEC3_F32, Value, add_type, build_argument,
-};
+use crate::program::tests::values::{MAT3X2_F32, VEC2_F32, VEC2_I32, VEC3_F32, Value, add_type};
 use bitflags::Flags;
 use naga_wgsl_out::ir::{Expression, Scalar, ScalarKind, VectorSize};
 use naga_wgsl_out::wgsl::WriterFlags;
@@ -138,18 +136,18 @@ const CONVERTED: &[Conversion] = &[
 /// A conversion of the argument, once, or twice in a choice of one of them.
 fn build_conversion(sample: &mut Sample, case: &Conversion, uses: usize) -> Result<(), AllocError> {
     let (from, kind, convert, to, _) = *case;
-    sample.label("f")?;
+    sample.function.label("f")?;
     let from = add_type(sample, from)?;
     let to = add_type(sample, to)?;
-    let expr = build_argument(sample, "x", 0, from)?;
+    let expr = sample.function.argument("x", from)?;
     let converted = Expression::As {
         expr,
         kind,
         convert,
     };
     let last = sample.used(converted, to, uses)?;
-    sample.returns(to);
-    sample.emit(last, last)?;
+    sample.function.returns(to);
+    sample.function.body.emit(last, last)?;
     sample.end_with(last)
 }
 

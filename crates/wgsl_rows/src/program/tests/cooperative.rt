@@ -99,16 +99,16 @@ fn scalar_of(from: From) -> Scalar {
 fn add_pointer(sample: &mut Sample, from: From) -> Result<Handle<Expression>, AllocError> {
     let inner = match from {
         From::Local => {
-            let ty = sample.scalar(Scalar::F32)?;
-            let local = sample.local("a", ty, None)?;
-            return sample.pointer(local, ty);
+            let ty = sample.shader.scalar(Scalar::F32)?;
+            let local = sample.function.local("a", ty, None)?;
+            return sample.function.pointer_to(local, ty);
         }
         From::Pointer => TypeInner::Pointer {
-            base: sample.scalar(Scalar::F32)?,
+            base: sample.shader.scalar(Scalar::F32)?,
             space: SPACE,
         },
         From::VectorPointer => TypeInner::Pointer {
-            base: sample.inner(TypeInner::Vector {
+            base: sample.shader.type_of(TypeInner::Vector {
                 size: VectorSize::Quad,
                 scalar: Scalar::I32,
             })?,
@@ -120,8 +120,8 @@ fn add_pointer(sample: &mut Sample, from: From) -> Result<Handle<Expression>, Al
             space: SPACE,
         },
     };
-    let ty = sample.inner(inner)?;
-    sample.argument_value("p", 1, ty)
+    let ty = sample.shader.type_of(inner)?;
+    sample.function.argument("p", ty)
 }
 
 /// The matrix from the pointer, with this count of uses.
@@ -153,12 +153,12 @@ fn add_load(
 
 /// A function that loads a matrix, with this count of uses.
 fn build_load(sample: &mut Sample, case: Loaded, uses: usize) -> Result<(), AllocError> {
-    sample.label("f")?;
-    let number = sample.scalar(Scalar::U32)?;
-    let stride = sample.argument_value("n", 0, number)?;
+    sample.function.label("f")?;
+    let number = sample.shader.scalar(Scalar::U32)?;
+    let stride = sample.function.argument("n", number)?;
     let pointer = add_pointer(sample, case.from)?;
     let load = add_load(sample, case, pointer, stride, uses)?;
-    sample.emit(load, load)?;
+    sample.function.body.emit(load, load)?;
     sample.end_function()
 }
 
@@ -205,9 +205,9 @@ fn matrices_are_loaded_by_a_word_with_their_type(rt: HostRuntime) -> Result<(), 
 /// A function that loads three matrices, the first with a stride that is bound, and has a product of
 /// them.
 fn build_product(sample: &mut Sample) -> Result<(), AllocError> {
-    sample.label("f")?;
-    let number = sample.scalar(Scalar::U32)?;
-    let stride = sample.argument_value("n", 0, number)?;
+    sample.function.label("f")?;
+    let number = sample.shader.scalar(Scalar::U32)?;
+    let stride = sample.function.argument("n", number)?;
     let pointer = add_pointer(sample, From::Pointer)?;
     let sum = Expression::Binary {
         op: BinaryOperator::Add,
@@ -235,7 +235,7 @@ fn build_product(sample: &mut Sample) -> Result<(), AllocError> {
     };
     let product = Expression::CooperativeMultiplyAdd { a, b, c };
     let product = sample.resolved(product, TypeResolution::Value(ty), 2)?;
-    sample.emit(sum, product)?;
+    sample.function.body.emit(sum, product)?;
     sample.end_function()
 }
 

@@ -1,7 +1,7 @@
 //! Derivatives: requests of events, which a `let` binds from one use on.
 
 use crate::program::tests::operators::is_text;
-use crate::program::tests::values::{VEC2_F32, Value, add_type, build_argument};
+use crate::program::tests::values::{VEC2_F32, Value, add_type};
 use bitflags::Flags;
 use naga_wgsl_out::ir::{DerivativeAxis, DerivativeControl, Expression, Handle, Scalar, Type_};
 use naga_wgsl_out::wgsl::WriterFlags;
@@ -98,12 +98,12 @@ fn derivative(
 }
 
 fn build_derived(sample: &mut Sample, case: &Derived) -> Result<(), AllocError> {
-    sample.label("f")?;
+    sample.function.label("f")?;
     let ty = add_type(sample, case.2)?;
-    let x = build_argument(sample, "x", 0, ty)?;
+    let x = sample.function.argument("x", ty)?;
     let last = derivative(sample, case.0, case.1, x, ty, 1)?;
-    sample.returns(ty);
-    sample.emit(last, last)?;
+    sample.function.returns(ty);
+    sample.function.body.emit(last, last)?;
     sample.end_with(last)
 }
 
@@ -140,12 +140,12 @@ fn derivatives_are_bound(rt: HostRuntime) -> Result<(), Fail> {
 
 /// A function that returns its argument, and emits a derivative that nothing uses.
 fn build_unused(sample: &mut Sample) -> Result<(), AllocError> {
-    sample.label("f")?;
+    sample.function.label("f")?;
     let ty = add_type(sample, F32)?;
-    let x = build_argument(sample, "x", 0, ty)?;
+    let x = sample.function.argument("x", ty)?;
     let unused = derivative(sample, DerivativeAxis::X, DerivativeControl::None, x, ty, 0)?;
-    sample.returns(ty);
-    sample.emit(unused, unused)?;
+    sample.function.returns(ty);
+    sample.function.body.emit(unused, unused)?;
     sample.end_with(x)
 }
 

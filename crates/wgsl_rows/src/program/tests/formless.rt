@@ -3,7 +3,7 @@
 
 use crate::program::tests::operators::is_written;
 use crate::program::tests::types::add_inner;
-use crate::program::tests::values::{MAT2X2_F32, Value, add_type, build_argument, build_return};
+use crate::program::tests::values::{MAT2X2_F32, Value, add_type, build_return};
 use bitflags::Flags;
 use naga_wgsl_out::info::accepts;
 use naga_wgsl_out::ir::{
@@ -36,10 +36,10 @@ pub(super) fn refusal_of(alloc: Global, sample: &Sample) -> Option<Error> {
 
 /// The same with these flags.
 pub(super) fn refusal_with(alloc: Global, sample: &Sample, flags: WriterFlags) -> Option<Error> {
-    if !accepts(&sample.module, &sample.info) {
+    if !accepts(&sample.shader.module, &sample.shader.info) {
         return None;
     }
-    match write_string(alloc, &sample.module, &sample.info, flags) {
+    match write_string(alloc, &sample.shader.module, &sample.shader.info, flags) {
         Ok(_) => None,
         Err(error) => Some(error),
     }
@@ -70,19 +70,19 @@ fn names_relation(refusal: &Option<Error>, fun: RelationalFunction) -> bool {
 
 /// A function that returns the literal.
 fn build_literal(sample: &mut Sample, case: (Literal, Scalar)) -> Result<(), AllocError> {
-    sample.label("f")?;
-    let ty = sample.scalar(case.1)?;
-    sample.returns(ty);
+    sample.function.label("f")?;
+    let ty = sample.shader.scalar(case.1)?;
+    sample.function.returns(ty);
     let value = sample.literal(case.0, ty)?;
     sample.end_with(value)
 }
 
 /// A function that returns a whole number, with a literal that nothing mentions.
 fn build_idle(sample: &mut Sample, case: (Literal, Scalar)) -> Result<(), AllocError> {
-    sample.label("u")?;
-    let float = sample.scalar(case.1)?;
-    let ty = sample.scalar(Scalar::I32)?;
-    sample.returns(ty);
+    sample.function.label("u")?;
+    let float = sample.shader.scalar(case.1)?;
+    let ty = sample.shader.scalar(Scalar::I32)?;
+    sample.function.returns(ty);
     sample.literal(case.0, float)?;
     let value = sample.literal(Literal::I32(1), ty)?;
     sample.end_with(value)
@@ -132,9 +132,9 @@ fn applied(fun: MathFunction, arg: Handle<Expression>) -> Expression {
 
 /// A function that returns what the function of mathematics gives.
 fn build_function(sample: &mut Sample, fun: MathFunction) -> Result<(), AllocError> {
-    sample.label("f")?;
+    sample.function.label("f")?;
     let ty = add_type(sample, MAT2X2_F32)?;
-    let argument = build_argument(sample, "x", 0, ty)?;
+    let argument = sample.function.argument("x", ty)?;
     build_return(sample, applied(fun, argument), MAT2X2_F32)
 }
 
@@ -145,17 +145,17 @@ fn end_without(
     of_type: Handle<Type_>,
     value: Handle<Expression>,
 ) -> Result<(), AllocError> {
-    let handle = sample.expression(unused, of_type)?;
-    sample.emit(handle, handle)?;
+    let handle = sample.function.expression(unused, of_type)?;
+    sample.function.body.emit(handle, handle)?;
     sample.end_with(value)
 }
 
 /// A function that emits that, and returns its argument.
 fn build_unused_function(sample: &mut Sample, fun: MathFunction) -> Result<(), AllocError> {
-    sample.label("f")?;
+    sample.function.label("f")?;
     let ty = add_type(sample, MAT2X2_F32)?;
-    sample.returns(ty);
-    let argument = build_argument(sample, "x", 0, ty)?;
+    sample.function.returns(ty);
+    let argument = sample.function.argument("x", ty)?;
     end_without(sample, applied(fun, argument), ty, argument)
 }
 
@@ -196,9 +196,9 @@ fn functions_without_words_are_refused_where_they_are_written(rt: HostRuntime) -
 
 /// A function that returns whether the relation holds of its argument.
 fn build_relation(sample: &mut Sample, fun: RelationalFunction) -> Result<(), AllocError> {
-    sample.label("f")?;
-    let ty = sample.scalar(Scalar::F32)?;
-    let argument = build_argument(sample, "x", 0, ty)?;
+    sample.function.label("f")?;
+    let ty = sample.shader.scalar(Scalar::F32)?;
+    let argument = sample.function.argument("x", ty)?;
     build_return(
         sample,
         Expression::Relational { fun, argument },
@@ -208,11 +208,11 @@ fn build_relation(sample: &mut Sample, fun: RelationalFunction) -> Result<(), Al
 
 /// A function that emits that, and returns its argument.
 fn build_unused_relation(sample: &mut Sample, fun: RelationalFunction) -> Result<(), AllocError> {
-    sample.label("f")?;
-    let ty = sample.scalar(Scalar::F32)?;
-    let truth = sample.scalar(Scalar::BOOL)?;
-    sample.returns(ty);
-    let argument = build_argument(sample, "x", 0, ty)?;
+    sample.function.label("f")?;
+    let ty = sample.shader.scalar(Scalar::F32)?;
+    let truth = sample.shader.scalar(Scalar::BOOL)?;
+    sample.function.returns(ty);
+    let argument = sample.function.argument("x", ty)?;
     end_without(
         sample,
         Expression::Relational { fun, argument },
@@ -290,15 +290,15 @@ fn build_converted(
     sample: &mut Sample,
     case: Conversion,
 ) -> Result<(Expression, Handle<Type_>, Handle<Expression>), AllocError> {
-    sample.label("f")?;
+    sample.function.label("f")?;
     let (ty, kind, width) = match case {
-        Conversion::Number(kind, width) => (sample.scalar(Scalar::F32)?, kind, width),
+        Conversion::Number(kind, width) => (sample.shader.scalar(Scalar::F32)?, kind, width),
         Conversion::Sampler => {
             let ty = add_inner(sample, TypeInner::Sampler { comparison: false })?;
             (ty, ScalarKind::Sint, 4)
         }
     };
-    let expr = build_argument(sample, "x", 0, ty)?;
+    let expr = sample.function.argument("x", ty)?;
     let convert = Some(width);
     Ok((
         Expression::As {
@@ -320,8 +320,8 @@ fn build_conversion(sample: &mut Sample, case: Conversion) -> Result<(), AllocEr
 /// A function that emits that, and returns its argument.
 fn build_unused_conversion(sample: &mut Sample, case: Conversion) -> Result<(), AllocError> {
     let (conversion, ty, argument) = build_converted(sample, case)?;
-    sample.returns(ty);
-    let other = sample.scalar(Scalar::I32)?;
+    sample.function.returns(ty);
+    let other = sample.shader.scalar(Scalar::I32)?;
     end_without(sample, conversion, other, argument)
 }
 

@@ -52,7 +52,7 @@ fn array_of(sample: &mut Sample, base: Handle<Type_>) -> Result<Handle<Type_>, A
         Some(count) => ArraySize::Constant(count),
         None => ArraySize::Dynamic,
     };
-    sample.inner(TypeInner::Array {
+    sample.shader.type_of(TypeInner::Array {
         base,
         size,
         stride: 4,
@@ -62,20 +62,20 @@ fn array_of(sample: &mut Sample, base: Handle<Type_>) -> Result<Handle<Type_>, A
 fn add_odd(sample: &mut Sample, odd: Odd) -> Result<Handle<Type_>, AllocError> {
     let scalar = ODD;
     let space = AddressSpace::Function;
-    let base = sample.scalar(scalar)?;
+    let base = sample.shader.scalar(scalar)?;
     match odd {
         Odd::Scalar => Ok(base),
-        Odd::Vector => sample.inner(TypeInner::Vector {
+        Odd::Vector => sample.shader.type_of(TypeInner::Vector {
             size: VectorSize::Bi,
             scalar,
         }),
-        Odd::Matrix => sample.inner(TypeInner::Matrix {
+        Odd::Matrix => sample.shader.type_of(TypeInner::Matrix {
             columns: VectorSize::Bi,
             rows: VectorSize::Tri,
             scalar,
         }),
-        Odd::Pointer => sample.inner(TypeInner::Pointer { base, space }),
-        Odd::ValuePointer => sample.inner(TypeInner::ValuePointer {
+        Odd::Pointer => sample.shader.type_of(TypeInner::Pointer { base, space }),
+        Odd::ValuePointer => sample.shader.type_of(TypeInner::ValuePointer {
             size: None,
             scalar,
             space,
@@ -83,9 +83,9 @@ fn add_odd(sample: &mut Sample, odd: Odd) -> Result<Handle<Type_>, AllocError> {
         Odd::Array => array_of(sample, base),
         Odd::PointerToArray => {
             let base = array_of(sample, base)?;
-            sample.inner(TypeInner::Pointer { base, space })
+            sample.shader.type_of(TypeInner::Pointer { base, space })
         }
-        Odd::Image => sample.inner(TypeInner::Image {
+        Odd::Image => sample.shader.type_of(TypeInner::Image {
             dim: ImageDimension::D2,
             arrayed: false,
             class: ImageClass::Sampled {
@@ -109,22 +109,24 @@ const DECLARED: [Declared; 3] = [Declared::Argument, Declared::Answer, Declared:
 /// A function that declares something of the type.
 fn build_declared(sample: &mut Sample, place: Declared, odd: Odd) -> Result<(), AllocError> {
     let ty = add_odd(sample, odd)?;
-    sample.label("f")?;
+    sample.function.label("f")?;
     match place {
         Declared::Argument => {
-            sample.argument("x", ty)?;
+            sample.function.argument("x", ty)?;
             sample.end_function()
         }
         Declared::Answer => {
-            let of = sample.scalar(Scalar::I32)?;
-            let value = sample.argument_value("x", 0, of)?;
-            let sum = sample.binary(BinaryOperator::Add, value, value, ty)?;
-            sample.returns(ty);
-            sample.emit(sum, sum)?;
+            let of = sample.shader.scalar(Scalar::I32)?;
+            let value = sample.function.argument("x", of)?;
+            let sum = sample
+                .function
+                .binary(BinaryOperator::Add, value, value, ty)?;
+            sample.function.returns(ty);
+            sample.function.body.emit(sum, sum)?;
             sample.end_with(sum)
         }
         Declared::Local => {
-            sample.local("a", ty, None)?;
+            sample.function.local("a", ty, None)?;
             sample.end_function()
         }
     }
@@ -134,7 +136,7 @@ fn build_declared(sample: &mut Sample, place: Declared, odd: Odd) -> Result<(), 
 fn build_idle(sample: &mut Sample, odd: Odd) -> Result<(), AllocError> {
     add_odd(sample, odd)?;
     let ty = sample.begin("f")?;
-    let value = sample.argument_value("x", 0, ty)?;
+    let value = sample.function.argument("x", ty)?;
     sample.end_with(value)
 }
 
@@ -207,18 +209,20 @@ fn build_made(
     made: Made,
     is_returned: bool,
 ) -> Result<(), AllocError> {
-    sample.label("f")?;
-    let of = sample.scalar(Scalar::I32)?;
-    let value = sample.argument_value("x", 0, of)?;
-    let part = sample.scalar(ODD)?;
+    sample.function.label("f")?;
+    let of = sample.shader.scalar(Scalar::I32)?;
+    let value = sample.function.argument("x", of)?;
+    let part = sample.shader.scalar(ODD)?;
     let odd = add_odd(sample, Odd::Vector)?;
     let (first, whole) = match made {
         Made::ZeroValue => {
-            let zero = sample.expression(Expression::ZeroValue(odd), odd)?;
+            let zero = sample.function.expression(Expression::ZeroValue(odd), odd)?;
             (None, zero)
         }
         Made::Composition => {
-            let sum = sample.binary(BinaryOperator::Add, value, value, part)?;
+            let sum = sample
+                .function
+                .binary(BinaryOperator::Add, value, value, part)?;
             let mut components = Vec::new(alloc);
             components.push(sum)?;
             components.push(sum)?;
@@ -226,10 +230,10 @@ fn build_made(
                 ty: odd,
                 components,
             };
-            (Some(sum), sample.expression(composed, odd)?)
+            (Some(sum), sample.function.expression(composed, odd)?)
         }
     };
-    let given = sample.inner(TypeInner::Vector {
+    let given = sample.shader.type_of(TypeInner::Vector {
         size: VectorSize::Bi,
         scalar: Scalar::I32,
     })?;
@@ -238,13 +242,13 @@ fn build_made(
         kind: ScalarKind::Sint,
         convert: Some(4),
     };
-    let last = sample.expression(converted, given)?;
-    sample.emit(first.unwrap_or(last), last)?;
+    let last = sample.function.expression(converted, given)?;
+    sample.function.body.emit(first.unwrap_or(last), last)?;
     if is_returned {
-        sample.returns(given);
+        sample.function.returns(given);
         sample.end_with(last)
     } else {
-        sample.returns(of);
+        sample.function.returns(of);
         sample.end_with(value)
     }
 }
@@ -281,11 +285,13 @@ fn values_of_types_without_a_form_are_refused_where_they_are_written(
 /// A function that binds a sum whose type has no form, and returns its argument.
 fn build_let(sample: &mut Sample) -> Result<(), AllocError> {
     let ty = sample.begin("f")?;
-    let odd = sample.scalar(ODD)?;
-    let value = sample.argument_value("x", 0, ty)?;
-    let sum = sample.binary(BinaryOperator::Add, value, value, odd)?;
-    sample.named(sum, "sum")?;
-    sample.emit(sum, sum)?;
+    let odd = sample.shader.scalar(ODD)?;
+    let value = sample.function.argument("x", ty)?;
+    let sum = sample
+        .function
+        .binary(BinaryOperator::Add, value, value, odd)?;
+    sample.function.name(sum, "sum")?;
+    sample.function.body.emit(sum, sum)?;
     sample.end_with(value)
 }
 
@@ -333,11 +339,11 @@ const INDEXED: [Partless; 3] = [Partless::Returned, Partless::Pointed, Partless:
 
 fn build_partless(sample: &mut Sample, case: Partless) -> Result<(), AllocError> {
     let ty = sample.begin("f")?;
-    let value = sample.argument_value("x", 0, ty)?;
+    let value = sample.function.argument("x", ty)?;
     let base = match case {
         Partless::Pointed => {
-            let local = sample.local("a", ty, None)?;
-            sample.pointer(local, ty)?
+            let local = sample.function.local("a", ty, None)?;
+            sample.function.pointer_to(local, ty)?
         }
         _ => value,
     };
@@ -346,7 +352,7 @@ fn build_partless(sample: &mut Sample, case: Partless) -> Result<(), AllocError>
         _ => 0,
     };
     let part = sample.used(Expression::AccessIndex { base, index: 0 }, ty, uses)?;
-    sample.emit(part, part)?;
+    sample.function.body.emit(part, part)?;
     match case {
         Partless::Bound | Partless::Unused => sample.end_with(value),
         _ => sample.end_with(part),

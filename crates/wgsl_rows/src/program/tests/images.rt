@@ -3,7 +3,7 @@
 //! nothing of the operands' types.
 
 use crate::program::tests::operators::{is_text, is_written};
-use crate::program::tests::values::{VEC2_F32, Value, add_type, build_argument};
+use crate::program::tests::values::{VEC2_F32, Value, add_type};
 use bitflags::Flags;
 use naga_wgsl_out::info::accepts;
 use naga_wgsl_out::ir::{Expression, Handle, ImageQuery, Scalar, VectorSize};
@@ -40,27 +40,32 @@ pub(super) const HEAD: &str =
     "fn f(t: f32, s: f32, p: vec2<f32>, a: i32, d: f32, l: f32, m: f32) -> vec4<f32> {\n";
 
 pub(super) fn build_arguments(sample: &mut Sample) -> Result<Arguments, AllocError> {
-    sample.label("f")?;
+    sample.function.label("f")?;
     let float = add_type(sample, F32)?;
     let integer = add_type(sample, I32)?;
     let place = add_type(sample, VEC2_F32)?;
     Ok(Arguments {
-        image: build_argument(sample, "t", 0, float)?,
-        sampler: build_argument(sample, "s", 1, float)?,
-        coordinate: build_argument(sample, "p", 2, place)?,
-        layer: build_argument(sample, "a", 3, integer)?,
-        depth: build_argument(sample, "d", 4, float)?,
-        level: build_argument(sample, "l", 5, float)?,
-        more: build_argument(sample, "m", 6, float)?,
+        image: sample.function.argument("t", float)?,
+        sampler: sample.function.argument("s", float)?,
+        coordinate: sample.function.argument("p", place)?,
+        layer: sample.function.argument("a", integer)?,
+        depth: sample.function.argument("d", float)?,
+        level: sample.function.argument("l", float)?,
+        more: sample.function.argument("m", float)?,
     })
 }
 
 /// Why the sample is refused, if it is accepted.
 pub(super) fn refusal_of(alloc: Global, sample: &Sample) -> Option<Error> {
-    if !accepts(&sample.module, &sample.info) {
+    if !accepts(&sample.shader.module, &sample.shader.info) {
         return None;
     }
-    match write_string(alloc, &sample.module, &sample.info, WriterFlags::empty()) {
+    match write_string(
+        alloc,
+        &sample.shader.module,
+        &sample.shader.info,
+        WriterFlags::empty(),
+    ) {
         Ok(_) => None,
         Err(error) => Some(error),
     }
@@ -197,11 +202,13 @@ fn question(case: Asked, arguments: Arguments) -> Expression {
 fn build_asked(sample: &mut Sample, case: Asked, uses: usize) -> Result<(), AllocError> {
     let arguments = build_arguments(sample)?;
     let given = add_type(sample, VEC4_F32)?;
-    sample.returns(given);
+    sample.function.returns(given);
     let value = sample.used(question(case, arguments), given, uses)?;
-    sample.emit(value, value)?;
+    sample.function.body.emit(value, value)?;
     if uses == 0 {
-        let zero = sample.expression(Expression::ZeroValue(given), given)?;
+        let zero = sample
+            .function
+            .expression(Expression::ZeroValue(given), given)?;
         return sample.end_with(zero);
     }
     sample.end_with(value)
@@ -266,7 +273,7 @@ fn both_are_refused(alloc: Global) -> Result<bool, AllocError> {
 fn build_idle_load(sample: &mut Sample) -> Result<(), AllocError> {
     let arguments = build_arguments(sample)?;
     let given = add_type(sample, VEC4_F32)?;
-    sample.returns(given);
+    sample.function.returns(given);
     sample.used(
         question(
             Asked::Texel {
@@ -279,7 +286,9 @@ fn build_idle_load(sample: &mut Sample) -> Result<(), AllocError> {
         given,
         0,
     )?;
-    let zero = sample.expression(Expression::ZeroValue(given), given)?;
+    let zero = sample
+        .function
+        .expression(Expression::ZeroValue(given), given)?;
     sample.end_with(zero)
 }
 

@@ -2,9 +2,7 @@
 
 use crate::program::tests::operators::{is_text, is_written};
 use crate::program::tests::status;
-use crate::program::tests::values::{
-    MAT3X2_F32, VEC2_F32, VEC3_F32, Value, add_type, build_argument,
-};
+use crate::program::tests::values::{MAT3X2_F32, VEC2_F32, VEC3_F32, Value, add_type};
 use bitflags::Flags;
 use naga_wgsl_out::info::TypeResolution;
 use naga_wgsl_out::ir::{
@@ -109,8 +107,8 @@ fn pointed(
 
 fn local(sample: &mut Sample, value: Value) -> Result<Handle<Expression>, AllocError> {
     let ty = add_type(sample, value)?;
-    let local: Handle<LocalVariable> = sample.local("a", ty, None)?;
-    sample.pointer(local, ty)
+    let local: Handle<LocalVariable> = sample.function.local("a", ty, None)?;
+    sample.function.pointer_to(local, ty)
 }
 
 fn end_with_part(
@@ -120,23 +118,22 @@ fn end_with_part(
     value: Value,
 ) -> Result<(), AllocError> {
     let ty = add_type(sample, value)?;
-    sample.returns(ty);
-    sample.emit(first, last)?;
+    sample.function.returns(ty);
+    sample.function.body.emit(first, last)?;
     sample.end_with(last)
 }
 
 fn argument(
     sample: &mut Sample,
     label: &str,
-    number: u32,
     value: Value,
 ) -> Result<Handle<Expression>, AllocError> {
     let ty = add_type(sample, value)?;
-    build_argument(sample, label, number, ty)
+    sample.function.argument(label, ty)
 }
 
 fn build_of_negated(sample: &mut Sample) -> Result<(), AllocError> {
-    let x = argument(sample, "x", 0, VEC3_I32)?;
+    let x = argument(sample, "x", VEC3_I32)?;
     let ty = add_type(sample, VEC3_I32)?;
     let negated = Expression::Unary {
         op: UnaryOperator::Negate,
@@ -148,22 +145,22 @@ fn build_of_negated(sample: &mut Sample) -> Result<(), AllocError> {
 }
 
 fn build_element(sample: &mut Sample) -> Result<(), AllocError> {
-    let x = argument(sample, "x", 0, VEC3_F32)?;
-    let y = argument(sample, "y", 1, I32)?;
+    let x = argument(sample, "x", VEC3_F32)?;
+    let y = argument(sample, "y", I32)?;
     let last = element(sample, x, y, F32)?;
     end_with_part(sample, last, last, F32)
 }
 
 fn build_of_column(sample: &mut Sample) -> Result<(), AllocError> {
-    let x = argument(sample, "x", 0, MAT3X2_F32)?;
+    let x = argument(sample, "x", MAT3X2_F32)?;
     let column = part(sample, x, 2, VEC2_F32)?;
     let last = part(sample, column, 1, F32)?;
     end_with_part(sample, column, last, F32)
 }
 
 fn build_of_element(sample: &mut Sample) -> Result<(), AllocError> {
-    let x = argument(sample, "x", 0, MAT3X2_F32)?;
-    let y = argument(sample, "y", 1, I32)?;
+    let x = argument(sample, "x", MAT3X2_F32)?;
+    let y = argument(sample, "y", I32)?;
     let column = element(sample, x, y, VEC2_F32)?;
     let last = part(sample, column, 0, F32)?;
     end_with_part(sample, column, last, F32)
@@ -171,22 +168,22 @@ fn build_of_element(sample: &mut Sample) -> Result<(), AllocError> {
 
 /// A component of a local, stored and loaded.
 fn build_pointed(sample: &mut Sample) -> Result<(), AllocError> {
-    sample.label("f")?;
-    let x = argument(sample, "x", 0, F32)?;
+    sample.function.label("f")?;
+    let x = argument(sample, "x", F32)?;
     let ty = add_type(sample, F32)?;
     let base = local(sample, VEC3_F32)?;
     let place = pointed(sample, Expression::AccessIndex { base, index: 2 }, None)?;
     let loaded = sample.used(Expression::Load { pointer: place }, ty, 1)?;
-    sample.returns(ty);
-    sample.emit(place, place)?;
-    sample.store(place, x)?;
-    sample.emit(loaded, loaded)?;
+    sample.function.returns(ty);
+    sample.function.body.emit(place, place)?;
+    sample.function.body.store(place, x)?;
+    sample.function.body.emit(loaded, loaded)?;
     sample.end_with(loaded)
 }
 
 fn build_pointed_element(sample: &mut Sample) -> Result<(), AllocError> {
-    let x = argument(sample, "x", 0, F32)?;
-    let index = argument(sample, "y", 1, I32)?;
+    let x = argument(sample, "x", F32)?;
+    let index = argument(sample, "y", I32)?;
     let base = local(sample, MAT3X2_F32)?;
     let column = pointed(
         sample,
@@ -198,24 +195,24 @@ fn build_pointed_element(sample: &mut Sample) -> Result<(), AllocError> {
         index: 1,
     };
     let place = pointed(sample, part, None)?;
-    sample.emit(column, place)?;
-    sample.store(place, x)?;
+    sample.function.body.emit(column, place)?;
+    sample.function.body.store(place, x)?;
     sample.end_function()
 }
 
 fn build_pointed_component(sample: &mut Sample) -> Result<(), AllocError> {
-    let x = argument(sample, "x", 0, F32)?;
-    let index = argument(sample, "y", 1, I32)?;
+    let x = argument(sample, "x", F32)?;
+    let index = argument(sample, "y", I32)?;
     let base = local(sample, VEC3_F32)?;
     let place = pointed(sample, Expression::Access { base, index }, None)?;
-    sample.emit(place, place)?;
-    sample.store(place, x)?;
+    sample.function.body.emit(place, place)?;
+    sample.function.body.store(place, x)?;
     sample.end_function()
 }
 
 fn build_pointed_column(sample: &mut Sample) -> Result<(), AllocError> {
-    let x = argument(sample, "x", 0, F32)?;
-    let index = argument(sample, "y", 1, I32)?;
+    let x = argument(sample, "x", F32)?;
+    let index = argument(sample, "y", I32)?;
     let base = local(sample, MAT3X2_F32)?;
     let column = pointed(
         sample,
@@ -230,13 +227,13 @@ fn build_pointed_column(sample: &mut Sample) -> Result<(), AllocError> {
         },
         None,
     )?;
-    sample.emit(column, place)?;
-    sample.store(place, x)?;
+    sample.function.body.emit(column, place)?;
+    sample.function.body.store(place, x)?;
     sample.end_function()
 }
 
 fn build_taken(sample: &mut Sample, taken: Taken) -> Result<(), AllocError> {
-    sample.label("f")?;
+    sample.function.label("f")?;
     match taken {
         Taken::OfNegated => build_of_negated(sample),
         Taken::Element => build_element(sample),

@@ -2,8 +2,7 @@
 
 use crate::program::tests::operators::{is_text, is_written};
 use crate::program::tests::values::{
-    MAT3X2_F32, VEC2_F32, VEC2_I32, VEC3_F32, VEC4_BOOL, Value, add_type, build_argument,
-    build_return,
+    MAT3X2_F32, VEC2_F32, VEC2_I32, VEC3_F32, VEC4_BOOL, Value, add_type, build_return,
 };
 use bitflags::Flags;
 use naga_wgsl_out::info::accepts;
@@ -81,7 +80,7 @@ fn build_composed(
     types: &[Value],
     given: Value,
 ) -> Result<(), AllocError> {
-    sample.label("f")?;
+    sample.function.label("f")?;
     let mut components = Vec::new(alloc);
     for (number, value) in types.iter().enumerate() {
         let ty = add_type(sample, *value)?;
@@ -90,18 +89,17 @@ fn build_composed(
             1 => "y",
             _ => "z",
         };
-        let number = u32::try_from(number).unwrap_or(0);
-        components.push(build_argument(sample, label, number, ty)?)?;
+        components.push(sample.function.argument(label, ty)?)?;
     }
     let ty = add_type(sample, given)?;
     build_return(sample, Expression::Compose { ty, components }, given)
 }
 
 fn build_zero(sample: &mut Sample, given: Value) -> Result<(), AllocError> {
-    sample.label("f")?;
+    sample.function.label("f")?;
     let ty = add_type(sample, given)?;
-    sample.returns(ty);
-    let value = sample.expression(Expression::ZeroValue(ty), ty)?;
+    sample.function.returns(ty);
+    let value = sample.function.expression(Expression::ZeroValue(ty), ty)?;
     sample.end_with(value)
 }
 
@@ -118,22 +116,24 @@ fn build_constants(
     sample: &mut Sample,
     constants: Constants,
 ) -> Result<(), AllocError> {
-    sample.label("f")?;
+    sample.function.label("f")?;
     let scalar = add_type(sample, F32)?;
     let ty = add_type(sample, VEC2_F32)?;
-    sample.returns(ty);
+    sample.function.returns(ty);
     let zero = sample.used(Expression::ZeroValue(scalar), scalar, 2)?;
     let composed = composed_of(alloc, ty, &[zero, zero])?;
     let count = if constants.is_used_twice { 2 } else { 1 };
     let vector = sample.used(composed, ty, count)?;
     for _ in 0..constants.emits {
-        sample.emit(vector, vector)?;
+        sample.function.body.emit(vector, vector)?;
     }
     if !constants.is_used_twice {
         return sample.end_with(vector);
     }
-    let sum = sample.binary(BinaryOperator::Add, vector, vector, ty)?;
-    sample.emit(sum, sum)?;
+    let sum = sample
+        .function
+        .binary(BinaryOperator::Add, vector, vector, ty)?;
+    sample.function.body.emit(sum, sum)?;
     sample.end_with(sum)
 }
 
@@ -171,10 +171,15 @@ fn constants_give(
 
 /// Whether the sample is accepted, and refused since an operand is out of scope.
 fn is_out_of_scope(alloc: Global, sample: &Sample) -> bool {
-    if !accepts(&sample.module, &sample.info) {
+    if !accepts(&sample.shader.module, &sample.shader.info) {
         return false;
     }
-    match write_string(alloc, &sample.module, &sample.info, WriterFlags::empty()) {
+    match write_string(
+        alloc,
+        &sample.shader.module,
+        &sample.shader.info,
+        WriterFlags::empty(),
+    ) {
         Err(Error::Custom(told)) => told.as_str() == "operand out of scope",
         _ => false,
     }

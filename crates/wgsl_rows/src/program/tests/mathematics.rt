@@ -3,7 +3,7 @@
 
 use crate::program::tests::operators::is_written;
 use crate::program::tests::values::{
-    MAT2X2_F32, MAT3X2_F32, VEC2_F32, VEC3_F32, Value, add_type, build_argument, build_return,
+    MAT2X2_F32, MAT3X2_F32, VEC2_F32, VEC3_F32, Value, add_type, build_return,
 };
 use naga_wgsl_out::ir::{Expression, Handle, MathFunction, Scalar, VectorSize};
 use sample_modules::Sample;
@@ -494,13 +494,13 @@ fn build_operand(
         return Ok(None);
     };
     let ty = add_type(sample, *value)?;
-    let handle = build_argument(sample, label, number, ty)?;
+    let handle = sample.function.argument(label, ty)?;
     Ok(Some(handle))
 }
 
 /// The function of the case; nothing where it has no operand, whose text is then no function's.
 fn build_applied(sample: &mut Sample, case: &Applied) -> Result<(), AllocError> {
-    sample.label("f")?;
+    sample.function.label("f")?;
     let Some(arg) = build_operand(sample, case.1, 0)? else {
         return Ok(());
     };

@@ -1,7 +1,7 @@
 //! Names that front ends gave to expressions.
 
 use crate::program::tests::operators::is_text;
-use crate::program::tests::values::{VEC2_I32, add_type, build_argument};
+use crate::program::tests::values::{VEC2_I32, add_type};
 use bitflags::Flags;
 use naga_wgsl_out::ir::{BinaryOperator, Expression, Literal, Scalar};
 use naga_wgsl_out::wgsl::WriterFlags;
@@ -50,30 +50,32 @@ fn build_sum(
     label: &str,
 ) -> Result<(), AllocError> {
     let i32_type = sample.begin(function)?;
-    let x = build_argument(sample, argument, 0, i32_type)?;
-    let sum = sample.binary(BinaryOperator::Add, x, x, i32_type)?;
-    sample.named(sum, label)?;
-    sample.emit(sum, sum)?;
+    let x = sample.function.argument(argument, i32_type)?;
+    let sum = sample.function.binary(BinaryOperator::Add, x, x, i32_type)?;
+    sample.function.name(sum, label)?;
+    sample.function.body.emit(sum, sum)?;
     sample.end_with(sum)
 }
 
 fn build_unused_load(sample: &mut Sample) -> Result<(), AllocError> {
     let i32_type = sample.begin("g")?;
     let one = sample.literal(Literal::I32(1), i32_type)?;
-    let a = sample.local("a", i32_type, Some(one))?;
-    let pointer = sample.pointer(a, i32_type)?;
-    let held = sample.expression(Expression::Load { pointer }, i32_type)?;
-    sample.named(held, "n")?;
-    sample.emit(held, held)?;
+    let a = sample.function.local("a", i32_type, Some(one))?;
+    let pointer = sample.function.pointer_to(a, i32_type)?;
+    let held = sample
+        .function
+        .expression(Expression::Load { pointer }, i32_type)?;
+    sample.function.name(held, "n")?;
+    sample.function.body.emit(held, held)?;
     sample.end_with(one)
 }
 
 fn build_not_emitted(sample: &mut Sample) -> Result<(), AllocError> {
     let i32_type = sample.begin("f")?;
-    let x = build_argument(sample, "x", 0, i32_type)?;
-    let sum = sample.binary(BinaryOperator::Add, x, x, i32_type)?;
-    sample.named(x, "z")?;
-    sample.named(sum, "z")?;
+    let x = sample.function.argument("x", i32_type)?;
+    let sum = sample.function.binary(BinaryOperator::Add, x, x, i32_type)?;
+    sample.function.name(x, "z")?;
+    sample.function.name(sum, "z")?;
     sample.end_with(x)?;
     build_sum(sample, "g", "y", "z")
 }
@@ -86,18 +88,20 @@ fn build_two_functions(sample: &mut Sample) -> Result<(), AllocError> {
 fn build_component(sample: &mut Sample) -> Result<(), AllocError> {
     sample.begin("f")?;
     let pair = add_type(sample, VEC2_I32)?;
-    let i32_type = sample.scalar(Scalar::I32)?;
-    let base = build_argument(sample, "v", 0, pair)?;
-    let part = sample.expression(Expression::AccessIndex { base, index: 1 }, i32_type)?;
-    sample.named(part, "second")?;
-    sample.emit(part, part)?;
+    let i32_type = sample.shader.scalar(Scalar::I32)?;
+    let base = sample.function.argument("v", pair)?;
+    let part = sample
+        .function
+        .expression(Expression::AccessIndex { base, index: 1 }, i32_type)?;
+    sample.function.name(part, "second")?;
+    sample.function.body.emit(part, part)?;
     sample.end_with(part)
 }
 
 fn build_twice(sample: &mut Sample) -> Result<(), AllocError> {
     let i32_type = sample.begin("f")?;
-    let x = build_argument(sample, "x", 0, i32_type)?;
-    let first = sample.binary(BinaryOperator::Add, x, x, i32_type)?;
+    let x = sample.function.argument("x", i32_type)?;
+    let first = sample.function.binary(BinaryOperator::Add, x, x, i32_type)?;
     let between = sample.used(
         Expression::Binary {
             op: BinaryOperator::Add,
@@ -107,10 +111,12 @@ fn build_twice(sample: &mut Sample) -> Result<(), AllocError> {
         i32_type,
         2,
     )?;
-    let last = sample.binary(BinaryOperator::Multiply, between, between, i32_type)?;
-    sample.named(first, "s")?;
-    sample.named(last, "s")?;
-    sample.emit(first, last)?;
+    let last = sample
+        .function
+        .binary(BinaryOperator::Multiply, between, between, i32_type)?;
+    sample.function.name(first, "s")?;
+    sample.function.name(last, "s")?;
+    sample.function.body.emit(first, last)?;
     sample.end_with(last)
 }
 

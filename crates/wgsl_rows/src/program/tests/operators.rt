@@ -192,51 +192,40 @@ fn build_between(
     right: Scalar,
     given: Scalar,
 ) -> Result<(), AllocError> {
-    let left_type = sample.scalar(left)?;
-    let right_type = sample.scalar(right)?;
-    let given_type = sample.scalar(given)?;
-    sample.label("f")?;
-    sample.argument("x", left_type)?;
-    sample.argument("y", right_type)?;
-    sample.returns(given_type);
-    let x = sample.expression(Expression::FunctionArgument(0), left_type)?;
-    let y = sample.expression(Expression::FunctionArgument(1), right_type)?;
-    let value = sample.binary(op, x, y, given_type)?;
-    sample.emit(value, value)?;
+    let left_type = sample.shader.scalar(left)?;
+    let right_type = sample.shader.scalar(right)?;
+    let given_type = sample.shader.scalar(given)?;
+    sample.function.label("f")?;
+    let x = sample.function.argument("x", left_type)?;
+    let y = sample.function.argument("y", right_type)?;
+    sample.function.returns(given_type);
+    let value = sample.function.binary(op, x, y, given_type)?;
+    sample.function.body.emit(value, value)?;
     sample.end_with(value)
 }
 
 fn build_before(sample: &mut Sample, op: UnaryOperator, scalar: Scalar) -> Result<(), AllocError> {
-    let ty = sample.scalar(scalar)?;
-    sample.label("f")?;
-    sample.argument("x", ty)?;
-    sample.returns(ty);
-    let x = sample.expression(Expression::FunctionArgument(0), ty)?;
-    let value = sample.expression(Expression::Unary { op, expr: x }, ty)?;
-    sample.emit(value, value)?;
+    let ty = sample.shader.scalar(scalar)?;
+    sample.function.label("f")?;
+    let x = sample.function.argument("x", ty)?;
+    sample.function.returns(ty);
+    let value = sample
+        .function
+        .expression(Expression::Unary { op, expr: x }, ty)?;
+    sample.function.body.emit(value, value)?;
     sample.end_with(value)
 }
 
 fn build_choice(sample: &mut Sample, scalar: Scalar) -> Result<(), AllocError> {
-    let ty = sample.scalar(scalar)?;
-    let bool_type = sample.scalar(Scalar::BOOL)?;
-    sample.label("f")?;
-    sample.argument("x", ty)?;
-    sample.argument("y", ty)?;
-    sample.argument("b", bool_type)?;
-    sample.returns(ty);
-    let reject = sample.expression(Expression::FunctionArgument(0), ty)?;
-    let accept = sample.expression(Expression::FunctionArgument(1), ty)?;
-    let condition = sample.expression(Expression::FunctionArgument(2), bool_type)?;
-    let value = sample.expression(
-        Expression::Select {
-            condition,
-            accept,
-            reject,
-        },
-        ty,
-    )?;
-    sample.emit(value, value)?;
+    let ty = sample.shader.scalar(scalar)?;
+    let bool_type = sample.shader.scalar(Scalar::BOOL)?;
+    sample.function.label("f")?;
+    let reject = sample.function.argument("x", ty)?;
+    let accept = sample.function.argument("y", ty)?;
+    let condition = sample.function.argument("b", bool_type)?;
+    sample.function.returns(ty);
+    let value = sample.function.select(condition, accept, reject, ty)?;
+    sample.function.body.emit(value, value)?;
     sample.end_with(value)
 }
 
@@ -244,12 +233,10 @@ fn build_choice(sample: &mut Sample, scalar: Scalar) -> Result<(), AllocError> {
 fn build_operand(
     sample: &mut Sample,
     label: &str,
-    number: u32,
     scalar: Scalar,
 ) -> Result<Handle<Expression>, AllocError> {
-    let ty = sample.scalar(scalar)?;
-    sample.argument(label, ty)?;
-    sample.expression(Expression::FunctionArgument(number), ty)
+    let ty = sample.shader.scalar(scalar)?;
+    sample.function.argument(label, ty)
 }
 
 /// The end of a function that returns what this expression gives.
@@ -258,16 +245,16 @@ fn build_return(
     expression: Expression,
     given: Scalar,
 ) -> Result<(), AllocError> {
-    let given_type = sample.scalar(given)?;
-    sample.returns(given_type);
-    let value = sample.expression(expression, given_type)?;
-    sample.emit(value, value)?;
+    let given_type = sample.shader.scalar(given)?;
+    sample.function.returns(given_type);
+    let value = sample.function.expression(expression, given_type)?;
+    sample.function.body.emit(value, value)?;
     sample.end_with(value)
 }
 
 fn build_relation(sample: &mut Sample, fun: RelationalFunction) -> Result<(), AllocError> {
-    sample.label("f")?;
-    let argument = build_operand(sample, "x", 0, Scalar::BOOL)?;
+    sample.function.label("f")?;
+    let argument = build_operand(sample, "x", Scalar::BOOL)?;
     build_return(
         sample,
         Expression::Relational { fun, argument },
@@ -282,10 +269,10 @@ pub(super) fn is_written(alloc: Global, sample: &Sample, text: &str) -> bool {
 }
 
 pub(super) fn is_text(alloc: Global, sample: &Sample, flags: WriterFlags, want: &str) -> bool {
-    if !accepts(&sample.module, &sample.info) {
+    if !accepts(&sample.shader.module, &sample.shader.info) {
         return false;
     }
-    match write_string(alloc, &sample.module, &sample.info, flags) {
+    match write_string(alloc, &sample.shader.module, &sample.shader.info, flags) {
         Ok(text) => text.as_str() == want,
         Err(_) => false,
     }
@@ -293,10 +280,15 @@ pub(super) fn is_text(alloc: Global, sample: &Sample, flags: WriterFlags, want: 
 
 /// Whether the sample is accepted, and refused as not yet written.
 pub(super) fn is_not_yet_written(alloc: Global, sample: &Sample) -> bool {
-    if !accepts(&sample.module, &sample.info) {
+    if !accepts(&sample.shader.module, &sample.shader.info) {
         return false;
     }
-    match write_string(alloc, &sample.module, &sample.info, WriterFlags::empty()) {
+    match write_string(
+        alloc,
+        &sample.shader.module,
+        &sample.shader.info,
+        WriterFlags::empty(),
+    ) {
         Err(Error::Unimplemented(told)) => told.as_str() == "not yet written",
         _ => false,
     }

@@ -1,7 +1,7 @@
 //! Parts of values: components of a vector.
 
 use crate::program::tests::operators::is_text;
-use crate::program::tests::values::{VEC3_F32, Value, add_type, build_argument};
+use crate::program::tests::values::{VEC3_F32, Value, add_type};
 use bitflags::Flags;
 use naga_wgsl_out::ir::{
     BinaryOperator, Expression, Handle, Scalar, SwizzleComponent, UnaryOperator, VectorSize,
@@ -105,12 +105,12 @@ fn build_chosen(
     size: VectorSize,
     pattern: [SwizzleComponent; 4],
 ) -> Result<(), AllocError> {
-    sample.label("f")?;
+    sample.function.label("f")?;
     let ty = add_type(sample, VEC3_F32)?;
-    let argument = build_argument(sample, "x", 0, ty)?;
+    let argument = sample.function.argument("x", ty)?;
     let vector = build_base(sample, base, argument)?;
     let given = add_type(sample, Value::Vector(size, Scalar::F32))?;
-    sample.returns(given);
+    sample.function.returns(given);
     let swizzle = Expression::Swizzle {
         size,
         vector,
@@ -118,9 +118,9 @@ fn build_chosen(
     };
     let value = sample.used(swizzle, given, 1)?;
     if !matches!(base, Base::Argument) {
-        sample.emit(vector, vector)?;
+        sample.function.body.emit(vector, vector)?;
     }
-    sample.emit(value, value)?;
+    sample.function.body.emit(value, value)?;
     sample.end_with(value)
 }
 

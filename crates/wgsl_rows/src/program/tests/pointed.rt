@@ -68,15 +68,15 @@ fn pointer(base: Handle<Type_>) -> TypeInner {
 fn types_of(sample: &mut Sample, whole: Whole) -> Result<Types, AllocError> {
     match whole {
         Whole::Vector => Ok(Types {
-            whole: sample.inner(vector(VectorSize::Tri))?,
-            part: sample.scalar(Scalar::F32)?,
+            whole: sample.shader.type_of(vector(VectorSize::Tri))?,
+            part: sample.shader.scalar(Scalar::F32)?,
         }),
         Whole::Matrix => Ok(Types {
-            whole: sample.inner(matrix())?,
-            part: sample.inner(vector(VectorSize::Bi))?,
+            whole: sample.shader.type_of(matrix())?,
+            part: sample.shader.type_of(vector(VectorSize::Bi))?,
         }),
         Whole::Array => {
-            let element = sample.scalar(Scalar::I32)?;
+            let element = sample.shader.scalar(Scalar::I32)?;
             Ok(Types {
                 whole: add_array(sample, element, Some(4))?,
                 part: element,
@@ -101,8 +101,8 @@ fn argument_type(
 ) -> Result<Handle<Type_>, AllocError> {
     match through {
         Through::Value => Ok(whole),
-        Through::Pointer => sample.inner(pointer(whole)),
-        Through::ValuePointer => sample.inner(value_pointer(Some(VectorSize::Tri))),
+        Through::Pointer => sample.shader.type_of(pointer(whole)),
+        Through::ValuePointer => sample.shader.type_of(value_pointer(Some(VectorSize::Tri))),
     }
 }
 
@@ -115,11 +115,11 @@ fn build_part(
 ) -> Result<(), AllocError> {
     let types = types_of(sample, whole)?;
     let argument = argument_type(sample, through, types.whole)?;
-    let number = sample.scalar(Scalar::I32)?;
-    sample.label("f")?;
-    sample.returns(types.part);
-    let base = sample.argument_value("x", 0, argument)?;
-    let index = sample.argument_value("y", 1, number)?;
+    let number = sample.shader.scalar(Scalar::I32)?;
+    sample.function.label("f")?;
+    sample.function.returns(types.part);
+    let base = sample.function.argument("x", argument)?;
+    let index = sample.function.argument("y", number)?;
     let part = if is_computed {
         Expression::Access { base, index }
     } else {
@@ -138,7 +138,7 @@ fn end_with_value(
     ty: Handle<Type_>,
 ) -> Result<(), AllocError> {
     let value = sample.used(part, ty, 1)?;
-    sample.emit(value, value)?;
+    sample.function.body.emit(value, value)?;
     sample.end_with(value)
 }
 
@@ -151,7 +151,7 @@ fn end_with_load(
 ) -> Result<(), AllocError> {
     let pointer = sample.resolved(part, pointer_to_part(whole, ty), 1)?;
     let value = sample.used(Expression::Load { pointer }, ty, 1)?;
-    sample.emit(pointer, value)?;
+    sample.function.body.emit(pointer, value)?;
     sample.end_with(value)
 }
 
@@ -333,34 +333,34 @@ fn end_with_element(
 ) -> Result<(), AllocError> {
     let part = Expression::AccessIndex { base, index: 2 };
     let place = sample.resolved(part, TypeResolution::Value(pointer(element)), 1)?;
-    sample.emit(place, place)?;
+    sample.function.body.emit(place, place)?;
     sample.end_with(place)
 }
 
 fn build_returned(sample: &mut Sample, returned: Returned) -> Result<(), AllocError> {
-    let element = sample.scalar(Scalar::I32)?;
+    let element = sample.shader.scalar(Scalar::I32)?;
     let array = add_array(sample, element, Some(4))?;
-    let to_element = sample.inner(pointer(element))?;
-    let to_array = sample.inner(pointer(array))?;
-    sample.label("f")?;
-    sample.returns(to_element);
+    let to_element = sample.shader.type_of(pointer(element))?;
+    let to_array = sample.shader.type_of(pointer(array))?;
+    sample.function.label("f")?;
+    sample.function.returns(to_element);
     match returned {
         Returned::Local => {
-            let local = sample.local("a", element, None)?;
-            let place = sample.pointer(local, element)?;
+            let local = sample.function.local("a", element, None)?;
+            let place = sample.function.pointer_to(local, element)?;
             sample.end_with(place)
         }
         Returned::ElementOfLocal => {
-            let local = sample.local("a", array, None)?;
-            let base = sample.pointer(local, array)?;
+            let local = sample.function.local("a", array, None)?;
+            let base = sample.function.pointer_to(local, array)?;
             end_with_element(sample, base, element)
         }
         Returned::Argument => {
-            let place = sample.argument_value("p", 0, to_element)?;
+            let place = sample.function.argument("p", to_element)?;
             sample.end_with(place)
         }
         Returned::ElementOfArgument => {
-            let base = sample.argument_value("p", 0, to_array)?;
+            let base = sample.function.argument("p", to_array)?;
             end_with_element(sample, base, element)
         }
     }
@@ -439,9 +439,9 @@ const LITERALS: &[(Literal, Scalar, &str, &str)] = &[
 ];
 
 fn build_literal(sample: &mut Sample, literal: Literal, scalar: Scalar) -> Result<(), AllocError> {
-    let ty = sample.scalar(scalar)?;
-    sample.label("f")?;
-    sample.returns(ty);
+    let ty = sample.shader.scalar(scalar)?;
+    sample.function.label("f")?;
+    sample.function.returns(ty);
     let value = sample.literal(literal, ty)?;
     sample.end_with(value)
 }

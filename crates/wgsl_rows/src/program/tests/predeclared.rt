@@ -40,25 +40,28 @@ const UNDECLARED: [Undeclared; 5] = [
 /// What `modf` gives for an `f32`, with members of these labels.
 fn add_parts(sample: &mut Sample, labels: (&str, &str)) -> Result<Handle<Type_>, AllocError> {
     let scalar = Scalar::F32;
-    let member = sample.scalar(scalar)?;
+    let member = sample.shader.scalar(scalar)?;
     let of = PredeclaredType::ModfResult { size: None, scalar };
     let members = [(labels.0, member), (labels.1, member)];
-    sample.predeclared(of, "__modf_result_f32", &members)
+    let ty = sample.structure("__modf_result_f32", &members)?;
+    sample.shader.predeclared(of, ty)?;
+    Ok(ty)
 }
 
 fn add_undeclared(sample: &mut Sample, ty: Undeclared) -> Result<Handle<Type_>, AllocError> {
     match ty {
         Undeclared::Parts => add_parts(sample, ("fract", "whole")),
         Undeclared::Params => {
-            let member = sample.scalar(Scalar::U32)?;
+            let member = sample.shader.scalar(Scalar::U32)?;
             let params = sample.structure("NagaExternalTextureParams", &[("num_planes", member)])?;
-            sample.module.special_types.external_texture_params = Some(params);
+            sample.shader.module.special_types.external_texture_params = Some(params);
             Ok(params)
         }
         Undeclared::Transfer => {
-            let member = sample.scalar(Scalar::F32)?;
+            let member = sample.shader.scalar(Scalar::F32)?;
             let transfer = sample.structure("NagaExternalTextureTransferFn", &[("a", member)])?;
             sample
+                .shader
                 .module
                 .special_types
                 .external_texture_transfer_function = Some(transfer);
@@ -68,7 +71,7 @@ fn add_undeclared(sample: &mut Sample, ty: Undeclared) -> Result<Handle<Type_>, 
         Undeclared::Pointer => {
             let base = add_undeclared_array(sample)?;
             let space = AddressSpace::Function;
-            sample.inner(TypeInner::Pointer { base, space })
+            sample.shader.type_of(TypeInner::Pointer { base, space })
         }
     }
 }
@@ -76,7 +79,7 @@ fn add_undeclared(sample: &mut Sample, ty: Undeclared) -> Result<Handle<Type_>, 
 fn add_undeclared_array(sample: &mut Sample) -> Result<Handle<Type_>, AllocError> {
     let base = add_parts(sample, ("fract", "whole"))?;
     let size = ArraySize::Dynamic;
-    sample.inner(TypeInner::Array {
+    sample.shader.type_of(TypeInner::Array {
         base,
         size,
         stride: 8,
@@ -107,11 +110,11 @@ fn has_text(alloc: Global, sample: &Sample, want: &str) -> bool {
 /// A function that declares an argument of the type, or a local.
 fn build_declared(sample: &mut Sample, ty: Undeclared, is_local: bool) -> Result<(), AllocError> {
     let ty = add_undeclared(sample, ty)?;
-    sample.label("f")?;
+    sample.function.label("f")?;
     if is_local {
-        sample.local("a", ty, None)?;
+        sample.function.local("a", ty, None)?;
     } else {
-        sample.argument("x", ty)?;
+        sample.function.argument("x", ty)?;
     }
     sample.end_function()
 }
@@ -129,7 +132,7 @@ fn declared_is_refused(alloc: Global, ty: Undeclared, is_local: bool) -> Result<
 fn build_idle(sample: &mut Sample, ty: Undeclared) -> Result<(), AllocError> {
     add_undeclared(sample, ty)?;
     let ty = sample.begin("f")?;
-    let value = sample.argument_value("x", 0, ty)?;
+    let value = sample.function.argument("x", ty)?;
     sample.end_with(value)
 }
 
@@ -161,10 +164,10 @@ fn structs_that_no_text_declares_are_refused_where_they_are_named(
 /// A function that returns a part of a number, of a struct whose members have these labels.
 fn build_part(sample: &mut Sample, labels: (&str, &str), index: u32) -> Result<(), AllocError> {
     let parts = add_parts(sample, labels)?;
-    let f32_type = sample.scalar(Scalar::F32)?;
-    sample.label("f")?;
-    sample.returns(f32_type);
-    let arg = sample.argument_value("x", 0, f32_type)?;
+    let f32_type = sample.shader.scalar(Scalar::F32)?;
+    sample.function.label("f")?;
+    sample.function.returns(f32_type);
+    let arg = sample.function.argument("x", f32_type)?;
     let split = Expression::Math {
         fun: MathFunction::Modf,
         arg,
@@ -172,9 +175,11 @@ fn build_part(sample: &mut Sample, labels: (&str, &str), index: u32) -> Result<(
         arg2: None,
         arg3: None,
     };
-    let base = sample.expression(split, parts)?;
-    let part = sample.expression(Expression::AccessIndex { base, index }, f32_type)?;
-    sample.emit(base, part)?;
+    let base = sample.function.expression(split, parts)?;
+    let part = sample
+        .function
+        .expression(Expression::AccessIndex { base, index }, f32_type)?;
+    sample.function.body.emit(base, part)?;
     sample.end_with(part)
 }
 
@@ -226,10 +231,10 @@ fn build_made(
     is_returned: bool,
 ) -> Result<(), AllocError> {
     let parts = add_parts(sample, ("fract", "whole"))?;
-    let f32_type = sample.scalar(Scalar::F32)?;
-    sample.label("f")?;
-    sample.returns(f32_type);
-    let value = sample.argument_value("x", 0, f32_type)?;
+    let f32_type = sample.shader.scalar(Scalar::F32)?;
+    sample.function.label("f")?;
+    sample.function.returns(f32_type);
+    let value = sample.function.argument("x", f32_type)?;
     let made = if is_zero {
         Expression::ZeroValue(parts)
     } else {
@@ -241,9 +246,14 @@ fn build_made(
             components,
         }
     };
-    let base = sample.expression(made, parts)?;
-    let part = sample.expression(Expression::AccessIndex { base, index: 1 }, f32_type)?;
-    sample.emit(if is_zero { part } else { base }, part)?;
+    let base = sample.function.expression(made, parts)?;
+    let part = sample
+        .function
+        .expression(Expression::AccessIndex { base, index: 1 }, f32_type)?;
+    sample
+        .function
+        .body
+        .emit(if is_zero { part } else { base }, part)?;
     sample.end_with(if is_returned { part } else { value })
 }
 

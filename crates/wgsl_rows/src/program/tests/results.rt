@@ -41,11 +41,11 @@ fn build_callee(sample: &mut Sample) -> Result<(), AllocError> {
 
 /// A query, as a pointer to a local.
 fn add_query(sample: &mut Sample) -> Result<Handle<Expression>, AllocError> {
-    let ty = sample.inner(TypeInner::RayQuery {
+    let ty = sample.shader.type_of(TypeInner::RayQuery {
         vertex_return: false,
     })?;
-    let local = sample.local("q", ty, None)?;
-    sample.pointer(local, ty)
+    let local = sample.function.local("q", ty, None)?;
+    sample.function.pointer_to(local, ty)
 }
 
 /// A function that returns a number, or what is given where that is to be written.
@@ -74,7 +74,7 @@ fn build_given(sample: &mut Sample, case: Given, written: bool) -> Result<(), Al
     };
     let found = sample.used(given, ty, 1)?;
     if matches!(case, Given::Intersection | Given::Corners) {
-        sample.emit(found, found)?;
+        sample.function.body.emit(found, found)?;
     }
     sample.end_with(if written { found } else { value })
 }

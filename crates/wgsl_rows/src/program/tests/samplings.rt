@@ -6,7 +6,7 @@ use crate::program::tests::images::{
 };
 use crate::program::tests::operators::{is_text, is_written};
 use crate::program::tests::types::{add_inner, image};
-use crate::program::tests::values::{VEC2_F32, VEC2_I32, Value, add_type, build_argument};
+use crate::program::tests::values::{VEC2_F32, VEC2_I32, Value, add_type};
 use bitflags::Flags;
 use naga_wgsl_out::ir::{
     Expression, Handle, ImageClass, ImageDimension, Literal, SampleLevel, Scalar, ScalarKind,
@@ -403,21 +403,27 @@ fn build_offset(
     let other = match offset {
         Offset::Negated | Offset::Mixed => {
             let op = UnaryOperator::Negate;
-            sample.expression(Expression::Unary { op, expr: one }, integer)?
+            sample
+                .function
+                .expression(Expression::Unary { op, expr: one }, integer)?
         }
         _ => sample.literal(Literal::I32(-1), integer)?,
     };
     let last = match offset {
         Offset::Splat => {
             let size = VectorSize::Bi;
-            sample.expression(Expression::Splat { size, value: one }, pair)?
+            sample
+                .function
+                .expression(Expression::Splat { size, value: one }, pair)?
         }
-        Offset::Zero => sample.expression(Expression::ZeroValue(pair), pair)?,
+        Offset::Zero => sample
+            .function
+            .expression(Expression::ZeroValue(pair), pair)?,
         _ => {
             let mut components = Vec::new(alloc);
             components.push(one)?;
             components.push(other)?;
-            sample.expression(
+            sample.function.expression(
                 Expression::Compose {
                     ty: pair,
                     components,
@@ -469,9 +475,9 @@ fn build_sampled(alloc: Global, sample: &mut Sample, case: Sampling) -> Result<(
     let arguments = build_arguments(sample)?;
     let offset = build_offset(alloc, sample, case.offset, arguments)?;
     let given = add_type(sample, VEC4_F32)?;
-    sample.returns(given);
+    sample.function.returns(given);
     let value = sample.used(sampled(&case, &arguments, offset), given, 1)?;
-    sample.emit(value, value)?;
+    sample.function.body.emit(value, value)?;
     sample.end_with(value)
 }
 
@@ -480,9 +486,11 @@ fn build_idle(alloc: Global, sample: &mut Sample, case: Sampling) -> Result<(), 
     let arguments = build_arguments(sample)?;
     let offset = build_offset(alloc, sample, case.offset, arguments)?;
     let given = add_type(sample, VEC4_F32)?;
-    sample.returns(given);
+    sample.function.returns(given);
     sample.used(sampled(&case, &arguments, offset), given, 0)?;
-    let zero = sample.expression(Expression::ZeroValue(given), given)?;
+    let zero = sample
+        .function
+        .expression(Expression::ZeroValue(given), given)?;
     sample.end_with(zero)
 }
 
@@ -611,15 +619,15 @@ const IMAGES: &[(Texture, &str, &str)] = &[
 
 /// A sampling at level zero of three arguments, alone in its function.
 fn build_sample_row(sample: &mut Sample, case: Texture) -> Result<(), AllocError> {
-    sample.label("sp")?;
+    sample.function.label("sp")?;
     let of_image = add_inner(sample, image(ImageDimension::D2, false, case.class))?;
     let of_sampler = add_inner(sample, TypeInner::Sampler { comparison: false })?;
     let place = add_type(sample, VEC2_F32)?;
     let given = add_type(sample, VEC4_F32)?;
-    sample.returns(given);
-    let image = build_argument(sample, "t", 0, of_image)?;
-    let sampler = build_argument(sample, "s", 1, of_sampler)?;
-    let coordinate = build_argument(sample, "p", 2, place)?;
+    sample.function.returns(given);
+    let image = sample.function.argument("t", of_image)?;
+    let sampler = sample.function.argument("s", of_sampler)?;
+    let coordinate = sample.function.argument("p", place)?;
     let expression = Expression::ImageSample {
         image,
         sampler,
@@ -632,7 +640,7 @@ fn build_sample_row(sample: &mut Sample, case: Texture) -> Result<(), AllocError
         clamp_to_edge: false,
     };
     let value = sample.used(expression, given, 1)?;
-    sample.emit(value, value)?;
+    sample.function.body.emit(value, value)?;
     sample.end_with(value)
 }
 
@@ -641,14 +649,14 @@ fn build_shared_offset(sample: &mut Sample, case: Sampling) -> Result<(), AllocE
     let arguments = build_arguments(sample)?;
     let pair = add_type(sample, VEC2_I32)?;
     let given = add_type(sample, VEC4_F32)?;
-    sample.returns(given);
+    sample.function.returns(given);
     let integer = add_type(sample, I32)?;
     let one = sample.literal(Literal::I32(1), integer)?;
     let size = VectorSize::Bi;
     let offset = sample.used(Expression::Splat { size, value: one }, pair, 2)?;
     sample.used(sampled(&case, &arguments, Some(offset)), given, 0)?;
     let last = sample.used(sampled(&case, &arguments, Some(offset)), given, 1)?;
-    sample.emit(offset, last)?;
+    sample.function.body.emit(offset, last)?;
     sample.end_with(last)
 }
 

@@ -34,8 +34,8 @@ fn build(sample: &mut Sample, row: Row) -> Result<(), AllocError> {
 
 /// A pointer to a local.
 fn local(sample: &mut Sample, ty: Handle<Type_>) -> Result<Handle<Expression>, AllocError> {
-    let a = sample.local("a", ty, None)?;
-    sample.pointer(a, ty)
+    let a = sample.function.local("a", ty, None)?;
+    sample.function.pointer_to(a, ty)
 }
 
 /// The double of an expression.
@@ -52,7 +52,7 @@ fn double(
 /// So many `Emit`s of an expression.
 fn emit(sample: &mut Sample, handle: Handle<Expression>, emits: usize) -> Result<(), AllocError> {
     for _ in 0..emits {
-        sample.emit(handle, handle)?;
+        sample.function.body.emit(handle, handle)?;
     }
     Ok(())
 }
@@ -68,7 +68,7 @@ fn read_before_store(
     let one = sample.literal(Literal::I32(1), ty)?;
     let read = sample.used(Expression::Load { pointer }, ty, ref_count)?;
     emit(sample, read, emits)?;
-    sample.store(pointer, one)?;
+    sample.function.body.store(pointer, one)?;
     sample.end_with(read)
 }
 
@@ -86,11 +86,10 @@ fn argument_sum(
     ty: Handle<Type_>,
     emits_argument: bool,
 ) -> Result<(), AllocError> {
-    sample.argument("x", ty)?;
-    let argument = sample.expression(Expression::FunctionArgument(0), ty)?;
+    let argument = sample.function.argument("x", ty)?;
     let sum = double(sample, argument, ty)?;
     emit(sample, argument, usize::from(emits_argument))?;
-    sample.emit(sum, sum)?;
+    sample.function.body.emit(sum, sum)?;
     sample.end_with(sum)
 }
 
@@ -104,15 +103,15 @@ fn read_sum(sample: &mut Sample, ty: Handle<Type_>, comes_first: bool) -> Result
     } else {
         (read, sum)
     };
-    sample.emit(first, first)?;
-    sample.emit(last, last)?;
+    sample.function.body.emit(first, first)?;
+    sample.function.body.emit(last, last)?;
     sample.end_with(sum)
 }
 
 /// Two sums of pointers, one of which is known as an `i32` and the other as a `u32`: of pointers to
 /// locals of these types, or of pointers to one local.
 fn pointer_sums(sample: &mut Sample, ty: Handle<Type_>, apart: bool) -> Result<(), AllocError> {
-    let unsigned = sample.scalar(Scalar::U32)?;
+    let unsigned = sample.shader.scalar(Scalar::U32)?;
     let pointer = local(sample, ty)?;
     let other = if apart {
         local(sample, unsigned)?
@@ -121,17 +120,22 @@ fn pointer_sums(sample: &mut Sample, ty: Handle<Type_>, apart: bool) -> Result<(
     };
     let sum = double(sample, pointer, ty)?;
     let other_sum = double(sample, other, unsigned)?;
-    sample.emit(sum, other_sum)?;
+    sample.function.body.emit(sum, other_sum)?;
     sample.end_with(sum)
 }
 
 /// Whether the sample is written, and not refused as out of scope, if it is accepted and not refused
 /// otherwise.
 fn sample_holds(alloc: Global, sample: &Sample) -> Option<bool> {
-    if !accepts(&sample.module, &sample.info) {
+    if !accepts(&sample.shader.module, &sample.shader.info) {
         return None;
     }
-    match write_string(alloc, &sample.module, &sample.info, WriterFlags::empty()) {
+    match write_string(
+        alloc,
+        &sample.shader.module,
+        &sample.shader.info,
+        WriterFlags::empty(),
+    ) {
         Ok(_) => Some(true),
         Err(Error::Custom(told)) => {
             if told.as_str() == "operand out of scope" {

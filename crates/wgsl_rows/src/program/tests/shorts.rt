@@ -45,7 +45,7 @@ fn build_converted(sample: &mut Sample, literal: Literal) -> Result<(), AllocErr
         convert: Some(4),
     };
     let value = sample.used(converted, ty, 1)?;
-    sample.emit(value, value)?;
+    sample.function.body.emit(value, value)?;
     sample.end_with(value)
 }
 
@@ -70,9 +70,9 @@ fn literals_of_16_bits_are_one_node_each(rt: HostRuntime) -> Result<(), Fail> {
 
 /// A function that compares the literal's sum with itself, which a `let` binds, with itself.
 fn build_sum(sample: &mut Sample, literal: Literal) -> Result<(), AllocError> {
-    sample.label("f")?;
-    let truth = sample.scalar(Scalar::BOOL)?;
-    sample.returns(truth);
+    sample.function.label("f")?;
+    let truth = sample.shader.scalar(Scalar::BOOL)?;
+    sample.function.returns(truth);
     let short = add_short(sample, literal)?;
     let ty = TypeResolution::Value(TypeInner::Scalar(scalar_of(literal)));
     let sum = Expression::Binary {
@@ -87,7 +87,7 @@ fn build_sum(sample: &mut Sample, literal: Literal) -> Result<(), AllocError> {
         right: sum,
     };
     let value = sample.used(same, truth, 1)?;
-    sample.emit(sum, value)?;
+    sample.function.body.emit(sum, value)?;
     sample.end_with(value)
 }
 

@@ -98,7 +98,11 @@ const SPELLED: &[(Kind, &str)] = &[
 
 /// A type without a name, which is put into the module if it is not there.
 pub fn add_inner(sample: &mut Sample, inner: TypeInner) -> Result<Handle<Type_>, AllocError> {
-    sample.module.types.insert(Type_ { name: None, inner })
+    sample
+        .shader
+        .module
+        .types
+        .insert(Type_ { name: None, inner })
 }
 
 /// An image's type, by its dimensions, whether it has layers, and its class.
@@ -175,20 +179,20 @@ fn add_kind(sample: &mut Sample, kind: Kind) -> Result<Handle<Type_>, AllocError
             },
         ),
         Kind::Pointer(scalar, space) => {
-            let base = sample.scalar(scalar)?;
+            let base = sample.shader.scalar(scalar)?;
             add_inner(sample, TypeInner::Pointer { base, space })
         }
         Kind::Array(scalar, count) => {
-            let base = sample.scalar(scalar)?;
+            let base = sample.shader.scalar(scalar)?;
             add_array(sample, base, count)
         }
         Kind::PointerToArray(scalar, count, space) => {
-            let element = sample.scalar(scalar)?;
+            let element = sample.shader.scalar(scalar)?;
             let base = add_array(sample, element, count)?;
             add_inner(sample, TypeInner::Pointer { base, space })
         }
         Kind::ArrayOfArrays(scalar, inside, outside) => {
-            let element = sample.scalar(scalar)?;
+            let element = sample.shader.scalar(scalar)?;
             let base = add_array(sample, element, Some(inside))?;
             add_array(sample, base, Some(outside))
         }
@@ -197,12 +201,11 @@ fn add_kind(sample: &mut Sample, kind: Kind) -> Result<Handle<Type_>, AllocError
 
 /// A function with a local of the type that returns its argument.
 fn build_spelled(sample: &mut Sample, kind: Kind) -> Result<(), AllocError> {
-    sample.label("f")?;
+    sample.function.label("f")?;
     let ty = add_kind(sample, kind)?;
-    sample.argument("x", ty)?;
-    sample.local("a", ty, None)?;
-    sample.returns(ty);
-    let value = sample.used(Expression::FunctionArgument(0), ty, 1)?;
+    let value = sample.function.argument("x", ty)?;
+    sample.function.local("a", ty, None)?;
+    sample.function.returns(ty);
     sample.end_with(value)
 }
 
@@ -233,7 +236,7 @@ fn types_are_spelled(rt: HostRuntime) -> Result<(), Fail> {
 fn add_array_pointer(
     sample: &mut Sample,
 ) -> Result<(Handle<Type_>, Handle<Type_>, TypeResolution), AllocError> {
-    let element = sample.scalar(Scalar::I32)?;
+    let element = sample.shader.scalar(Scalar::I32)?;
     let base = add_array(sample, element, Some(4))?;
     let space = AddressSpace::Function;
     Ok((
@@ -252,9 +255,9 @@ fn pointer_to(base: Handle<Type_>) -> TypeResolution {
 
 /// A function that stores an integer in the first element of a local array.
 fn build_element_store(sample: &mut Sample) -> Result<(), AllocError> {
-    sample.label("h")?;
+    sample.function.label("h")?;
     let (element, base, pointer) = add_array_pointer(sample)?;
-    let local = sample.local("arr", base, None)?;
+    let local = sample.function.local("arr", base, None)?;
     let whole = sample.resolved(Expression::LocalVariable(local), pointer, 1)?;
     let part = Expression::AccessIndex {
         base: whole,
@@ -262,19 +265,18 @@ fn build_element_store(sample: &mut Sample) -> Result<(), AllocError> {
     };
     let first = sample.resolved(part, pointer_to(element), 1)?;
     let value = sample.literal(Literal::I32(2), element)?;
-    sample.emit(first, first)?;
-    sample.store(first, value)?;
+    sample.function.body.emit(first, first)?;
+    sample.function.body.store(first, value)?;
     sample.end_function()
 }
 
 /// A function that adds one to what its argument points to.
 fn build_increment(sample: &mut Sample) -> Result<(), AllocError> {
-    sample.label("inc")?;
-    let ty = sample.scalar(Scalar::I32)?;
+    sample.function.label("inc")?;
+    let ty = sample.shader.scalar(Scalar::I32)?;
     let space = AddressSpace::Function;
     let pointer = add_inner(sample, TypeInner::Pointer { base: ty, space })?;
-    sample.argument("p", pointer)?;
-    let argument = sample.used(Expression::FunctionArgument(0), pointer, 2)?;
+    let argument = sample.function.argument("p", pointer)?;
     let one = sample.literal(Literal::I32(1), ty)?;
     let loaded = sample.used(Expression::Load { pointer: argument }, ty, 1)?;
     let sum = Expression::Binary {
@@ -283,27 +285,25 @@ fn build_increment(sample: &mut Sample) -> Result<(), AllocError> {
         right: one,
     };
     let sum = sample.used(sum, ty, 1)?;
-    sample.emit(loaded, sum)?;
-    sample.store(argument, sum)?;
+    sample.function.body.emit(loaded, sum)?;
+    sample.function.body.store(argument, sum)?;
     sample.end_function()
 }
 
 /// A function that stores an integer in an element, told by another argument, of an array that its
 /// argument points to.
 fn build_pointed_store(sample: &mut Sample) -> Result<(), AllocError> {
-    sample.label("g")?;
+    sample.function.label("g")?;
     let (element, base, resolved) = add_array_pointer(sample)?;
     let space = AddressSpace::Function;
     let pointer = add_inner(sample, TypeInner::Pointer { base, space })?;
-    sample.argument("p", pointer)?;
-    sample.argument("i", element)?;
-    let whole = sample.used(Expression::FunctionArgument(0), pointer, 1)?;
-    let index = sample.used(Expression::FunctionArgument(1), element, 2)?;
+    let whole = sample.function.argument("p", pointer)?;
+    let index = sample.function.argument("i", element)?;
     drop(resolved);
     let part = Expression::Access { base: whole, index };
     let part = sample.resolved(part, pointer_to(element), 1)?;
-    sample.emit(part, part)?;
-    sample.store(part, index)?;
+    sample.function.body.emit(part, part)?;
+    sample.function.body.store(part, index)?;
     sample.end_function()
 }
 

@@ -121,21 +121,10 @@ const OF_ONE: &[(VectorSize, Scalar, &str)] = &[
 
 /// The unnamed type.
 pub(super) fn add_type(sample: &mut Sample, value: Value) -> Result<Handle<Type_>, AllocError> {
-    sample.module.types.insert(Type_ {
+    sample.shader.module.types.insert(Type_ {
         name: None,
         inner: value.inner(),
     })
-}
-
-/// An argument of the type, which the function takes next, and its use.
-pub(super) fn build_argument(
-    sample: &mut Sample,
-    label: &str,
-    number: u32,
-    ty: Handle<Type_>,
-) -> Result<Handle<Expression>, AllocError> {
-    sample.argument(label, ty)?;
-    sample.expression(Expression::FunctionArgument(number), ty)
 }
 
 /// The end of a function that returns what the expression gives, of this type.
@@ -145,9 +134,9 @@ pub(super) fn build_return(
     given: Value,
 ) -> Result<(), AllocError> {
     let ty = add_type(sample, given)?;
-    sample.returns(ty);
-    let value = sample.expression(expression, ty)?;
-    sample.emit(value, value)?;
+    sample.function.returns(ty);
+    let value = sample.function.expression(expression, ty)?;
+    sample.function.body.emit(value, value)?;
     sample.end_with(value)
 }
 
@@ -158,11 +147,11 @@ fn build_of_two(
     second: Value,
     given: Value,
 ) -> Result<(), AllocError> {
-    sample.label("f")?;
+    sample.function.label("f")?;
     let first = add_type(sample, first)?;
     let second = add_type(sample, second)?;
-    let left = build_argument(sample, "x", 0, first)?;
-    let right = build_argument(sample, "y", 1, second)?;
+    let left = sample.function.argument("x", first)?;
+    let right = sample.function.argument("y", second)?;
     let expression = match made {
         Made::Operator(op) => Expression::Binary { op, left, right },
         Made::Call(fun) => Expression::Math {
@@ -177,9 +166,9 @@ fn build_of_two(
 }
 
 fn build_of_one(sample: &mut Sample, size: VectorSize, scalar: Scalar) -> Result<(), AllocError> {
-    sample.label("f")?;
+    sample.function.label("f")?;
     let ty = add_type(sample, Value::Scalar(scalar))?;
-    let value = build_argument(sample, "x", 0, ty)?;
+    let value = sample.function.argument("x", ty)?;
     build_return(
         sample,
         Expression::Splat { size, value },
@@ -190,29 +179,29 @@ fn build_of_one(sample: &mut Sample, size: VectorSize, scalar: Scalar) -> Result
 /// A function that stores its argument to a local, loads it twice in one use each, and returns the
 /// sum.
 fn build_local(sample: &mut Sample) -> Result<(), AllocError> {
-    sample.label("f")?;
+    sample.function.label("f")?;
     let ty = add_type(sample, MAT3X2_F32)?;
-    sample.returns(ty);
-    let argument = build_argument(sample, "x", 0, ty)?;
-    let local = sample.local("a", ty, None)?;
-    let pointer = sample.pointer(local, ty)?;
+    sample.function.returns(ty);
+    let argument = sample.function.argument("x", ty)?;
+    let local = sample.function.local("a", ty, None)?;
+    let pointer = sample.function.pointer_to(local, ty)?;
     let load = sample.used(Expression::Load { pointer }, ty, 2)?;
-    let sum = sample.binary(BinaryOperator::Add, load, load, ty)?;
-    sample.store(pointer, argument)?;
-    sample.emit(load, sum)?;
+    let sum = sample.function.binary(BinaryOperator::Add, load, load, ty)?;
+    sample.function.body.store(pointer, argument)?;
+    sample.function.body.emit(load, sum)?;
     sample.end_with(sum)
 }
 
 /// A function that returns its argument, a float of 16 bits.
 fn build_half(sample: &mut Sample) -> Result<(), AllocError> {
-    sample.label("f")?;
+    sample.function.label("f")?;
     let half = Scalar {
         kind: ScalarKind::Float,
         width: 2,
     };
-    let ty = sample.scalar(half)?;
-    sample.returns(ty);
-    let value = build_argument(sample, "x", 0, ty)?;
+    let ty = sample.shader.scalar(half)?;
+    sample.function.returns(ty);
+    let value = sample.function.argument("x", ty)?;
     sample.end_with(value)
 }
 

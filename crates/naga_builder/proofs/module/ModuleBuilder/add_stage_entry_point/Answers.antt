@@ -1,6 +1,6 @@
-use Rattle.std.proofs.Common.{arith, refl, None}
+use Rattle.std.proofs.Common.{arith, refl}
 use Rattle.std.proofs.lemmas.Grind.{common_steps}
-use Rattle.naga_builder.proofs.module.ModuleBuilder.add_entry_point.Goals as goal
+use Rattle.naga_builder.proofs.module.ModuleBuilder.add_stage_entry_point.Goals as goal
 
 pub returns-clause-ok : goal.returns-clause-ok
 returns-clause-ok c = record {
@@ -9,18 +9,18 @@ returns-clause-ok c = record {
     stage = c.args.stage;
     workgroup_size = c.args.workgroup_size;
     function = c.into_parts-function.result.0;
-    mesh_info = None;
-    task_payload = None;
-    incoming_ray_payload = None;
+    mesh_info = c.args.parts.mesh_info;
+    task_payload = c.args.parts.task_payload;
+    incoming_ray_payload = c.args.parts.incoming_ray_payload;
   };
   entry_points = grind (arith, common_steps);
   labelled = c.in_ok-name.ensures.ok;
   stage_is = refl;
   size = refl;
   function = c.into_parts-function.ensures.function;
-  no_mesh = refl;
-  no_task = refl;
-  no_ray = refl;
+  mesh = refl;
+  task = refl;
+  ray = refl;
   others = refl;
   known = grind (arith, common_steps);
   rest = refl;
