@@ -9,6 +9,8 @@ mod diagnostics;
 #[cfg(test)]
 mod initialisers;
 #[cfg(test)]
+mod ir;
+#[cfg(test)]
 mod keyword_set;
 #[cfg(test)]
 mod namer;
