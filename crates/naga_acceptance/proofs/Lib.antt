@@ -11,6 +11,7 @@ pub mod Pairing
 pub mod Passing
 pub mod Recounted
 pub mod Remembering
+pub mod Rounds
 pub mod Views
 pub mod Walking
 pub mod Writing

@@ -24,6 +24,7 @@ ghost use Rattle.module_meaning.specs.StatementsFit.{value_has_type};
 use crate::alike::is_like;
 use crate::demands::points_to_components;
 use crate::expression_types::{is_bool, pointee_at};
+use crate::label_rounds::none_is_repeated;
 use crate::parts::{GivenType, Known, inner_at, known_inner, known_type};
 use crate::walk::{first_unmet, sound_demand};
 use naga_ir::{
@@ -204,19 +205,6 @@ fn labels_ascend(cases: &[SwitchCase]) -> bool
             return false;
         }
         last = Some(case.value);
-    }
-    true
-}
-
-/// Whether no label stands behind itself. It compares each with those behind it, so its time grows
-/// with the square of their number; it takes no memory.
-fn none_is_repeated(cases: &[SwitchCase]) -> bool
-    ensures { result ≡ labels_differ (cases_of cases.now) }
-{
-    for index in 0..cases.len() {
-        if has_label(cases[index].value, &cases[index + 1..]) {
-            return false;
-        }
     }
     true
 }
