@@ -5,13 +5,13 @@ pub mod Finding
 pub mod FirstFaults
 pub mod Groups
 pub mod Identities
+pub mod LabelNumbers
 pub mod Labels
 pub mod Mixing
 pub mod Pairing
 pub mod Passing
 pub mod Recounted
 pub mod Remembering
-pub mod Rounds
 pub mod Views
 pub mod Walking
 pub mod Writing

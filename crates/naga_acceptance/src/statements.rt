@@ -24,7 +24,7 @@ ghost use Rattle.module_meaning.specs.StatementsFit.{value_has_type};
 use crate::alike::is_like;
 use crate::demands::points_to_components;
 use crate::expression_types::{is_bool, pointee_at};
-use crate::label_rounds::none_is_repeated;
+use crate::label_numbers::none_is_repeated;
 use crate::parts::{GivenType, Known, inner_at, known_inner, known_type};
 use crate::walk::{first_unmet, sound_demand};
 use naga_ir::{
@@ -209,7 +209,8 @@ fn labels_ascend(cases: &[SwitchCase]) -> bool
     true
 }
 
-/// Whether no two cases have one label. Where the labels ascend, it looks at each once.
+/// Whether no two cases have one label. Where the labels ascend, it looks at each once, and else as
+/// [`none_is_repeated`] does.
 fn labels_differ(cases: &[SwitchCase]) -> bool
     ensures { result ≡ labels_differ (cases_of cases.now) }
 {
