@@ -235,8 +235,8 @@ fn none_stands_twice(cases: &[SwitchCase]) -> bool
     }
 }
 
-/// Whether no two cases have one label. Where the labels ascend, it looks at each once, and else as
-/// [`none_is_repeated`] does.
+/// Whether no two cases have one label. Where the labels ascend, it looks at each once, else it
+/// compares few in pairs and sorts more ([`none_is_repeated`]).
 fn labels_differ(cases: &[SwitchCase]) -> bool
     ensures { result ≡ labels_differ (cases_of cases.now) }
 {
