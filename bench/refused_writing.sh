@@ -23,7 +23,7 @@ refused() {
 }
 
 # how many allocations, at least, are made in one run, and what is written
-for words in '1000 pointer' '1000 sample' '1000 sample explicit' '4000 mixed' '4000 mixed explicit'; do
+for words in '1000 pointer' '1000 modf' '1000 modf explicit' '1000 sample' '1000 sample explicit' '4000 mixed' '4000 mixed explicit'; do
     last=${words%% *}
     words=${words#* }
     # first in steps, then each one around those that were refused

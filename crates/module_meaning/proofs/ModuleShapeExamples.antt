@@ -25,10 +25,12 @@ use Rattle.naga_info.specs.declared.info.ExpressionInfo.{ExpressionInfo}
 use Rattle.naga_info.specs.declared.info.ModuleInfo.{ModuleInfo}
 use Rattle.naga_info.specs.declared.info.TypeResolution.{TypeResolution}
 use Rattle.naga_info.specs.declared.info.TypeResolution.TheVariants.{Handle, Value}
+use Rattle.naga_names.specs.declared.key.NameKey.TheVariants as key
 use Rattle.naga_words.specs.Spelling.{type_parts}
 use Rattle.module_meaning.specs.ExpressionShapes.{Declared}
 use Rattle.module_meaning.specs.FunctionShapes.{function_shape}
 use Rattle.module_meaning.specs.ModuleShapes.{module_shape, takes_part}
+use Rattle.module_meaning.specs.Namings.{numbered_key}
 use Rattle.shader_runs.specs.Program.{Fixed, NamedConstant, function_numbered}
 use Rattle.shader_runs.specs.Value.{IntegerType, PointerType, OtherType, Whole, Step, At, Field}
 
@@ -89,6 +91,10 @@ module _ (other : ir_module.Module) (info : ModuleInfo) (label : String Global)
     -- a constant without a name is written by its value, one with a name by its number
     initialisers : (module_shape m info).initialisers ≡ Fixed (Whole (codes "i32") (pos 7)) ∷ NamedConstant 0 ∷ []
     initialisers = refl
+
+    -- and under the name of what has its number
+    numbered : map (numbered_key m) (0 ∷ 1 ∷ 2 ∷ []) ≡ key.Constant 1 ∷ key.Constant 2 ∷ key.Override 0 ∷ []
+    numbered = refl
 
     global_types : (module_shape m info).global_types ≡ PointerType (codes "ptr<private, array<vec3<f32>>>") ∷ OtherType (codes "sampler") ∷ []
     unfolding type_parts

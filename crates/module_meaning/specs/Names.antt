@@ -9,9 +9,9 @@ use Rattle.naga_ir.specs.declared.module.Function as ir_function
 use Rattle.naga_ir.specs.declared.module.Module.{Module}
 use Rattle.naga_ir.specs.declared.types.StructMember.{StructMember}
 use Rattle.naga_ir.specs.declared.types.Type_.{Type_}
-use Rattle.naga_names.specs.Naming.{Names, new_names, labels_with_base}
+use Rattle.naga_names.specs.Naming.{Names, new_names}
 use Rattle.naga_names.specs.Keys.{NameMap, same_key}
-use Rattle.naga_names.specs.Reset.{keys_fit, labelled_items, labels_of, members_of, named_items}
+use Rattle.naga_names.specs.Reset.{labelled_items, labels_of, members_of, named_items}
 use Rattle.naga_names.specs.declared.key.NameKey.{NameKey}
 use Rattle.naga_names.specs.declared.key.NameKey.TheVariants as key
 use Rattle.naga_words.specs.Spelling.{is_struct}
@@ -48,6 +48,16 @@ argument_name names g n = name_in names (key.FunctionArgument g n)
 abbrev pub local_name : NameMap → (function local : ℕ) → List ℕ
 local_name names g l = name_in names (key.FunctionLocal g l)
 
+-- that of a variable of the module, of a constant and of an override
+abbrev pub global_name : NameMap → (variable : ℕ) → List ℕ
+global_name names v = name_in names (key.GlobalVariable v)
+
+abbrev pub constant_name : NameMap → (constant : ℕ) → List ℕ
+constant_name names c = name_in names (key.Constant c)
+
+abbrev pub override_name : NameMap → (override : ℕ) → List ℕ
+override_name names o = name_in names (key.Override o)
+
 -- the name of a handle, or of a greater number, which has blanks for a name, so that no two numbers
 -- have one
 abbrev pub numbered_text : (is_handle : Bool) → ℕ → List ℕ
@@ -81,19 +91,6 @@ module_labels m = item_labels m ++ all_given_labels m.functions
 unfoldable pub given_name : Module → (function : ℕ) → (number : ℕ) → List ℕ
 given_name m g = name_of_label wgsl_names (labels_before m g) (labels_given m g)
 
--- no label's base is used more often than a counter of its uses can tell
-abbrev pub AreCounted : (labels : List (List ℕ)) → Type 0
-AreCounted labels = (base : List ℕ) → labels_with_base wgsl_names labels base ≤ 2 ^ 32
-
-abbrev pub NamesAreCounted : Module → Type 0
-NamesAreCounted m = AreCounted (module_labels m)
-
--- the items' labels are counted, and the key of each item, down to a struct's member, can tell its
--- number
-pub record ItemsAreCounted (m : Module) : Type 0 where
-  pub names : AreCounted (item_labels m)
-  pub keys : keys_fit (labelled_items wgsl_names m) ≡ true
-
 -- ---- names that tell what they name
 -- Structs and overrides have names of their own, so that the spelling of a type tells them apart.
 pub record TypesAreTold (m : Module) : Type 0 where
@@ -116,7 +113,8 @@ pub record ItemsAreTold (m : Module) : Type 0 where
       name_in (module_names m) (key.StructMember h j) → i ≡ j
 
 -- The map has the name of each type and of each member of a struct, of each function, of each
--- argument, whose numbers are no greater than the greatest `u32`, and of each local.
+-- argument, whose numbers are no greater than the greatest `u32`, of each local, and of each variable,
+-- constant and override of the module.
 pub record HasNamesOf (m : Module) (names : NameMap) : Type 0 where
   pub types : (h : ℕ) (t : Type_) → slice_get m.types h ≡ Some t →
       names (key.Type_ h) ≡ Some (name_in (module_names m) (key.Type_ h))
@@ -133,3 +131,9 @@ pub record HasNamesOf (m : Module) (names : NameMap) : Type 0 where
       names (key.FunctionLocal g l) ≡ Some (local_name (module_names m) g l)
   pub numbers : (g : ℕ) (f : ir_function.Function) → slice_get m.functions g ≡ Some f →
       length f.arguments.items ≤ 2 ^ 32
+  pub globals : (v : ℕ) → v < length m.global_variables →
+      names (key.GlobalVariable v) ≡ Some (global_name (module_names m) v)
+  pub constants : (c : ℕ) → c < length m.constants →
+      names (key.Constant c) ≡ Some (constant_name (module_names m) c)
+  pub overrides : (o : ℕ) → o < length m.overrides →
+      names (key.Override o) ≡ Some (override_name (module_names m) o)

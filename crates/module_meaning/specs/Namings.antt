@@ -1,36 +1,54 @@
 -- The functions of a module as shapes, with the names that their texts use.
 --
--- Throughout, names are those of the module m, info is what is known of it, f a function with the
--- handle g, es is what is known of its expressions, and given tells the names that front ends gave in
--- it, in the order of its text.
-use Rattle.std.specs.Prelude.{ℕ, ◌+◌, List, [], ◌∷◌, reverse}
+-- Throughout, names are those of the module m, info is what is known of it, c a constant (cs are
+-- several), i a number of the runs, f a function with the handle g, es is what is known of its
+-- expressions, and given tells the names that front ends gave in it, in the order of its text.
+use Rattle.std.specs.Prelude.{ℕ, suc, ◌+◌, ◌-◌, List, [], ◌∷◌, reverse, if◌then◌else◌, slice_get}
+use Rattle.std.specs.Option.{is_some, option_map_or}
+use Rattle.naga_ir.specs.declared.module.Constant as ir_constant
 use Rattle.naga_ir.specs.declared.module.Function as ir_function
 use Rattle.naga_ir.specs.declared.module.Module as ir_module
 use Rattle.naga_info.specs.declared.info.ExpressionInfo.{ExpressionInfo}
 use Rattle.naga_info.specs.declared.info.ModuleInfo.{ModuleInfo}
 use Rattle.naga_names.specs.Keys.{NameMap}
+use Rattle.naga_names.specs.declared.key.NameKey.{NameKey}
+use Rattle.naga_names.specs.declared.key.NameKey.TheVariants as key
 use Rattle.module_meaning.specs.FunctionShapes.{function_shape, function_shapes}
-use Rattle.module_meaning.specs.Names.{function_name, argument_name, given_name, local_name}
-use Rattle.module_meaning.specs.Names.{numbered_name}
+use Rattle.module_meaning.specs.Names.{function_name, argument_name, given_name, global_name}
+use Rattle.module_meaning.specs.Names.{local_name, name_in, numbered_name}
+use Rattle.module_meaning.specs.Surroundings.{named_count}
 use Rattle.shader_runs.specs.Program.{Function}
 use Rattle.shader_runs.specs.Scope.{ModuleNames, Names, Naming}
 use Rattle.wgsl_text.specs.Requests.{is_request}
 
--- the names of the module's items; it has no constants, overrides and variables so far
-abbrev pub outer_names : NameMap → ModuleNames
-outer_names names =
+-- the handles of those of these constants that have a name, in their order, where h is the first one's
+abbrev pub named_handles : (h : ℕ) → List ir_constant.Constant → List ℕ
+named_handles h [] = []
+named_handles h (c ∷ cs) =
+    if is_some c.name then h ∷ named_handles (suc h) cs else named_handles (suc h) cs
+
+-- what has a number among the constants of the runs: the constants with a name in their order, and
+-- behind them the overrides
+abbrev pub numbered_key : ir_module.Module → ℕ → NameKey
+numbered_key m i =
+    option_map_or key.Constant (slice_get (named_handles 0 m.constants) i)
+    (key.Override (i - named_count m.constants))
+
+-- the names of the module's items
+abbrev pub outer_names : NameMap → ir_module.Module → ModuleNames
+outer_names names m =
     record {
-      constant = λ i. [];
-      global = λ i. [];
+      constant = λ i. name_in names (numbered_key m i);
+      global = global_name names;
       function = function_name names;
       is_request = is_request;
     }
 
 -- the names that the text of the function with this handle uses
-abbrev pub inner_names : NameMap → (given : ℕ → List ℕ) → ℕ → Names
-inner_names names given g =
+abbrev pub inner_names : NameMap → ir_module.Module → (given : ℕ → List ℕ) → ℕ → Names
+inner_names names m given g =
     record {
-      outer = outer_names names;
+      outer = outer_names names m;
       argument = argument_name names g;
       local_ = local_name names g;
       given = given;
@@ -43,13 +61,13 @@ abbrev pub function_naming :
     NameMap → (given : ℕ → List ℕ) → ir_module.Module → ModuleInfo → ℕ → ir_function.Function →
     List ExpressionInfo → Naming
 function_naming names given m info g f es =
-    record { function = function_shape m info f es; names = inner_names names given g }
+    record { function = function_shape m info f es; names = inner_names names m given g }
 
 -- the functions with their names, from this handle on, in a text of the whole module
 abbrev pub namings_from : NameMap → ir_module.Module → ℕ → List Function → List Naming
 namings_from names m g [] = []
 namings_from names m g (f ∷ fs) =
-    record { function = f; names = inner_names names (given_name m g) g }
+    record { function = f; names = inner_names names m (given_name m g) g }
     ∷ namings_from names m (g + 1) fs
 
 -- the functions with their names, the last one first; so far a module has no entry points

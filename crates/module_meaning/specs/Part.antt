@@ -3,14 +3,15 @@
 -- Throughout, m is a module, f a function, es are its expressions, e is one, k is what is known of
 -- one, h is a handle, a an argument, r a result, s a statement, t a type, and b the rest of a block.
 use Rattle.std.specs.Prelude.{ℕ, zero, suc, Bool, true, false, ◌&&◌, ◌||◌, not, List, length, ◌==◌}
-use Rattle.std.specs.Prelude.{Option, slice_get}
+use Rattle.std.specs.Prelude.{Option, nat_lt, slice_get}
 use Rattle.std.specs.List.{list_all}
 use Rattle.std.specs.Option.{option_map_or, is_none, is_some}
 use Rattle.naga_ir.specs.StatementTree.{emit, store, return, StatementTree, simple, BlockTree}
 use Rattle.naga_ir.specs.StatementTree.{no_statements, statement}
 use Rattle.naga_ir.specs.declared.expression.Expression.{Expression}
-use Rattle.naga_ir.specs.declared.expression.Expression.TheVariants.{Literal, Constant}
+use Rattle.naga_ir.specs.declared.expression.Expression.TheVariants.{Literal, Constant, Override}
 use Rattle.naga_ir.specs.declared.expression.Expression.TheVariants.{FunctionArgument}
+use Rattle.naga_ir.specs.declared.expression.Expression.TheVariants.{GlobalVariable}
 use Rattle.naga_ir.specs.declared.expression.Expression.TheVariants.{ZeroValue, Compose}
 use Rattle.naga_ir.specs.declared.expression.Expression.TheVariants.{LocalVariable, Load, Unary}
 use Rattle.naga_ir.specs.declared.expression.Expression.TheVariants.{Binary, Select, Math}
@@ -18,14 +19,7 @@ use Rattle.naga_ir.specs.declared.expression.Expression.TheVariants.{Relational,
 use Rattle.naga_ir.specs.declared.expression.Expression.TheVariants.{Access, AccessIndex, As}
 use Rattle.naga_ir.specs.declared.expression.Expression.TheVariants.{Derivative, ArrayLength}
 use Rattle.naga_ir.specs.declared.expression.Expression.TheVariants.{CooperativeMultiplyAdd}
-use Rattle.naga_ir.specs.declared.expression.Expression.TheVariants.{CooperativeLoad, CallResult}
-use Rattle.naga_ir.specs.declared.expression.Expression.TheVariants.{AtomicResult}
-use Rattle.naga_ir.specs.declared.expression.Expression.TheVariants.{WorkGroupUniformLoadResult}
-use Rattle.naga_ir.specs.declared.expression.Expression.TheVariants.{SubgroupOperationResult}
-use Rattle.naga_ir.specs.declared.expression.Expression.TheVariants.{SubgroupBallotResult}
-use Rattle.naga_ir.specs.declared.expression.Expression.TheVariants.{RayQueryProceedResult}
-use Rattle.naga_ir.specs.declared.expression.Expression.TheVariants.{RayQueryGetIntersection}
-use Rattle.naga_ir.specs.declared.expression.Expression.TheVariants.{RayQueryVertexPositions}
+use Rattle.naga_ir.specs.declared.expression.Expression.TheVariants.{CooperativeLoad}
 use Rattle.naga_ir.specs.declared.expression.Expression.TheVariants.{ImageSample, ImageLoad}
 use Rattle.naga_ir.specs.declared.expression.Expression.TheVariants.{ImageQuery}
 use Rattle.naga_ir.specs.declared.expression.Literal.{Literal as LiteralValue}
@@ -121,15 +115,18 @@ loads_matrix types columns rows role it =
     (scalar_behind types it) false
 
 -- ---- constants
--- the initialiser of a constant, by what is said of the module's own expressions
-abbrev pub initialiser_passes : Module → (own : ℕ → Bool) → (handle : ℕ) → Bool
-initialiser_passes m own h = option_map_or (λ c. own c.init) (slice_get m.constants h) false
+-- A constant is written by its name, and one without a name where its initialiser is, by what is said
+-- of the module's own expressions.
+abbrev pub constant_is_written_over : Module → (own : ℕ → Bool) → (handle : ℕ) → Bool
+constant_is_written_over m own h =
+    option_map_or (λ c. is_some c.name || own c.init) (slice_get m.constants h) false
 
 -- One of the module's own expressions is written, over which of those in front of it are: a literal,
--- a constant, a zero value, a value of a type from its parts, or a vector of one value.
+-- a constant, an override, a zero value, a value of a type from its parts, or a vector of one value.
 abbrev pub global_is_written_over : Module → (own : ℕ → Bool) → Expression → Bool
 global_is_written_over m own (Literal value) = is_written_literal value
-global_is_written_over m own (Constant handle) = initialiser_passes m own handle
+global_is_written_over m own (Constant handle) = constant_is_written_over m own handle
+global_is_written_over m own (Override handle) = true
 global_is_written_over m own (ZeroValue ty) = is_spellable m (Handle ty)
 global_is_written_over m own (Compose ty components) =
     is_spellable m (Handle ty) && list_all own components.items
@@ -148,7 +145,7 @@ abbrev pub global_is_written : Module → ℕ → Bool
 global_is_written m h = global_is_written_within (suc h) m h
 
 abbrev pub constant_is_written : Module → ℕ → Bool
-constant_is_written m h = initialiser_passes m (global_is_written m) h
+constant_is_written m h = constant_is_written_over m (global_is_written m) h
 
 -- ---- expressions
 -- the expression with this handle has parts, and the one with this number is written
@@ -157,23 +154,26 @@ part_is_written m es base index =
     known_passes m.types es (has_parts m.types) base &&
     option_map_or (part_is_written_at m index) (whole_known m.types es base) true
 
--- A literal of `bool` or of an integer type, the zero value of a type, a value of a type from its
--- parts, a part at an index, an argument, a local, a load, an operator with a sign, the choice of
--- one of two values, a vector of one value, components of a vector, a conversion, a derivative, an
--- operation on an image that has a form, the length of an array, a load or a product of cooperative
--- matrices, or a function of mathematics or a relation that has a word. A type that it spells has a
--- form and names no struct that no text declares, and a known index is that of what has parts, of
--- such a struct that of a member that a text can name. A constant without a name is written as its
--- initialiser is. The result of a statement has no form so far, since none of the statements that give
--- one is written: it is in scope nowhere.
+-- A literal of `bool` or of an integer type, a constant, an override, the zero value of a type, a
+-- value of a type from its parts, a part at an index, an argument, a local, a variable of the module, a
+-- load, an operator with a sign, the choice of one of two values, a vector of one value, components of
+-- a vector, a conversion, a derivative, an operation on an image that has a form, the length of an
+-- array, a load or a product of cooperative matrices, or a function of mathematics or a relation that
+-- has a word. A type that it spells has a form and names no struct that no text declares, and a known
+-- index is that of what has parts, of such a struct that of a member that a text can name. A constant
+-- without a name is written as its initialiser is. Any other has no form: it is refused by name where
+-- it is written, and let be where it is not. So it is with the result of a statement so far, since none
+-- of the statements that give one is written: it is in scope nowhere.
 abbrev pub expression_is_written : Module → List ExpressionInfo → Expression → Bool
 expression_is_written m es (Literal value) = is_written_literal value
 expression_is_written m es (Constant handle) = constant_is_written m handle
+expression_is_written m es (Override handle) = true
 expression_is_written m es (ZeroValue ty) = is_spellable m (Handle ty)
 expression_is_written m es (Compose ty components) = is_spellable m (Handle ty)
 expression_is_written m es (Access base index) = true
 expression_is_written m es (AccessIndex base index) = part_is_written m es base index
 expression_is_written m es (FunctionArgument number) = true
+expression_is_written m es (GlobalVariable handle) = nat_lt handle (length m.global_variables)
 expression_is_written m es (LocalVariable handle) = true
 expression_is_written m es (Load pointer) = true
 expression_is_written m es (Unary op expr) = true
@@ -203,47 +203,6 @@ abbrev pub expression_has_form : Module → List ExpressionInfo → List Express
 expression_has_form m known es e =
     expression_is_written m known e && own_offset_is_written es e
 
--- What has no form is refused by name where it is written, and let be where it is not: a float, an
--- abstract literal, a function of mathematics or a relation without a word, an operation on an image
--- without a form, what spells a type without a form, a part at an index of what has no parts, what a
--- ray query found, and the result of a statement, which is out of scope there. The expression is
--- written, or refused so.
-abbrev pub expression_is_of_part : Expression → Bool
-expression_is_of_part (Literal value) = true
-expression_is_of_part (ZeroValue ty) = true
-expression_is_of_part (Compose ty components) = true
-expression_is_of_part (Access base index) = true
-expression_is_of_part (AccessIndex base index) = true
-expression_is_of_part (Constant handle) = true
-expression_is_of_part (FunctionArgument number) = true
-expression_is_of_part (LocalVariable handle) = true
-expression_is_of_part (Load pointer) = true
-expression_is_of_part (Unary op expr) = true
-expression_is_of_part (Binary op left right) = true
-expression_is_of_part (Select condition accept reject) = true
-expression_is_of_part (Splat size value) = true
-expression_is_of_part (Swizzle size vector pattern) = true
-expression_is_of_part (As expr kind convert) = true
-expression_is_of_part (Derivative axis ctrl expr) = true
-expression_is_of_part (Math fun arg arg1 arg2 arg3) = true
-expression_is_of_part (Relational fun argument) = true
-expression_is_of_part
-    (ImageSample image sampler gather coordinate array_index offset level depth_ref clamp) = true
-expression_is_of_part (ImageLoad image coordinate array_index sample level) = true
-expression_is_of_part (ImageQuery image query) = true
-expression_is_of_part (ArrayLength array) = true
-expression_is_of_part (CooperativeLoad columns rows role place) = true
-expression_is_of_part (CooperativeMultiplyAdd a b c) = true
-expression_is_of_part (CallResult function) = true
-expression_is_of_part (AtomicResult ty comparison) = true
-expression_is_of_part (WorkGroupUniformLoadResult ty) = true
-expression_is_of_part (SubgroupOperationResult ty) = true
-expression_is_of_part SubgroupBallotResult = true
-expression_is_of_part RayQueryProceedResult = true
-expression_is_of_part (RayQueryGetIntersection query committed) = true
-expression_is_of_part (RayQueryVertexPositions query committed) = true
-expression_is_of_part _ = false
-
 abbrev pub statement_is_written : StatementTree → Bool
 statement_is_written (simple (emit first last)) = true
 statement_is_written (simple (store pointer value)) = true
@@ -260,10 +219,9 @@ is_unbound f =
     list_all (λ a. is_none a.binding) f.arguments.items &&
     option_map_or (λ r. is_none r.binding) f.result true
 
--- a function of such expressions and statements
+-- a function of such statements, whatever its expressions are
 abbrev pub function_is_written : Function → Bool
-function_is_written f =
-    is_unbound f && (list_all expression_is_of_part f.expressions && block_is_written f.body)
+function_is_written f = is_unbound f && block_is_written f.body
 
 -- ---- modules
 -- Such types and such functions. A type without a form is refused by name where it is written, and

@@ -5,6 +5,7 @@ pub mod Finding
 pub mod FirstFaults
 pub mod Groups
 pub mod Identities
+pub mod LabelNumbers
 pub mod Labels
 pub mod Mixing
 pub mod Pairing

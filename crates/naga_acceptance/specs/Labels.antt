@@ -1,7 +1,10 @@
--- Labels of a switch in ascending order.
+-- Labels of a switch in ascending order, and numbers of labels in any order.
 --
--- Throughout, v and w are labels, last is the one before, if there is one, and cs are cases.
-use Rattle.std.specs.Prelude.{Bool, true, false, ◌&&◌, Option, Some, None, nat_lt}
+-- Throughout, v and w are labels, last is the one before, if there is one, cs are cases, and a, n,
+-- ms and ns are numbers of labels.
+use Rattle.std.specs.Prelude.{◌≡◌, ◌≢◌, ℕ, suc, ◌+◌, ◌*◌, ◌<◌, ◌≤◌, ◌==◌, pos, negsuc, Bool, true}
+use Rattle.std.specs.Prelude.{false, ◌&&◌, ◌||◌, if◌then◌else◌, Option, Some, None, nat_lt, List}
+use Rattle.std.specs.Prelude.{[], ◌∷◌, length, slice_index}
 use Rattle.std.specs.Int.Signed.{lt_z}
 use Rattle.naga_ir.specs.StatementTree.{CaseTrees, no_cases, case}
 use Rattle.naga_ir.specs.declared.statement.SwitchValue.{SwitchValue}
@@ -24,3 +27,39 @@ is_behind (Some v) w = is_before v w
 abbrev pub labels_ascend : (last : Option SwitchValue) → CaseTrees → Bool
 labels_ascend last no_cases = true
 labels_ascend last (case w b falls cs) = is_behind last w && labels_ascend (Some w) cs
+
+-- ---- numbers of labels
+
+-- a number of its own for each label
+abbrev pub number_of : SwitchValue → ℕ
+number_of (label.I32 (pos n)) = 3 * n + 1
+number_of (label.I32 (negsuc n)) = 3 * suc n + 2
+number_of (label.U32 n) = 3 * n + 3
+number_of label.Default = 0
+
+-- the numbers of the labels, in order
+abbrev pub numbers_of : CaseTrees → List ℕ
+numbers_of no_cases = []
+numbers_of (case v b falls cs) = number_of v ∷ numbers_of cs
+
+-- how often the number stands there
+abbrev pub times : (a : ℕ) → List ℕ → ℕ
+times a [] = 0
+times a (n ∷ ns) = if n == a then suc (times a ns) else times a ns
+
+-- one of the numbers ns is one of ms
+abbrev pub shares : (ms ns : List ℕ) → Bool
+shares ms [] = false
+shares ms (n ∷ ns) = nat_lt 0 (times n ms) || shares ms ns
+
+-- a number stands there twice
+abbrev pub IsTwice : List ℕ → Type 0
+IsTwice ns = (a : ℕ) × (2 ≤ times a ns)
+
+-- no number stands beside itself
+abbrev pub AreApart : List ℕ → Type 0
+AreApart ns = (k : ℕ) → suc k < length ns → slice_index ns k ≢ slice_index ns (suc k)
+
+-- each of the numbers ms stands there once, and not among ns
+abbrev pub AreOnce : (ms ns : List ℕ) → Type 0
+AreOnce ms ns = (a : ℕ) → 0 < times a ms → times a ms + times a ns ≡ 1

@@ -12,6 +12,7 @@ pub mod demands;
 pub mod expression_types;
 pub mod faults;
 mod initialisers;
+mod label_numbers;
 mod operator_keys;
 pub mod part;
 pub mod parts;

@@ -5,7 +5,6 @@ ghost use Rattle.std.specs.List.{list_all};
 ghost use Rattle.std.specs.Option.{is_none};
 ghost use Rattle.naga_ir.specs.StatementViews.{tree_of};
 ghost use Rattle.module_meaning.specs.Part.{block_is_written, declares_functions};
-ghost use Rattle.module_meaning.specs.Part.{expression_is_of_part};
 ghost use Rattle.module_meaning.specs.Part.{function_is_written, is_unbound};
 ghost use Rattle.module_meaning.specs.Part.{is_extended, is_written_so_far};
 ghost use Rattle.module_meaning.specs.Part.{needs_nothing, statement_is_written, type_is_of_part};
@@ -14,20 +13,15 @@ ghost use Rattle.module_meaning.specs.Part.{types_are_of_part};
 use crate::ranges::sizes::is_struct;
 use crate::undeclared::is_undeclared;
 use naga_ir::{
-    Arena, Block, Constant, Expression, Function, FunctionArgument, Handle, Module, Scalar,
-    ScalarKind, Statement, Type_, TypeInner,
+    Arena, Block, Constant, Function, FunctionArgument, Handle, Module, Scalar, ScalarKind,
+    Statement, Type_, TypeInner,
 };
 
 /// Whether the module is of the part that is written so far: it declares nothing but functions and
 /// types that need no extension and no declaration, as structs that no text declares, and its
-/// constants have no names; the functions'
-/// arguments and results are bound to nothing; their expressions are arguments, locals, constants,
-/// literals, zero values,
-/// values of a type composed of others, loads, operators with a sign, choices, vectors of one value,
-/// swizzles, parts at an index, conversions, derivatives, operations on images, lengths of arrays,
-/// loads and products of cooperative matrices, calls of functions of mathematics and of relations,
-/// results of statements and what ray queries found; and their statements are `Emit`s, `Store`s and
-/// `Return`s. Types without a form may stand in it.
+/// constants have no names; the functions' arguments and results are bound to nothing, and their
+/// statements are `Emit`s, `Store`s and `Return`s. Their expressions are any. Expressions and types
+/// without a form may stand in it.
 #[tactic(auto, unfolding(module_meaning::specs::Part::is_written_so_far))]
 pub fn is_written_so_far(module: &Module) -> bool
     ensures { result ≡ is_written_so_far «module».now }
@@ -123,9 +117,7 @@ fn functions_are_written(functions: &Arena<Function>) -> bool
 fn function_is_written(function: &Function) -> bool
     ensures { result ≡ function_is_written function.now }
 {
-    is_unbound(function)
-        && expressions_are_written(&function.expressions)
-        && block_is_written(&function.body)
+    is_unbound(function) && block_is_written(&function.body)
 }
 
 fn is_unbound(function: &Function) -> bool
@@ -142,58 +134,6 @@ fn arguments_are_unbound(arguments: &[FunctionArgument]) -> bool
     ensures { result ≡ list_all (λ a. is_none a.binding) arguments.now }
 {
     arguments.iter().all(|argument| argument.binding.is_none())
-}
-
-fn expressions_are_written(expressions: &Arena<Expression>) -> bool
-    ensures { result ≡ list_all expression_is_of_part expressions.now }
-{
-    for (_, expression) in expressions.iter() {
-        if !expression_is_of_part(expression) {
-            return false;
-        }
-    }
-    true
-}
-
-/// Whether an expression is of the part: it is written, or refused by name where it is written.
-fn expression_is_of_part(expression: &Expression) -> bool
-    ensures { result ≡ expression_is_of_part expression.now }
-{
-    match expression {
-        Expression::Literal(_)
-        | Expression::Constant(_)
-        | Expression::ZeroValue(_)
-        | Expression::Compose { .. }
-        | Expression::Access { .. }
-        | Expression::AccessIndex { .. }
-        | Expression::FunctionArgument(_)
-        | Expression::LocalVariable(_)
-        | Expression::Load { .. }
-        | Expression::Unary { .. }
-        | Expression::Binary { .. }
-        | Expression::Select { .. }
-        | Expression::Splat { .. }
-        | Expression::Swizzle { .. }
-        | Expression::As { .. }
-        | Expression::Derivative { .. }
-        | Expression::Math { .. }
-        | Expression::Relational { .. }
-        | Expression::ImageSample { .. }
-        | Expression::ImageLoad { .. }
-        | Expression::ImageQuery { .. }
-        | Expression::ArrayLength(_)
-        | Expression::CooperativeLoad { .. }
-        | Expression::CooperativeMultiplyAdd { .. }
-        | Expression::CallResult(_)
-        | Expression::AtomicResult { .. }
-        | Expression::WorkGroupUniformLoadResult { .. }
-        | Expression::SubgroupOperationResult { .. }
-        | Expression::SubgroupBallotResult
-        | Expression::RayQueryProceedResult
-        | Expression::RayQueryGetIntersection { .. }
-        | Expression::RayQueryVertexPositions { .. } => true,
-        Expression::Override(_) | Expression::GlobalVariable(_) => false,
-    }
 }
 
 fn block_is_written(body: &Block) -> bool

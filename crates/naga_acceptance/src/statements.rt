@@ -24,6 +24,7 @@ ghost use Rattle.module_meaning.specs.StatementsFit.{value_has_type};
 use crate::alike::is_like;
 use crate::demands::points_to_components;
 use crate::expression_types::{is_bool, pointee_at};
+use crate::label_numbers::none_is_repeated;
 use crate::parts::{GivenType, Known, inner_at, known_inner, known_type};
 use crate::walk::{first_unmet, sound_demand};
 use naga_ir::{
@@ -208,9 +209,11 @@ fn labels_ascend(cases: &[SwitchCase]) -> bool
     true
 }
 
-/// Whether no label stands behind itself. It compares each with those behind it, so its time grows
-/// with the square of their number; it takes no memory.
-fn none_is_repeated(cases: &[SwitchCase]) -> bool
+/// Up to how many labels are compared in pairs, which is less work than sorting them.
+const FEW_LABELS: usize = 32;
+
+/// Whether no label stands behind itself. It compares each with those behind it.
+fn few_differ(cases: &[SwitchCase]) -> bool
     ensures { result ≡ labels_differ (cases_of cases.now) }
 {
     for index in 0..cases.len() {
@@ -221,11 +224,23 @@ fn none_is_repeated(cases: &[SwitchCase]) -> bool
     true
 }
 
-/// Whether no two cases have one label. Where the labels ascend, it looks at each once.
+/// Whether no two cases have one label, in whatever order they stand.
+fn none_stands_twice(cases: &[SwitchCase]) -> bool
+    ensures { result ≡ labels_differ (cases_of cases.now) }
+{
+    if cases.len() <= FEW_LABELS {
+        few_differ(cases)
+    } else {
+        none_is_repeated(cases)
+    }
+}
+
+/// Whether no two cases have one label. Where the labels ascend, it looks at each once, else it
+/// compares few in pairs and sorts more ([`none_is_repeated`]).
 fn labels_differ(cases: &[SwitchCase]) -> bool
     ensures { result ≡ labels_differ (cases_of cases.now) }
 {
-    labels_ascend(cases) || none_is_repeated(cases)
+    labels_ascend(cases) || none_stands_twice(cases)
 }
 
 /// Whether the last case falls through.

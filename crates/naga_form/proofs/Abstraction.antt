@@ -19,14 +19,14 @@ use Rattle.naga_form.specs.Expressions.{operator_type}
 use Rattle.naga_form.proofs.Operators.{SpellsIf, SpellsTypes, constructor_spelled, operator_spelled}
 use Rattle.naga_form.proofs.Operators.{untyped, zero_read}
 use Rattle.naga_form.proofs.TypeTrees.{resolution_row}
-use Rattle.std.specs.Prelude.{◌||◌}
+use Rattle.std.specs.Prelude.{◌||◌, ◌==◌, not}
 use Rattle.module_meaning.proofs.Part.{form_of_spellable, has_form_parts}
 use Rattle.module_meaning.specs.ExpressionOperators.{is_depth_image, level_of, sample_operator}
 use Rattle.module_meaning.specs.ExpressionOperators.{type_known}
 use Rattle.module_meaning.specs.ExpressionShapes.{constant_tree, offset_left, trees, written_zero}
 use Rattle.module_meaning.specs.Sampling.{offset_is_written}
 use Rattle.module_meaning.specs.Writable.{is_written_out}
-use Rattle.naga_form.proofs.ConstantForms.{IsReadAs, constants_read, read_out}
+use Rattle.naga_form.proofs.ConstantForms.{IsReadAs, constants_read, names_are_read, read_out}
 use Rattle.naga_form.specs.ConstantForms.{written_constant_form}
 use Rattle.naga_form.proofs.Images.{offset_alone, sampling_read, without_offset}
 use Rattle.naga_form.proofs.Operators.{AllReadLike}
@@ -38,7 +38,7 @@ use Rattle.shader_runs.specs.Program.{ConstantTree}
 use Rattle.shader_runs.specs.Text as trees_of_text
 use Rattle.shader_runs.specs.Text.{Apply}
 use Rattle.std.proofs.Common.{subst, ◌<◌}
-use Rattle.std.proofs.lemmas.Bool.{and_from, and_parts}
+use Rattle.std.proofs.lemmas.Bool.{and_from, and_parts, eqb-true, ltb-true}
 use Rattle.std.proofs.lemmas.List.{map-append}
 use Rattle.naga_ir.specs.declared.statement.SwitchValue.{SwitchValue}
 use Rattle.naga_ir.specs.declared.statement.SwitchValue.TheVariants as label
@@ -63,7 +63,8 @@ use Rattle.wgsl_text.specs.Words.{stands_in}
 use Rattle.module_meaning.specs.Types.{integer_words, type_of_values, values_of, word_of_values}
 use Rattle.module_meaning.specs.ExpressionShapes.{part_selector, part_shape}
 use Rattle.module_meaning.specs.OperatorTable.{WithoutForm, PartAt}
-use Rattle.naga_form.specs.Expressions.{is_pointer, part_plain, points, selected_part}
+use Rattle.naga_form.specs.Expressions.{is_held, is_pointer, part_plain, points, selected_part}
+use Rattle.naga_form.specs.Expressions.{variable_plain}
 use Rattle.naga_info.specs.declared.info.TypeResolution.TheVariants.{Value}
 use Rattle.naga_info.specs.declared.info.ExpressionInfo.{ExpressionInfo}
 use Rattle.naga_info.specs.declared.info.ModuleInfo.{ModuleInfo}
@@ -77,7 +78,6 @@ use Rattle.module_meaning.specs.Part.{block_is_written, expression_has_form, exp
 use Rattle.module_meaning.specs.Part.{function_is_written, types_are_of_part, statement_is_written}
 use Rattle.module_meaning.specs.Part.{constant_is_written, declares_functions}
 use Rattle.module_meaning.specs.Surroundings.{written_constant}
-use Rattle.module_meaning.proofs.Lists.{list_all_at}
 use Rattle.naga_names.specs.Keys.{NameMap}
 use Rattle.wgsl_text.specs.Reading.{type_layout}
 use Rattle.wgsl_text.specs.Types.{TypeSpecifier, Named, pointer_tree}
@@ -125,7 +125,7 @@ use Rattle.module_meaning.specs.OperatorTable.{AtomicStore}
 use Rattle.module_meaning.specs.StatementShapes.{store_shape}
 use Rattle.wgsl_text.proofs.Types.{named_text}
 use Rattle.naga_form.proofs.ModulePlaces.{expression_is, shapes_length}
-use Rattle.naga_form.proofs.PartFits.{function_parts}
+use Rattle.naga_form.proofs.PartFits.{body_is_written}
 use Rattle.naga_ir.specs.Operands.{expression_operands}
 use Rattle.text_meaning.specs.Abstraction.{expression_read, label_read, labels_read}
 use Rattle.text_meaning.specs.Abstraction.{statements_read, cases_read, function_read}
@@ -252,6 +252,15 @@ index_read _ false is index i read base b same =
     (λ e. ap (Index (expression_read e)) read) base b same
 index_read _ true is index i read base b same = absurd cc
 
+-- a variable of the module is read as one, if it is a value just where it has no places
+global_read : (k : ValueType) (held : Bool) → is_place k ≡ not held →
+    (e : tree_expressions.Expression) →
+    plain_read (variable_plain held e) ≡ runs.global_form k (expression_read e)
+global_read (PointerType spelling) false kept e = refl
+global_read (PointerType spelling) true kept e = absurd cc
+global_read _ true kept e = refl
+global_read _ false kept e = absurd cc
+
 -- operands are read as what is like them
 abbrev ArePlain : (operand : ℕ → PlainForm) (like : ℕ → Plain) → List ℕ → Type 0
 ArePlain operand like hs = AllByRecursion (λ x. plain_read (operand x) ≡ like x) hs
@@ -307,23 +316,28 @@ module _ (n : Naming) (code : Source) (spells : SpellsTypes code.declared.around
   abbrev pub ReadsOut : ℕ → Type 0
   ReadsOut x = IsReadAs n.names.outer (constant_tree code.declared all x) (constant_form code x)
 
-  -- so is a constant of the module, and the offset of a sampling
-  abbrev pub ConstantsRead : ir.Expression → Type 0
-  ConstantsRead (expression.Constant handle) =
+  -- so is a constant or an override of the module, and the offset of a sampling; and a variable of the
+  -- module whose handle has values of this type is a value just where these are no places
+  abbrev pub ItemsRead : ValueType → ir.Expression → Type 0
+  ItemsRead k (expression.Constant handle) =
       IsReadAs n.names.outer (code.declared.constant_tree handle) (code.constant handle)
-  ConstantsRead
+  ItemsRead k (expression.Override handle) =
+      trees_of_text.Name (code.type_names.override_name handle) ≡
+      runs.constant_form n.names.outer (code.declared.override_tree handle)
+  ItemsRead k (expression.GlobalVariable handle) = is_place k ≡ not (code.is_held handle)
+  ItemsRead k
       (expression.ImageSample
       image sampler gather coordinate array_index offset level depth_ref clamp) =
       AllByRecursion ReadsOut (option_to_list offset)
-  ConstantsRead e = Unit {0}
+  ItemsRead k e = Unit {0}
 
-  -- a type is known of the handle, and its constants are read so
-  abbrev pub IsKnown : (h : ℕ) → ir.Expression → Type 0
-  IsKnown h e = (is_some (code.declared.around.known h) ≡ true) × ConstantsRead e
+  -- a type is known of the handle, and what it names of the module is read so
+  abbrev pub IsKnown : ValueType → (h : ℕ) → ir.Expression → Type 0
+  IsKnown k h e = (is_some (code.declared.around.known h) ≡ true) × ItemsRead k e
 
   own_reads : (operand : ℕ → PlainForm) (like : ℕ → Plain) (k : ValueType) (h : ℕ)
       (e : ir.Expression) → ArePlain operand like (expression_operands e) →
-      expression_is_written m es e ≡ true → IsKnown h e →
+      expression_is_written m es e ≡ true → IsKnown k h e →
       plain_read (own_plain n code operand e) ≡ runs.own_form n like k (Some (shape_of code.declared all h e))
   own_reads operand like k h (expression.Literal value) same w known =
       ap (λ v. AsValue (LiteralOf v)) (literal_read value w)
@@ -332,6 +346,10 @@ module _ (n : Naming) (code : Source) (spells : SpellsTypes code.declared.around
       (known.1.2
       ∙ ap (λ o. runs.constant_form n.names.outer (unwrap_or o (Fixed (Truth false))))
       (sym known.1.1))
+  own_reads operand like k h (expression.Override handle) same w known = ap AsValue known.1
+  own_reads operand like k h (expression.GlobalVariable handle) same w known =
+      global_read k (code.is_held handle) known.1
+      (tree_expressions.Name (n.names.outer.global handle))
   own_reads operand like k h (expression.ZeroValue ty) same w known =
       zero_reads operand like k ty (code.declared.around.known h) known.0
   own_reads operand like k h (expression.Compose ty components) same w known =
@@ -458,7 +476,7 @@ module _ (n : Naming) (code : Source) (spells : SpellsTypes code.declared.around
       (e : Option ir.Expression) →
       ((x : ir.Expression) → e ≡ Some x → ArePlain operand like (expression_operands x)) →
       ((x : ir.Expression) → e ≡ Some x → expression_is_written m es x ≡ true) →
-      ((x : ir.Expression) → e ≡ Some x → IsKnown h x) →
+      ((x : ir.Expression) → e ≡ Some x → IsKnown k h x) →
       plain_read (own_if n code operand e) ≡
       runs.own_form n like k (option_map (shape_of code.declared all h) e)
   own_if_reads operand like k h (Some e) same w known =
@@ -472,20 +490,27 @@ AreWritten W m f es =
     (h : ℕ) (e : ir.Expression) → slice_get f.expressions h ≡ Some e → W h →
     expression_has_form m es f.expressions e ≡ true
 
+-- a variable of the module that is written is a value just where what is known of it has no places
+abbrev pub VariablesAreKnown : (W : ℕ → Type 0) → Module → ir_function.Function →
+    List ExpressionInfo → Type 0
+VariablesAreKnown W m f es =
+    (h v : ℕ) → slice_get f.expressions h ≡ Some (expression.GlobalVariable v) → W h →
+    is_place (type_at (map (λ e. type_of_values m e.ty) es) h) ≡ not (is_held m v)
+
 -- each constant that is written is read as its tree
-abbrev pub ConstantsAreRead : NameMap → Module → ModuleInfo → Type 0
-ConstantsAreRead names m info =
+abbrev pub ConstantsAreRead : Module → ModuleInfo → Type 0
+ConstantsAreRead m info =
     (c : ℕ) → constant_is_written m c ≡ true →
-    IsReadAs (outer_names names) (written_constant m info c)
+    IsReadAs (outer_names (module_names m) m) (written_constant m info c)
     (written_constant_form m (type_names m) c)
 
 standing_reads : (s : Standing) (p : PlainForm) (q : Plain) → plain_read p ≡ q → plain_read (standing_plain s p) ≡ runs.standing_form s q
 standing_reads (Named x) p q e = refl
 standing_reads _ p q e = e
 
-module _ (names : NameMap) (given : ℕ → List ℕ) (m : Module) (info : ModuleInfo) (g : ℕ) (f : ir_function.Function) (es : List ExpressionInfo) (values : IsTrue (types_are_of_part m)) (size : length f.expressions ≡ length es) (W : ℕ → Type 0) (closed : AreClosed W (binds (function_shape m info f es)) f) (written : AreWritten W m f es) (constants : ConstantsAreRead names m info) where
+module _ (given : ℕ → List ℕ) (m : Module) (info : ModuleInfo) (g : ℕ) (f : ir_function.Function) (es : List ExpressionInfo) (values : IsTrue (types_are_of_part m)) (size : length f.expressions ≡ length es) (W : ℕ → Type 0) (closed : AreClosed W (binds (function_shape m info f es)) f) (written : AreWritten W m f es) (constants : ConstantsAreRead m info) (variables : VariablesAreKnown W m f es) where
   abbrev own : Naming
-  own = function_naming names given m info g f es
+  own = function_naming (module_names m) given m info g f es
 
   abbrev source : Source
   source = function_source m info f es
@@ -513,16 +538,20 @@ module _ (names : NameMap) (given : ℕ → List ℕ) (m : Module) (info : Modul
   out_reads : (x : ℕ) → W x → is_written_out f.expressions x ≡ true →
       ReadsOut own source types_spelled places_are f.expressions m es x
   out_reads x w is =
-      read_out own.names.outer m info es source.type_names types_spelled constants W f.expressions
+      read_out own.names.outer m info es source.type_names types_spelled (names_are_read m) constants W
+      f.expressions
       known_at closed.operands
       (λ h e at w. (has_form_parts m es f.expressions e (written h e at w)).0) (suc x) x w is
 
   are_read : (h : ℕ) (e : ir.Expression) → slice_get f.expressions h ≡ Some e → W h →
-      ConstantsRead own source types_spelled places_are f.expressions m es e
+      ItemsRead own source types_spelled places_are f.expressions m es (handle_type own.function h) e
   are_read h (expression.Constant handle) at w =
       constants handle
       (has_form_parts m es f.expressions (expression.Constant handle)
       (written h (expression.Constant handle) at w)).0
+  are_read h (expression.Override handle) at w =
+      ap trees_of_text.Name ((names_are_read m).overrides handle)
+  are_read h (expression.GlobalVariable handle) at w = variables h handle at w
   are_read h
       (expression.ImageSample
       image sampler gather coordinate array_index offset level depth_ref clamp) at w =
@@ -701,7 +730,7 @@ pointer_reads m ty t at =
     (inner_tree_row text-append (type_names m) (λ handle. true) (inner.Pointer ty space.Function)
     ∙ ap (λ o. option_map type_layout (option_map (pointer_tree (codes "function") None) o)) at))
 
-module _ (given : ℕ → List ℕ) (m : Module) (info : ModuleInfo) (g : ℕ) (f : ir_function.Function) (es : List ExpressionInfo) (values : IsTrue (types_are_of_part m)) (size : length f.expressions ≡ length es) (W : ℕ → Type 0) (closed : AreClosed W (binds (function_shape m info f es)) f) (written : AreWritten W m f es) (constants : ConstantsAreRead (module_names m) m info) where
+module _ (given : ℕ → List ℕ) (m : Module) (info : ModuleInfo) (g : ℕ) (f : ir_function.Function) (es : List ExpressionInfo) (values : IsTrue (types_are_of_part m)) (size : length f.expressions ≡ length es) (W : ℕ → Type 0) (closed : AreClosed W (binds (function_shape m info f es)) f) (written : AreWritten W m f es) (constants : ConstantsAreRead m info) (variables : VariablesAreKnown W m f es) where
   abbrev own_names : Naming
   own_names = function_naming (module_names m) given m info g f es
 
@@ -713,7 +742,7 @@ module _ (given : ℕ → List ℕ) (m : Module) (info : ModuleInfo) (g : ℕ) (
       let pointer = pointer_reads m v.ty t.0 t.1 ∙ sym (mapped_at (λ l. local_pointer m l.ty) [] f.local_variables l v here) in
       let rest = locals_read formed (l + 1) vs later in
       λ i.
-      record { name = own_names.names.local_ l; pointer = pointer i; first_value = value_if_reads (module_names m) given m info g f es values size W closed written constants (at_start own_names.function) v.init (closed.firsts l v here) i }
+      record { name = own_names.names.local_ l; pointer = pointer i; first_value = value_if_reads given m info g f es values size W closed written constants variables (at_start own_names.function) v.init (closed.firsts l v here) i }
       ∷ (rest ∙ ap (λ k. variables_from own_names k (map (λ v. v.init) vs)) (add-one l)) i
     where
       later : (k : ℕ) → slice_get vs k ≡ slice_get f.local_variables (k + (l + 1))
@@ -726,23 +755,28 @@ pub locals_have_forms : (explicit : Bool) (m : Module) (info : ModuleInfo) (f : 
 locals_have_forms explicit m info f es have l v at = tree_there (type_names m) (Handle v.ty) (form_of_spellable m (Handle v.ty) (have.types (Handle v.ty) (OfLocal l v at)))
 
 -- whatever is written of a function is read as its shape is
-pub written_reads : (explicit : Bool) (given : ℕ → List ℕ) (m : Module) (info : ModuleInfo) (g : ℕ) (f : ir_function.Function) (es : List ExpressionInfo) → IsTrue (types_are_of_part m) → have_forms f.body ≡ true → length f.expressions ≡ length es → LocalsHaveForms (type_names m) f.local_variables → (W : ℕ → Type 0) → AreClosed W (binds (function_shape m info f es)) f → AreWritten W m f es → ConstantsAreRead (module_names m) m info → function_read (function_form explicit (module_names m) given m info g f es) ≡ form_function (function_naming (module_names m) given m info g f es)
-written_reads explicit given m info g f es values have size formed W closed written constants =
+pub written_reads : (explicit : Bool) (given : ℕ → List ℕ) (m : Module) (info : ModuleInfo) (g : ℕ) (f : ir_function.Function) (es : List ExpressionInfo) → IsTrue (types_are_of_part m) → have_forms f.body ≡ true → length f.expressions ≡ length es → LocalsHaveForms (type_names m) f.local_variables → (W : ℕ → Type 0) → AreClosed W (binds (function_shape m info f es)) f → AreWritten W m f es → ConstantsAreRead m info → VariablesAreKnown W m f es → function_read (function_form explicit (module_names m) given m info g f es) ≡ form_function (function_naming (module_names m) given m info g f es)
+written_reads explicit given m info g f es values have size formed W closed written constants variables =
     let names = module_names m in
-    let locals = locals_read given m info g f es values size W closed written constants formed 0 f.local_variables (λ k. ap (slice_get f.local_variables) (sym (add-zero k))) in
+    let locals = locals_read given m info g f es values size W closed written constants variables formed 0 f.local_variables (λ k. ap (slice_get f.local_variables) (sym (add-zero k))) in
     λ i. record {
       name = function_name names g;
       parameters = (names_counted names m.types g 0 f.arguments.items ∙ ap (names_from (argument_name names g) 0) (sym (mapped_length (λ a. declared_type m a.ty) f.arguments.items))) i;
       variables = locals i;
-      lines = lines_read names given m info g f es values size W closed written constants (told_type explicit m (type_names m) es) 0 f.body (at_start (function_shape m info f es)) have closed.body i;
+      lines = lines_read given m info g f es values size W closed written constants variables (told_type explicit m (type_names m) es) 0 f.body (at_start (function_shape m info f es)) have closed.body i;
     }
 
 pub function_reads : (explicit : Bool) (given : ℕ → List ℕ) (m : Module) (info : ModuleInfo) (g : ℕ) (f : ir_function.Function) (es : List ExpressionInfo) → IsTrue (types_are_of_part m) → IsTrue (declares_functions m) → length m.global_expressions ≡ length info.const_expression_types.items → IsTrue (function_is_written f) → WrittenHaveForms explicit m info f es → length f.expressions ≡ length es → function_read (function_form explicit (module_names m) given m info g f es) ≡ form_function (function_naming (module_names m) given m info g f es)
 function_reads explicit given m info g f es values declares own_size written have size =
-    let parts = function_parts f written in
-    let unnamed = (and_parts (list_all (λ c. is_none c.name) m.constants) _ declares).0 in
-    written_reads explicit given m info g f es values (written_have_forms f.body parts.body) size
+    let declared = (and_parts (list_all (λ c. is_none c.name) m.constants) _ declares).1 in
+    let variables = (and_parts (length m.overrides == 0) _ declared).1 in
+    let none = eqb-true (length m.global_variables) 0 (and_parts (length m.global_variables == 0) _ variables).0 in
+    written_reads explicit given m info g f es values (written_have_forms f.body (body_is_written f written)) size
     (locals_have_forms explicit m info f es have)
     (IsWrittenIn m info f es) (written_are_closed m info f es) have.expressions
-    (constants_read (outer_names (module_names m)) m info (type_names m)
-    (λ r. resolution_row text-append (type_names m) (λ handle. true) r) unnamed own_size)
+    (constants_read (outer_names (module_names m) m) m info (type_names m)
+    (λ r. resolution_row text-append (type_names m) (λ handle. true) r) (names_are_read m) own_size)
+    (λ h v at w.
+    let there = ltb-true v (length m.global_variables)
+    (has_form_parts m es f.expressions (expression.GlobalVariable v) (have.expressions h (expression.GlobalVariable v) at w)).0 in
+    absurd (omega (arith, there, none)))

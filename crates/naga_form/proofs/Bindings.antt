@@ -53,7 +53,7 @@ use Rattle.module_meaning.specs.Bindings.{module_annotations, BindsAs}
 use Rattle.module_meaning.specs.Part.{function_is_written}
 use Rattle.module_meaning.proofs.Part.{functions_are_written}
 use Rattle.naga_form.proofs.Abstraction.{written_have_forms}
-use Rattle.naga_form.proofs.PartFits.{function_parts}
+use Rattle.naga_form.proofs.PartFits.{body_is_written}
 use Rattle.naga_form.specs.Statements.{has_form, have_forms, have_forms_in, cases_have_forms}
 use Rattle.naga_form.specs.Statements.{store_line}
 use Rattle.naga_ir.specs.StatementTree.{break, continue, kill}
@@ -173,12 +173,12 @@ functions_tell explicit names m info g (f ∷ fs) (es ∷ ess) written =
     let parts = and_parts (function_is_written f) (list_all function_is_written fs) written in
     let n = function_naming names (given_name m g) m info g f es in
     let t = names_of m.types names in
-    let line = lines_tell n (told_type explicit m t es) (function_source m info f es) 0 f.body (written_have_forms f.body (function_parts f parts.0).body) (at_start n.function)
+    let line = lines_tell n (told_type explicit m t es) (function_source m info f es) 0 f.body (written_have_forms f.body (body_is_written f parts.0)) (at_start n.function)
     ∙ (λ i. map (λ b. told_spells explicit m t es b.handle i) (function_bindings n)) in
     λ i. line i ∷ functions_tell explicit names m info (g + 1) fs ess parts.1 i
 
 pub binds_as : (m : Module) (info : ModuleInfo) (explicit : Bool) → IsTrue (is_accepted m info) → IsTrue (is_written_so_far m) → AllWrittenHaveForms explicit m info → BindsAs m info explicit (written_program m info explicit)
 binds_as m info explicit accepted written have =
-    let names = ap text_lets (reads_as_shapes m info explicit accepted written have) ∙ binds_as_meant (module_shape m info) (outer_names (module_names m)) (namings (module_names m) m info) in
+    let names = ap text_lets (reads_as_shapes m info explicit accepted written have) ∙ binds_as_meant (module_shape m info) (outer_names (module_names m) m) (namings (module_names m) m info) in
     let annotations = functions_tell explicit (module_names m) m info 0 m.functions info.functions.items (functions_are_written m written) in
     λ i. record { names = names i; annotations = annotations i }

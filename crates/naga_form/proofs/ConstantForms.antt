@@ -6,12 +6,11 @@
 -- of one.
 use Rattle.std.proofs.Common.{◌≡◌, ℕ, zero, suc, ◌<◌, Bool, true, false, List, [], ◌∷◌, Option}
 use Rattle.std.proofs.Common.{Some, None, refl, sym, ap, ◌∙◌, subst, length, map}
-use Rattle.std.specs.Prelude.{slice_get, if◌then◌else◌, unwrap_or}
+use Rattle.std.specs.Prelude.{◌||◌, slice_get, if◌then◌else◌, unwrap_or}
 use Rattle.std.specs.List.{AllByRecursion, list_all}
-use Rattle.std.specs.Option.{is_none, is_some, option_and_then, option_map, option_map_or}
+use Rattle.std.specs.Option.{is_some, option_and_then, option_map, option_map_or}
 use Rattle.std.proofs.lemmas.Bool.{and_parts}
 use Rattle.std.proofs.lemmas.Option.{slice_get_within}
-use Rattle.module_meaning.proofs.Lists.{list_all_at}
 use Rattle.module_meaning.proofs.Part.{form_of_spellable}
 use Rattle.module_meaning.specs.AlikeTypes.{has_form}
 use Rattle.module_meaning.specs.Undeclared.{is_spellable}
@@ -19,25 +18,31 @@ use Rattle.module_meaning.specs.ExpressionOperators.{Surroundings, constructor}
 use Rattle.module_meaning.specs.ExpressionShapes.{Declared, built, tree_over, tree_then, tree_within}
 use Rattle.module_meaning.specs.ExpressionShapes.{trees, trees_of}
 use Rattle.module_meaning.specs.Literals.{literal_value}
+use Rattle.module_meaning.specs.Names.{constant_name, module_names}
+use Rattle.module_meaning.specs.Namings.{outer_names}
 use Rattle.module_meaning.specs.OperatorTable.{Operator, Splat, run_word}
-use Rattle.module_meaning.specs.Part.{constant_is_written, expression_is_written}
+use Rattle.module_meaning.specs.Part.{constant_is_written, constant_is_written_over}
+use Rattle.module_meaning.specs.Part.{expression_is_written}
 use Rattle.module_meaning.specs.Part.{global_is_written, global_is_written_over}
-use Rattle.module_meaning.specs.Part.{global_is_written_within, initialiser_passes}
-use Rattle.module_meaning.specs.Part.{is_written_literal}
+use Rattle.module_meaning.specs.Part.{global_is_written_within, is_written_literal}
 use Rattle.module_meaning.specs.Surroundings.{constant_number, constant_over, declared, declared_over}
 use Rattle.module_meaning.specs.Surroundings.{global_tree, global_tree_within, global_types_known}
+use Rattle.module_meaning.specs.Surroundings.{override_number}
 use Rattle.module_meaning.specs.Surroundings.{surroundings, types_known, written_constant}
 use Rattle.module_meaning.specs.Surroundings.{zero_of_type}
+use Rattle.module_meaning.specs.Types.{type_names}
 use Rattle.naga_info.specs.declared.info.ExpressionInfo.{ExpressionInfo}
 use Rattle.naga_info.specs.declared.info.ModuleInfo.{ModuleInfo}
 use Rattle.module_meaning.specs.Writable.{written_out_over, written_out_within}
+use Rattle.naga_form.proofs.NamedConstants.{constant_numbered, override_numbered}
+use Rattle.naga_form.proofs.SameValues.{or_nothing}
 use Rattle.naga_form.proofs.WrittenHandles.{all_map}
 use Rattle.naga_form.proofs.Literals.{literal_read}
 use Rattle.naga_form.proofs.Operators.{IsCalled, Spells, SpellsTypes, called_applied}
 use Rattle.naga_form.proofs.Operators.{constructor_called, constructor_spelled}
 use Rattle.naga_form.proofs.Operators.{HasFormAt, splat_called, typed_notation}
-use Rattle.naga_form.specs.ConstantForms.{built_form, constant_form_over, constant_form_within}
-use Rattle.naga_form.specs.ConstantForms.{global_form, global_form_within, initialiser_form}
+use Rattle.naga_form.specs.ConstantForms.{built_form, constant_form_by, constant_form_over}
+use Rattle.naga_form.specs.ConstantForms.{constant_form_within, global_form, global_form_within}
 use Rattle.naga_form.specs.ConstantForms.{no_constant_form, written_constant_form}
 use Rattle.naga_form.specs.Literals.{literal_form}
 use Rattle.naga_form.specs.Operators.{applied_form, notation}
@@ -50,21 +55,38 @@ use Rattle.naga_ir.specs.declared.expression.Expression.TheVariants as expressio
 use Rattle.naga_ir.specs.declared.module.Constant as ir_constant
 use Rattle.naga_ir.specs.declared.module.Module.{Module}
 use Rattle.naga_names.proofs.Refusal.{element}
+use Rattle.naga_names.specs.declared.key.NameKey.TheVariants as key
 use Rattle.naga_words.specs.Contexts.{Names as TypeNames}
 use Rattle.shader_runs.specs.Form.{constant_form, constant_forms}
 use Rattle.shader_runs.specs.Program.{ConstantTree, Constructed, Fixed, NamedConstant}
 use Rattle.shader_runs.specs.Scope.{ModuleNames}
-use Rattle.shader_runs.specs.Text.{Apply, LiteralOf, more, no_more}
+use Rattle.shader_runs.specs.Text.{Apply, LiteralOf, Name, more, no_more}
 use Rattle.text_meaning.specs.Abstraction.{arguments_read, expression_read}
 use Rattle.wgsl_text.proofs.Building.{called_words}
-use Rattle.wgsl_text.specs.Expressions.{Constant, Expression, IsExpression, operands}
+use Rattle.wgsl_text.specs.Expressions.{Constant, Expression, IsExpression, Name as NameExpression}
+use Rattle.wgsl_text.specs.Expressions.{operands}
 use Rattle.wgsl_text.specs.Functions.{Each}
+use Rattle.wgsl_text.specs.Words.{IsIdentifier}
 use Rattle.wgsl_text.specs.Types.{Named}
 
 -- there is a tree, and the form is read as it
 abbrev pub IsReadAs : ModuleNames → Option ConstantTree → Expression → Type 0
 IsReadAs outer tree form =
     (c : ConstantTree) × (tree ≡ Some c) × (expression_read form ≡ constant_form outer c)
+
+-- the names of the constants and overrides of a module stand for what has their numbers
+pub record NamesAreRead (outer : ModuleNames) (m : Module) (t : TypeNames) : Type 0 where
+  pub constants : (c : ℕ) (k : ir_constant.Constant) → slice_get m.constants c ≡ Some k →
+      is_some k.name ≡ true → constant_name (module_names m) c ≡ outer.constant (constant_number m c)
+  pub overrides : (o : ℕ) → t.override_name o ≡ outer.constant (override_number m o)
+
+pub names_are_read : (m : Module) →
+    NamesAreRead (outer_names (module_names m) m) m (type_names m)
+names_are_read m = record {
+  constants = λ c k at named. sym (constant_numbered (module_names m) m c k at named);
+  overrides = λ o.
+      or_nothing (module_names m (key.Override o)) ∙ sym (override_numbered (module_names m) m o);
+}
 
 -- ---- what is read
 module _ (outer : ModuleNames) (m : Module) (constants : ℕ → Option ConstantTree)
@@ -99,6 +121,8 @@ module _ (outer : ModuleNames) (m : Module) (constants : ℕ → Option Constant
     abbrev OutOf : ir.Expression → Type 0
     OutOf (expression.Literal value) = is_written_literal value ≡ true
     OutOf (expression.Constant handle) = IsReadAs outer (constants handle) (constant handle)
+    OutOf (expression.Override handle) =
+        t.override_name handle ≡ outer.constant (override_number m handle)
     OutOf (expression.ZeroValue ty) = Unit {0}
     OutOf (expression.Compose ty components) = AllByRecursion ReadsOut components.items
     OutOf (expression.Splat size value) = ReadsOut value
@@ -122,6 +146,8 @@ module _ (outer : ModuleNames) (m : Module) (constants : ℕ → Option Constant
     over_read h is (expression.Literal value) out =
         (Fixed (literal_value value), refl, ap LiteralOf (literal_read value out))
     over_read h is (expression.Constant handle) out = out
+    over_read h is (expression.Override handle) out =
+        (NamedConstant (override_number m handle), refl, ap Name out)
     over_read h is (expression.ZeroValue ty) out =
         let op = constructor a (Handle ty) 0 in
         built_read h is op [] (built_form a t ty 0 [])
@@ -151,6 +177,7 @@ module _ (outer : ModuleNames) (m : Module) (constants : ℕ → Option Constant
 -- ---- of a function
 module _ (outer : ModuleNames) (m : Module) (info : ModuleInfo) (es : List ExpressionInfo)
     (t : TypeNames) (spells : SpellsTypes (surroundings m (types_known es)) t)
+    (named : NamesAreRead outer m t)
     (constants : (c : ℕ) → constant_is_written m c ≡ true →
     IsReadAs outer (written_constant m info c) (written_constant_form m t c))
     (W : ℕ → Type 0) (all : List ir.Expression)
@@ -193,7 +220,7 @@ module _ (outer : ModuleNames) (m : Module) (info : ModuleInfo) (es : List Expre
           (out_form levels) (written_constant_form m t) e
       out_of each (expression.Literal value) w written is = written
       out_of each (expression.Constant handle) w written is = constants handle written
-      out_of each (expression.Override handle) w written is = absurd cc
+      out_of each (expression.Override handle) w written is = named.overrides handle
       out_of each (expression.ZeroValue ty) w written is = tt
       out_of each (expression.Compose ty components) w written is =
           each_of each components.items w is
@@ -216,43 +243,40 @@ module _ (outer : ModuleNames) (m : Module) (info : ModuleInfo) (es : List Expre
 -- ---- of a module
 module _ (outer : ModuleNames) (m : Module) (info : ModuleInfo) (t : TypeNames)
     (spells : SpellsTypes (surroundings m (λ h. None)) t)
-    (unnamed : list_all (λ c. is_none c.name) m.constants ≡ true)
+    (named : NamesAreRead outer m t)
     (size : length m.global_expressions ≡ length info.const_expression_types.items) where
   -- a constant, over what is said of the module's own expressions
   constant_read : (own : ℕ → Bool) (tree_of : ℕ → Option ConstantTree) (part : ℕ → Expression) →
       ((x : ℕ) → own x ≡ true → IsReadAs outer (tree_of x) (part x)) → (c : ℕ) →
-      initialiser_passes m own c ≡ true →
-      IsReadAs outer (constant_over m tree_of c) (initialiser_form m part c)
+      constant_is_written_over m own c ≡ true →
+      IsReadAs outer (constant_over m tree_of c) (constant_form_by m part c)
   constant_read own tree_of part each c is = by (slice_get m.constants c) refl is
     where
-      named : (k : ir_constant.Constant) → is_none k.name ≡ true → own k.init ≡ true →
+      by_name : (k : ir_constant.Constant) (b : Bool) → is_some k.name ≡ b →
+          (is_some k.name ≡ true →
+          constant_name (module_names m) c ≡ outer.constant (constant_number m c)) →
+          (b || own k.init) ≡ true →
           IsReadAs outer
           (Some
-          (if is_some k.name then NamedConstant (constant_number m c)
+          (if b then NamedConstant (constant_number m c)
           else unwrap_or (tree_of k.init) (zero_of_type m k.ty)))
-          (part k.init)
-      named k none is = by k.name none (each k.init is)
-        where
-          by : {X : Type 0} (name : Option X) → is_none name ≡ true →
-              IsReadAs outer (tree_of k.init) (part k.init) →
-              IsReadAs outer
-              (Some
-              (if is_some name then NamedConstant (constant_number m c)
-              else unwrap_or (tree_of k.init) (zero_of_type m k.ty)))
-              (part k.init)
-          by None none one = (one.0, ap (λ o. Some (unwrap_or o (zero_of_type m k.ty))) one.1, one.2)
-          by (Some name) none one = absurd cc
+          (if b then NameExpression (constant_name (module_names m) c) else part k.init)
+      by_name k true at read is = (NamedConstant (constant_number m c), refl, ap Name (read at))
+      by_name k false at read is =
+          let one = each k.init is in
+          (one.0, ap (λ o. Some (unwrap_or o (zero_of_type m k.ty))) one.1, one.2)
 
       by : (o : Option ir_constant.Constant) → slice_get m.constants c ≡ o →
-          option_map_or (λ c. own c.init) o false ≡ true →
+          option_map_or (λ k. is_some k.name || own k.init) o false ≡ true →
           IsReadAs outer
           (option_map
           (λ k. if is_some k.name then NamedConstant (constant_number m c)
           else unwrap_or (tree_of k.init) (zero_of_type m k.ty)) o)
-          (option_map_or (λ c. part c.init) o no_constant_form)
+          (option_map_or
+          (λ k. if is_some k.name then NameExpression (constant_name (module_names m) c)
+          else part k.init) o no_constant_form)
       by None at is = absurd cc
-      by (Some k) at is =
-          named k (list_all_at (λ c. is_none c.name) m.constants c k unnamed at) is
+      by (Some k) at is = by_name k (is_some k.name) refl (named.constants c k at) is
 
   global_read : (levels h : ℕ) → global_is_written_within levels m h ≡ true →
       IsReadAs outer (global_tree_within levels m info h) (global_form_within levels m t h)
@@ -278,10 +302,11 @@ module _ (outer : ModuleNames) (m : Module) (info : ModuleInfo) (t : TypeNames)
       out_of : ((x : ℕ) → own x ≡ true → IsReadAs outer (tree_of x) (part x)) →
           (e : ir.Expression) → global_is_written_over m own e ≡ true →
           OutOf outer m (constant_over m tree_of) (global_types_known info) (λ h. None) t spells
-          tree_of part (initialiser_form m part) e
+          tree_of part (constant_form_by m part) e
       out_of each (expression.Literal value) is = is
       out_of each (expression.Constant handle) is =
           constant_read own tree_of part each handle is
+      out_of each (expression.Override handle) is = named.overrides handle
       out_of each (expression.ZeroValue ty) is = tt
       out_of each (expression.Compose ty components) is =
           all_read each components.items
@@ -303,12 +328,12 @@ module _ (outer : ModuleNames) (m : Module) (info : ModuleInfo) (t : TypeNames)
           (option_and_then
           (tree_over (declared_over m (constant_over m tree_of) (global_types_known info)) tree_of h) o)
           (option_map_or
-          (constant_form_over (surroundings m (λ x. None)) t (initialiser_form m part) part) o
+          (constant_form_over (surroundings m (λ x. None)) t (constant_form_by m part) part) o
           no_constant_form)
       by None at is each = absurd cc
       by (Some e) at is each =
           over_read outer m (constant_over m tree_of) (global_types_known info) (λ h. None) t spells
-          tree_of part (initialiser_form m part) h (known e at) e (out_of each e is)
+          tree_of part (constant_form_by m part) h (known e at) e (out_of each e is)
 
   -- a constant that is written is read as its tree
   pub constants_read : (c : ℕ) → constant_is_written m c ≡ true →
@@ -323,6 +348,7 @@ module _ (a : Surroundings) (t : TypeNames) (constant part : ℕ → Expression)
   abbrev IsOutOf : ir.Expression → Type 0
   IsOutOf (expression.Literal value) = IsExpression (Constant (literal_form value))
   IsOutOf (expression.Constant handle) = IsExpression (constant handle)
+  IsOutOf (expression.Override handle) = IsIdentifier (t.override_name handle)
   IsOutOf (expression.ZeroValue ty) = HasFormAt t ty
   IsOutOf (expression.Compose ty components) =
       HasFormAt t ty × AllByRecursion (λ x. IsExpression (part x)) components.items
@@ -346,6 +372,7 @@ module _ (a : Surroundings) (t : TypeNames) (constant part : ℕ → Expression)
   over_is : (e : ir.Expression) → IsOutOf e → IsExpression (constant_form_over a t constant part e)
   over_is (expression.Literal value) is = is
   over_is (expression.Constant handle) is = is
+  over_is (expression.Override handle) is = is
   over_is (expression.ZeroValue ty) is = built_is ty 0 is [] tt
   over_is (expression.Compose ty components) is =
       built_is ty (length components.items) is.0 (map part components.items)
@@ -364,6 +391,8 @@ module _ (a : Surroundings) (t : TypeNames) (constant : ℕ → Expression) (es 
     IsExpression (Constant (literal_form value)))
     (constants : (h c : ℕ) → slice_get es h ≡ Some (expression.Constant c) → W h →
     IsExpression (constant c))
+    (overrides : (h o : ℕ) → slice_get es h ≡ Some (expression.Override o) →
+    IsIdentifier (t.override_name o))
     (zeros : (h ty : ℕ) → slice_get es h ≡ Some (expression.ZeroValue ty) → W h → HasFormAt t ty)
     (composed : (h ty : ℕ) (parts : _) → slice_get es h ≡ Some (expression.Compose ty parts) → W h →
     HasFormAt t ty) where
@@ -379,6 +408,7 @@ module _ (a : Surroundings) (t : TypeNames) (constant : ℕ → Expression) (es 
           slice_get es h ≡ Some e → IsOutOf a t constant part e
       out_of each (expression.Literal value) at = literals h value at w
       out_of each (expression.Constant handle) at = constants h handle at w
+      out_of each (expression.Override handle) at = overrides h handle at
       out_of each (expression.ZeroValue ty) at = zeros h ty at w
       out_of each (expression.Compose ty parts) at = (
         composed h ty parts at w,
@@ -398,16 +428,29 @@ module _ (a : Surroundings) (t : TypeNames) (constant : ℕ → Expression) (es 
 module _ (m : Module) (t : TypeNames)
     (literals : (h : ℕ) (value : _) → slice_get m.global_expressions h ≡ Some (expression.Literal value) →
     is_written_literal value ≡ true → IsExpression (Constant (literal_form value)))
+    (named : (c : ℕ) → c < length m.constants → IsIdentifier (constant_name (module_names m) c))
+    (overrides : (h o : ℕ) → slice_get m.global_expressions h ≡ Some (expression.Override o) →
+    IsIdentifier (t.override_name o))
     (formed : (ty : ℕ) → has_form m.types (Handle ty) ≡ true → HasFormAt t ty) where
-  initialiser_is : (own : ℕ → Bool) (part : ℕ → Expression) →
+  constant_is_by : (own : ℕ → Bool) (part : ℕ → Expression) →
       ((x : ℕ) → own x ≡ true → IsExpression (part x)) → (c : ℕ) →
-      initialiser_passes m own c ≡ true → IsExpression (initialiser_form m part c)
-  initialiser_is own part each c is = by (slice_get m.constants c) is
+      constant_is_written_over m own c ≡ true → IsExpression (constant_form_by m part c)
+  constant_is_by own part each c is = by (slice_get m.constants c) refl is
     where
-      by : (o : Option ir_constant.Constant) → option_map_or (λ c. own c.init) o false ≡ true →
-          IsExpression (option_map_or (λ c. part c.init) o no_constant_form)
-      by None is = absurd cc
-      by (Some k) is = each k.init is
+      by_name : (k : ir_constant.Constant) (b : Bool) → c < length m.constants →
+          (b || own k.init) ≡ true →
+          IsExpression (if b then NameExpression (constant_name (module_names m) c) else part k.init)
+      by_name k true lt is = named c lt
+      by_name k false lt is = each k.init is
+
+      by : (o : Option ir_constant.Constant) → slice_get m.constants c ≡ o →
+          option_map_or (λ k. is_some k.name || own k.init) o false ≡ true →
+          IsExpression
+          (option_map_or
+          (λ k. if is_some k.name then NameExpression (constant_name (module_names m) c)
+          else part k.init) o no_constant_form)
+      by None at is = absurd cc
+      by (Some k) at is = by_name k (is_some k.name) (slice_get_within m.constants c k at) is
 
   pub global_is : (levels h : ℕ) → global_is_written_within levels m h ≡ true →
       IsExpression (global_form_within levels m t h)
@@ -429,9 +472,10 @@ module _ (m : Module) (t : TypeNames)
 
       out_of : ((x : ℕ) → own x ≡ true → IsExpression (part x)) → (e : ir.Expression) →
           slice_get m.global_expressions h ≡ Some e → global_is_written_over m own e ≡ true →
-          IsOutOf (surroundings m (λ x. None)) t (initialiser_form m part) part e
+          IsOutOf (surroundings m (λ x. None)) t (constant_form_by m part) part e
       out_of each (expression.Literal value) at is = literals h value at is
-      out_of each (expression.Constant handle) at is = initialiser_is own part each handle is
+      out_of each (expression.Constant handle) at is = constant_is_by own part each handle is
+      out_of each (expression.Override handle) at is = overrides h handle at
       out_of each (expression.ZeroValue ty) at is = formed ty (form_of_spellable m (Handle ty) is)
       out_of each (expression.Compose ty parts) at is =
           let both = and_parts (is_spellable m (Handle ty)) (list_all own parts.items) is in
@@ -444,15 +488,15 @@ module _ (m : Module) (t : TypeNames)
           ((x : ℕ) → own x ≡ true → IsExpression (part x)) →
           IsExpression
           (option_map_or
-          (constant_form_over (surroundings m (λ x. None)) t (initialiser_form m part) part) o
+          (constant_form_over (surroundings m (λ x. None)) t (constant_form_by m part) part) o
           no_constant_form)
       by None at is each = tt
       by (Some e) at is each =
-          over_is (surroundings m (λ x. None)) t (initialiser_form m part) part e
+          over_is (surroundings m (λ x. None)) t (constant_form_by m part) part e
           (out_of each e at is)
 
   -- a constant that is written
   pub constant_is : (c : ℕ) → constant_is_written m c ≡ true →
       IsExpression (written_constant_form m t c)
   constant_is c is =
-      initialiser_is (global_is_written m) (global_form m t) (λ x is. global_is (suc x) x is) c is
+      constant_is_by (global_is_written m) (global_form m t) (λ x is. global_is (suc x) x is) c is

@@ -22,7 +22,7 @@ use Rattle.naga_names.proofs.NamedItems.{Stands}
 use Rattle.naga_names.proofs.Refusal.{element}
 use Rattle.naga_names.proofs.Reset.{labels_of-around}
 use Rattle.module_meaning.specs.GivenLabels.{all_given_labels, given_labels, name_of_label}
-use Rattle.module_meaning.specs.Names.{AreCounted, NamesAreCounted, given_name, item_labels}
+use Rattle.module_meaning.specs.Names.{given_name, item_labels}
 use Rattle.module_meaning.specs.Names.{labels_before, module_labels, module_names, name_in}
 use Rattle.module_meaning.specs.Names.{numbered_name, wgsl_names}
 use Rattle.wgsl_text.specs.Words.{IsIdentifier, is_builtin}
@@ -55,16 +55,14 @@ begins (w ∷ a) x r (z ∷ b) y s same lt =
     let inner = begins a x r b y s tails (omega (arith, lt)) in
     (inner.0, λ i. head i ∷ inner.1 i)
 
-module _ (labels : List (List ℕ)) (few : AreCounted labels) where
+module _ (labels : List (List ℕ)) where
   -- labels at two places have different names
   differ : (a : List (List ℕ)) (x : List ℕ) (b : List (List ℕ)) (y : List ℕ) →
       StandsBehind labels a x → StandsBehind labels b y → length a < length b →
       name_after wgsl_names a x ≡ name_after wgsl_names b y → ⊥
   differ a x b y s t lt same =
       let middle = begins a x s.rest b y t.rest (sym s.all ∙ t.all) lt in
-      let whole = t.all ∙ ap (λ e. e ++ y ∷ t.rest) middle.1 in
-      names_differ wgsl_names a x middle.0 y t.rest
-      (λ base. subst (λ ls. labels_with_base wgsl_names ls base ≤ 2 ^ 32) whole (few base))
+      names_differ wgsl_names a x middle.0 y
       (same ∙ ap (λ e. name_after wgsl_names e y) middle.1)
 
   -- two places with one name are one
@@ -80,14 +78,6 @@ module _ (labels : List (List ℕ)) (few : AreCounted labels) where
       by (inr (inr lt)) = absurd (differ b y a x t s lt (sym same))
 
 -- ---- the labels of a module
--- the items' labels are counted where all are
-pub items_counted : (m : Module) → NamesAreCounted m → AreCounted (item_labels m)
-items_counted m few base =
-    let given = all_given_labels m.functions in
-    let both = sum_by-append (λ l. cond (bytes_eq (label_base wgsl_names l) base) 1 0)
-    (item_labels m) given in
-    omega (arith, both, few base)
-
 module _ (m : Module) where
   -- where the label of an item stands
   abbrev pub before_item : (item : LabelledItem) → Stands (labelled_items wgsl_names m) item →
@@ -173,12 +163,12 @@ module _ (m : Module) where
         (sym (given_name_is k label.0 label.1) ∙ e)
 
     -- nor has an item of the module
-    pub given_no_item : NamesAreCounted m → (k : ℕ) → k < length labels → (item : LabelledItem) →
+    pub given_no_item : (k : ℕ) → k < length labels → (item : LabelledItem) →
         Stands (labelled_items wgsl_names m) item →
         name_in (module_names m) item.0 ≢ given_name m g k
-    given_no_item few k lt item s e =
+    given_no_item k lt item s e =
         let label = element labels k lt in
-        let same = names_tell (module_labels m) few (before_item item s) item.1 (before_given k) label.0
+        let same = names_tell (module_labels m) (before_item item s) item.1 (before_given k) label.0
         (item_stands item s) (given_stands k label.0 label.1)
         (sym (name_is m item s) ∙ (e ∙ given_name_is k label.0 label.1)) in
         let short = before_item_short item s in
@@ -187,12 +177,12 @@ module _ (m : Module) where
         omega (arith, same, short, one, two)
 
     -- and it is given once
-    pub givens_tell : NamesAreCounted m → (j k : ℕ) → j < length labels → k < length labels →
+    pub givens_tell : (j k : ℕ) → j < length labels → k < length labels →
         given_name m g j ≡ given_name m g k → j ≡ k
-    givens_tell few j k lj lk e =
+    givens_tell j k lj lk e =
         let a = element labels j lj in
         let b = element labels k lk in
-        let same = names_tell (module_labels m) few (before_given j) a.0 (before_given k) b.0
+        let same = names_tell (module_labels m) (before_given j) a.0 (before_given k) b.0
         (given_stands j a.0 a.1) (given_stands k b.0 b.1)
         (sym (given_name_is j a.0 a.1) ∙ (e ∙ given_name_is k b.0 b.1)) in
         let one = length-append (labels_before m g) (take j labels) in

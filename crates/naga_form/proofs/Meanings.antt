@@ -32,7 +32,7 @@ use Rattle.wgsl_text.specs.Requests.{is_request}
 use Rattle.module_meaning.specs.Accepted.{is_accepted}
 use Rattle.module_meaning.specs.Meanings.{HasTypedWorld, IsNeverStuck}
 use Rattle.module_meaning.specs.ModuleShapes.{module_shape}
-use Rattle.module_meaning.specs.Names.{NamesAreCounted, module_names, function_name}
+use Rattle.module_meaning.specs.Names.{module_names, function_name}
 use Rattle.module_meaning.specs.Part.{block_is_written, function_is_written, is_written_so_far}
 use Rattle.module_meaning.specs.Part.{statement_is_written}
 use Rattle.module_meaning.specs.Premises.{ScopesHold}
@@ -44,7 +44,7 @@ use Rattle.module_meaning.specs.Namings.{namings, outer_names}
 use Rattle.module_meaning.specs.Surroundings.{declared, types_known}
 use Rattle.module_meaning.proofs.ModuleShapes.{declares_functions_alone}
 use Rattle.module_meaning.proofs.Part.{functions_are_written}
-use Rattle.naga_form.proofs.PartFits.{function_parts}
+use Rattle.naga_form.proofs.PartFits.{body_is_written}
 use Rattle.naga_form.proofs.Runs.{module_fits, reads_as_shapes}
 use Rattle.module_meaning.specs.Written.{AllWrittenHaveForms}
 use Rattle.naga_form.proofs.ScopeRules.{scopes_are_checked}
@@ -72,7 +72,7 @@ all_are_written m info (f ∷ fs) (es ∷ ess) written behind all =
       record {
         around = (declared m info (types_known es)).around;
         block = f.body;
-        written = (function_parts f parts.0).body;
+        written = body_is_written f parts.0;
         same = refl;
       },
       all,
@@ -140,8 +140,8 @@ module _ (m : Module) (info : ModuleInfo) (written : IsTrue (is_written_so_far m
       steady_world shape settings meaning
       (λ w j n g vs. steady_calls (environment_of shape settings meaning) w meaning shape.functions all_written j n g vs [])
 
-  pub never_stuck : IsTrue (is_accepted m info) → (explicit : Bool) → AllWrittenHaveForms explicit m info → ScopesHold m info → NamesAreCounted m → IsNeverStuck m info (written_program m info explicit)
-  never_stuck accepted explicit have scope counted settings fit meaning typed g f found arguments typed_arguments world turns past =
+  pub never_stuck : IsTrue (is_accepted m info) → (explicit : Bool) → AllWrittenHaveForms explicit m info → ScopesHold m info → IsNeverStuck m info (written_program m info explicit)
+  never_stuck accepted explicit have scope settings fit meaning typed g f found arguments typed_arguments world turns past =
       subst (λ (text : TextModule). IsNotStuck (run_module shape settings world meaning turns g arguments past) × (KeepsTypes (run_module shape settings world meaning turns g arguments past) → IsNotStuck (follow_module text settings world meaning is_request turns (function_name (module_names m) g) arguments past)))
       (sym (reads_as_shapes m info explicit accepted written have))
-      (runs_are_not_stuck shape (outer_names (module_names m)) (namings (module_names m) m info) (module_fits m info accepted written ((scopes_are_checked m info accepted written).1 scope) counted) (all_well_formed m info accepted) settings fit meaning typed g f found arguments typed_arguments world turns past)
+      (runs_are_not_stuck shape (outer_names (module_names m) m) (namings (module_names m) m info) (module_fits m info accepted written ((scopes_are_checked m info accepted written).1 scope)) (all_well_formed m info accepted) settings fit meaning typed g f found arguments typed_arguments world turns past)

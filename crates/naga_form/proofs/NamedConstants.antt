@@ -1,18 +1,22 @@
 -- The named constants of a module and its overrides in the list of types that its program of shapes
 -- has for them.
-use Rattle.std.proofs.Common.{◌≡◌, ℕ, zero, suc, ◌+◌, ◌<◌, Bool, true, false, List, [], ◌∷◌, ◌++◌, refl, sym, ap, ◌∙◌, length, take}
+use Rattle.std.proofs.Common.{◌≡◌, ℕ, zero, suc, ◌+◌, ◌-◌, ◌<◌, ◌≤◌, Bool, true, false, List, [], ◌∷◌, ◌++◌, refl, sym, ap, ◌∙◌, length, take}
 use Rattle.std.proofs.Common.{Some, slice_get, map, arith}
 use Rattle.std.specs.Prelude.{if◌then◌else◌}
 use Rattle.std.specs.List.{filter}
-use Rattle.std.specs.Option.{option_map, is_some}
+use Rattle.std.specs.Option.{option_map, option_map_or, is_some}
 use Rattle.std.proofs.lemmas.List.{length-map, length-append, get_or_append_left, get_or-append-add}
-use Rattle.std.proofs.lemmas.Option.{slice_get-map, slice_get_within, get_or_from_slice_get}
+use Rattle.std.proofs.lemmas.Option.{slice_get-map, slice_get_past, slice_get_within, get_or_from_slice_get}
 use Rattle.naga_ir.specs.declared.module.Constant.{Constant}
 use Rattle.naga_ir.specs.declared.module.Module.{Module}
 use Rattle.naga_ir.specs.declared.module.Override.{Override}
 use Rattle.naga_info.specs.declared.info.ModuleInfo.{ModuleInfo}
 use Rattle.naga_info.specs.declared.info.TypeResolution.TheVariants.{Handle}
+use Rattle.naga_names.specs.Keys.{NameMap}
+use Rattle.naga_names.specs.declared.key.NameKey.TheVariants as key
 use Rattle.module_meaning.specs.ModuleShapes.{module_shape, named_constants}
+use Rattle.module_meaning.specs.Names.{constant_name, name_in, override_name}
+use Rattle.module_meaning.specs.Namings.{named_handles, outer_names}
 use Rattle.module_meaning.specs.OperatorTable.{if_there}
 use Rattle.module_meaning.specs.Surroundings.{named_count, constant_number, override_number}
 use Rattle.module_meaning.specs.Types.{type_of_values}
@@ -46,6 +50,57 @@ count_is (d ∷ cs) = by (count_is cs) (is_named d)
     by : length (filter is_named cs) ≡ named_count cs → (b : Bool) → length (if b then d ∷ filter is_named cs else filter is_named cs) ≡ if_there b + named_count cs
     by rest true = let at : 1 + named_count cs ≡ suc (named_count cs) = omega arith in ap (λ n. suc n) rest ∙ sym at
     by rest false = let at : 0 + named_count cs ≡ named_count cs = omega arith in rest ∙ sym at
+
+-- its handle stands there too, where k is that of the first one
+handle_at : (k : ℕ) (cs : List Constant) (h : ℕ) (c : Constant) → slice_get cs h ≡ Some c → is_named c ≡ true →
+    slice_get (named_handles k cs) (named_count (take h cs)) ≡ Some (k + h)
+handle_at k [] h c here named = absurd cc
+handle_at k (d ∷ cs) zero c here named = by (is_named d) refl
+  where
+    first : k ≡ k + 0
+    first = omega arith
+
+    by : (b : Bool) → is_named d ≡ b → slice_get (if b then k ∷ named_handles (suc k) cs else named_handles (suc k) cs) 0 ≡ Some (k + 0)
+    by true at = ap Some first
+    by false at = absurd cc
+handle_at k (d ∷ cs) (suc h) c here named = by (handle_at (suc k) cs h c here named) (is_named d)
+  where
+    next : suc k + h ≡ k + suc h
+    next = omega arith
+
+    by : slice_get (named_handles (suc k) cs) (named_count (take h cs)) ≡ Some (suc k + h) → (b : Bool) → slice_get (if b then k ∷ named_handles (suc k) cs else named_handles (suc k) cs) (if_there b + named_count (take h cs)) ≡ Some (k + suc h)
+    by rest true = let at : 1 + named_count (take h cs) ≡ suc (named_count (take h cs)) = omega arith in
+        ap (slice_get (k ∷ named_handles (suc k) cs)) at ∙ (rest ∙ ap Some next)
+    by rest false = let at : 0 + named_count (take h cs) ≡ named_count (take h cs) = omega arith in
+        ap (slice_get (named_handles (suc k) cs)) at ∙ (rest ∙ ap Some next)
+
+handles_count : (k : ℕ) (cs : List Constant) → length (named_handles k cs) ≡ named_count cs
+handles_count k [] = refl
+handles_count k (d ∷ cs) = by (handles_count (suc k) cs) (is_named d)
+  where
+    by : length (named_handles (suc k) cs) ≡ named_count cs → (b : Bool) → length (if b then k ∷ named_handles (suc k) cs else named_handles (suc k) cs) ≡ if_there b + named_count cs
+    by rest true = let at : 1 + named_count cs ≡ suc (named_count cs) = omega arith in ap (λ n. suc n) rest ∙ sym at
+    by rest false = let at : 0 + named_count cs ≡ named_count cs = omega arith in rest ∙ sym at
+
+-- what has the number of a constant with a name, and that of an override, has its name
+pub constant_numbered : (names : NameMap) (m : Module) (h : ℕ) (c : Constant) → slice_get m.constants h ≡ Some c → is_some c.name ≡ true →
+    (outer_names names m).constant (constant_number m h) ≡ constant_name names h
+constant_numbered names m h c here named =
+    let first : 0 + h ≡ h = omega arith in
+    let other = constant_number m h - named_count m.constants in
+    ap (λ o. name_in names (option_map_or key.Constant o (key.Override other)))
+    (handle_at 0 m.constants h c here named ∙ ap Some first)
+
+pub override_numbered : (names : NameMap) (m : Module) (o : ℕ) →
+    (outer_names names m).constant (override_number m o) ≡ override_name names o
+override_numbered names m o =
+    let n = named_count m.constants in
+    let count = handles_count 0 m.constants in
+    let past : length (named_handles 0 m.constants) ≤ n + o = omega (arith, count) in
+    let back : (n + o) - n ≡ o = omega arith in
+    ap (λ k. name_in names (option_map_or key.Constant k (key.Override ((n + o) - n))))
+    (slice_get_past (named_handles 0 m.constants) (n + o) past)
+    ∙ ap (λ k. name_in names (key.Override k)) back
 
 -- an item of a list of types in front of others, and one of those behind
 left_type : (xs ys : List ValueType) (i : ℕ) (x : ValueType) → slice_get xs i ≡ Some x → type_at (xs ++ ys) i ≡ x

@@ -30,7 +30,7 @@ use Rattle.wgsl_text.specs.Keywords.{builtin_words, reserved_words}
 use Rattle.wgsl_text.specs.Words.{stands_in, is_builtin, IsIdentifier, is_letter, is_word_byte}
 use Rattle.wgsl_text.specs.Words.{all_word_bytes, is_word_text, is_reserved}
 use Rattle.shader_runs.proofs.Update.{and_left, and_right}
-use Rattle.module_meaning.specs.Names.{module_names, AreCounted, item_labels, wgsl_names, numbered_text}
+use Rattle.module_meaning.specs.Names.{module_names, wgsl_names, numbered_text}
 use Rattle.module_meaning.specs.Names.{numbered_name, name_in}
 
 -- ---- words
@@ -153,9 +153,9 @@ module _ (m : Module) where
       let earlier = labels_of (take s.place (labelled_items wgsl_names m)) in
       unnumbered (name_after wgsl_names earlier item.1) h (name_after_is_word wgsl_names earlier item.1) (name_after_not_numbered wgsl_names earlier item.1 h) (sym (name_is item s) ∙ e)
 
-  pub items_tell : AreCounted (item_labels m) → (a b : LabelledItem) → Stands (labelled_items wgsl_names m) a → Stands (labelled_items wgsl_names m) b → name_in (module_names m) a.0 ≡ name_in (module_names m) b.0 → a ≡ b
-  items_tell few a b s t e =
-      let place = item_names_tell wgsl_names (labelled_items wgsl_names m) few s.place t.place a b s.there t.there s.outside t.outside (sym (name_is a s) ∙ e ∙ name_is b t) in
+  pub items_tell : (a b : LabelledItem) → Stands (labelled_items wgsl_names m) a → Stands (labelled_items wgsl_names m) b → name_in (module_names m) a.0 ≡ name_in (module_names m) b.0 → a ≡ b
+  items_tell a b s t e =
+      let place = item_names_tell wgsl_names (labelled_items wgsl_names m) s.place t.place a b s.there t.there s.outside t.outside (sym (name_is a s) ∙ e ∙ name_is b t) in
       ap (λ o. unwrap_or o a) (sym s.there ∙ ap (slice_get (labelled_items wgsl_names m)) place ∙ t.there)
 
   -- the items of functions and arguments

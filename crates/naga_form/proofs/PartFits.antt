@@ -20,7 +20,6 @@ use Rattle.module_meaning.specs.OperatorTable.{BinarySign, UnarySign, Choice, Ma
 use Rattle.module_meaning.specs.OperatorTable.{Relation, Splat, run_word, Operator, Construct}
 use Rattle.module_meaning.specs.OperatorTable.{WithoutForm, ValueOf, Cast, PartAt, Derivative, with_type}
 use Rattle.module_meaning.specs.OperatorTable.{AtomicLoad, AtomicStore, RayIntersection, RayCorners}
-use Rattle.module_meaning.specs.Ranges.{function_in_range, names_in_range}
 use Rattle.module_meaning.specs.Types.{type_names}
 use Rattle.naga_info.specs.declared.info.TypeResolution.{TypeResolution}
 use Rattle.naga_info.specs.declared.info.TypeResolution.TheVariants.{Handle, Value}
@@ -30,7 +29,6 @@ use Rattle.std.specs.Prelude.{codes, ◌⊎◌}
 use mathlib.Core.Logic.{inl, inr}
 use Rattle.wgsl_text.specs.Reading.{type_layout}
 use Rattle.wgsl_text.proofs.Text.{text-append}
-use Rattle.naga_form.proofs.AcceptedFunctions.{names_are_in_range}
 use Rattle.naga_form.proofs.OperatingWords.{operates_freely, unary_free, binary_free, choice_free}
 use Rattle.naga_form.proofs.OperatingWords.{asks_freely, bits_free, derivative_free}
 use Rattle.naga_form.proofs.OperatingWords.{formless_free, is_signed, atomic_load_free}
@@ -68,7 +66,7 @@ use Rattle.naga_form.proofs.Names.{function_there, argument_there}
 use Rattle.naga_names.proofs.Refusal.{element}
 use Rattle.module_meaning.specs.Names.{argument_name, numbered_name, wgsl_names, module_names}
 use Rattle.module_meaning.specs.Names.{name_in, function_name, local_name, numbered_text}
-use Rattle.module_meaning.specs.Names.{NamesAreCounted, given_name}
+use Rattle.module_meaning.specs.Names.{given_name}
 use Rattle.module_meaning.specs.Types.{declared_type}
 use Rattle.module_meaning.specs.FunctionShapes.{function_shape, statement_shape, statements_shape}
 use Rattle.module_meaning.specs.Namings.{outer_names, function_naming}
@@ -82,13 +80,13 @@ use Rattle.wgsl_text.specs.Requests.{is_request}
 use Rattle.wgsl_text.specs.Words.{is_builtin}
 use Rattle.naga_form.proofs.Fits.{given_by_all_is, local_item, mapped_length}
 use Rattle.naga_form.proofs.GivenNames.{given_no_item, given_no_word, given_not_numbered}
-use Rattle.naga_form.proofs.GivenNames.{givens_tell, items_counted}
+use Rattle.naga_form.proofs.GivenNames.{givens_tell}
 use Rattle.module_meaning.specs.GivenLabels.{given_labels}
 use Rattle.naga_form.proofs.WellFormed.{any_shape}
 use Rattle.naga_form.proofs.FunctionsFit.{IsLeft}
 use Rattle.naga_form.proofs.Regular.{AreWorded, IsWorded}
 use Rattle.module_meaning.specs.Writable.{only_empty_fall, only_empty_fall_in}
-use Rattle.module_meaning.specs.Part.{function_is_written, block_is_written, statement_is_written, is_unbound, expression_is_of_part}
+use Rattle.module_meaning.specs.Part.{function_is_written, block_is_written, statement_is_written, is_unbound}
 use Rattle.module_meaning.specs.ExpressionShapes.{part_selector, part_shape}
 use Rattle.module_meaning.specs.Conversions.{conversion_target}
 use Rattle.module_meaning.specs.ExpressionOperators.{type_known}
@@ -118,22 +116,13 @@ use Rattle.shader_runs.specs.Program.{ConstantTree}
 use Rattle.std.proofs.Common.{◌++◌}
 use Rattle.std.specs.Option.{is_some, option_to_list}
 use Rattle.std.specs.Prelude.{if◌then◌else◌}
-use Rattle.module_meaning.proofs.Lists.{list_all_at}
 use Rattle.shader_runs.specs.Value.{Selector}
 use Rattle.std.proofs.lemmas.Bool.{and_from}
-use Rattle.std.specs.List.{list_all}
 
 -- ---- what is written so far
--- all that a function's being written so far says here
-pub record FunctionParts (f : ir_function.Function) : Type 0 where
-  pub expressions : list_all expression_is_of_part f.expressions ≡ true
-  pub body : block_is_written f.body ≡ true
-
-pub function_parts : (f : ir_function.Function) → IsTrue (function_is_written f) → FunctionParts f
-function_parts f written =
-    let two = and_parts (is_unbound f) _ written in
-    let three = and_parts (list_all expression_is_of_part f.expressions) (block_is_written f.body) two.1 in
-    record { expressions = three.0; body = three.1 }
+-- the statements of a function that is written so far are
+pub body_is_written : (f : ir_function.Function) → IsTrue (function_is_written f) → block_is_written f.body ≡ true
+body_is_written f written = (and_parts (is_unbound f) (block_is_written f.body) written).1
 
 -- no case falls through
 none_fall_in : (st : StatementTree) → statement_is_written st ≡ true → only_empty_fall_in st ≡ true
@@ -147,7 +136,7 @@ none_fall (statement st b) is =
     and_from (only_empty_fall_in st) (only_empty_fall b) (none_fall_in st parts.0) (none_fall b parts.1)
 
 pub no_case_falls : (f : ir_function.Function) → IsTrue (function_is_written f) → only_empty_fall f.body ≡ true
-no_case_falls f written = none_fall f.body (function_parts f written).body
+no_case_falls f written = none_fall f.body (body_is_written f written)
 
 -- ---- signs
 -- what begins with another byte than `_`, and is not all blanks, is no numbered name
@@ -169,7 +158,7 @@ none_listed : (i : ℕ) (ts : List ValueType) → ts ≡ [] → i < length ts �
 none_listed i ts e lt = let none : i < 0 = subst (λ ts. i < length ts) e lt in omega (arith, none)
 
 -- ---- one function
-module _ (m : Module) (info : ModuleInfo) (types : TypesAreFit m) (named : NamesAreCounted m) (g : ℕ) (f : ir_function.Function) (found : slice_get m.functions g ≡ Some f) (es : List ExpressionInfo) (callees : ℕ) (ranges : function_in_range m callees f ≡ true) (written : IsTrue (function_is_written f)) (p : shapes.Module) (constants : p.constant_types ≡ []) (globals : p.global_types ≡ []) (counted : length p.functions ≡ length m.functions) where
+module _ (m : Module) (info : ModuleInfo) (types : TypesAreFit m) (g : ℕ) (f : ir_function.Function) (found : slice_get m.functions g ≡ Some f) (es : List ExpressionInfo) (written : IsTrue (function_is_written f)) (p : shapes.Module) (constants : p.constant_types ≡ []) (globals : p.global_types ≡ []) (counted : length p.functions ≡ length m.functions) where
   abbrev own : Naming
   own = function_naming (module_names m) (given_name m g) m info g f es
 
@@ -257,7 +246,7 @@ module _ (m : Module) (info : ModuleInfo) (types : TypesAreFit m) (named : Names
       other : (b : LabelledItem) → Stands (labelled_items wgsl_names m) b →
           (b.0 ≡ key.Type_ h → ⊥) → name_in (module_names m) b.0 ≢ w
       other b s differs e =
-          differs (ap (λ item. item.0) (items_tell m (items_counted m named) b item s there e))
+          differs (ap (λ item. item.0) (items_tell m b item s there e))
 
       no_function : (k : ℕ) → key.Function k ≡ key.Type_ h → ⊥
       no_function k e = cc
@@ -284,7 +273,7 @@ module _ (m : Module) (info : ModuleInfo) (types : TypesAreFit m) (named : Names
       no_name (FixedKey (GlobalName i)) is e = none_listed i p.global_types globals is
       no_name (NumberedKey k) is e = item_not_numbered m item k there (sym e)
       no_name (GivenKey k) is e =
-          given_no_item m g f found named k (given_in k is) item there (sym e)
+          given_no_item m g f found k (given_in k is) item there (sym e)
 
   -- what is spelled by a type is called by that, or by what no text has where it has no form
   spelled_words : (r : TypeResolution) → IsFit m r → (P : Operator → Type 0) →
@@ -408,11 +397,12 @@ module _ (m : Module) (info : ModuleInfo) (types : TypesAreFit m) (named : Names
       written_words m info (OperatesBy p own) made_operates splat_operates (types_known es)
       f.expressions x.0 t x.2))
 
-  words : (h : ℕ) (e : ir.Expression) → expression_is_of_part e ≡ true →
-      names_in_range m callees (length f.arguments.items) (length f.local_variables) e ≡ true →
+  words : (h : ℕ) (e : ir.Expression) →
       WordFits p own (Some (shape_of d f.expressions h e))
-  words h (expression.Constant handle) is range = constant_is_worded handle
-  words h (expression.ZeroValue ty) is range =
+  words h (expression.Constant handle) = constant_is_worded handle
+  words h (expression.Override handle) = tt
+  words h (expression.GlobalVariable handle) = tt
+  words h (expression.ZeroValue ty) =
       made_words 0 ty
       (λ op. WordFits p own
       (Some
@@ -421,20 +411,20 @@ module _ (m : Module) (info : ModuleInfo) (types : TypesAreFit m) (named : Names
       (d.around.known h)))))
       (λ word operates. zero_words word operates (d.around.known h))
       (λ operates. zero_words (run_word (unmade 0 ty)) operates (d.around.known h))
-  words h (expression.Compose ty components) is range =
+  words h (expression.Compose ty components) =
       made_words (length components.items) ty
       (λ op. WordFits p own (Some (applied_shape op components.items)))
       (λ word operates. operates) (λ operates. operates)
-  words h (expression.As operand kind convert) is range =
+  words h (expression.As operand kind convert) =
       converted_words (option_map_or (λ it. keeps_bits it convert) (type_known d.around operand) false)
       kind convert operand (type_known d.around operand)
       (option_and_then (λ it. conversion_target it kind convert) (type_known d.around operand))
       (target_is_fit kind convert (type_known d.around operand))
-  words h (expression.Derivative axis how expr) is range =
+  words h (expression.Derivative axis how expr) =
       (asks_by (run_word (Derivative axis how)) (derivative_free axis how), tt)
   words h
       (expression.ImageSample
-      image sampler gather coordinate array_index offset level depth_ref clamp) is range =
+      image sampler gather coordinate array_index offset level depth_ref clamp) =
       let of_depths = option_map_or is_depth_image (type_known d.around image) false in
       let op =
       sample_operator of_depths gather (level_of level) (is_some depth_ref) clamp
@@ -444,26 +434,26 @@ module _ (m : Module) (info : ModuleInfo) (types : TypesAreFit m) (named : Names
             (is_some array_index) (is_some offset)),
         sample_words level (is_some gather || (is_some depth_ref || clamp)) offset,
       )
-  words h (expression.ImageLoad image coordinate array_index sample level) is range =
+  words h (expression.ImageLoad image coordinate array_index sample level) =
       let op = Texel (is_some array_index) (texel_of (is_some sample) (is_some level)) in
       (asks_by (run_word op) (texel_free (is_some array_index) (is_some sample) (is_some level)), tt)
-  words h (expression.ImageQuery image query) is range =
+  words h (expression.ImageQuery image query) =
       query_words (query_operator query) (query_asks query) (query_free query)
       (image ∷ query_operands query)
-  words h (expression.ArrayLength array) is range =
+  words h (expression.ArrayLength array) =
       operates (run_word ArrayLength) length_free
-  words h (expression.CooperativeMultiplyAdd x y z) is range =
+  words h (expression.CooperativeMultiplyAdd x y z) =
       operates (run_word CooperativeMultiplyAdd) product_free
-  words h (expression.Access base index) is range = tt
-  words h (expression.AccessIndex base index) is range = by (part_selector d base index)
+  words h (expression.Access base index) = tt
+  words h (expression.AccessIndex base index) = by (part_selector d base index)
     where
       by : (o : Option Selector) → WordFits p own (Some (part_shape base index o))
       by (Some x) = tt
       by None = operates (run_word (WithoutForm (PartAt index))) (formless_free (PartAt index) refl)
-  words h (expression.FunctionArgument number) is range = tt
-  words h (expression.LocalVariable handle) is range = tt
-  words h (expression.Swizzle size vector pattern) is range = tt
-  words h (expression.Load pointer) is range = by (points_to_atomic d.around pointer)
+  words h (expression.FunctionArgument number) = tt
+  words h (expression.LocalVariable handle) = tt
+  words h (expression.Swizzle size vector pattern) = tt
+  words h (expression.Load pointer) = by (points_to_atomic d.around pointer)
     where
       by : (atomic : Bool) →
           WordFits p own
@@ -472,39 +462,31 @@ module _ (m : Module) (info : ModuleInfo) (types : TypesAreFit m) (named : Names
           (if atomic then Some AtomicLoad else None)))
       by true = (asks_by (run_word AtomicLoad) atomic_load_free, tt)
       by false = tt
-  words h (expression.CooperativeLoad columns rows role place) is range =
+  words h (expression.CooperativeLoad columns rows role place) =
       query_words (matrix_load d.around columns rows role place)
       (load_asks d.around columns rows role place)
       (matrix_load_free d.around columns rows role place) (cooperative_operands place)
-  words h (expression.RayQueryGetIntersection query committed) is range =
+  words h (expression.RayQueryGetIntersection query committed) =
       operates (run_word (RayIntersection committed)) (hit_free committed)
-  words h (expression.RayQueryVertexPositions query committed) is range =
+  words h (expression.RayQueryVertexPositions query committed) =
       operates (run_word (RayCorners committed)) (corners_free committed)
-  words h (expression.CallResult function) is range = tt
-  words h (expression.AtomicResult ty comparison) is range = tt
-  words h (expression.WorkGroupUniformLoadResult ty) is range = tt
-  words h (expression.SubgroupOperationResult ty) is range = tt
-  words h expression.SubgroupBallotResult is range = tt
-  words h expression.RayQueryProceedResult is range = tt
-  words h (expression.Literal value) is range = tt
-  words h (expression.Unary op expr) is range = operates (run_word (UnarySign op)) (unary_free op)
-  words h (expression.Binary op left right) is range =
+  words h (expression.CallResult function) = tt
+  words h (expression.AtomicResult ty comparison) = tt
+  words h (expression.WorkGroupUniformLoadResult ty) = tt
+  words h (expression.SubgroupOperationResult ty) = tt
+  words h expression.SubgroupBallotResult = tt
+  words h expression.RayQueryProceedResult = tt
+  words h (expression.Literal value) = tt
+  words h (expression.Unary op expr) = operates (run_word (UnarySign op)) (unary_free op)
+  words h (expression.Binary op left right) =
       operator_any (λ s. WordFits p own (Some s)) (BinarySign op) (left ∷ right ∷ [])
       (λ j l r. tt) (operates (run_word (BinarySign op)) (binary_free op))
-  words h (expression.Select condition accept reject) is range = operates (run_word Choice) choice_free
-  words h (expression.Splat size value) is range = operates (run_word (Splat size)) (splat_free size)
-  words h (expression.Math fun arg arg1 arg2 arg3) is range =
+  words h (expression.Select condition accept reject) = operates (run_word Choice) choice_free
+  words h (expression.Splat size value) = operates (run_word (Splat size)) (splat_free size)
+  words h (expression.Math fun arg arg1 arg2 arg3) =
       operates (run_word (Mathematical fun)) (math_free fun)
-  words h (expression.Relational fun argument) is range =
+  words h (expression.Relational fun argument) =
       operates (run_word (Relation fun)) (relation_free fun)
-  words h _ is range = absurd cc
-
-  words_at : (h : ℕ) (e : ir.Expression) → slice_get f.expressions h ≡ Some e →
-      WordFits p own (Some (shape_of d f.expressions h e))
-  words_at h e at =
-      words h e
-      (list_all_at expression_is_of_part f.expressions h e (function_parts f written).expressions at)
-      (names_are_in_range m callees f ranges h e at)
 
   -- ---- statements
   line_worded : (st : StatementTree) → statement_is_written st ≡ true →
@@ -547,19 +529,19 @@ module _ (m : Module) (info : ModuleInfo) (types : TypesAreFit m) (named : Names
       mixed_keys i j li lj e =
           let a = element f.arguments.items i li in
           let b = element f.local_variables j lj in
-          let same = items_tell m (items_counted m named) (argument_item m g i a.0) (local_item g j b.0) (argument_there m g f i a.0 found a.1) (local_stands wgsl_names m g f j b.0 found b.1) e in
+          let same = items_tell m (argument_item m g i a.0) (local_item g j b.0) (argument_there m g f i a.0 found a.1) (local_stands wgsl_names m g f j b.0 found b.1) e in
           mixed i j (ap (λ item. item.0) same)
 
       apart : (a b : NameKey) → IsName p shape a → IsName p shape b → name_at own.names a ≡ name_at own.names b → a ≡ b
       apart (FixedKey (ArgumentName i)) (FixedKey (ArgumentName j)) la lb e =
           let a = element f.arguments.items i (argument_in i la) in
           let b = element f.arguments.items j (argument_in j lb) in
-          let same = items_tell m (items_counted m named) (argument_item m g i a.0) (argument_item m g j b.0) (argument_there m g f i a.0 found a.1) (argument_there m g f j b.0 found b.1) e in
+          let same = items_tell m (argument_item m g i a.0) (argument_item m g j b.0) (argument_there m g f i a.0 found a.1) (argument_there m g f j b.0 found b.1) e in
           ap (λ k. FixedKey (ArgumentName k)) (one_argument i j (ap (λ item. item.0) same))
       apart (FixedKey (LocalName i)) (FixedKey (LocalName j)) la lb e =
           let a = element f.local_variables i (local_in i la) in
           let b = element f.local_variables j (local_in j lb) in
-          let same = items_tell m (items_counted m named) (local_item g i a.0) (local_item g j b.0) (local_stands wgsl_names m g f i a.0 found a.1) (local_stands wgsl_names m g f j b.0 found b.1) e in
+          let same = items_tell m (local_item g i a.0) (local_item g j b.0) (local_stands wgsl_names m g f i a.0 found a.1) (local_stands wgsl_names m g f j b.0 found b.1) e in
           ap (λ k. FixedKey (LocalName k)) (one_local i j (ap (λ item. item.0) same))
       apart (FixedKey (ArgumentName i)) (FixedKey (LocalName j)) la lb e = absurd (mixed_keys i j (argument_in i la) (local_in j lb) e)
       apart (FixedKey (LocalName i)) (FixedKey (ArgumentName j)) la lb e = absurd (mixed_keys j i (argument_in j lb) (local_in i la) (sym e))
@@ -572,15 +554,15 @@ module _ (m : Module) (info : ModuleInfo) (types : TypesAreFit m) (named : Names
       apart (NumberedKey h) (FixedKey (LocalName i)) la lb e =
           let a = element f.local_variables i (local_in i lb) in absurd (item_not_numbered m (local_item g i a.0) h (local_stands wgsl_names m g f i a.0 found a.1) (sym e))
       apart (NumberedKey h) (NumberedKey k) la lb e = ap NumberedKey (numbered_distinct h k e)
-      apart (GivenKey j) (GivenKey k) la lb e = ap GivenKey (givens_tell m g f found named j k (given_in j la) (given_in k lb) e)
+      apart (GivenKey j) (GivenKey k) la lb e = ap GivenKey (givens_tell m g f found j k (given_in j la) (given_in k lb) e)
       apart (FixedKey (ArgumentName i)) (GivenKey k) la lb e =
-          let a = element f.arguments.items i (argument_in i la) in absurd (given_no_item m g f found named k (given_in k lb) (argument_item m g i a.0) (argument_there m g f i a.0 found a.1) e)
+          let a = element f.arguments.items i (argument_in i la) in absurd (given_no_item m g f found k (given_in k lb) (argument_item m g i a.0) (argument_there m g f i a.0 found a.1) e)
       apart (GivenKey k) (FixedKey (ArgumentName i)) la lb e =
-          let a = element f.arguments.items i (argument_in i lb) in absurd (given_no_item m g f found named k (given_in k la) (argument_item m g i a.0) (argument_there m g f i a.0 found a.1) (sym e))
+          let a = element f.arguments.items i (argument_in i lb) in absurd (given_no_item m g f found k (given_in k la) (argument_item m g i a.0) (argument_there m g f i a.0 found a.1) (sym e))
       apart (FixedKey (LocalName i)) (GivenKey k) la lb e =
-          let a = element f.local_variables i (local_in i la) in absurd (given_no_item m g f found named k (given_in k lb) (local_item g i a.0) (local_stands wgsl_names m g f i a.0 found a.1) e)
+          let a = element f.local_variables i (local_in i la) in absurd (given_no_item m g f found k (given_in k lb) (local_item g i a.0) (local_stands wgsl_names m g f i a.0 found a.1) e)
       apart (GivenKey k) (FixedKey (LocalName i)) la lb e =
-          let a = element f.local_variables i (local_in i lb) in absurd (given_no_item m g f found named k (given_in k la) (local_item g i a.0) (local_stands wgsl_names m g f i a.0 found a.1) (sym e))
+          let a = element f.local_variables i (local_in i lb) in absurd (given_no_item m g f found k (given_in k la) (local_item g i a.0) (local_stands wgsl_names m g f i a.0 found a.1) (sym e))
       apart (GivenKey k) (NumberedKey h) la lb e = absurd (given_not_numbered m g f found k h (given_in k la) e)
       apart (NumberedKey h) (GivenKey k) la lb e = absurd (given_not_numbered m g f found k h (given_in k lb) (sym e))
       apart (FixedKey (ConstantName i)) y la lb e = absurd (none_listed i p.constant_types constants la)
@@ -589,12 +571,12 @@ module _ (m : Module) (info : ModuleInfo) (types : TypesAreFit m) (named : Names
       apart x (FixedKey (GlobalName i)) la lb e = absurd (none_listed i p.global_types globals lb)
 
   -- so nothing is left where its handles are in scope
-  pub is_left : (behind : List shapes.Function) → length behind ≡ g → IsTrue (fits_function own) → IsLeft p (outer_names (module_names m)) behind own
+  pub is_left : (behind : List shapes.Function) → length behind ≡ g → IsTrue (fits_function own) → IsLeft p (outer_names (module_names m) m) behind own
   is_left behind earlier scope = record {
     outer = refl;
     earlier = sym earlier;
-    words = λ h. any_shape m info f es h (λ o. WordFits p own o) tt (words_at h);
-    worded = worded f.body (function_parts f written).body;
+    words = λ h. any_shape m info f es h (λ o. WordFits p own o) tt (λ e at. words h e);
+    worded = worded f.body (body_is_written f written);
     distinct = distinct;
     scope = scope;
   }

@@ -4,7 +4,8 @@ use Rattle.module_meaning.specs.Part.{block_is_written, statement_is_written, fu
 use Rattle.module_meaning.specs.ExpressionShapes.{part_selector}
 use Rattle.module_meaning.specs.OperatorTable.{WithoutForm, PartAt}
 use Rattle.naga_form.proofs.AllowedParts.{IsWellSelected, selected, selected_well}
-use Rattle.naga_form.specs.Expressions.{part_plain, points, selected_part}
+use Rattle.naga_form.specs.Expressions.{is_held, part_plain, points, selected_part}
+use Rattle.naga_form.specs.Expressions.{variable_plain}
 use Rattle.shader_runs.specs.Value.{Selector, MemberNamed, ElementAt}
 use Rattle.wgsl_text.specs.Expressions.{Index}
 use Rattle.std.specs.Prelude.{◌==◌}
@@ -15,7 +16,7 @@ use Rattle.module_meaning.proofs.Lists.{list_all_at}
 use Rattle.module_meaning.proofs.Part.{written_so_far_parts}
 use Rattle.naga_form.proofs.AcceptedFunctions.{accepted_at, locals_are_in_range, names_are_in_range}
 use Rattle.naga_form.proofs.AcceptedFunctions.{function_there as known_function}
-use Rattle.naga_form.proofs.PartFits.{function_parts}
+use Rattle.naga_form.proofs.PartFits.{body_is_written}
 use Rattle.std.proofs.Common.{◌≡◌, ℕ, ◌<◌, ◌≤◌, suc, Bool, true, false, not, ◌&&◌, List, [], ◌∷◌}
 use Rattle.std.proofs.Common.{◌++◌, length, refl, sym, ap, subst, ◌∙◌, arith, ◌||◌, zero, codes}
 use Rattle.std.proofs.Common.{nat_lt, ◌+◌, pos, negsuc, Option, Some, None, ◌-◌, ◌^◌, decimal}
@@ -66,11 +67,13 @@ use Rattle.naga_form.specs.Statements.{let_form, then_if, lets_form, return_line
 use Rattle.naga_form.specs.Statements.{loop_form, label_form, labels_form, line_form, lines_form}
 use Rattle.naga_form.specs.Statements.{cases_form, has_form, store_line}
 use Rattle.module_meaning.specs.Premises.{handles_are_counted}
-use Rattle.module_meaning.specs.Names.{module_names, wgsl_names, numbered_text, numbered_name}
+use Rattle.module_meaning.specs.Names.{global_name, module_names, wgsl_names, numbered_text}
+use Rattle.module_meaning.specs.Names.{numbered_name}
 use Rattle.module_meaning.specs.Types.{type_names}
 use Rattle.naga_form.specs.Types.{told_type}
 use Rattle.naga_form.proofs.AcceptedGroups.{known_fits, types_are_fit}
-use Rattle.naga_form.proofs.SameValues.{IsFit, TypesAreFit, tree_is}
+use Rattle.naga_form.proofs.SameValues.{IsFit, TypesAreFit, constant_identifier, global_identifier}
+use Rattle.naga_form.proofs.SameValues.{override_identifier, tree_is}
 use Rattle.naga_form.proofs.WrittenTypes.{is_type_at, told_is}
 use Rattle.module_meaning.specs.ExpressionOperators.{applied_operator, load_operator}
 use Rattle.module_meaning.specs.ExpressionOperators.{points_to_atomic}
@@ -287,6 +290,11 @@ statements_fit (statement st b) is =
     by _ is = absurd (cc)
 
 -- operands are forms of the grammar
+-- a variable of the module is one of the grammar, as its name is
+variable_is : (held : Bool) (w : List ℕ) → IsIdentifier w → IsPlainForm (variable_plain held (tree_expressions.Name w))
+variable_is true w is = is
+variable_is false w is = (is, refl)
+
 abbrev ArePlain : (operand : ℕ → PlainForm) → List ℕ → Type 0
 ArePlain operand hs = AllByRecursion (λ x. IsPlainForm (operand x)) hs
 
@@ -348,6 +356,14 @@ module _ (m : Module) (info : ModuleInfo) (g : ℕ) (f : ir_function.Function) (
   constants_are [] all = tt
   constants_are (h ∷ hs) all = (all.0, constants_are hs all.1)
 
+  -- an override has an identifier
+  override_is : (h o : ℕ) → slice_get f.expressions h ≡ Some (expression.Override o) →
+      IsIdentifier ((type_names m).override_name o)
+  override_is h o at =
+      override_identifier m o
+      (ltb-true o (length m.overrides)
+      (names_are_in_range m callees f ranges h (expression.Override o) at))
+
   -- the offset of a sampling is written out as a constant of the grammar
   abbrev OffsetIs : ir.Expression → Type 0
   OffsetIs
@@ -379,6 +395,7 @@ module _ (m : Module) (info : ModuleInfo) (g : ℕ) (f : ir_function.Function) (
           constants c
           (has_form_parts m es f.expressions (expression.Constant c)
           (written h (expression.Constant c) at w)).0)
+          (λ h o at. override_is h o at)
           (λ h ty at w.
           type_at ty
           (form_of_spellable m (Handle ty)
@@ -397,6 +414,12 @@ module _ (m : Module) (info : ModuleInfo) (g : ℕ) (f : ir_function.Function) (
       literal_is v is.0
       (names_are_in_range m callees f ranges h (expression.Literal v) at)
   own_is operand h (expression.Constant c) at is all = constants c is.0
+  own_is operand h (expression.Override o) at is all = override_is h o at
+  own_is operand h (expression.GlobalVariable v) at is all =
+      variable_is (is_held m v) (global_name (module_names m) v)
+      (global_identifier m v
+      (ltb-true v (length m.global_variables)
+      (names_are_in_range m callees f ranges h (expression.GlobalVariable v) at)))
   own_is operand h (expression.FunctionArgument n) at is all =
       let a = element f.arguments.items n (ltb-true n (length f.arguments.items) (names_are_in_range m callees f ranges h (expression.FunctionArgument n) at)) in
       item_is_identifier m (argument_item m g n a.0) (argument_there m g f n a.0 found a.1)
@@ -749,23 +772,26 @@ module _ (explicit : Bool) (m : Module) (info : ModuleInfo) (accepted : IsTrue (
   formed_there : (ty : ℕ) → type_has_form m.types (Handle ty) ≡ true → HasFormAt (type_names m) ty
   formed_there ty is = let t = tree_there (type_names m) (Handle ty) is in (t.0, t.1, tree_is m types (Handle ty) tt t.0 t.1)
 
+  override_there : (h o : ℕ) → slice_get m.global_expressions h ≡ Some (expression.Override o) → IsIdentifier ((type_names m).override_name o)
+  override_there h o at = override_identifier m o (ltb-true o (length m.overrides) (global_names_in_range m info accepted h (expression.Override o) at))
+
   -- each of the module's own expressions that is written is of the grammar, and so each constant
   pub written_global : (h : ℕ) → global_is_written m h ≡ true → IsExpression (global_form m (type_names m) h)
-  written_global h is = global_is m (type_names m) literal_there formed_there (suc h) h is
+  written_global h is = global_is m (type_names m) literal_there (constant_identifier m) override_there formed_there (suc h) h is
 
   written_constants : (c : ℕ) → constant_is_written m c ≡ true → IsExpression (written_constant_form m (type_names m) c)
-  written_constants = constant_is m (type_names m) literal_there formed_there
+  written_constants = constant_is m (type_names m) literal_there (constant_identifier m) override_there formed_there
 
   -- a function, under names of front ends that are identifiers
   pub one_is : (given : ℕ → List ℕ) (g : ℕ) (f : ir_function.Function) (found : slice_get m.functions g ≡ Some f) (es : List ExpressionInfo) → slice_get info.functions.items g ≡ Some es → ((k : ℕ) → k < length (given_labels f) → IsIdentifier (given k)) → IsTrue (function_is_written f) → WrittenHaveForms explicit m info f es → length f.expressions ≤ 2 ^ 64 → IsFunction (function_form explicit (module_names m) given m info g f es)
   one_is given g f found es here given_are written have few =
-      let parts = function_parts f written in
       let at = known_function m info accepted g f found in
       let is = accepted_at m info accepted g f at.0 at.1 in
       function_is m info g f found es is.callees is.ranges (IsWrittenIn m info f es)
       (written_are_closed m info f es) have.expressions
       types (known_fits m info accepted g es here) (written_so_far_parts m of_part).1 explicit
-      have.types few given given_are written_constants (statements_fit f.body parts.body)
+      have.types few given given_are written_constants
+      (statements_fit f.body (body_is_written f written))
 
   functions_are : (g : ℕ) (fs : List ir_function.Function) (ess : List (List ExpressionInfo)) → ((i : ℕ) (f : ir_function.Function) → slice_get fs i ≡ Some f → slice_get m.functions (g + i) ≡ Some f) → ((i : ℕ) (es : List ExpressionInfo) → slice_get ess i ≡ Some es → slice_get info.functions.items (g + i) ≡ Some es) → IsTrue (list_all function_is_written fs) → ((i : ℕ) (f : ir_function.Function) (es : List ExpressionInfo) → slice_get fs i ≡ Some f → slice_get ess i ≡ Some es → WrittenHaveForms explicit m info f es) →
       IsTrue (list_all (λ f. nat_le (length f.expressions) (2 ^ 64)) fs) → Each IsFunction (functions_form explicit (module_names m) m info g fs ess)

@@ -23,7 +23,7 @@ use Rattle.shader_runs.specs.Scope.{Naming}
 use Rattle.shader_runs.specs.Resolution.{text_targets}
 use Rattle.shader_runs.specs.Identifiers.{LeafStands, LeavesStand}
 use Rattle.shader_runs.proofs.Resolution.{resolves_as_meant}
-use Rattle.module_meaning.specs.Names.{given_name, module_names, NamesAreCounted}
+use Rattle.module_meaning.specs.Names.{given_name, module_names}
 use Rattle.module_meaning.specs.Types.{declared_type}
 use Rattle.module_meaning.specs.ExpressionOperators.{points_to_atomic}
 use Rattle.module_meaning.specs.ExpressionShapes.{Declared, shape_of, applied_shape, applied_or}
@@ -94,10 +94,10 @@ module _ (m : Module) (info : ModuleInfo) (accepted : IsTrue (is_accepted m info
       let is = accepted_at m info accepted g f known.0 known.1 in
       leaves_stand (g + 1) fs ess (further m.functions g f fs there) (function_naming (module_names m) (given_name m g) m info g f es ∷ behind) (leaves_are_own m info is.callees f is.ranges es, all)
 
-pub resolves : (m : Module) (info : ModuleInfo) (explicit : Bool) → IsTrue (is_accepted m info) → IsTrue (is_written_so_far m) → AllWrittenHaveForms explicit m info → ScopesHold m info → NamesAreCounted m → ResolvesAs m info (written_program m info explicit)
-resolves m info explicit accepted written have scope counted =
+pub resolves : (m : Module) (info : ModuleInfo) (explicit : Bool) → IsTrue (is_accepted m info) → IsTrue (is_written_so_far m) → AllWrittenHaveForms explicit m info → ScopesHold m info → ResolvesAs m info (written_program m info explicit)
+resolves m info explicit accepted written have scope =
     let names = module_names m in
     ap text_targets (reads_as_shapes m info explicit accepted written have)
-    ∙ resolves_as_meant (module_shape m info) (outer_names names) (namings names m info)
-    (module_fits m info accepted written ((scopes_are_checked m info accepted written).1 scope) counted)
+    ∙ resolves_as_meant (module_shape m info) (outer_names names m) (namings names m info)
+    (module_fits m info accepted written ((scopes_are_checked m info accepted written).1 scope))
     (leaves_stand m info accepted 0 m.functions info.functions.items (from_start m.functions) [] tt)

@@ -27,7 +27,6 @@ use Rattle.naga_form.proofs.AcceptedFunctions.{functions_paired}
 use Rattle.module_meaning.specs.InfoSizes.{function_size_fits}
 use Rattle.module_meaning.proofs.SideBySide.{paired_at}
 use Rattle.naga_form.proofs.ToldItems.{types_are_told}
-use Rattle.naga_form.proofs.GivenNames.{items_counted}
 use Rattle.naga_form.proofs.Names.{items_tell, function_item, function_there}
 use Rattle.naga_names.proofs.Refusal.{element}
 use Rattle.naga_names.specs.declared.key.NameKey.TheVariants as key
@@ -42,7 +41,7 @@ use Rattle.shader_runs.proofs.Calls.{runs_alike}
 use Rattle.shader_runs.proofs.Names.{length-functions_of}
 use Rattle.shader_runs.proofs.Update.{and_left, and_right}
 use Rattle.module_meaning.specs.Premises.{scope_holds, ScopesHold}
-use Rattle.module_meaning.specs.Names.{NamesAreCounted, TypesAreTold, module_names}
+use Rattle.module_meaning.specs.Names.{module_names}
 use Rattle.module_meaning.specs.Names.{function_name, given_name}
 use Rattle.module_meaning.specs.FunctionShapes.{function_shapes}
 use Rattle.module_meaning.specs.Namings.{namings_from, namings, outer_names, function_naming}
@@ -101,7 +100,7 @@ all_reversed test [] behind all = refl
 all_reversed test (x ∷ xs) behind all = and_from (test x) (list_all test xs) (and_left (test x) (list_all test behind) (behind_all test xs (x ∷ behind) all)) (all_reversed test xs (x ∷ behind) all)
 
 -- the square: what is written of the module is read as its functions are written
-pub program_reads : (m : Module) (info : ModuleInfo) (explicit : Bool) → IsTrue (is_accepted m info) → IsTrue (is_written_so_far m) → AllWrittenHaveForms explicit m info → program_read (written_program m info explicit) ≡ form_module (functions_alone m info) (outer_names (module_names m)) (namings (module_names m) m info)
+pub program_reads : (m : Module) (info : ModuleInfo) (explicit : Bool) → IsTrue (is_accepted m info) → IsTrue (is_written_so_far m) → AllWrittenHaveForms explicit m info → program_read (written_program m info explicit) ≡ form_module (functions_alone m info) (outer_names (module_names m) m) (namings (module_names m) m info)
 program_reads m info explicit accepted written have =
     let listed = namings_from (module_names m) m 0 (function_shapes m info m.functions info.functions.items) in
     let each = functions_read explicit m info (written_so_far_parts m written).1 (written_so_far_parts m written).0 (declarations_are m info accepted).size 0 m.functions info.functions.items (functions_are_written m written) (λ i f es here known. have i f es here known) sized in
@@ -116,10 +115,10 @@ program_reads m info explicit accepted written have =
     sized i f es here known = eqb-true (length f.expressions) (length es) (paired_at function_size_fits m.functions info.functions.items (functions_paired m info accepted) i f es here known)
 
 -- and so as its program of shapes is
-pub reads_as_shapes : (m : Module) (info : ModuleInfo) (explicit : Bool) → IsTrue (is_accepted m info) → IsTrue (is_written_so_far m) → AllWrittenHaveForms explicit m info → program_read (written_program m info explicit) ≡ form_module (module_shape m info) (outer_names (module_names m)) (namings (module_names m) m info)
+pub reads_as_shapes : (m : Module) (info : ModuleInfo) (explicit : Bool) → IsTrue (is_accepted m info) → IsTrue (is_written_so_far m) → AllWrittenHaveForms explicit m info → program_read (written_program m info explicit) ≡ form_module (module_shape m info) (outer_names (module_names m) m) (namings (module_names m) m info)
 reads_as_shapes m info explicit accepted written have =
     program_reads m info explicit accepted written have
-    ∙ ap (λ p. form_module p (outer_names (module_names m)) (namings (module_names m) m info)) (sym (declares_functions_alone m info written))
+    ∙ ap (λ p. form_module p (outer_names (module_names m) m) (namings (module_names m) m info)) (sym (declares_functions_alone m info written))
 
 -- ---- what the law of runs asks
 -- A module that is accepted and of the part: all is said by acceptance but what the part shows.
@@ -161,17 +160,13 @@ module _ (m : Module) (info : ModuleInfo) (accepted : IsTrue (is_accepted m info
       by (AsFunction here known) = list_all_at function_is_written m.functions k f (functions_are_written m written) here
       by (AsEntryPoint j e number here known of) = absurd (none m.entry_points.items j e no_entry_points here)
 
-  module _ (scope : IsTrue (scope_holds m info)) (counted : NamesAreCounted m) where
-    -- structs have names of their own
-    told : TypesAreTold m
-    told = types_are_told m (items_counted m counted)
-
+  module _ (scope : IsTrue (scope_holds m info)) where
     constants_typed : (k : ℕ) (f : ir_function.Function) (es : List ExpressionInfo) → slice_get (functions_known m info) k ≡ Some (f, es) → ConstantsAreTyped m info f es
-    constants_typed k f es at = constants_are_typed m info accepted told f es (group_at m info accepted k f es at)
+    constants_typed k f es at = constants_are_typed m info accepted (types_are_told m) f es (group_at m info accepted k f es at)
 
     -- nothing is left of each function, behind those before it
     all_left : (g : ℕ) (fs : List ir_function.Function) (ess : List (List ExpressionInfo)) → ((i : ℕ) (f : ir_function.Function) → slice_get fs i ≡ Some f → slice_get m.functions (g + i) ≡ Some f) → IsTrue (list_all function_is_written fs) → IsTrue (list_all fits_function (namings_from (module_names m) m g (function_shapes m info fs ess))) →
-        (behind : List Naming) → length behind ≡ g → AllBehind (IsLeft p (outer_names (module_names m))) behind → AllBehind (IsLeft p (outer_names (module_names m))) (reverse_aux (namings_from (module_names m) m g (function_shapes m info fs ess)) behind)
+        (behind : List Naming) → length behind ≡ g → AllBehind (IsLeft p (outer_names (module_names m) m)) behind → AllBehind (IsLeft p (outer_names (module_names m) m)) (reverse_aux (namings_from (module_names m) m g (function_shapes m info fs ess)) behind)
     all_left g [] ess there is scoped behind at so_far = so_far
     all_left g (f ∷ fs) [] there is scoped behind at so_far = so_far
     all_left g (f ∷ fs) (es ∷ ess) there is scoped behind at so_far =
@@ -180,12 +175,10 @@ module _ (m : Module) (info : ModuleInfo) (accepted : IsTrue (is_accepted m info
         let own = function_naming (module_names m) (given_name m g) m info g f es in
         let all = and_parts (function_is_written f) (list_all function_is_written fs) is in
         let scopes = and_parts (fits_function own) (list_all fits_function (namings_from (module_names m) m (g + 1) (function_shapes m info fs ess))) scoped in
-        let at_function = function_there_known m info accepted g f found in
-        let fits = accepted_at m info accepted g f at_function.0 at_function.1 in
-        let this = is_left m info (types_are_fit m info accepted) counted g f found es fits.callees fits.ranges all.0 p no_constant_types no_global_types all_counted (functions_of behind) (length-functions_of behind ∙ at) scopes.0 in
+        let this = is_left m info (types_are_fit m info accepted) g f found es all.0 p no_constant_types no_global_types all_counted (functions_of behind) (length-functions_of behind ∙ at) scopes.0 in
         all_left (g + 1) fs ess (further m.functions g f fs there) all.1 scopes.1 (own ∷ behind) (ap suc at ∙ sym (add-one g)) (this, so_far)
 
-    no_constants : ConstantsFit (functions_alone m info) (outer_names (module_names m))
+    no_constants : ConstantsFit (functions_alone m info) (outer_names (module_names m) m)
     no_constants = record {
       counted = omega arith;
       rank = λ i. i;
@@ -196,7 +189,7 @@ module _ (m : Module) (info : ModuleInfo) (accepted : IsTrue (is_accepted m info
     one_function : (g k : ℕ) → key.Function g ≡ key.Function k → g ≡ k
     one_function g k e = cc
 
-    pub module_fits : ModuleFits (module_shape m info) (outer_names (module_names m)) (namings (module_names m) m info)
+    pub module_fits : ModuleFits (module_shape m info) (outer_names (module_names m) m) (namings (module_names m) m info)
     module_fits =
         let listed = namings_from (module_names m) m 0 (function_shapes m info m.functions info.functions.items) in
         record {
@@ -205,18 +198,18 @@ module _ (m : Module) (info : ModuleInfo) (accepted : IsTrue (is_accepted m info
             functions = λ g k lg lk e.
                 let a = element m.functions g (subst (λ n. g < n) all_counted lg) in
                 let b = element m.functions k (subst (λ n. k < n) all_counted lk) in
-                one_function g k (ap (λ item. item.0) (items_tell m (items_counted m counted) (function_item m g a.0) (function_item m k b.0) (function_there m g a.0 a.1) (function_there m k b.0 b.1) e));
+                one_function g k (ap (λ item. item.0) (items_tell m (function_item m g a.0) (function_item m k b.0) (function_there m g a.0 a.1) (function_there m k b.0 b.1) e));
           };
-          constants = subst (λ p. ConstantsFit p (outer_names (module_names m))) (sym same) no_constants;
-          all = all_fit m info accepted told constants_typed (λ k f es at. no_case_falls f (written_at k f es at)) (outer_names (module_names m)) (namings (module_names m) m info) (same_functions m info accepted written)
+          constants = subst (λ p. ConstantsFit p (outer_names (module_names m) m)) (sym same) no_constants;
+          all = all_fit m info accepted (types_are_told m) constants_typed (λ k f es at. no_case_falls f (written_at k f es at)) (outer_names (module_names m) m) (namings (module_names m) m info) (same_functions m info accepted written)
               (all_left 0 m.functions info.functions.items (from_start m.functions) (functions_are_written m written) (all_reversed fits_function listed [] scope) [] refl tt);
         }
 
     runs : (explicit : Bool) → AllWrittenHaveForms explicit m info → RunsAs m info (written_program m info explicit)
     runs explicit have settings fit meaning typed g f found arguments typed_arguments world turns past keeps =
         ap (λ (text : TextModule). follow_module text settings world meaning is_request turns (function_name (module_names m) g) arguments past) (reads_as_shapes m info explicit accepted written have)
-        ∙ runs_alike (module_shape m info) (outer_names (module_names m)) (namings (module_names m) m info) module_fits settings fit meaning typed g f found arguments typed_arguments world turns past keeps
+        ∙ runs_alike (module_shape m info) (outer_names (module_names m) m) (namings (module_names m) m info) module_fits settings fit meaning typed g f found arguments typed_arguments world turns past keeps
 
-pub runs_as : (m : Module) (info : ModuleInfo) (explicit : Bool) → IsTrue (is_accepted m info) → IsTrue (is_written_so_far m) → AllWrittenHaveForms explicit m info → ScopesHold m info → NamesAreCounted m → RunsAs m info (written_program m info explicit)
-runs_as m info explicit accepted written have scope counted =
-    runs m info accepted written ((scopes_are_checked m info accepted written).1 scope) counted explicit have
+pub runs_as : (m : Module) (info : ModuleInfo) (explicit : Bool) → IsTrue (is_accepted m info) → IsTrue (is_written_so_far m) → AllWrittenHaveForms explicit m info → ScopesHold m info → RunsAs m info (written_program m info explicit)
+runs_as m info explicit accepted written have scope =
+    runs m info accepted written ((scopes_are_checked m info accepted written).1 scope) explicit have

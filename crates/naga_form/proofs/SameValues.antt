@@ -29,7 +29,8 @@ use Rattle.naga_info.specs.Resolution.{inner_of}
 use Rattle.naga_names.specs.declared.key.NameKey.{NameKey}
 use Rattle.naga_names.specs.declared.key.NameKey.TheVariants as key
 use Rattle.naga_names.specs.Reset.{labelled_items}
-use Rattle.naga_names.proofs.NamedItems.{Stands, type_stands, override_stands}
+use Rattle.naga_names.proofs.NamedItems.{Stands, constant_stands, global_stands, override_stands}
+use Rattle.naga_names.proofs.NamedItems.{type_stands}
 use Rattle.naga_words.specs.Contexts.{Names, name_or_nothing}
 use Rattle.naga_words.specs.Spelling.{is_struct, size_within, length_within}
 use Rattle.wgsl_text.specs.Reading.{type_layout, ReadsType}
@@ -44,7 +45,8 @@ use Rattle.naga_ir.specs.declared.image.ImageClass.{ImageClass}
 use Rattle.naga_ir.specs.declared.image.ImageClass.TheVariants as class
 use Rattle.naga_ir.specs.declared.image.ImageDimension.{ImageDimension}
 use Rattle.module_meaning.specs.InfoSizes.{type_is_fit, resolution_is_fit}
-use Rattle.module_meaning.specs.Names.{TypesAreTold, module_names, name_in, wgsl_names}
+use Rattle.module_meaning.specs.Names.{TypesAreTold, constant_name, global_name, module_names, name_in}
+use Rattle.module_meaning.specs.Names.{wgsl_names}
 use Rattle.module_meaning.specs.Types.{type_of_values, word_of_values, values_of, scalar_values}
 use Rattle.module_meaning.specs.TypeIdentity.{identity, identity_code, word_of_unspelled_type, level, kind_number, truth_number, dimension_number, vector_number, cooperative_number, role_number, space_number, length_kind, length_number}
 use Rattle.module_meaning.specs.Types.{type_names, spelled_resolution, integer_words}
@@ -156,8 +158,15 @@ module _ (m : Module) where
   struct_identifier : (h : ℕ) → h < length m.types → IsIdentifier ((type_names m).struct_name h)
   struct_identifier h lt = let a = type_item h lt in subst IsIdentifier (sym (or_nothing (module_names m (key.Type_ h)))) (item_is_identifier m (key.Type_ h, a.0) a.1)
 
-  override_identifier : (o : ℕ) → o < length m.overrides → IsIdentifier ((type_names m).override_name o)
+  pub override_identifier : (o : ℕ) → o < length m.overrides → IsIdentifier ((type_names m).override_name o)
   override_identifier o lt = let a = override_item o lt in subst IsIdentifier (sym (or_nothing (module_names m (key.Override o)))) (item_is_identifier m (key.Override o, a.0) a.1)
+
+  -- and constants and variables
+  pub constant_identifier : (c : ℕ) → c < length m.constants → IsIdentifier (constant_name (module_names m) c)
+  constant_identifier c lt = let k = there m.constants c lt in item_is_identifier m (key.Constant c, _) (constant_stands wgsl_names m c k.0 k.1)
+
+  pub global_identifier : (v : ℕ) → v < length m.global_variables → IsIdentifier (global_name (module_names m) v)
+  global_identifier v lt = let k = there m.global_variables v lt in item_is_identifier m (key.GlobalVariable v, _) (global_stands wgsl_names m v k.0 k.1)
 
 module _ (m : Module) (types : TypesAreFit m) where
   size_is : (n : ArraySize) → LengthIsCounted n → size_within (length m.overrides) n ≡ true → LengthIsWithin (length m.overrides) n

@@ -1,4 +1,4 @@
--- Structs, overrides and members are told apart by their names where names are counted.
+-- Structs, overrides and members are told apart by their names.
 use Rattle.std.proofs.Common.{◌≡◌, ℕ, ◌<◌, true, length, Some, ap, arith, slice_get}
 use Rattle.std.specs.Prelude.{IsTrue, ◌==◌}
 use Rattle.std.specs.Option.{is_none}
@@ -15,7 +15,7 @@ use Rattle.naga_names.specs.declared.key.NameKey.TheVariants as key
 use Rattle.naga_names.proofs.NamedItems.{Stands, type_stands, override_stands}
 use Rattle.naga_names.proofs.Refusal.{element}
 use Rattle.naga_words.specs.Spelling.{is_struct}
-use Rattle.module_meaning.specs.Names.{AreCounted, ItemsAreCounted, ItemsAreTold, item_labels}
+use Rattle.module_meaning.specs.Names.{ItemsAreTold}
 use Rattle.module_meaning.specs.Names.{TypesAreTold, module_names, name_in, wgsl_names}
 use Rattle.module_meaning.specs.Part.{is_written_so_far, needs_nothing, type_is_of_part}
 use Rattle.module_meaning.proofs.Lists.{list_all_at}
@@ -24,10 +24,10 @@ use Rattle.naga_form.proofs.MemberNames.{member_names_tell}
 use Rattle.naga_form.proofs.Names.{items_tell}
 
 module _ (m : Module) where
-  one_key : AreCounted (item_labels m) → (a b : LabelledItem) → Stands (labelled_items wgsl_names m) a →
+  one_key : (a b : LabelledItem) → Stands (labelled_items wgsl_names m) a →
       Stands (labelled_items wgsl_names m) b →
       name_in (module_names m) a.0 ≡ name_in (module_names m) b.0 → a.0 ≡ b.0
-  one_key counted a b s t e = ap (λ item. item.0) (items_tell m counted a b s t e)
+  one_key a b s t e = ap (λ item. item.0) (items_tell m a b s t e)
 
   one_type : (h k : ℕ) → key.Type_ h ≡ key.Type_ k → h ≡ k
   one_type h k e = cc
@@ -38,26 +38,26 @@ module _ (m : Module) where
   no_override : (h o : ℕ) → key.Type_ h ≡ key.Override o → ⊥
   no_override h o e = cc
 
-  pub types_are_told : AreCounted (item_labels m) → TypesAreTold m
-  types_are_told counted = record {
+  pub types_are_told : TypesAreTold m
+  types_are_told = record {
     structs = λ h k t u at there is_t is_u e.
         one_type h k
-        (one_key counted _ _ (type_stands wgsl_names m h t at) (type_stands wgsl_names m k u there) e);
+        (one_key _ _ (type_stands wgsl_names m h t at) (type_stands wgsl_names m k u there) e);
     overrides = λ o p lo lp e.
         let a = element m.overrides o lo in let b = element m.overrides p lp in
         one_override o p
-        (one_key counted _ _ (override_stands wgsl_names m o a.0 a.1)
+        (one_key _ _ (override_stands wgsl_names m o a.0 a.1)
         (override_stands wgsl_names m p b.0 b.1) e);
     apart = λ h o t at is lo e.
         let b = element m.overrides o lo in
         no_override h o
-        (one_key counted _ _ (type_stands wgsl_names m h t at)
+        (one_key _ _ (type_stands wgsl_names m h t at)
         (override_stands wgsl_names m o b.0 b.1) e);
   }
 
-  pub items_are_told : ItemsAreCounted m → ItemsAreTold m
-  items_are_told counted = record {
-    types = types_are_told counted.names;
+  pub items_are_told : ItemsAreTold m
+  items_are_told = record {
+    types = types_are_told;
     members = λ h t at i j a b x y e.
-        member_names_tell m counted.names counted.keys h t at i j a b x y e;
+        member_names_tell m h t at i j a b x y e;
   }

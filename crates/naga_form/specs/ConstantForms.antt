@@ -1,11 +1,13 @@
 -- How a constant is written out where no name stands for it: over the forms of its parts.
 --
 -- Throughout, a is what stands around expressions es, t are the names that types are spelled with,
--- constant gives the form of a constant without a name, e is an expression, h a handle, and m a
--- module.
+-- constant gives the form of a constant of the module, e is an expression, h a handle, c a constant,
+-- and m a module.
 use Rattle.std.specs.Prelude.{ℕ, zero, suc, false, List, [], ◌∷◌, length, map, slice_get, None}
-use Rattle.std.specs.Option.{option_map_or}
+use Rattle.std.specs.Prelude.{if◌then◌else◌}
+use Rattle.std.specs.Option.{is_some, option_map_or}
 use Rattle.module_meaning.specs.ExpressionOperators.{Surroundings, constructor}
+use Rattle.module_meaning.specs.Names.{constant_name, module_names}
 use Rattle.module_meaning.specs.OperatorTable.{Splat}
 use Rattle.module_meaning.specs.Surroundings.{surroundings}
 use Rattle.naga_form.specs.Literals.{literal_form}
@@ -16,7 +18,7 @@ use Rattle.naga_ir.specs.declared.expression.Expression as ir
 use Rattle.naga_ir.specs.declared.expression.Expression.TheVariants as expression
 use Rattle.naga_ir.specs.declared.module.Module.{Module}
 use Rattle.naga_words.specs.Contexts.{Names as TypeNames}
-use Rattle.wgsl_text.specs.Expressions.{Expression, Constant}
+use Rattle.wgsl_text.specs.Expressions.{Expression, Constant, Name}
 use Rattle.wgsl_text.specs.Literals.{Truth}
 
 -- a value of a type of the module from so many parts
@@ -25,16 +27,16 @@ abbrev pub built_form : Surroundings → TypeNames → (ty components : ℕ) →
 built_form a t ty components parts =
     applied_form (notation (type_tree t ty) (constructor a (Handle ty) components)) parts
 
--- What is no constant has no form here. Constants and overrides under names stand in no module that
--- is written so far; a constant without one is written as its initialiser is.
+-- what is no constant has no form here
 abbrev pub no_constant_form : Expression
 no_constant_form = Constant (Truth false)
 
--- an expression, over the forms of its parts
+-- an expression, over the forms of its parts; an override is written as its name
 abbrev pub constant_form_over : Surroundings → TypeNames → (constant part : ℕ → Expression) →
     ir.Expression → Expression
 constant_form_over a t constant part (expression.Literal value) = Constant (literal_form value)
 constant_form_over a t constant part (expression.Constant handle) = constant handle
+constant_form_over a t constant part (expression.Override handle) = Name (t.override_name handle)
 constant_form_over a t constant part (expression.ZeroValue ty) = built_form a t ty 0 []
 constant_form_over a t constant part (expression.Compose ty components) =
     built_form a t ty (length components.items) (map part components.items)
@@ -57,10 +59,12 @@ abbrev pub written_out : Surroundings → TypeNames → (constant : ℕ → Expr
 written_out a t constant es h = constant_form_within (suc h) a t constant es h
 
 -- ---- a module's own
--- a constant is written as its initialiser is
-abbrev pub initialiser_form : Module → (own : ℕ → Expression) → ℕ → Expression
-initialiser_form m own h =
-    option_map_or (λ c. own c.init) (slice_get m.constants h) no_constant_form
+-- a constant is written as its name, and one without a name as its initialiser is
+abbrev pub constant_form_by : Module → (own : ℕ → Expression) → ℕ → Expression
+constant_form_by m own h =
+    option_map_or
+    (λ c. if is_some c.name then Name (constant_name (module_names m) h) else own c.init)
+    (slice_get m.constants h) no_constant_form
 
 -- one of the module's own expressions, at most so many levels deep, where the initialiser of a
 -- constant is one level below what names it
@@ -69,7 +73,7 @@ global_form_within zero m t h = no_constant_form
 global_form_within (suc levels) m t h =
     let own = global_form_within levels m t in
     option_map_or
-    (constant_form_over (surroundings m (λ x. None)) t (initialiser_form m own) own)
+    (constant_form_over (surroundings m (λ x. None)) t (constant_form_by m own) own)
     (slice_get m.global_expressions h) no_constant_form
 
 -- the same of one before which its operands and the initialisers of the constants that it names
@@ -79,4 +83,4 @@ global_form m t h = global_form_within (suc h) m t h
 
 -- a constant of the module
 abbrev pub written_constant_form : Module → TypeNames → ℕ → Expression
-written_constant_form m t h = initialiser_form m (global_form m t) h
+written_constant_form m t h = constant_form_by m (global_form m t) h

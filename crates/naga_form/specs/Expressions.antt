@@ -26,6 +26,7 @@ use Rattle.module_meaning.specs.Conversions.{conversion_target, keeps_bits}
 use Rattle.module_meaning.specs.ExpressionOperators.{Surroundings, applied_operator, constructor}
 use Rattle.module_meaning.specs.ExpressionOperators.{load_operator, scalar_behind, type_known}
 use Rattle.module_meaning.specs.ExpressionShapes.{Declared, part_selector, swizzle_letters}
+use Rattle.module_meaning.specs.InfoSizes.{is_handle_space}
 use Rattle.module_meaning.specs.OperatorTable.{Operator, WithoutForm, PartAt}
 use Rattle.module_meaning.specs.Surroundings.{declared, types_known}
 use Rattle.module_meaning.specs.Types.{type_names}
@@ -132,14 +133,20 @@ abbrev pub selected_part : Selector → Expression → Expression
 selected_part (MemberNamed word) base = Member base word
 selected_part (ElementAt index) base = IndexAt base index
 
+-- Is the variable of the module with this handle in the handle space?
+abbrev pub is_held : Module → ℕ → Bool
+is_held m h = option_map_or (λ g. is_handle_space g.space) (slice_get m.global_variables h) false
+
 -- a function's expressions, what stands around them, the names that types are spelled with, and the
--- constants of the module
+-- constants and variables of the module
 pub record Source : Type 0 where
   pub expressions : List ir.Expression
   pub declared : Declared
   pub type_names : TypeNames
-  -- the form of a constant without a name
+  -- the form of a constant
   pub constant : ℕ → Expression
+  -- whether a variable is a value, as one in the handle space is
+  pub is_held : ℕ → Bool
 
 -- those of a function of a module, with what is known of them
 abbrev pub function_source :
@@ -150,6 +157,7 @@ function_source m info f es =
       declared = declared m info (types_known es);
       type_names = type_names m;
       constant = written_constant_form m (type_names m);
+      is_held = is_held m;
     }
 
 -- The operands of a sampling that are written by their handles: all but the offset.
@@ -176,15 +184,24 @@ sampled_plain source operand at_zero hs offset (Some op) =
     (map (constant_form source) (option_to_list offset)))
 sampled_plain source operand at_zero hs offset None = no_form
 
+-- a variable of the module: a value where it is held, else a reference
+abbrev pub variable_plain : (held : Bool) → Expression → PlainForm
+variable_plain true e = ValueForm e
+variable_plain false e = ReferenceForm e
+
 -- an expression that isn't named, over its operands' forms
 abbrev pub own_plain : Naming → Source → (ℕ → PlainForm) → ir.Expression → PlainForm
 own_plain n source operand (expression.Literal value) = ValueForm (Constant (literal_form value))
 own_plain n source operand (expression.Constant handle) = ValueForm (source.constant handle)
+own_plain n source operand (expression.Override handle) =
+    ValueForm (Name (source.type_names.override_name handle))
 own_plain n source operand (expression.ZeroValue ty) =
     applied_plain no_form (type_tree source.type_names ty) operand []
     (Some (constructor source.declared.around (Handle ty) 0))
 own_plain n source operand (expression.FunctionArgument number) =
     ValueForm (Name (n.names.argument number))
+own_plain n source operand (expression.GlobalVariable handle) =
+    variable_plain (source.is_held handle) (Name (n.names.outer.global handle))
 own_plain n source operand (expression.LocalVariable handle) =
     ReferenceForm (Name (n.names.local_ handle))
 own_plain n source operand (expression.Access base index) =

@@ -37,8 +37,7 @@ use Rattle.module_meaning.specs.Literals.{literal_value}
 use Rattle.module_meaning.specs.Meanings.{OperatorsAreConsistent, HasTypedMeaning, HasTypedWorld}
 use Rattle.module_meaning.specs.Meanings.{IsNeverStuck, NoRunIsStuck}
 use Rattle.module_meaning.specs.Writable.{IsWritable}
-use Rattle.module_meaning.specs.Names.{ItemsAreCounted, ItemsAreTold, NamesAreCounted}
-use Rattle.module_meaning.specs.Names.{TypesAreTold, module_names}
+use Rattle.module_meaning.specs.Names.{ItemsAreTold, module_names}
 use Rattle.module_meaning.specs.Ranges.{resolution_fits}
 use Rattle.module_meaning.specs.Part.{declares_functions, function_is_written, is_written_so_far}
 use Rattle.module_meaning.specs.Part.{types_are_of_part}
@@ -61,12 +60,12 @@ OfAccepted Holds =
     IsTrue (is_written_so_far m) → AllWrittenHaveForms explicit m info →
     Holds m info (written_program m info explicit)
 
--- the same where the rules of scope hold, and names are counted
+-- the same where the rules of scope hold
 abbrev pub OfAcceptedInScope : (Module → ModuleInfo → Program → Type 0) → Type 0
 OfAcceptedInScope Holds =
     (m : Module) (info : ModuleInfo) (explicit : Bool) → IsTrue (is_accepted m info) →
     IsTrue (is_written_so_far m) → AllWrittenHaveForms explicit m info → ScopesHold m info →
-    NamesAreCounted m → Holds m info (written_program m info explicit)
+    Holds m info (written_program m info explicit)
 
 -- the program is one of the grammar, so that its text has one reading
 abbrev pub IsAProgram : Type 0
@@ -112,7 +111,7 @@ FunctionsAreRead =
 abbrev pub IsReadAsItsShapes : Type 0
 IsReadAsItsShapes = OfAccepted (λ m info program.
     program_read program
-    ≡ form_module (module_shape m info) (outer_names (module_names m))
+    ≡ form_module (module_shape m info) (outer_names (module_names m) m)
     (namings (module_names m) m info))
 
 -- it does what the module does
@@ -127,21 +126,19 @@ ScopesAreChecked =
     (IsTrue (scope_holds m info) ↔ ScopesHold m info)
 
 -- The operators of every accepted module, written so far or not, are typed consistently, so that some
--- meaning gives each a value of its type, where its structs, overrides and members are told apart by
--- their names: what is spelled by a name is told by it.
+-- meaning gives each a value of its type.
 abbrev pub IsConsistent : Type 0
 IsConsistent =
-    (m : Module) (info : ModuleInfo) → IsTrue (is_accepted m info) → ItemsAreTold m →
-    OperatorsAreConsistent m info
+    (m : Module) (info : ModuleInfo) → IsTrue (is_accepted m info) → OperatorsAreConsistent m info
 
 abbrev pub HasAMeaning : Type 0
 HasAMeaning =
-    (m : Module) (info : ModuleInfo) → IsTrue (is_accepted m info) → ItemsAreTold m →
-    HasTypedMeaning m info
+    (m : Module) (info : ModuleInfo) → IsTrue (is_accepted m info) → HasTypedMeaning m info
 
--- names that are counted tell them apart, as those that a `reset` gives which succeeds
-abbrev pub CountedAreTold : Type 0
-CountedAreTold = (m : Module) → ItemsAreCounted m → ItemsAreTold m
+-- what is spelled by a name is told by it: the names of a module tell its structs, overrides and
+-- members apart
+abbrev pub NamesTell : Type 0
+NamesTell = (m : Module) → ItemsAreTold m
 
 -- one world answers by the right types in every run of the module
 abbrev pub HasAWorld : Type 0
@@ -149,13 +146,12 @@ HasAWorld =
     (m : Module) (info : ModuleInfo) → IsTrue (is_accepted m info) →
     IsTrue (is_written_so_far m) → HasTypedWorld m info
 
--- what holds of every accepted module, written so far or not, where its structs and overrides are told
--- apart by their names, it holds nothing that no text is ever written for, and the rules of scope hold
--- in it
+-- what holds of every accepted module, written so far or not, that holds nothing that no text is ever
+-- written for, and in which the rules of scope hold
 abbrev pub OfEveryWritable : (Module → ModuleInfo → Type 0) → Type 0
 OfEveryWritable Holds =
-    (m : Module) (info : ModuleInfo) → IsTrue (is_accepted m info) → TypesAreTold m →
-    IsWritable m → ScopesHold m info → Holds m info
+    (m : Module) (info : ModuleInfo) → IsTrue (is_accepted m info) → IsWritable m →
+    ScopesHold m info → Holds m info
 
 -- one world answers by the right types
 abbrev pub EveryHasAWorld : Type 0
@@ -180,7 +176,7 @@ UnspelledAreTold =
 -- acceptance takes them for alike
 abbrev pub AlikeAreTold : Type 0
 AlikeAreTold =
-    (m : Module) (info : ModuleInfo) → IsTrue (is_accepted m info) → TypesAreTold m →
+    (m : Module) (info : ModuleInfo) → IsTrue (is_accepted m info) →
     (a b : TypeResolution) → IsTrue (resolution_fits (length m.overrides) (length m.types) a) →
     IsTrue (resolution_fits (length m.overrides) (length m.types) b) →
     (type_of_values m a ≡ type_of_values m b) ↔ IsTrue (are_alike m.types a b)

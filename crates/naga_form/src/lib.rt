@@ -7,7 +7,7 @@ pub mod types;
 ghost use Rattle.naga_form.specs.Laws.{IsAProgram, HasTheInterface, ResolvesAsMeant};
 ghost use Rattle.naga_form.specs.Laws.{BindsAsCounted, FunctionsAreRead, IsReadAsItsShapes};
 ghost use Rattle.naga_form.specs.Laws.{RunsAsTheModule, ScopesAreChecked, IsConsistent};
-ghost use Rattle.naga_form.specs.Laws.{HasAMeaning, CountedAreTold, HasAWorld};
+ghost use Rattle.naga_form.specs.Laws.{HasAMeaning, HasAWorld, NamesTell};
 ghost use Rattle.naga_form.specs.Laws.{EveryHasAWorld, IsNotStuck, EveryIsNotStuck, AlikeAreTold};
 ghost use Rattle.naga_form.specs.Laws.{UnspelledAreTold, LiteralsAreTold, WordsAreTold, WordsAreKept};
 ghost use Rattle.naga_form.specs.Laws.{OperandsAreTold, RequestsAreTold};
@@ -59,19 +59,17 @@ pub fn scopes_are_checked()
 {}
 
 /// The operators of every accepted module, written so far or not, are typed consistently, so that
-/// some meaning gives each a value of its handle's type, where its structs, overrides and members
-/// are told apart by their names. They are where names are counted, as in each module that gets
-/// names.
+/// some meaning gives each a value of its handle's type. Its structs, overrides and members are told
+/// apart by their names.
 pub fn has_a_typed_meaning()
     ensures consistent { IsConsistent }
     ensures meaning { HasAMeaning }
-    ensures counted { CountedAreTold }
+    ensures told { NamesTell }
 {}
 
 /// For each such meaning, one world answers by the right types in every run of the module: of a
-/// module of the part that is written so far, and of every accepted module whose structs and
-/// overrides are told apart by their names, in which the rules of scope hold, and that holds nothing
-/// that no text is ever written for.
+/// module of the part that is written so far, and of every accepted module in which the rules of
+/// scope hold, and that holds nothing that no text is ever written for.
 pub fn has_a_typed_world()
     ensures written { HasAWorld }
     ensures every { EveryHasAWorld }
@@ -79,8 +77,7 @@ pub fn has_a_typed_world()
 
 /// No run of an accepted module is stuck, nor one of its program in a world that keeps the types,
 /// where the rules of scope hold in the module and it is of the part that is written so far. Nor is
-/// one of any other such module, whose structs and overrides are told apart by their names and that
-/// holds nothing that no text is ever written for.
+/// one of any other such module that holds nothing that no text is ever written for.
 pub fn is_never_stuck()
     ensures written { IsNotStuck }
     ensures every { EveryIsNotStuck }

@@ -1,5 +1,5 @@
 -- The identifiers given so far follow from the uses, and the next one is new.
-use Rattle.std.proofs.Common.{◌≡◌, ℕ, ◌+◌, ◌<◌, ◌≤◌, ◌^◌, zero, suc, Bool, true, false, cond, List}
+use Rattle.std.proofs.Common.{◌≡◌, ℕ, ◌+◌, ◌<◌, zero, suc, Bool, true, false, cond, List}
 use Rattle.std.proofs.Common.{[], ◌∷◌, ◌++◌, take, Some, refl, ap, sym, subst, ◌∙◌, arith}
 use Rattle.std.proofs.Common.{unwrap_or, slice_get}
 use Rattle.std.specs.Str.{bytes_eq, chars}
@@ -87,12 +87,9 @@ module _ (names : Names) (labels : List (List ℕ)) (has : HasNamed names labels
       let base : List ℕ = label_base names label in
       let used : uses_of names.uses follows.base ≡ labels_with_base names labels follows.base = has.uses_are follows.base in
       let own_used : uses_of names.uses base ≡ labels_with_base names labels base = has.uses_are base in
-      let few : labels_with_base names labels base ≤ 2 ^ 32 = has.few base in
-      let other_few : labels_with_base names labels follows.base ≤ 2 ^ 32 = has.few follows.base in
       let less : follows.number < uses_of names.uses follows.base = follows.used in
       let one = counted names follows.base labels follows.number (omega (arith, used, less)) in
-      let same = same_base_and_number names base follows.base (uses_of names.uses base) follows.number (base_ends names.reserved_prefixes (chars label)) (ap ends_separated (sym one.own) ∙ base_ends names.reserved_prefixes (chars one.label))
-      (omega (arith, own_used, few)) (omega (arith, less, used, other_few)) follows.is in
+      let same = same_base_and_number names base follows.base (uses_of names.uses base) follows.number (base_ends names.reserved_prefixes (chars label)) (ap ends_separated (sym one.own) ∙ base_ends names.reserved_prefixes (chars one.label)) follows.is in
       let number : uses_of names.uses base ≡ follows.number = same.1 in
       let uses : uses_of names.uses base ≡ uses_of names.uses follows.base = ap (uses_of names.uses) same.0 in
       omega (arith, number, uses, less)

@@ -31,6 +31,7 @@ use Rattle.naga_names.specs.Label.{without_repeated_underscores, begins_foreign}
 use Rattle.naga_names.specs.Label.{spelling, ends_separated, with_separator, kept_before}
 use Rattle.naga_names.specs.Label.{without_last_separators, or_unnamed, kept_off, base_of, IsPlain}
 use Rattle.naga_names.specs.Label.{IsSpelledAlike}
+use Rattle.naga_names.specs.Naming.{numeral}
 use Rattle.ucd_category.proofs.Computing.{ucd_category}
 
 -- ---- numeric characters at the front
@@ -440,6 +441,9 @@ pub is_text-decimal : (n : ℕ) → is_text (decimal n) ≡ true
 unfolding digits
 is_text-decimal n = is_text-digits_of_some 63 n
 
+pub is_text-numeral : (n : ℕ) → is_text (numeral n) ≡ true
+is_text-numeral n = is_text-digits_of_some n n
+
 decimal_glyph : (n : ℕ) → is_ascii_digit (digit_glyph false (n % 10)) ≡ true
 decimal_glyph n = let lt : n % 10 < 10 = omega arith in grind (arith, nat_tests)
 
@@ -449,6 +453,9 @@ hexadecimal_glyph n = let lt : n % 16 < 16 = omega arith in grind (arith, nat_te
 pub all_digits-decimal : (n : ℕ) → list_all is_ascii_digit (decimal n) ≡ true
 unfolding digits
 all_digits-decimal n = all_digits_onto is_ascii_digit 10 decimal_glyph 64 n [] refl
+
+pub all_digits-numeral : (n : ℕ) → list_all is_ascii_digit (numeral n) ≡ true
+all_digits-numeral n = all_digits_onto is_ascii_digit 10 decimal_glyph (suc n) n [] refl
 
 all_zeros : (n : ℕ) → list_all is_identifier_char (replicate n 48) ≡ true
 all_zeros zero = refl

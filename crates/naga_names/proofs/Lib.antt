@@ -11,3 +11,4 @@ pub mod Naming
 pub mod Outputs
 pub mod Progress
 pub mod Reset
+mod Numerals

@@ -40,7 +40,7 @@ use Rattle.naga_names.proofs.Reset.{labels_of-append, scan-push, not_below, or_n
 use Rattle.naga_names.proofs.Reset.{items_at, entries_grown}
 use Rattle.std.specs.Prelude.{◌⊎◌}
 use mathlib.Core.Logic.{inl, inr}
-use Rattle.std.proofs.lemmas.Bool.{and_parts, ltb-true}
+use Rattle.std.proofs.lemmas.Bool.{and_parts}
 use Rattle.std.proofs.lemmas.List.FromFn.{length-enumerate_from}
 use Rattle.std.proofs.lemmas.Option.{slice_get_within, none-some}
 use Rattle.naga_ir.specs.declared.module.Module.{Module}
@@ -317,17 +317,18 @@ module _ (start : Names) («module» : Module) (t : ℕ) (ty : Type_) (found : s
   long : length (take n (members_of ty.inner)) ≡ n
   long = let le : n ≤ length (members_of ty.inner) = omega (arith, slice_get_within (members_of ty.inner) n member there) in omega (arith, length-take-le n (members_of ty.inner) le)
 
-  module _ (before now : NameMap) (names : Names) (has : HasNamedItems start before (labelled_items start «module») names now) where
-    pub member_named : now (key.StructMember t n) ≡ Some (name_after (member_names start) (map member_label (take n (members_of ty.inner))) (member_label member))
-    member_named =
+  module _ (before now : NameMap) (put : PutsInto before (named_items start (labelled_items start «module»)) now) where
+    pub member_put : now (key.StructMember t n) ≡ Some (name_after (member_names start) (map member_label (take n (members_of ty.inner))) (member_label member))
+    member_put =
         let done_long : length done ≡ n = length-map (enumerate_from 0 (take n (members_of ty.inner))) (λ p. (key.StructMember t p.0, member_label p.1)) ∙ length-enumerate_from 0 (take n (members_of ty.inner)) ∙ long in
-        item_put start before now (labelled_items start «module») has.put (items_apart start «module») in_module.place item in_module.there
+        item_put start before now (labelled_items start «module») put (items_apart start «module») in_module.place item in_module.there
         ∙ ap (λ items. Some (item_name start items item)) in_module.before
         ∙ ap Some (member_name start t in_module.front done n (member_label member) done_long)
         ∙ ap (λ labels. Some (name_after (member_names start) labels (member_label member))) (own_labels t 0 (take n (members_of ty.inner)))
 
-    pub member_counted : n < 2 ^ 32
-    member_counted = ltb-true n (2 ^ 32) (all_at (λ (x : LabelledItem). key_fits x.0) (labelled_items start «module») in_module.place item has.keys in_module.there)
+  module _ (before now : NameMap) (names : Names) (has : HasNamedItems start before (labelled_items start «module») names now) where
+    pub member_named : now (key.StructMember t n) ≡ Some (name_after (member_names start) (map member_label (take n (members_of ty.inner))) (member_label member))
+    member_named = member_put before now has.put
 
     pub member_not_reserved : start.keywords ≡ set.from_list (map (λ word. word.now) RESERVED.now) → (name : List ℕ) → now (key.StructMember t n) ≡ Some name → set.contains start.keywords name ≡ false
     member_not_reserved reserved name is =
@@ -347,32 +348,32 @@ module _ (start : Names) where
   member_name_at : List StructMember → ℕ → StructMember → List ℕ
   member_name_at members n member = name_after (member_names start) (map member_label (take n members)) (member_label member)
 
-  members_differ : (members : List StructMember) (n k : ℕ) (a b : StructMember) → n < k → slice_get members n ≡ Some a → slice_get members k ≡ Some b → k < 2 ^ 32 → member_name_at members n a ≡ member_name_at members k b → ⊥
+  members_differ : (members : List StructMember) (n k : ℕ) (a b : StructMember) → n < k → slice_get members n ≡ Some a → slice_get members k ≡ Some b → member_name_at members n a ≡ member_name_at members k b → ⊥
   unfolding member_name_at
-  members_differ members n k a b lt there_a there_b few same =
+  members_differ members n k a b lt there_a there_b same =
       let parts = split_before members n k a lt there_a in
       let first : List (List ℕ) = map member_label (take n members) in
       let middle : List (List ℕ) = map member_label parts.0 in
       let before : map member_label (take k members) ≡ first ++ member_label a ∷ middle = ap (map member_label) parts.1 ∙ map-append member_label (take n members) (a ∷ parts.0) in
-      let le : k ≤ length members = omega (arith, slice_get_within members k b there_b) in
-      let long : length (first ++ member_label a ∷ middle) ≡ k = ap length (sym before) ∙ length-map (take k members) member_label ∙ omega (arith, length-take-le k members le) in
-      let all : length ((first ++ member_label a ∷ middle) ++ member_label b ∷ []) ≡ length (first ++ member_label a ∷ middle) + 1 = length-append (first ++ member_label a ∷ middle) (member_label b ∷ []) in
-      names_differ (member_names start) first (member_label a) middle (member_label b) []
-      (λ base. omega (arith, long, all, few, count_by-le-length (λ label. bytes_eq (label_base (member_names start) label) base) ((first ++ member_label a ∷ middle) ++ member_label b ∷ [])))
+      names_differ (member_names start) first (member_label a) middle (member_label b)
       (same ∙ ap (λ labels. name_after (member_names start) labels (member_label b)) before)
 
-module _ (start : Names) («module» : Module) (before now : NameMap) (names : Names) (has : HasNamedItems start before (labelled_items start «module») names now) where
-  pub members_told : (t : ℕ) (ty : Type_) → slice_get «module».types t ≡ Some ty → (n k : ℕ) (a b : StructMember) → slice_get (members_of ty.inner) n ≡ Some a → slice_get (members_of ty.inner) k ≡ Some b → now (key.StructMember t n) ≡ now (key.StructMember t k) → n ≡ k
+module _ (start : Names) («module» : Module) (before now : NameMap) (put : PutsInto before (named_items start (labelled_items start «module»)) now) where
+  pub put_members_told : (t : ℕ) (ty : Type_) → slice_get «module».types t ≡ Some ty → (n k : ℕ) (a b : StructMember) → slice_get (members_of ty.inner) n ≡ Some a → slice_get (members_of ty.inner) k ≡ Some b → now (key.StructMember t n) ≡ now (key.StructMember t k) → n ≡ k
   unfolding member_name_at
-  members_told t ty found n k a b there_a there_b same = either (order n k)
+  put_members_told t ty found n k a b there_a there_b same = either (order n k)
     where
       members : List StructMember
       members = members_of ty.inner
 
       one : member_name_at start members n a ≡ member_name_at start members k b
-      one = ap (λ o. unwrap_or o (member_name_at start members n a)) (sym (member_named start «module» t ty found n a there_a before now names has) ∙ same ∙ member_named start «module» t ty found k b there_b before now names has)
+      one = ap (λ o. unwrap_or o (member_name_at start members n a)) (sym (member_put start «module» t ty found n a there_a before now put) ∙ same ∙ member_put start «module» t ty found k b there_b before now put)
 
       either : (n ≡ k) ⊎ ((n < k) ⊎ (k < n)) → n ≡ k
       either (inl e) = e
-      either (inr (inl lt)) = absurd (members_differ start members n k a b lt there_a there_b (member_counted start «module» t ty found k b there_b before now names has) one)
-      either (inr (inr lt)) = absurd (members_differ start members k n b a lt there_b there_a (member_counted start «module» t ty found n a there_a before now names has) (sym one))
+      either (inr (inl lt)) = absurd (members_differ start members n k a b lt there_a there_b one)
+      either (inr (inr lt)) = absurd (members_differ start members k n b a lt there_b there_a (sym one))
+
+module _ (start : Names) («module» : Module) (before now : NameMap) (names : Names) (has : HasNamedItems start before (labelled_items start «module») names now) where
+  pub members_told : (t : ℕ) (ty : Type_) → slice_get «module».types t ≡ Some ty → (n k : ℕ) (a b : StructMember) → slice_get (members_of ty.inner) n ≡ Some a → slice_get (members_of ty.inner) k ≡ Some b → now (key.StructMember t n) ≡ now (key.StructMember t k) → n ≡ k
+  members_told = put_members_told start «module» before now has.put

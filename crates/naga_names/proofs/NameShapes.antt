@@ -1,5 +1,5 @@
 -- What every name looks like, and that a name tells its base and its number.
-use Rattle.std.proofs.Common.{◌≡◌, ℕ, ◌+◌, ◌<◌, ◌≤◌, ◌^◌, Bool, true, false, not, ◌&&◌, ◌||◌, ◌==◌}
+use Rattle.std.proofs.Common.{◌≡◌, ℕ, ◌+◌, Bool, true, false, not, ◌&&◌, ◌||◌, ◌==◌}
 use Rattle.std.proofs.Common.{cond, List, [], ◌∷◌, ◌++◌, get_or, drop, codes, refl, sym, ap, ◌∙◌}
 use Rattle.std.proofs.Common.{arith, append_assoc, append-nil, All}
 use Rattle.std.specs.List.{list_all, starts_with}
@@ -12,7 +12,6 @@ use Rattle.std.specs.FinSet as set
 use Rattle.std.specs.Str.{bytes_eq, chars}
 use Rattle.std.specs.Cmp.Lexicographic.{slice_cmp, nat_list_cmp_total, bytes_decides}
 use Rattle.std.specs.Ordering.{nat_cmp, eq_by_cmp}
-use Rattle.std.proofs.lemmas.Fmt.{decimal_injective}
 use Rattle.std.proofs.lemmas.List.Folds.{list_all-append, list_any_none}
 use Rattle.std.proofs.lemmas.List.Sums.{sum_by-append, sum_by-cons}
 use Rattle.std.proofs.lemmas.Bool.Decides.{nat_tests}
@@ -20,7 +19,9 @@ use Rattle.std.proofs.lemmas.Map.Text.{is_eq-slice_cmp}
 use Rattle.std.proofs.lemmas.Bool.{and_parts, and_from, true≢false, or_parts}
 use Rattle.std.proofs.Math.Bool.{and-false}
 use Rattle.naga_names.proofs.Label.{get_or-last, ends_separated-push, is_text, is_text-decimal}
+use Rattle.naga_names.proofs.Label.{is_text-numeral, all_digits-numeral}
 use Rattle.naga_names.proofs.Label.{all_digits-decimal, base_is_word, base_ends, begins_double}
+use Rattle.naga_names.proofs.Numerals.{numeral_injective}
 use Rattle.naga_names.proofs.Label.{base_not_double}
 use Rattle.naga_names.specs.Label.{ends_separated, after_numerics, spelling}
 use Rattle.naga_names.specs.Label.{without_last_separators, or_unnamed, kept_off, base_of}
@@ -29,6 +30,7 @@ use Rattle.naga_keywords.specs.Plain.{is_empty_or_separated, HasPlainEnds, IsPla
 use Rattle.naga_keywords.specs.Words.{in_lower_case}
 use Rattle.naga_names.specs.Naming.{Names, label_base, is_taken, ends_in_digit, first_name}
 use Rattle.naga_names.specs.Naming.{later_name, name_of_base, labels_with_base, name_after}
+use Rattle.naga_names.specs.Naming.{numeral}
 
 -- ---- the last character
 -- the text ends in a character that passes
@@ -79,8 +81,8 @@ digits_have_none (d ∷ ds) e =
     one : (d : ℕ) → is_ascii_digit d ≡ true → not (d == 95) ≡ true
     one d e = grind (arith, nat_tests)
 
-number_has_none : (n : ℕ) → has_none (decimal n) ≡ true
-number_has_none n = digits_have_none (decimal n) (all_digits-decimal n)
+number_has_none : (n : ℕ) → has_none (numeral n) ≡ true
+number_has_none n = digits_have_none (numeral n) (all_digits-numeral n)
 
 -- ---- a name by its base and the uses before it
 module _ (names : Names) (base : List ℕ) where
@@ -91,16 +93,16 @@ module _ (names : Names) (base : List ℕ) where
       either true e = inl refl
       either false e = let parts = or_parts (ends_in_digit base) (is_taken names base) e in inr (refl, parts.0, parts.1)
 
-  later_is : (n : ℕ) → later_name base n ≡ base ++ 95 ∷ decimal n
-  later_is n = append_assoc base (95 ∷ []) (decimal n)
+  later_is : (n : ℕ) → later_name base n ≡ base ++ 95 ∷ numeral n
+  later_is n = append_assoc base (95 ∷ []) (numeral n)
 
-  name_cases : (n : ℕ) → ((n ≡ 0) × (name_of_base names base n ≡ first_name names base)) ⊎ (name_of_base names base n ≡ base ++ 95 ∷ decimal n)
+  name_cases : (n : ℕ) → ((n ≡ 0) × (name_of_base names base n ≡ first_name names base)) ⊎ (name_of_base names base n ≡ base ++ 95 ∷ numeral n)
   name_cases n = either (n == 0) refl
     where
       none : (n == 0) ≡ true → n ≡ 0
       none e = grind (arith, nat_tests)
 
-      either : (b : Bool) → (n == 0) ≡ b → ((n ≡ 0) × (cond b (first_name names base) (later_name base n) ≡ first_name names base)) ⊎ (cond b (first_name names base) (later_name base n) ≡ base ++ 95 ∷ decimal n)
+      either : (b : Bool) → (n == 0) ≡ b → ((n ≡ 0) × (cond b (first_name names base) (later_name base n) ≡ first_name names base)) ⊎ (cond b (first_name names base) (later_name base n) ≡ base ++ 95 ∷ numeral n)
       either true e = inl (none e, refl)
       either false e = inr (later_is n)
 
@@ -112,9 +114,9 @@ module _ (names : Names) (base : List ℕ) where
       either (inl is) = ap (ends_by is_ascii_digit) is ∙ ends_by-append is_ascii_digit base 95 []
       either (inr is) = ap (ends_by is_ascii_digit) is.0 ∙ sym (ends_by-last base) ∙ is.1
 
-  later_ends : (n : ℕ) → ends_by is_ascii_digit (base ++ 95 ∷ decimal n) ≡ true
+  later_ends : (n : ℕ) → ends_by is_ascii_digit (base ++ 95 ∷ numeral n) ≡ true
   unfolding is_text
-  later_ends n = ap (ends_by is_ascii_digit) (sym (append_assoc base (95 ∷ []) (decimal n))) ∙ ended (decimal n) (is_text-decimal n) (all_digits-decimal n)
+  later_ends n = ap (ends_by is_ascii_digit) (sym (append_assoc base (95 ∷ []) (numeral n))) ∙ ended (numeral n) (is_text-numeral n) (all_digits-numeral n)
     where
       ended : (ds : List ℕ) → is_text ds ≡ true → list_all is_ascii_digit ds ≡ true → ends_by is_ascii_digit ((base ++ 95 ∷ []) ++ ds) ≡ true
       ended [] some all = absurd (cc)
@@ -146,9 +148,9 @@ module _ (names : Names) (base : List ℕ) where
       first (inl is) = ap is_word is ∙ only_more (95 ∷ []) word refl
       first (inr is) = ap is_word is.0 ∙ word
 
-      either : ((n ≡ 0) × (name_of_base names base n ≡ first_name names base)) ⊎ (name_of_base names base n ≡ base ++ 95 ∷ decimal n) → is_word (name_of_base names base n) ≡ true
+      either : ((n ≡ 0) × (name_of_base names base n ≡ first_name names base)) ⊎ (name_of_base names base n ≡ base ++ 95 ∷ numeral n) → is_word (name_of_base names base n) ≡ true
       either (inl is) = ap is_word is.1 ∙ first first_cases
-      either (inr is) = ap is_word is ∙ only_more (95 ∷ decimal n) word (digits_are_only (decimal n) (all_digits-decimal n))
+      either (inr is) = ap is_word is ∙ only_more (95 ∷ numeral n) word (digits_are_only (numeral n) (all_digits-numeral n))
 
   -- ---- a name is none of these words
   module _ (taken : List ℕ → Bool) (plain : (front digits : List ℕ) → list_all is_ascii_digit digits ≡ true → taken (front ++ 95 ∷ digits) ≡ false) (kept : is_taken names base ≡ false → taken base ≡ false) where
@@ -159,9 +161,9 @@ module _ (names : Names) (base : List ℕ) where
         first (inl is) = ap taken is ∙ plain base [] refl
         first (inr is) = ap taken is.0 ∙ kept is.2
 
-        either : ((n ≡ 0) × (name_of_base names base n ≡ first_name names base)) ⊎ (name_of_base names base n ≡ base ++ 95 ∷ decimal n) → taken (name_of_base names base n) ≡ false
+        either : ((n ≡ 0) × (name_of_base names base n ≡ first_name names base)) ⊎ (name_of_base names base n ≡ base ++ 95 ∷ numeral n) → taken (name_of_base names base n) ≡ false
         either (inl is) = ap taken is.1 ∙ first first_cases
-        either (inr is) = ap taken is ∙ plain base (decimal n) (all_digits-decimal n)
+        either (inr is) = ap taken is ∙ plain base (numeral n) (all_digits-numeral n)
 
   -- ---- no name is `_e` and a number
   numbered_of_base : is_word base ≡ true → (n h : ℕ) → name_of_base names base n ≡ codes "_e" ++ decimal h → ⊥
@@ -171,7 +173,7 @@ module _ (names : Names) (base : List ℕ) where
       nothing : base ≡ [] → ⊥
       nothing e = true≢false (sym word ∙ ap is_word e)
 
-      either : ((n ≡ 0) × (name_of_base names base n ≡ first_name names base)) ⊎ (name_of_base names base n ≡ base ++ 95 ∷ decimal n) → ⊥
+      either : ((n ≡ 0) × (name_of_base names base n ≡ first_name names base)) ⊎ (name_of_base names base n ≡ base ++ 95 ∷ numeral n) → ⊥
       either (inl first) = true≢false (sym numbered_ends ∙ ap (ends_by is_ascii_digit) (sym is ∙ first.1) ∙ first_ends)
         where
           numbered_ends : ends_by is_ascii_digit (codes "_e" ++ decimal h) ≡ true
@@ -180,15 +182,15 @@ module _ (names : Names) (base : List ℕ) where
               ended : (ds : List ℕ) → is_text ds ≡ true → list_all is_ascii_digit ds ≡ true → ends_by is_ascii_digit (codes "_e" ++ ds) ≡ true
               ended [] some all = absurd (cc)
               ended (d ∷ ds) some all = ends_by-append is_ascii_digit (codes "_e") d ds ∙ ends_by-all is_ascii_digit (d ∷ ds) refl all
-      either (inr later) = nothing (split_last base (decimal n) [] (101 ∷ decimal h) (number_has_none n) (number_has_none h) (sym later ∙ is)).0
+      either (inr later) = nothing (split_last base (numeral n) [] (101 ∷ decimal h) (number_has_none n) (digits_have_none (decimal h) (all_digits-decimal h)) (sym later ∙ is)).0
 
 -- ---- a name tells its base and its number
-module _ (names : Names) (b c : List ℕ) (m n : ℕ) (b_ends : ends_separated b ≡ false) (c_ends : ends_separated c ≡ false) (m_small : m < 2 ^ 64) (n_small : n < 2 ^ 64) where
+module _ (names : Names) (b c : List ℕ) (m n : ℕ) (b_ends : ends_separated b ≡ false) (c_ends : ends_separated c ≡ false) where
   abbrev FirstCases : List ℕ → Type 0
   FirstCases d = (first_name names d ≡ d ++ 95 ∷ []) ⊎ ((first_name names d ≡ d) × (ends_in_digit d ≡ false) × (is_taken names d ≡ false))
 
   abbrev NameCases : List ℕ → ℕ → Type 0
-  NameCases d k = ((k ≡ 0) × (name_of_base names d k ≡ first_name names d)) ⊎ (name_of_base names d k ≡ d ++ 95 ∷ decimal k)
+  NameCases d k = ((k ≡ 0) × (name_of_base names d k ≡ first_name names d)) ⊎ (name_of_base names d k ≡ d ++ 95 ∷ numeral k)
 
   both_first : FirstCases b → FirstCases c → first_name names b ≡ first_name names c → b ≡ c
   both_first (inl x) (inl y) e = (split_last b [] c [] refl refl (sym x ∙ e ∙ y)).0
@@ -205,8 +207,8 @@ module _ (names : Names) (b c : List ℕ) (m n : ℕ) (b_ends : ends_separated b
   both (inl x) (inr y) e = absurd (true≢false (sym (later_ends names c n) ∙ ap (ends_by is_ascii_digit) (sym y ∙ sym e ∙ x.1) ∙ first_ends names b))
   both (inr x) (inl y) e = absurd (true≢false (sym (later_ends names b m) ∙ ap (ends_by is_ascii_digit) (sym x ∙ e ∙ y.1) ∙ first_ends names c))
   both (inr x) (inr y) e =
-      let parts = split_last b (decimal m) c (decimal n) (number_has_none m) (number_has_none n) (sym x ∙ e ∙ y) in
-      (parts.0, decimal_injective m n m_small n_small parts.1)
+      let parts = split_last b (numeral m) c (numeral n) (number_has_none m) (number_has_none n) (sym x ∙ e ∙ y) in
+      (parts.0, numeral_injective m n parts.1)
 
   pub same_base_and_number : name_of_base names b m ≡ name_of_base names c n → (b ≡ c) × (m ≡ n)
   same_base_and_number e = both (name_cases names b m) (name_cases names c n) e
@@ -238,9 +240,9 @@ identifier_of_base names base n some ends single = either (name_cases names base
     first (inl is) word = ap is_identifier is ∙ identifier_more base (95 ∷ []) some ends single (ap is_word (sym is) ∙ word)
     first (inr is) word = ap is_identifier is.0 ∙ plain some
 
-    either : ((n ≡ 0) × (name_of_base names base n ≡ first_name names base)) ⊎ (name_of_base names base n ≡ base ++ 95 ∷ decimal n) → is_word (name_of_base names base n) ≡ true → is_identifier (name_of_base names base n) ≡ true
+    either : ((n ≡ 0) × (name_of_base names base n ≡ first_name names base)) ⊎ (name_of_base names base n ≡ base ++ 95 ∷ numeral n) → is_word (name_of_base names base n) ≡ true → is_identifier (name_of_base names base n) ≡ true
     either (inl is) word = ap is_identifier is.1 ∙ first (first_cases names base) (ap is_word (sym is.1) ∙ word)
-    either (inr is) word = ap is_identifier is ∙ identifier_more base (95 ∷ decimal n) some ends single (ap is_word (sym is) ∙ word)
+    either (inr is) word = ap is_identifier is ∙ identifier_more base (95 ∷ numeral n) some ends single (ap is_word (sym is) ∙ word)
 
 -- a name is an identifier: a word that does not begin with `__`, and is not `_`
 pub name_after_is_identifier : (start : Names) (earlier : List (List ℕ)) (label : List ℕ) → is_identifier (name_after start earlier label) ≡ true
@@ -278,9 +280,9 @@ naga_of_base names base n some off = either (name_cases names base n)
     first (inl is) = ap naga is ∙ naga_parted base [] some ∙ off
     first (inr is) = ap naga is.0 ∙ off
 
-    either : ((n ≡ 0) × (name_of_base names base n ≡ first_name names base)) ⊎ (name_of_base names base n ≡ base ++ 95 ∷ decimal n) → naga (name_of_base names base n) ≡ false
+    either : ((n ≡ 0) × (name_of_base names base n ≡ first_name names base)) ⊎ (name_of_base names base n ≡ base ++ 95 ∷ numeral n) → naga (name_of_base names base n) ≡ false
     either (inl is) = ap naga is.1 ∙ first (first_cases names base)
-    either (inr is) = ap naga is ∙ naga_parted base (decimal n) some ∙ off
+    either (inr is) = ap naga is ∙ naga_parted base (numeral n) some ∙ off
 
 -- under the prefixes `__` and `_naga` no name begins with `_naga`
 pub name_after_no_naga : (start : Names) (earlier : List (List ℕ)) (label : List ℕ) → start.reserved_prefixes ≡ codes "__" ∷ codes "_naga" ∷ [] → starts_with nat_eq (name_after start earlier label) (codes "_naga") ≡ false
@@ -337,10 +339,6 @@ pub name_after_not_numbered : (start : Names) (earlier : List (List ℕ)) (label
 name_after_not_numbered start earlier label h is = numbered_of_base start (label_base start label) (base_is_word start.reserved_prefixes (chars label)) (labels_with_base start earlier (label_base start label)) h is
 
 -- ---- no name comes twice
--- no base is used so often that a counter would pass its end
-abbrev AreFew : Names → List (List ℕ) → Type 0
-AreFew start labels = (base : List ℕ) → labels_with_base start labels base ≤ 2 ^ 32
-
 module _ (start : Names) where
   pub counted_more : (first : List (List ℕ)) (a : List ℕ) (rest : List (List ℕ)) (base : List ℕ) → label_base start a ≡ base → labels_with_base start (first ++ a ∷ rest) base ≡ labels_with_base start first base + (1 + labels_with_base start rest base)
   counted_more first a rest base same =
@@ -349,19 +347,14 @@ module _ (start : Names) where
       (sum_by-cons (λ l. cond (bytes_eq (label_base start l) base) 1 0) a rest
       ∙ ap (λ b. cond b 1 0 + labels_with_base start rest base) ((bytes_decides (label_base start a) base).1 same))
 
-  counted_less : (first rest : List (List ℕ)) (base : List ℕ) → labels_with_base start first base ≤ labels_with_base start (first ++ rest) base
-  counted_less first rest base = omega (arith, sum_by-append (λ l. cond (bytes_eq (label_base start l) base) 1 0) first rest)
-
   -- labels at two places have different names
-  pub names_differ : (first : List (List ℕ)) (a : List ℕ) (middle : List (List ℕ)) (b : List ℕ) (rest : List (List ℕ)) → ((base : List ℕ) → labels_with_base start ((first ++ a ∷ middle) ++ b ∷ rest) base ≤ 2 ^ 32) → name_after start first a ≡ name_after start (first ++ a ∷ middle) b → ⊥
-  names_differ first a middle b rest few is =
+  pub names_differ : (first : List (List ℕ)) (a : List ℕ) (middle : List (List ℕ)) (b : List ℕ) → name_after start first a ≡ name_after start (first ++ a ∷ middle) b → ⊥
+  names_differ first a middle b is =
       let base_a : List ℕ = label_base start a in
       let base_b : List ℕ = label_base start b in
       let m : ℕ = labels_with_base start first base_a in
       let n : ℕ = labels_with_base start (first ++ a ∷ middle) base_b in
-      let m_small : m < 2 ^ 64 = omega (arith, few base_a, counted_less first (a ∷ middle) base_a, counted_less (first ++ a ∷ middle) (b ∷ rest) base_a) in
-      let n_small : n < 2 ^ 64 = omega (arith, few base_b, counted_less (first ++ a ∷ middle) (b ∷ rest) base_b) in
-      let same = same_base_and_number start base_a base_b m n (base_ends start.reserved_prefixes (chars a)) (base_ends start.reserved_prefixes (chars b)) m_small n_small is in
+      let same = same_base_and_number start base_a base_b m n (base_ends start.reserved_prefixes (chars a)) (base_ends start.reserved_prefixes (chars b)) is in
       let more : n ≡ labels_with_base start first base_b + (1 + labels_with_base start middle base_b) = counted_more first a middle base_b same.0 in
       let less : m ≡ labels_with_base start first base_b = ap (labels_with_base start first) same.0 in
       let equal : m ≡ n = same.1 in

@@ -1,6 +1,6 @@
 -- The names of a list of items: where they stand, that none comes twice, and what a map has of
 -- them.
-use Rattle.std.proofs.Common.{◌≡◌, ℕ, ◌+◌, ◌<◌, ◌≤◌, ◌^◌, zero, suc, string_bytes, List, [], ◌∷◌}
+use Rattle.std.proofs.Common.{◌≡◌, ℕ, ◌+◌, ◌<◌, zero, suc, string_bytes, List, [], ◌∷◌}
 use Rattle.std.proofs.Common.{◌++◌, map, take, Some, None, true, false, cond, refl, ap, sym, subst}
 use Rattle.std.proofs.Common.{◌∙◌, arith, codes, append_assoc, append-nil, slice_get}
 use Rattle.std.specs.Prelude.{◌⊎◌}
@@ -21,7 +21,7 @@ use Rattle.naga_ir.specs.declared.module.LocalVariable.{LocalVariable}
 use Rattle.naga_ir.specs.declared.types.Type_.{Type_}
 use Rattle.naga_names.specs.declared.key.NameKey.{NameKey}
 use Rattle.naga_names.specs.declared.key.NameKey.TheVariants as key
-use Rattle.naga_names.specs.Naming.{Names, name_after, labels_with_base, label_or}
+use Rattle.naga_names.specs.Naming.{Names, name_after, label_or}
 use Rattle.naga_names.specs.Keys.{NameMap, same_key}
 use Rattle.naga_names.specs.Reset.{LabelledItem, is_member, item_name, labels_of, named_items}
 use Rattle.naga_names.specs.Reset.{members_of, labelled_members, labelled_type, type_label}
@@ -77,17 +77,14 @@ order (suc i) (suc j) = next (order i j)
     next (inr (inl lt)) = inr (inl (omega (arith, lt)))
     next (inr (inr lt)) = inr (inr (omega (arith, lt)))
 
-module _ (start : Names) (items : List LabelledItem) (few : (base : List ℕ) → labels_with_base start (labels_of items) base ≤ 2 ^ 32) where
+module _ (start : Names) (items : List LabelledItem) where
   -- items at two places have different names
   pub item_names_differ : (i j : ℕ) (x y : LabelledItem) → i < j → slice_get items i ≡ Some x → slice_get items j ≡ Some y → is_member x.0 ≡ false → is_member y.0 ≡ false → name_after start (labels_of (take i items)) x.1 ≡ name_after start (labels_of (take j items)) y.1 → ⊥
   item_names_differ i j x y lt ex ey out_x out_y same =
       let parts = split_two items i j x y lt ex ey in
       let front : List (List ℕ) = labels_of (take i items) in
       let before : labels_of (take j items) ≡ front ++ x.1 ∷ labels_of parts.middle = ap labels_of parts.before ∙ labels_of-around (take i items) x parts.middle out_x in
-      let all : labels_of items ≡ (front ++ x.1 ∷ labels_of parts.middle) ++ y.1 ∷ labels_of parts.rest =
-      ap labels_of parts.all ∙ labels_of-around (take i items ++ x ∷ parts.middle) y parts.rest out_y
-      ∙ ap (λ labels. labels ++ y.1 ∷ labels_of parts.rest) (labels_of-around (take i items) x parts.middle out_x) in
-      names_differ start front x.1 (labels_of parts.middle) y.1 (labels_of parts.rest) (λ base. subst (λ labels. labels_with_base start labels base ≤ 2 ^ 32) all (few base)) (same ∙ ap (λ labels. name_after start labels y.1) before)
+      names_differ start front x.1 (labels_of parts.middle) y.1 (same ∙ ap (λ labels. name_after start labels y.1) before)
 
   -- two places with one name are one place
   pub item_names_tell : (i j : ℕ) (x y : LabelledItem) → slice_get items i ≡ Some x → slice_get items j ≡ Some y → is_member x.0 ≡ false → is_member y.0 ≡ false → name_after start (labels_of (take i items)) x.1 ≡ name_after start (labels_of (take j items)) y.1 → i ≡ j
@@ -354,14 +351,11 @@ module _ (start : Names) (before : NameMap) («module» : Module) (names : Names
   pub named_there : (item : LabelledItem) (s : Stands (labelled_items start «module») item) → now item.0 ≡ Some (name_after start (labels_of (take s.place (labelled_items start «module»))) item.1)
   named_there item s = put_at start before now (labelled_items start «module») has.put (items_apart start «module») s.place item s.there s.outside
 
-  pub few_labels : (base : List ℕ) → labels_with_base start (labels_of (labelled_items start «module»)) base ≤ 2 ^ 32
-  few_labels base = subst (λ n. n ≤ 2 ^ 32) (ap (λ (n : Names). labels_with_base n (labels_of (labelled_items start «module»)) base) has.words) (has.labels.few base)
-
   -- items with one name are one item
   pub names_tell : (a b : LabelledItem) → Stands (labelled_items start «module») a → Stands (labelled_items start «module») b → now a.0 ≡ now b.0 → a ≡ b
   names_tell a b s t same =
       let one = same_Some _ _ (sym (named_there a s) ∙ same ∙ named_there b t) in
-      let place = item_names_tell start (labelled_items start «module») few_labels s.place t.place a b s.there t.there s.outside t.outside one in
+      let place = item_names_tell start (labelled_items start «module») s.place t.place a b s.there t.there s.outside t.outside one in
       same_Some a b (sym s.there ∙ ap (slice_get (labelled_items start «module»)) place ∙ t.there)
 
   -- a function has its name, and each of its arguments
@@ -383,4 +377,4 @@ module _ (start : Names) (before : NameMap) («module» : Module) (names : Names
       let items = labelled_items start «module» in
       let a_is = put_at start before now items has.put (items_apart start «module») i a ea out_a in
       let b_is = put_at start before now items has.put (items_apart start «module») j b eb out_b in
-      item_names_tell start items few_labels i j a b ea eb out_a out_b (same_Some _ _ (sym a_is ∙ same ∙ b_is))
+      item_names_tell start items i j a b ea eb out_a out_b (same_Some _ _ (sym a_is ∙ same ∙ b_is))

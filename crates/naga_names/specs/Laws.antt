@@ -2,14 +2,14 @@
 --
 -- Throughout, t is the handle of a type ty, n and k are indexes of its members, i and j those of
 -- items; a and b are labels, items or members, and h is the handle of an expression.
-use Rattle.std.specs.Prelude.{◌≡◌, ℕ, ◌<◌, ◌≤◌, ◌^◌, map, List, [], ◌∷◌, nat_eq, ◌++◌, take, true}
+use Rattle.std.specs.Prelude.{◌≡◌, ℕ, ◌<◌, map, List, [], ◌∷◌, nat_eq, ◌++◌, take, true}
 use Rattle.std.specs.Prelude.{false, codes, decimal, slice_get, Some}
 use Rattle.std.specs.List.{starts_with}
 use Rattle.std.specs.FinSet as set
 use Rattle.naga_keywords.specs.Plain.{is_identifier, HasPlainEnds}
 use Rattle.naga_keywords.specs.Words.{in_lower_case}
 use Rattle.naga_names.specs.Naming.{Names, uses_of, name_of, name_of_base, name_after}
-use Rattle.naga_names.specs.Naming.{labels_with_base, HasNamed}
+use Rattle.naga_names.specs.Naming.{HasNamed}
 use Rattle.naga_names.specs.Keys.{NameMap}
 use Rattle.naga_names.specs.Reset.{LabelledItem, is_member, members_of, member_label, member_names}
 use Rattle.naga_names.specs.Reset.{item_name, labelled_items, HasNamedItems}
@@ -59,13 +59,10 @@ NamesAreNotNumbered =
     (start : Names) (earlier : List (List ℕ)) (label : List ℕ) (h : ℕ) →
     name_after start earlier label ≡ codes "_e" ++ decimal h → ⊥
 
--- labels at two places have different names, as long
--- as no base comes more often than can be counted
+-- labels at two places have different names
 abbrev pub NamesDiffer : Type 0
 NamesDiffer =
-    (start : Names) (first : List (List ℕ)) (a : List ℕ) (middle : List (List ℕ)) (b : List ℕ)
-    (rest : List (List ℕ)) →
-    ((base : List ℕ) → labels_with_base start ((first ++ a ∷ middle) ++ b ∷ rest) base ≤ 2 ^ 32) →
+    (start : Names) (first : List (List ℕ)) (a : List ℕ) (middle : List (List ℕ)) (b : List ℕ) →
     name_after start first a ≡ name_after start (first ++ a ∷ middle) b → ⊥
 
 -- after a `reset` each item has in the map the name that it has behind the items before it

@@ -1,9 +1,10 @@
 -- The names that a `Namer` gives.
 --
 -- Throughout, n are names, and p their parts as a pair.
-use Rattle.std.specs.Prelude.{◌≡◌, ℕ, ◌+◌, ◌-◌, ◌^◌, ◌<◌, ◌≤◌, Some, None, Bool, ◌||◌, ◌==◌}
+use Rattle.std.specs.Prelude.{◌≡◌, ℕ, suc, ◌+◌, ◌-◌, ◌^◌, ◌<◌, ◌≤◌, Some, None, Bool, ◌||◌, ◌==◌}
+use Rattle.std.specs.Prelude.{false}
 use Rattle.std.specs.Prelude.{if◌then◌else◌, List, ◌++◌, length, slice_index, [], codes, count_by}
-use Rattle.std.specs.Prelude.{unwrap_or, decimal, refl, string_bytes}
+use Rattle.std.specs.Prelude.{unwrap_or, refl, string_bytes}
 use Rattle.std.specs.Option.{option_map_or}
 use Rattle.std.specs.declared.option.Option.{Option}
 use Rattle.std.specs.declared.string.String.{String}
@@ -11,6 +12,7 @@ use Rattle.std.specs.Char.{is_ascii_digit}
 use Rattle.std.specs.Coded.{Coded, code_by, coded×, coded_list, coded_ℕ}
 use Rattle.std.specs.Cmp.Lexicographic.{slice_cmp}
 use Rattle.std.specs.FinMap as map
+use Rattle.std.specs.Fmt.{digits_onto}
 use Rattle.std.specs.FinSet as set
 use Rattle.std.specs.Ordering.{nat_cmp}
 use Rattle.std.specs.Str.{bytes_eq, chars}
@@ -101,9 +103,13 @@ abbrev pub first_name : Names → List ℕ → List ℕ
 first_name names base =
     if ends_in_digit base || is_taken names base then base ++ codes "_" else base
 
+-- a number in decimal, however great it is: it has no more digits than it counts, and one
+abbrev pub numeral : ℕ → List ℕ
+numeral n = digits_onto (suc n) 10 false n []
+
 -- a later one has `_` and the number of earlier uses behind it
 abbrev pub later_name : List ℕ → ℕ → List ℕ
-later_name base uses = base ++ codes "_" ++ decimal uses
+later_name base uses = base ++ codes "_" ++ numeral uses
 
 -- the name of a base that was used so often before
 abbrev pub name_of_base : Names → List ℕ → ℕ → List ℕ

@@ -2,7 +2,7 @@
 -- what is used as often as its kind asks.
 use Rattle.std.proofs.Common.{◌≡◌, ℕ, Bool, ◌||◌, true, false, List, [], ◌∷◌, map}
 use Rattle.std.proofs.Common.{length, get_or, nat_le, nat_lt, Option, Some, None, refl, sym, ap, ◌∙◌}
-use Rattle.std.specs.Prelude.{IsTrue, slice_get, if◌then◌else◌}
+use Rattle.std.specs.Prelude.{slice_get, if◌then◌else◌}
 use Rattle.std.specs.Option.{is_some, option_map_or}
 use Rattle.naga_ir.specs.Kinds.{kind_of}
 use Rattle.naga_ir.specs.Operands.{expression_operands}
@@ -37,7 +37,7 @@ use Rattle.module_meaning.specs.OperatorTable.{CooperativeLoad, MatrixLoad, Part
 use Rattle.naga_ir.specs.declared.types.CooperativeRole.{CooperativeRole}
 use Rattle.naga_ir.specs.declared.types.CooperativeSize.{CooperativeSize}
 use Rattle.module_meaning.specs.ExpressionOperators.{has_parts}
-use Rattle.module_meaning.specs.Part.{expression_is_of_part, function_is_written, known_passes}
+use Rattle.module_meaning.specs.Part.{known_passes}
 use Rattle.naga_form.proofs.AllowedParts.{part_there}
 use Rattle.shader_runs.specs.Program.{greatest_count}
 use Rattle.module_meaning.specs.ShapeKinds.{shape_kind}
@@ -45,12 +45,10 @@ use Rattle.module_meaning.specs.Surroundings.{declared, types_known}
 use Rattle.module_meaning.specs.Types.{declared_type}
 use Rattle.module_meaning.proofs.ExpressionShapes.{kind_shaped, shape_kinds, shape_operands}
 use Rattle.std.proofs.lemmas.Bool.{false≢true, true≢false}
-use Rattle.module_meaning.proofs.Lists.{list_all_at}
 use Rattle.module_meaning.proofs.Shapes.{operator_bound}
 use Rattle.naga_form.proofs.Fits.{given_is, mapped_length}
 use Rattle.module_meaning.specs.GivenLabels.{label_of}
 use Rattle.naga_form.proofs.ModulePlaces.{expression_at, no_expression_at}
-use Rattle.naga_form.proofs.PartFits.{function_parts}
 use Rattle.naga_form.proofs.WellFormed.{applied_any}
 use Rattle.naga_scope.specs.Standings.{kind_at, operands_at, is_pure_kind, is_constant_kind}
 use Rattle.naga_scope.specs.Standings.{is_emittable_kind, is_image_operation, usable_by}
@@ -243,140 +241,133 @@ module _ (m : Module) (info : ModuleInfo) (f : ir_function.Function) (es : List 
           ap (λ e. usable_as shape e (s h)) (expression_at m info f es h e at)
           ∙ (usable_own h e (s h) ∙ sym (ap (λ o. usable_by f o (s h)) at))
 
-  -- ---- a function that is written so far
-  module _ (written : IsTrue (function_is_written f)) where
-    written_at : (h : ℕ) (e : ir.Expression) → slice_get f.expressions h ≡ Some e →
-        expression_is_of_part e ≡ true
-    written_at h e at =
-        list_all_at expression_is_of_part f.expressions h e (function_parts f written).expressions at
+  -- ---- what is bound
+  -- how often a handle is used
+  abbrev count : ℕ → ℕ
+  count h = get_or (map (λ e. e.ref_count) es) h 0
 
-    -- how often a handle is used
-    abbrev count : ℕ → ℕ
-    count h = get_or (map (λ e. e.ref_count) es) h 0
+  -- whether it has a name, or is used so often
+  abbrev named_or : ℕ → Bool → Bool
+  named_or h counts = is_some (label_of f h) || counts
 
-    -- whether it has a name, or is used so often
-    abbrev named_or : ℕ → Bool → Bool
-    named_or h counts = is_some (label_of f h) || counts
+  counted_from : (least h : ℕ) → is_counted shape least h ≡ named_or h (nat_le least (count h))
+  counted_from least h = ap (λ b. b || nat_le least (count h)) (given_is m info f es h)
 
-    counted_from : (least h : ℕ) → is_counted shape least h ≡ named_or h (nat_le least (count h))
-    counted_from least h = ap (λ b. b || nat_le least (count h)) (given_is m info f es h)
+  -- an operator that asks for nothing is bound from the second use on
+  silent_binds : (h : ℕ) (op : TableOperator) (xs : List ℕ) → asks op ≡ false →
+      binds_as shape h (Some (applied_shape op xs)) ≡ is_counted shape 2 h
+  silent_binds h op xs silent =
+      ap
+      (λ b. binds_as shape h
+      (Some
+      (if b then Request (asking op) (run_word op) xs no_constant else operator_shape op xs)))
+      silent
+      ∙ operator_bound shape h op xs
 
-    -- an operator that asks for nothing is bound from the second use on
-    silent_binds : (h : ℕ) (op : TableOperator) (xs : List ℕ) → asks op ≡ false →
-        binds_as shape h (Some (applied_shape op xs)) ≡ is_counted shape 2 h
-    silent_binds h op xs silent =
-        ap
-        (λ b. binds_as shape h
-        (Some
-        (if b then Request (asking op) (run_word op) xs no_constant else operator_shape op xs)))
-        silent
-        ∙ operator_bound shape h op xs
+  -- a question to an image is always bound
+  query_bound : (h : ℕ) (query : ImageQuery) (xs : List ℕ) →
+      binds_as shape h (Some (applied_shape (query_operator query) xs)) ≡ true
+  query_bound h (query.Size level) xs = refl
+  query_bound h query.NumLevels xs = refl
+  query_bound h query.NumLayers xs = refl
+  query_bound h query.NumSamples xs = refl
 
-    -- a question to an image is always bound
-    query_bound : (h : ℕ) (query : ImageQuery) (xs : List ℕ) →
-        binds_as shape h (Some (applied_shape (query_operator query) xs)) ≡ true
-    query_bound h (query.Size level) xs = refl
-    query_bound h query.NumLevels xs = refl
-    query_bound h query.NumLayers xs = refl
-    query_bound h query.NumSamples xs = refl
+  -- the load of a matrix is bound from the first use on, whether its type has a form or not
+  load_binds : (h : ℕ) (columns rows : CooperativeSize) (role : CooperativeRole) (row_major : Bool)
+      (o : Option (List ℕ)) (xs : List ℕ) →
+      binds_as shape h
+      (Some
+      (applied_shape
+      (option_map_or (CooperativeLoad row_major) o
+      (WithoutForm (MatrixLoad columns rows role row_major))) xs)) ≡
+      is_counted shape 1 h
+  load_binds h columns rows role row_major None xs = refl
+  load_binds h columns rows role row_major (Some w) xs = refl
 
-    -- the load of a matrix is bound from the first use on, whether its type has a form or not
-    load_binds : (h : ℕ) (columns rows : CooperativeSize) (role : CooperativeRole) (row_major : Bool)
-        (o : Option (List ℕ)) (xs : List ℕ) →
-        binds_as shape h
-        (Some
-        (applied_shape
-        (option_map_or (CooperativeLoad row_major) o
-        (WithoutForm (MatrixLoad columns rows role row_major))) xs)) ≡
-        is_counted shape 1 h
-    load_binds h columns rows role row_major None xs = refl
-    load_binds h columns rows role row_major (Some w) xs = refl
+  -- what an Emit may give is bound where it has a name, and from its number of uses on, or always
+  pub emitted_binds : (h : ℕ) (e : ir.Expression) →
+      slice_get f.expressions h ≡ Some e →
+      is_emittable_kind (kind_of e) ≡ true →
+      (is_image_operation e || named_or h (nat_le (uses_to_bind m.types es e) (count h))) ≡ binds shape h
+  emitted_binds h e at may =
+      sym
+      (ap (binds_as shape h) (expression_at m info f es h e at)
+      ∙ own e may)
+    where
+      own : (e : ir.Expression) → is_emittable_kind (kind_of e) ≡ true →
+          binds_as shape h (Some (shape_of d f.expressions h e)) ≡
+          (is_image_operation e || named_or h (nat_le (uses_to_bind m.types es e) (count h)))
+      own (expression.Load pointer) may = by (points_to_atomic d.around pointer)
+        where
+          by : (atomic : Bool) →
+              binds_as shape h
+              (Some
+              (applied_or (Load pointer) (pointer ∷ [])
+              (if atomic then Some AtomicLoad else None))) ≡
+              named_or h (nat_le 1 (count h))
+          by true = counted_from 1 h
+          by false = counted_from 1 h
+      own (expression.Unary op expr) may = counted_from 2 h
+      own (expression.Binary op left right) may =
+          operator_bound shape h (BinarySign op) (left ∷ right ∷ []) ∙ counted_from 2 h
+      own (expression.Compose ty components) may =
+          let op = constructor d.around (Handle ty) (length components.items) in
+          silent_binds h op components.items (constructor_asks d.around (Handle ty) _)
+          ∙ counted_from 2 h
+      own (expression.ZeroValue ty) may = absurd cc
+      own (expression.Access base index) may = counted_from greatest_count h
+      own (expression.AccessIndex base index) may =
+          by (part_selector d base index) (known_passes m.types es (has_parts m.types) base)
+          (part_there m info es base index)
+        where
+          by : (o : Option Selector) (b : Bool) → is_some o ≡ b →
+              binds_as shape h (Some (part_shape base index o)) ≡
+              named_or h (nat_le (if b then greatest_count else 2) (count h))
+          by (Some x) true there = counted_from greatest_count h
+          by None false there =
+              silent_binds h (WithoutForm (PartAt index)) (base ∷ []) refl ∙ counted_from 2 h
+          by (Some x) false there = absurd (true≢false there)
+          by None true there = absurd (false≢true there)
+      own (expression.Select condition accept reject) may = counted_from 2 h
+      own (expression.Splat size value) may = counted_from 2 h
+      own (expression.Swizzle size vector pattern) may = counted_from 2 h
+      own (expression.Derivative axis how expr) may = counted_from 1 h
+      own (expression.As operand kind convert) may =
+          let op = cast d.around kind convert (type_known d.around operand) in
+          silent_binds h op (operand ∷ []) (cast_asks d.around kind convert _)
+          ∙ counted_from 2 h
+      own (expression.Math fun arg arg1 arg2 arg3) may = counted_from 2 h
+      own (expression.Relational fun argument) may = counted_from 2 h
+      own
+          (expression.ImageSample
+          image sampler gather coordinate array_index offset level depth_ref clamp) may =
+          by gather
+        where
+          by : (g : Option SwizzleComponent) →
+              is_asked shape h
+              (asking
+              (sample_operator
+              (option_map_or is_depth_image (type_known d.around image) false)
+              g (level_of level) (is_some depth_ref) clamp
+              (is_some array_index) (is_some offset))) ≡ true
+          by None = refl
+          by (Some c) = refl
+      own (expression.ImageLoad image coordinate array_index sample level) may = refl
+      own (expression.ImageQuery image query) may = query_bound h query (image ∷ query_operands query)
+      own (expression.ArrayLength array) may = counted_from 2 h
+      own (expression.CooperativeLoad columns rows role place) may =
+          load_binds h columns rows role place.row_major _ (cooperative_operands place)
+          ∙ counted_from 1 h
+      own (expression.CooperativeMultiplyAdd x y z) may = counted_from 2 h
+      own (expression.RayQueryGetIntersection query committed) may = counted_from 2 h
+      own (expression.RayQueryVertexPositions query committed) may = counted_from 2 h
+      own (expression.Literal value) may = absurd cc
+      own (expression.FunctionArgument number) may = absurd cc
+      own (expression.LocalVariable handle) may = absurd cc
+      own _ may = absurd cc
 
-    -- what an Emit may give is bound where it has a name, and from its number of uses on, or always
-    pub emitted_binds : (h : ℕ) (e : ir.Expression) →
-        slice_get f.expressions h ≡ Some e →
-        is_emittable_kind (kind_of e) ≡ true →
-        (is_image_operation e || named_or h (nat_le (uses_to_bind m.types es e) (count h))) ≡ binds shape h
-    emitted_binds h e at may =
-        sym
-        (ap (binds_as shape h) (expression_at m info f es h e at)
-        ∙ own e (written_at h e at) may)
-      where
-        own : (e : ir.Expression) → expression_is_of_part e ≡ true →
-            is_emittable_kind (kind_of e) ≡ true →
-            binds_as shape h (Some (shape_of d f.expressions h e)) ≡
-            (is_image_operation e || named_or h (nat_le (uses_to_bind m.types es e) (count h)))
-        own (expression.Load pointer) is may = by (points_to_atomic d.around pointer)
-          where
-            by : (atomic : Bool) →
-                binds_as shape h
-                (Some
-                (applied_or (Load pointer) (pointer ∷ [])
-                (if atomic then Some AtomicLoad else None))) ≡
-                named_or h (nat_le 1 (count h))
-            by true = counted_from 1 h
-            by false = counted_from 1 h
-        own (expression.Unary op expr) is may = counted_from 2 h
-        own (expression.Binary op left right) is may =
-            operator_bound shape h (BinarySign op) (left ∷ right ∷ []) ∙ counted_from 2 h
-        own (expression.Compose ty components) is may =
-            let op = constructor d.around (Handle ty) (length components.items) in
-            silent_binds h op components.items (constructor_asks d.around (Handle ty) _)
-            ∙ counted_from 2 h
-        own (expression.ZeroValue ty) is may = absurd cc
-        own (expression.Access base index) is may = counted_from greatest_count h
-        own (expression.AccessIndex base index) is may =
-            by (part_selector d base index) (known_passes m.types es (has_parts m.types) base)
-            (part_there m info es base index)
-          where
-            by : (o : Option Selector) (b : Bool) → is_some o ≡ b →
-                binds_as shape h (Some (part_shape base index o)) ≡
-                named_or h (nat_le (if b then greatest_count else 2) (count h))
-            by (Some x) true there = counted_from greatest_count h
-            by None false there =
-                silent_binds h (WithoutForm (PartAt index)) (base ∷ []) refl ∙ counted_from 2 h
-            by (Some x) false there = absurd (true≢false there)
-            by None true there = absurd (false≢true there)
-        own (expression.Select condition accept reject) is may = counted_from 2 h
-        own (expression.Splat size value) is may = counted_from 2 h
-        own (expression.Swizzle size vector pattern) is may = counted_from 2 h
-        own (expression.Derivative axis how expr) is may = counted_from 1 h
-        own (expression.As operand kind convert) is may =
-            let op = cast d.around kind convert (type_known d.around operand) in
-            silent_binds h op (operand ∷ []) (cast_asks d.around kind convert _)
-            ∙ counted_from 2 h
-        own (expression.Math fun arg arg1 arg2 arg3) is may = counted_from 2 h
-        own (expression.Relational fun argument) is may = counted_from 2 h
-        own
-            (expression.ImageSample
-            image sampler gather coordinate array_index offset level depth_ref clamp) is may =
-            by gather
-          where
-            by : (g : Option SwizzleComponent) →
-                is_asked shape h
-                (asking
-                (sample_operator
-                (option_map_or is_depth_image (type_known d.around image) false)
-                g (level_of level) (is_some depth_ref) clamp
-                (is_some array_index) (is_some offset))) ≡ true
-            by None = refl
-            by (Some c) = refl
-        own (expression.ImageLoad image coordinate array_index sample level) is may = refl
-        own (expression.ImageQuery image query) is may = query_bound h query (image ∷ query_operands query)
-        own (expression.ArrayLength array) is may = counted_from 2 h
-        own (expression.CooperativeLoad columns rows role place) is may =
-            load_binds h columns rows role place.row_major _ (cooperative_operands place)
-            ∙ counted_from 1 h
-        own (expression.CooperativeMultiplyAdd x y z) is may = counted_from 2 h
-        own (expression.RayQueryGetIntersection query committed) is may = counted_from 2 h
-        own (expression.RayQueryVertexPositions query committed) is may = counted_from 2 h
-        own (expression.Literal value) is may = absurd cc
-        own (expression.FunctionArgument number) is may = absurd cc
-        own (expression.LocalVariable handle) is may = absurd cc
-        own _ is may = absurd cc
-
-    -- and nothing else is
-    pub others_bind : (h : ℕ) → is_emittable_kind (kind_at f.expressions h) ≡ false →
-        false ≡ binds shape h
-    others_bind h none =
-        sym (never_bound shape h (expression_of shape h) (emittable_at h ∙ none))
+  -- and nothing else is
+  pub others_bind : (h : ℕ) → is_emittable_kind (kind_at f.expressions h) ≡ false →
+      false ≡ binds shape h
+  others_bind h none =
+      sym (never_bound shape h (expression_of shape h) (emittable_at h ∙ none))

@@ -1,11 +1,11 @@
 -- Which expressions may be written out as constants, and which of a module's own are written, by one
 -- pass over them in their order.
-use Rattle.std.proofs.Common.{◌≡◌, ℕ, ◌+◌, ◌<◌, ◌≤◌, ◌&&◌, Bool, true, false, List, [], ◌∷◌}
+use Rattle.std.proofs.Common.{◌≡◌, ℕ, ◌+◌, ◌<◌, ◌≤◌, ◌&&◌, ◌||◌, Bool, true, false, List, [], ◌∷◌}
 use Rattle.std.proofs.Common.{Option, Some, None, refl, sym, ap, ap₂, ◌∙◌, arith, subst, length}
 use Rattle.std.proofs.Common.{below_more, get_or, nat_lt, slice_get, slice_set}
 use Rattle.std.specs.List.{list_all}
 use Rattle.std.specs.Prelude.{IsTrue}
-use Rattle.std.specs.Option.{option_map_or}
+use Rattle.std.specs.Option.{is_some, option_map_or}
 use Rattle.std.proofs.lemmas.Bool.{ltb-false, ltb-true}
 use Rattle.std.proofs.lemmas.Grind.{get_or-set_at}
 use Rattle.std.proofs.lemmas.List.{get_or-set_other, get_or_past, length-set}
@@ -17,9 +17,9 @@ use Rattle.naga_form.proofs.WrittenOut.{Own, constant_named, initialiser_stands_
 use Rattle.naga_form.proofs.WrittenOut.{initialiser_within, own_is}
 use Rattle.naga_info.specs.declared.info.ModuleInfo.{ModuleInfo}
 use Rattle.module_meaning.specs.Undeclared.{is_spellable}
-use Rattle.module_meaning.specs.Part.{constant_is_written, global_is_written}
-use Rattle.module_meaning.specs.Part.{global_is_written_over, global_is_written_within}
-use Rattle.module_meaning.specs.Part.{initialiser_passes}
+use Rattle.module_meaning.specs.Part.{constant_is_written, constant_is_written_over}
+use Rattle.module_meaning.specs.Part.{global_is_written, global_is_written_over}
+use Rattle.module_meaning.specs.Part.{global_is_written_within}
 use Rattle.module_meaning.specs.Premises.{OperandsStandBefore}
 use Rattle.module_meaning.specs.Writable.{is_written_out, written_out_over, written_out_within}
 use Rattle.naga_ir.specs.Operands.{expression_operands}
@@ -96,22 +96,23 @@ not_beyond es h le =
     (slice_get_past es h le)
 
 -- ---- a module's own expressions
--- the initialiser of a constant that stands below
-initialiser_same : (m : Module) (a b : ℕ → Bool) (h c : ℕ) →
+-- a constant whose initialiser stands below
+constant_same : (m : Module) (a b : ℕ → Bool) (h c : ℕ) →
     ((k : Constant) → slice_get m.constants c ≡ Some k → k.init < h) →
-    ((x : ℕ) → x < h → a x ≡ b x) → initialiser_passes m a c ≡ initialiser_passes m b c
-initialiser_same m a b h c before same = by (slice_get m.constants c) refl
+    ((x : ℕ) → x < h → a x ≡ b x) → constant_is_written_over m a c ≡ constant_is_written_over m b c
+constant_same m a b h c before same = by (slice_get m.constants c) refl
   where
     by : (o : Option Constant) → slice_get m.constants c ≡ o →
-        option_map_or (λ k. a k.init) o false ≡ option_map_or (λ k. b k.init) o false
+        option_map_or (λ k. is_some k.name || a k.init) o false ≡
+        option_map_or (λ k. is_some k.name || b k.init) o false
     by None at = refl
-    by (Some k) at = same k.init (before k at)
+    by (Some k) at = ap (λ w. is_some k.name || w) (same k.init (before k at))
 
 pub global_same : (m : Module) → GlobalsStandInOrder m → (h : ℕ) (e : Expression) →
     slice_get m.global_expressions h ≡ Some e → (a b : ℕ → Bool) →
     ((x : ℕ) → x < h → a x ≡ b x) → global_is_written_over m a e ≡ global_is_written_over m b e
 global_same m ordered h (expression.Constant c) at a b same =
-    initialiser_same m a b h c (λ k there. ordered.initialisers h c k at there) same
+    constant_same m a b h c (λ k there. ordered.initialisers h c k at there) same
 global_same m ordered h (expression.Compose ty components) at a b same =
     ap (λ all. is_spellable m (Handle ty) && all)
     (list_same a b h components.items
@@ -138,14 +139,14 @@ no_global_beyond m h le =
 
 -- a constant is written, by marks of the module's own expressions
 pub constant_marked : (m : Module) (marks : List Bool) → MarksGlobals m marks → (c : ℕ) →
-    initialiser_passes m (is_marked marks) c ≡ constant_is_written m c
+    constant_is_written_over m (is_marked marks) c ≡ constant_is_written m c
 constant_marked m marks are c = by (slice_get m.constants c)
   where
     by : (o : Option Constant) →
-        option_map_or (λ k. is_marked marks k.init) o false ≡
-        option_map_or (λ k. global_is_written m k.init) o false
+        option_map_or (λ k. is_some k.name || is_marked marks k.init) o false ≡
+        option_map_or (λ k. is_some k.name || global_is_written m k.init) o false
     by None = refl
-    by (Some k) = are k.init
+    by (Some k) = ap (λ w. is_some k.name || w) (are k.init)
 
 -- ---- order
 -- in a module that is accepted operands and initialisers stand before

@@ -1,11 +1,10 @@
 //! What kind of thing an expression is to the rules of scope, and which expressions a `let` binds
 //! where they are emitted.
 
-ghost use Rattle.std.specs.Prelude.{◌≡◌, ◌||◌, List, get_or, map, nat_le, slice_get, IsTrue};
+ghost use Rattle.std.specs.Prelude.{◌≡◌, ◌||◌, List, get_or, map, nat_le, slice_get};
 ghost use Rattle.std.specs.Option.{is_some, option_map};
 ghost use Rattle.module_meaning.specs.FunctionShapes.{function_shape};
 ghost use Rattle.module_meaning.specs.GivenLabels.{label_of};
-ghost use Rattle.module_meaning.specs.Part.{function_is_written};
 ghost use Rattle.naga_info.specs.declared.info.ModuleInfo.{ModuleInfo};
 ghost use Rattle.naga_ir.specs.declared.module.Module.{Module};
 ghost use Rattle.shader_runs.specs.Program.{binds};
@@ -148,15 +147,13 @@ fn is_asked_for(
 
 /// Whether a `let` binds the expression with this handle where it is emitted: an operation on an
 /// image, a `Load`, a derivative or the load of a cooperative matrix with a use, or another operator,
-/// but no part at an index, with two, and whatever a front end named. It is for functions that are
-/// written so far.
+/// but no part at an index, with two, and whatever a front end named.
 pub fn binds(
     types: &UniqueArena<Type_>,
     function: &Function,
     info: &FunctionInfo,
     handle: Handle<Expression>,
 ) -> bool
-    requires written { IsTrue (function_is_written function.now) }
     ensures { (m : Module) (known : ModuleInfo) → m.types ≡ types.now →
         result ≡ binds (function_shape m known function.now info.now) handle }
 {

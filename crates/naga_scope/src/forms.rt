@@ -48,7 +48,9 @@ pub(crate) fn is_written(
 {
     match expression {
         Expression::Constant(constant) => globals.writes(module, *constant),
-        Expression::Access { .. }
+        Expression::GlobalVariable(variable) => variable.index() < module.global_variables.len(),
+        Expression::Override(_)
+        | Expression::Access { .. }
         | Expression::FunctionArgument(_)
         | Expression::LocalVariable(_)
         | Expression::Load { .. }

@@ -1,8 +1,8 @@
-//! Which of a module's own expressions are written, where constants without names are.
+//! Which of a module's own expressions are written, where its constants are.
 
 ghost use Rattle.std.specs.Prelude.{◌≡◌, IfOk, length};
-ghost use Rattle.module_meaning.specs.Part.{constant_is_written, global_is_written_over};
-ghost use Rattle.module_meaning.specs.Part.{initialiser_passes};
+ghost use Rattle.module_meaning.specs.Part.{constant_is_written, constant_is_written_over};
+ghost use Rattle.module_meaning.specs.Part.{global_is_written_over};
 ghost use Rattle.naga_scope.specs.Marks.{GlobalsStandInOrder, MarksGlobals, is_marked};
 
 use crate::forms::{literal_has_form, type_is_spellable};
@@ -12,7 +12,7 @@ use std::alloc::{AllocError, Global};
 use std::marker::Model;
 
 /// Which of a module's own expressions are written: those made of literals, zero values,
-/// compositions, splats and constants that all have forms.
+/// compositions, splats, overrides and constants that all have forms.
 #[derive(Debug, Drop)]
 pub struct GlobalExpressions {
     marks: Vec<bool>,
@@ -47,12 +47,12 @@ impl GlobalExpressions {
         is_marked(&self.marks, handle)
     }
 
-    /// Whether a constant without a name is written.
+    /// Whether a constant is written: it has a name, or its initialiser is written.
     pub(crate) fn writes(&self, module: &Module, constant: Handle<Constant>) -> bool
         requires globals { MarksGlobals «module».now self.now }
         ensures { result ≡ constant_is_written «module».now constant }
     {
-        initialiser_is_marked(&self.marks, module, constant)
+        constant_is_marked(&self.marks, module, constant)
     }
 }
 
@@ -75,7 +75,8 @@ fn is_written_over(marks: &[bool], module: &Module, expression: &Expression) -> 
 {
     match expression {
         Expression::Literal(literal) => literal_has_form(*literal),
-        Expression::Constant(constant) => initialiser_is_marked(marks, module, *constant),
+        Expression::Constant(constant) => constant_is_marked(marks, module, *constant),
+        Expression::Override(_) => true,
         Expression::ZeroValue(ty) => type_is_spellable(module, *ty),
         Expression::Compose { ty, components } => {
             type_is_spellable(module, *ty) && are_marked(marks, components.as_slice())
@@ -85,12 +86,13 @@ fn is_written_over(marks: &[bool], module: &Module, expression: &Expression) -> 
     }
 }
 
-/// Whether the initialiser of a constant has a mark.
-fn initialiser_is_marked(marks: &[bool], module: &Module, constant: Handle<Constant>) -> bool
-    ensures { result ≡ initialiser_passes «module».now (is_marked marks.now) constant }
+/// Whether a constant has a name, or its initialiser a mark.
+fn constant_is_marked(marks: &[bool], module: &Module, constant: Handle<Constant>) -> bool
+    ensures { result ≡ constant_is_written_over «module».now (is_marked marks.now) constant }
 {
     if constant.index() >= module.constants.len() {
         return false;
     }
-    is_marked(marks, module.constants[constant].init)
+    let item = &module.constants[constant];
+    item.name.is_some() || is_marked(marks, item.init)
 }

@@ -1,22 +1,26 @@
--- The text of a constant without a name, by its initialiser, and from what is written of that in turn.
+-- The text of a constant, by its name or its initialiser, and from what is written of that in turn.
 use Rattle.std.proofs.Common.{◌≡◌, ℕ, ◌<◌, Bool, true, false, List, [], ◌∷◌, length, Option, Some}
 use Rattle.std.proofs.Common.{None, codes, refl, sym, ap, ap₂, ◌∙◌, map, slice_get}
-use Rattle.std.specs.Prelude.{if◌then◌else◌, unwrap_or}
+use Rattle.std.proofs.Common.{subst}
+use Rattle.std.specs.Prelude.{◌||◌, if◌then◌else◌, unwrap_or}
 use Rattle.std.specs.List.{AllByRecursion, list_all}
-use Rattle.std.specs.Option.{option_map_or}
-use Rattle.std.proofs.lemmas.Bool.{and_parts}
-use Rattle.std.proofs.lemmas.Option.{slice_get_within}
+use Rattle.std.specs.Option.{is_some, option_map_or}
+use Rattle.std.proofs.lemmas.Bool.{and_parts, ltb-true}
+use Rattle.std.proofs.lemmas.Option.{same_Some, slice_get_within}
 use Rattle.module_meaning.proofs.Stepwise.{by_those_before}
 use Rattle.module_meaning.specs.AlikeTypes.{has_form}
 use Rattle.module_meaning.specs.OperatorTable.{Splat, run_word}
-use Rattle.module_meaning.specs.Part.{global_is_written}
+use Rattle.module_meaning.specs.Names.{constant_name, module_names}
+use Rattle.module_meaning.specs.Part.{constant_is_written, global_is_written}
 use Rattle.module_meaning.specs.Part.{global_is_written_over, global_is_written_within}
-use Rattle.module_meaning.specs.Part.{initialiser_passes, is_written_literal}
+use Rattle.module_meaning.specs.Part.{is_written_literal}
 use Rattle.module_meaning.specs.Surroundings.{surroundings}
 use Rattle.naga_form.proofs.Operators.{constructor_called, typed_notation}
+use Rattle.naga_form.proofs.SameValues.{or_nothing}
+use Rattle.naga_form.proofs.WrittenOut.{global_names_in_range}
 use Rattle.naga_form.proofs.WrittenTypes.{tree_there}
-use Rattle.naga_form.specs.ConstantForms.{built_form, constant_form_over, global_form}
-use Rattle.naga_form.specs.ConstantForms.{global_form_within, initialiser_form, no_constant_form}
+use Rattle.naga_form.specs.ConstantForms.{built_form, constant_form_by, constant_form_over}
+use Rattle.naga_form.specs.ConstantForms.{global_form, global_form_within, no_constant_form}
 use Rattle.naga_form.specs.Operators.{applied_form, notation}
 use Rattle.naga_form.specs.TypeTrees.{type_tree}
 use Rattle.naga_info.specs.declared.info.TypeResolution.TheVariants.{Handle}
@@ -38,17 +42,18 @@ use Rattle.naga_wgsl_fns.specs.Constants.{parts_text}
 use Rattle.naga_form.specs.Types.{type_form}
 use Rattle.module_meaning.specs.Types.{type_names}
 use Rattle.naga_wgsl_fns.specs.ModuleText.{CanWriteOf}
+use Rattle.naga_names.specs.declared.key.NameKey.TheVariants as key
 use Rattle.naga_wgsl_fns.specs.Literals.{literal_text}
+use Rattle.naga_wgsl_fns.specs.Names.{name_of_constant, name_of_override}
 use Rattle.naga_wgsl_fns.specs.Types.{spelled_text}
-use Rattle.naga_wgsl_fns.specs.declared.functions.FunctionText.{FunctionText}
 use Rattle.module_meaning.proofs.Part.{form_of_spellable}
 use Rattle.module_meaning.specs.Undeclared.{is_spellable}
 use Rattle.shader_runs.specs.Premises.{AllBelow}
 use Rattle.wgsl_text.proofs.Expressions.{argument_text as argument_row_text}
-use Rattle.wgsl_text.proofs.Expressions.{call_text as call_row_text}
+use Rattle.wgsl_text.proofs.Expressions.{call_text as call_row_text, name_text}
 use Rattle.wgsl_text.proofs.Expressions.{next_argument_text as next_argument_row_text}
 use Rattle.wgsl_text.proofs.Types.{named_text}
-use Rattle.wgsl_text.specs.Expressions.{Call, Expression, operands as arguments_of}
+use Rattle.wgsl_text.specs.Expressions.{Call, Expression, Name, operands as arguments_of}
 use Rattle.wgsl_text.specs.Reading.{expression_layout}
 use Rattle.wgsl_text.specs.Types.{Named}
 
@@ -56,9 +61,14 @@ use Rattle.wgsl_text.specs.Types.{Named}
 pub record IsNoOtherGlobal (e : ir.Expression) : Type 0 where
   pub literal : (value : Literal) → e ≡ expression.Literal value → ⊥
   pub constant : (c : ℕ) → e ≡ expression.Constant c → ⊥
+  pub overridden : (o : ℕ) → e ≡ expression.Override o → ⊥
   pub zero_value : (ty : ℕ) → e ≡ expression.ZeroValue ty → ⊥
   pub composed : (ty : ℕ) (parts : Vec ℕ Global) → e ≡ expression.Compose ty parts → ⊥
   pub splat : (size : VectorSize) (x : ℕ) → e ≡ expression.Splat size x → ⊥
+
+-- the initialiser of a constant
+abbrev pub initialiser_at : Module → (constant : ℕ) → ℕ
+initialiser_at m c = option_map_or (λ k. k.init) (slice_get m.constants c) 0
 
 -- these stand before, and are written
 abbrev pub ArePartsBelow : Module → (h : ℕ) → List ℕ → Type 0
@@ -66,7 +76,7 @@ ArePartsBelow m h xs = AllByRecursion (λ x. (x < h) × (global_is_written m x �
 
 -- the form of one of the module's own expressions, over those of others
 abbrev over : Module → TypeNames → (ℕ → Expression) → ir.Expression → Expression
-over m t own e = constant_form_over (surroundings m (λ x. None)) t (initialiser_form m own) own e
+over m t own e = constant_form_over (surroundings m (λ x. None)) t (constant_form_by m own) own e
 
 -- ---- what is written among the module's own expressions
 module _ (m : Module) (ordered : GlobalsStandInOrder m) where
@@ -106,6 +116,7 @@ module _ (m : Module) (ordered : GlobalsStandInOrder m) where
           ArePartsBelow m h (expression_operands e)
       by (expression.Literal value) at below is = tt
       by (expression.Constant c) at below is = tt
+      by (expression.Override o) at below is = tt
       by (expression.ZeroValue ty) at below is = tt
       by (expression.Compose ty components) at below is =
           parts_of h components.items below
@@ -114,36 +125,43 @@ module _ (m : Module) (ordered : GlobalsStandInOrder m) where
       by (expression.Splat size value) at below is = ((below.0, is), tt)
       by _ at below is = absurd cc
 
-  -- a constant that is written, and its initialiser
-  pub initialiser_written : (own : ℕ → Bool) (c : ℕ) → initialiser_passes m own c ≡ true →
-      (k : ir_constant.Constant) × (slice_get m.constants c ≡ Some k) × (own k.init ≡ true)
-  initialiser_written own c is = by (slice_get m.constants c) refl is
+  -- a constant that is written is there, and its initialiser is written where it has no name
+  constant_over : (c : ℕ) → constant_is_written m c ≡ true →
+      (k : ir_constant.Constant) × (slice_get m.constants c ≡ Some k)
+      × ((is_some k.name || global_is_written m k.init) ≡ true)
+  constant_over c is = by (slice_get m.constants c) refl is
     where
       by : (o : Option ir_constant.Constant) → slice_get m.constants c ≡ o →
-          option_map_or (λ k. own k.init) o false ≡ true →
-          (k : ir_constant.Constant) × (slice_get m.constants c ≡ Some k) × (own k.init ≡ true)
+          option_map_or (λ k. is_some k.name || global_is_written m k.init) o false ≡ true →
+          (k : ir_constant.Constant) × (slice_get m.constants c ≡ Some k)
+          × ((is_some k.name || global_is_written m k.init) ≡ true)
       by (Some k) at is = (k, at, is)
       by None at is = absurd cc
 
-  pub constant_before : (h : ℕ) (e : ir.Expression) (c : ℕ) →
-      slice_get m.global_expressions h ≡ Some e → e ≡ expression.Constant c →
-      global_is_written m h ≡ true → (k : ir_constant.Constant) → slice_get m.constants c ≡ Some k →
-      (k.init < h) × (global_is_written m k.init ≡ true)
-  constant_before h e c at same is k there =
-      let here = at ∙ ap Some same in
-      let over = written_over h (expression.Constant c) here is in (
-        ordered.initialisers h c k here there,
-        sym (ap (λ o. option_map_or (λ k. global_is_written m k.init) o false) there) ∙ over,
-      )
+  pub constant_there : (c : ℕ) → constant_is_written m c ≡ true → c < length m.constants
+  constant_there c is = let k = constant_over c is in slice_get_within m.constants c k.0 k.1
 
-  -- the constant that one names is there
-  pub constant_there : (h : ℕ) (e : ir.Expression) (c : ℕ) →
+  pub initialiser_written : (c : ℕ) → constant_is_written m c ≡ true → (k : ir_constant.Constant) →
+      slice_get m.constants c ≡ Some k → is_some k.name ≡ false → global_is_written m k.init ≡ true
+  initialiser_written c is k there unnamed =
+      let one = constant_over c is in
+      let same = same_Some one.0 k (sym one.1 ∙ there) in
+      ap (λ b. b || global_is_written m k.init) (sym unnamed)
+      ∙ (sym (ap (λ k. is_some k.name || global_is_written m k.init) same) ∙ one.2)
+
+  -- a constant that one names is written, and its initialiser stands before
+  pub constant_passes : (h : ℕ) (e : ir.Expression) (c : ℕ) →
       slice_get m.global_expressions h ≡ Some e → e ≡ expression.Constant c →
-      global_is_written m h ≡ true → c < length m.constants
-  constant_there h e c at same is =
-      let over = written_over h (expression.Constant c) (at ∙ ap Some same) is in
-      let k = initialiser_written (global_is_written m) c over in
-      slice_get_within m.constants c k.0 k.1
+      global_is_written m h ≡ true → constant_is_written m c ≡ true
+  constant_passes h e c at same is = written_over h (expression.Constant c) (at ∙ ap Some same) is
+
+  pub initialiser_before : (h : ℕ) (e : ir.Expression) (c : ℕ) →
+      slice_get m.global_expressions h ≡ Some e → e ≡ expression.Constant c →
+      global_is_written m h ≡ true → initialiser_at m c < h
+  initialiser_before h e c at same is =
+      let k = constant_over c (constant_passes h e c at same is) in
+      subst (λ o. option_map_or (λ k. k.init) o 0 < h) (sym k.1)
+      (ordered.initialisers h c k.0 (at ∙ ap Some same) k.1)
 
   -- no other expression is written
   pub no_other_global : (h : ℕ) (e : ir.Expression) → slice_get m.global_expressions h ≡ Some e →
@@ -154,6 +172,7 @@ module _ (m : Module) (ordered : GlobalsStandInOrder m) where
           IsNoOtherGlobal e → ⊥
       by (expression.Literal v) is none = none.literal v refl
       by (expression.Constant c) is none = none.constant c refl
+      by (expression.Override o) is none = none.overridden o refl
       by (expression.ZeroValue ty) is none = none.zero_value ty refl
       by (expression.Compose ty parts) is none = none.composed ty parts refl
       by (expression.Splat size value) is none = none.splat size value refl
@@ -185,22 +204,25 @@ module _ (m : Module) (ordered : GlobalsStandInOrder m) where
   map_same a b h (x ∷ xs) below same =
       ap₂ (λ e es. e ∷ es) (same x below.0) (map_same a b h xs below.1 same)
 
-  initialiser_alike : (a b : ℕ → Expression) (h c : ℕ) →
+  constant_alike : (a b : ℕ → Expression) (h c : ℕ) →
       ((k : ir_constant.Constant) → slice_get m.constants c ≡ Some k → k.init < h) →
-      ((x : ℕ) → x < h → a x ≡ b x) → initialiser_form m a c ≡ initialiser_form m b c
-  initialiser_alike a b h c before same = by (slice_get m.constants c) refl
+      ((x : ℕ) → x < h → a x ≡ b x) → constant_form_by m a c ≡ constant_form_by m b c
+  constant_alike a b h c before same = by (slice_get m.constants c) refl
     where
+      named : ir_constant.Constant → Expression → Expression
+      named k e = if is_some k.name then Name (constant_name (module_names m) c) else e
+
       by : (o : Option ir_constant.Constant) → slice_get m.constants c ≡ o →
-          option_map_or (λ k. a k.init) o no_constant_form ≡
-          option_map_or (λ k. b k.init) o no_constant_form
+          option_map_or (λ k. named k (a k.init)) o no_constant_form ≡
+          option_map_or (λ k. named k (b k.init)) o no_constant_form
       by None at = refl
-      by (Some k) at = same k.init (before k at)
+      by (Some k) at = ap (named k) (same k.init (before k at))
 
   module _ (t : TypeNames) where
     over_alike : (h : ℕ) (e : ir.Expression) → slice_get m.global_expressions h ≡ Some e →
         (a b : ℕ → Expression) → ((x : ℕ) → x < h → a x ≡ b x) → over m t a e ≡ over m t b e
     over_alike h (expression.Constant c) at a b same =
-        initialiser_alike a b h c (λ k there. ordered.initialisers h c k at there) same
+        constant_alike a b h c (λ k there. ordered.initialisers h c k at there) same
     over_alike h (expression.Compose ty components) at a b same =
         ap (built_form (surroundings m (λ x. None)) t ty (length components.items))
         (map_same a b h components.items
@@ -230,24 +252,53 @@ own_form_is : (m : Module) → CanWriteOf m → (h : ℕ) (e own : ir.Expression
 own_form_is m can h e own at same =
     form_over m (in_order m can) (type_names m) h own (at ∙ ap Some same)
 
--- a constant has its initialiser's text
-pub constant_row : (f : FunctionText) (c : ℕ) (k : ir_constant.Constant) →
-    slice_get f.shader.now.constants c ≡ Some k →
-    global_text f.shader.now k.init ≡ constant_text f c
-unfolding global_text constant_text
-constant_row f c k there =
-    ap (λ o. expression_layout (option_map_or (λ k. global_at f.shader.now k.init) o no_constant_form))
-    (sym there)
+-- a constant has its name for a text, and without one its initialiser's text
+module _ (m : Module) (c : ℕ) (k : ir_constant.Constant) (there : slice_get m.constants c ≡ Some k)
+  where
+    by_name : ir_constant.Constant → Bool → Expression
+    by_name k named =
+        if named then Name (constant_name (module_names m) c) else global_at m k.init
 
-pub named_row : (m : Module) → CanWriteOf m → (h : ℕ) (e : ir.Expression) (c : ℕ)
-    (k : ir_constant.Constant) → slice_get m.global_expressions h ≡ Some e →
-    e ≡ expression.Constant c → slice_get m.constants c ≡ Some k →
-    global_text m k.init ≡ global_text m h
-unfolding global_text
-named_row m can h e c k at same there =
-    ap (λ o. expression_layout (option_map_or (λ k. global_at m k.init) o no_constant_form))
-    (sym there)
-    ∙ ap expression_layout (own_form_is m can h e (expression.Constant c) at same)
+    of_constant : (named : Bool) → is_some k.name ≡ named →
+        constant_text m c ≡ expression_layout (by_name k named)
+    unfolding constant_text
+    of_constant named is =
+        ap
+        (λ o. expression_layout (option_map_or (λ k. by_name k (is_some k.name)) o no_constant_form))
+        there
+        ∙ ap (λ b. expression_layout (by_name k b)) is
+
+    pub named_constant : is_some k.name ≡ true → name_of_constant m c ≡ constant_text m c
+    unfolding name_of_constant
+    named_constant is =
+        sym (of_constant true is ∙ name_text (constant_name (module_names m) c))
+
+    pub unnamed_constant : is_some k.name ≡ false → global_text m k.init ≡ constant_text m c
+    unfolding global_text
+    unnamed_constant is = sym (of_constant false is)
+
+pub constant_row : (m : Module) → CanWriteOf m → (h : ℕ) (e : ir.Expression) (c : ℕ) →
+    slice_get m.global_expressions h ≡ Some e → e ≡ expression.Constant c →
+    constant_text m c ≡ global_text m h
+unfolding constant_text global_text
+constant_row m can h e c at same =
+    ap expression_layout (own_form_is m can h e (expression.Constant c) at same)
+
+-- an override has its name, and is there
+pub override_row : (m : Module) → CanWriteOf m → (h : ℕ) (e : ir.Expression) (o : ℕ) →
+    slice_get m.global_expressions h ≡ Some e → e ≡ expression.Override o →
+    name_of_override m o ≡ global_text m h
+unfolding name_of_override global_text
+override_row m can h e o at same =
+    sym
+    (name_text ((type_names m).override_name o) ∙ or_nothing (module_names m (key.Override o)))
+    ∙ ap expression_layout (own_form_is m can h e (expression.Override o) at same)
+
+pub override_there : (m : Module) → CanWriteOf m → (h : ℕ) (e : ir.Expression) (o : ℕ) →
+    slice_get m.global_expressions h ≡ Some e → e ≡ expression.Override o → o < length m.overrides
+override_there m can h e o at same =
+    ltb-true o (length m.overrides)
+    (global_names_in_range m can.info can.accepted h (expression.Override o) (at ∙ ap Some same))
 
 pub literal_row : (m : Module) → CanWriteOf m → (h : ℕ) (e : ir.Expression) (value : _) →
     slice_get m.global_expressions h ≡ Some e → e ≡ expression.Literal value →

@@ -24,7 +24,9 @@ use Rattle.shader_runs.specs.Scope.{Handles, Naming}
 use Rattle.wgsl_words.specs.Words.{operator_text, unary_text}
 use Rattle.naga_form.proofs.Operators.{constructor_called, operator_row, typed_notation}
 use Rattle.naga_form.proofs.Operators.{unary_row}
-use Rattle.module_meaning.specs.Names.{numbered_name}
+use Rattle.module_meaning.specs.Names.{module_names, numbered_name}
+use Rattle.naga_form.proofs.SameValues.{or_nothing}
+use Rattle.naga_names.specs.declared.key.NameKey.TheVariants as key
 use Rattle.module_meaning.specs.ExpressionOperators.{applied_operator, constructor}
 use Rattle.module_meaning.specs.ExpressionOperators.{load_operator}
 use Rattle.module_meaning.specs.AlikeTypes.{has_form}
@@ -62,7 +64,7 @@ use Rattle.wgsl_text.proofs.Expressions.{argument_text as argument_row_text}
 use Rattle.wgsl_text.proofs.Expressions.{next_argument_text as next_argument_row_text}
 use Rattle.wgsl_text.proofs.Expressions.{address_text as address_row_text, dereference_text}
 use Rattle.naga_scope.specs.Standings.{standing_of}
-use Rattle.naga_wgsl_fns.specs.Names.{bound_text}
+use Rattle.naga_wgsl_fns.specs.Names.{bound_text, name_of_global, name_of_override}
 use Rattle.naga_scope.specs.declared.points.Standing.{Standing}
 use Rattle.naga_scope.specs.declared.points.Standing.TheVariants.{Absent, Barred, Everywhere}
 use Rattle.naga_scope.specs.declared.points.Standing.TheVariants.{Inline, Named}
@@ -75,15 +77,18 @@ use Rattle.naga_wgsl_fns.specs.FunctionText.{CanWrite, IsInText, around, express
 use Rattle.naga_wgsl_fns.specs.FunctionText.{naming, source}
 use Rattle.naga_wgsl_fns.specs.Names.{name_of_argument, name_of_local}
 use Rattle.naga_wgsl_fns.specs.Expressions.{address_text, applied_text, called_text, form_at}
-use Rattle.naga_wgsl_fns.specs.Expressions.{load_text}
+use Rattle.naga_wgsl_fns.specs.Expressions.{global_address_text, global_reference_text}
+use Rattle.naga_wgsl_fns.specs.Expressions.{global_value_text, load_text}
 use Rattle.naga_wgsl_fns.specs.Expressions.{next_operand_text, operands_at, operands_left}
 use Rattle.naga_wgsl_fns.specs.Expressions.{operands_text, own_form, own_text}
 use Rattle.naga_wgsl_fns.specs.Expressions.{pointed_text, reference_text, value_text}
 use Rattle.naga_wgsl_fns.proofs.PartForms.{part_form, referred_part, valued_part}
+use Rattle.naga_wgsl_fns.proofs.VariableRows.{held_reference, kept_reference}
 use Rattle.naga_wgsl_fns.proofs.Wanted.{ordered}
 use Rattle.naga_wgsl_fns.specs.Expressions.{base_of, part_reference_text, part_value_text}
 use Rattle.naga_wgsl_fns.specs.Expressions.{plain_address_text, plain_text, plain_tree}
-use Rattle.naga_form.specs.Expressions.{part_plain, points, selected_part}
+use Rattle.naga_form.specs.Expressions.{is_held, part_plain, points, selected_part}
+use Rattle.naga_form.specs.Expressions.{variable_plain}
 use Rattle.module_meaning.specs.ExpressionShapes.{part_selector}
 use Rattle.module_meaning.specs.OperatorTable.{PartAt}
 use Rattle.wgsl_text.specs.Expressions.{Index}
@@ -156,6 +161,8 @@ module _ (n : Naming) (code : Source) (before : OperandsStandBefore code.express
   own_same a b h (expression.Literal value) below same = refl
   own_same a b h (expression.Constant c) below same = refl
   own_same a b h (expression.FunctionArgument number) below same = refl
+  own_same a b h (expression.Override o) below same = refl
+  own_same a b h (expression.GlobalVariable v) below same = refl
   own_same a b h (expression.LocalVariable handle) below same = refl
   own_same a b h e below same =
       applied_same a b h same no_form no_form refl (operator_type code.declared.around code.type_names e)
@@ -226,7 +233,8 @@ application_at f table type hs None = expression_layout (as_value no_form)
 abbrev pub own_at : FunctionText → (table : List Standing) → (handle : ℕ) → Option ir.Expression →
     List ℕ
 own_at f table handle (Some (expression.Literal value)) = literal_text value
-own_at f table handle (Some (expression.Constant c)) = constant_text f c
+own_at f table handle (Some (expression.Constant c)) = constant_text f.shader.now c
+own_at f table handle (Some (expression.Override o)) = name_of_override f.shader.now o
 own_at f table handle (Some (expression.ZeroValue ty)) =
     applied_text f table
     (notation (type_tree (type_names_of f) ty) (constructor (around f) (Handle ty) 0)) []
@@ -235,6 +243,7 @@ own_at f table handle (Some (expression.Access base index)) =
 own_at f table handle (Some (expression.AccessIndex base index)) =
     part_value_text f table handle base
 own_at f table handle (Some (expression.FunctionArgument number)) = name_of_argument f number
+own_at f table handle (Some (expression.GlobalVariable variable)) = global_value_text f variable
 own_at f table handle (Some (expression.LocalVariable local)) = address_text f local
 own_at f table handle (Some (expression.Swizzle size vector pattern)) =
     member_text f table vector (swizzle_letters size pattern)
@@ -252,7 +261,7 @@ own_at f table handle None = expression_layout (as_value no_form)
 pub own_row : (f : FunctionText) (table : List Standing) (handle : ℕ) → CanWrite f →
     IsInText f handle →
     own_text f table handle ≡ own_at f table handle (slice_get (expressions f) handle)
-unfolding own_text literal_text constant_text name_of_argument address_text load_text reference_text applied_text member_text part_value_text plain_address_text plain_text
+unfolding own_text literal_text constant_text name_of_argument name_of_override name_of_global address_text global_value_text global_address_text load_text reference_text applied_text member_text part_value_text plain_address_text plain_text
 own_row f table handle can within = by (slice_get (expressions f) handle) refl
   where
     operand : ℕ → PlainForm
@@ -285,6 +294,12 @@ own_row f table handle can within = by (slice_get (expressions f) handle) refl
         ∙ valued_part (points (around f) base) p.part (operand base) (own_form f table handle)
         (same ∙ p.is)
 
+    of_module : (variable : ℕ) (held : Bool) →
+        expression_layout (as_value (variable_plain held (Name (name_of_global f variable)))) ≡
+        (if held then name_of_global f variable else global_address_text f variable)
+    of_module variable true = name_text (name_of_global f variable)
+    of_module variable false = refl
+
     by : (e : Option ir.Expression) → slice_get (expressions f) handle ≡ e →
         expression_layout (as_value (own_if (naming f) (source f) operand e)) ≡
         own_at f table handle e
@@ -295,6 +310,11 @@ own_row f table handle can within = by (slice_get (expressions f) handle) refl
     by (Some (expression.Literal value)) at = refl
     by (Some (expression.Constant c)) at = refl
     by (Some (expression.FunctionArgument number)) at = name_text (name_of_argument f number)
+    by (Some (expression.Override o)) at =
+        name_text ((type_names_of f).override_name o)
+        ∙ or_nothing (module_names f.shader.now (key.Override o))
+    by (Some (expression.GlobalVariable variable)) at =
+        of_module variable (is_held f.shader.now variable)
     by (Some (expression.LocalVariable local)) at = refl
     by (Some (expression.Load pointer)) at =
         loaded pointer (points_to_atomic (around f) pointer)
@@ -313,6 +333,8 @@ own_row f table handle can within = by (slice_get (expressions f) handle) refl
 -- a reference, by its cell and its kind
 abbrev reference_by : FunctionText → (table : List Standing) → (handle : ℕ) → Option ir.Expression →
     List ℕ
+reference_by f table handle (Some (expression.GlobalVariable variable)) =
+    global_reference_text f table handle variable
 reference_by f table handle (Some (expression.LocalVariable local)) = name_of_local f local
 reference_by f table handle (Some (expression.Access base index)) =
     part_reference_text f table handle base
@@ -329,7 +351,7 @@ pub reference_row : (f : FunctionText) (table : List Standing) (handle : ℕ) �
     IsInText f handle →
     reference_text f table handle ≡
     reference_at f table handle (get_or table handle Absent) (slice_get (expressions f) handle)
-unfolding reference_text pointed_text name_of_local part_reference_text plain_text
+unfolding reference_text pointed_text name_of_local name_of_global part_reference_text plain_text
 reference_row f table handle can within =
     ap (λ form. expression_layout (as_reference form)) is ∙ by cell is
   where
@@ -378,8 +400,28 @@ reference_row f table handle can within =
         ∙ (referred_part b p.part (operand base) (own e) (ap own at ∙ p.is)
         ∙ ap (λ w. if b then expression_layout (plain_tree (own e)) else w) (pointed mine))
 
+    of_module : form_at f table handle ≡ own e → (variable : ℕ) →
+        e ≡ Some (expression.GlobalVariable variable) → (held : Bool) →
+        is_held f.shader.now variable ≡ held →
+        expression_layout (as_reference (own (Some (expression.GlobalVariable variable)))) ≡
+        global_reference_text f table handle variable
+    of_module mine variable at true is =
+        let name = Name (name_of_global f variable) in
+        pointed_by mine (Some (expression.GlobalVariable variable)) at
+        (ap (λ b. as_reference (variable_plain b name)) is
+        ∙ sym (ap (λ b. Dereference (as_value (variable_plain b name))) is))
+        ∙ held_reference f table handle variable is
+    of_module mine variable at false is =
+        let name = Name (name_of_global f variable) in
+        ap (λ b. expression_layout (as_reference (variable_plain b name))) is
+        ∙ (name_text (name_of_global f variable) ∙ kept_reference f table handle variable is)
+
     kind : form_at f table handle ≡ own e → (o : Option ir.Expression) → e ≡ o →
         expression_layout (as_reference (own o)) ≡ reference_by f table handle o
+    kind mine (Some (expression.GlobalVariable variable)) at =
+        of_module mine variable at (is_held f.shader.now variable) refl
+    kind mine (Some (expression.Override o)) at =
+        pointed_by mine (Some (expression.Override o)) at refl
     kind mine (Some (expression.LocalVariable local)) at = name_text (name_of_local f local)
     kind mine (Some (expression.Access base index)) at =
         parted mine (Some (expression.Access base index)) at base refl

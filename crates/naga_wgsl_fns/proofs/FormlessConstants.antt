@@ -1,9 +1,9 @@
--- What is told of a constant without a name that has no form.
-use Rattle.std.proofs.Common.{◌≡◌, ℕ, zero, suc, ◌<◌, ◌&&◌, Bool, true, false, List, [], ◌∷◌, Some, None}
-use Rattle.std.proofs.Common.{refl, sym, ap, ap₂, ◌∙◌, map, slice_get, subst}
+-- What is told of a constant that has no form.
+use Rattle.std.proofs.Common.{◌≡◌, ℕ, zero, suc, ◌<◌, ◌&&◌, ◌||◌, Bool, true, false, List, [], ◌∷◌, Some, None}
+use Rattle.std.proofs.Common.{refl, sym, ap, ap₂, ◌∙◌, map, slice_get, subst, true≢false}
 use Rattle.std.specs.Prelude.{IsSomeAnd, not}
 use Rattle.std.specs.List.{IsAmong, find, list_all}
-use Rattle.std.specs.Option.{option_map_or}
+use Rattle.std.specs.Option.{is_some, option_map_or}
 use Rattle.module_meaning.proofs.Stepwise.{by_those_before}
 use Rattle.module_meaning.specs.Undeclared.{is_spellable}
 use Rattle.module_meaning.specs.Part.{constant_is_written, global_is_written, global_is_written_over}
@@ -61,6 +61,10 @@ module _ (m : Module) (marks : List Bool) (are : MarksGlobals m marks) where
       )
 
 -- ---- what has no form
+neither : (a b : Bool) → (a || b) ≡ false → b ≡ false
+neither true b is = absurd cc
+neither false b is = is
+
 module _ (m : Module) (ordered : GlobalsStandInOrder m) (h : ℕ)
     (formless : global_is_written m h ≡ false) where
   -- it is not written by what stands before it
@@ -98,6 +102,11 @@ module _ (m : Module) (ordered : GlobalsStandInOrder m) (h : ℕ)
   splat_fails e size value at same =
       fails_over (expression.Splat size value) (at ∙ ap Some same)
 
+  -- an override has a form
+  pub override_fails : (e : Expression) (o : ℕ) → slice_get m.global_expressions h ≡ Some e →
+      e ≡ expression.Override o → ⊥
+  override_fails e o at same = true≢false (fails_over (expression.Override o) (at ∙ ap Some same))
+
   -- the initialiser of the constant that it names stands before it, and is not written
   pub constant_fails : (e : Expression) (c : ℕ) (k : Constant) →
       slice_get m.global_expressions h ≡ Some e → e ≡ expression.Constant c →
@@ -105,8 +114,11 @@ module _ (m : Module) (ordered : GlobalsStandInOrder m) (h : ℕ)
   constant_fails e c k at same there =
       let here = at ∙ ap Some same in (
         ordered.initialisers h c k here there,
-        sym (ap (λ o. option_map_or (λ k. global_is_written m k.init) o false) there)
-            ∙ fails_over (expression.Constant c) here,
+        neither (is_some k.name) (global_is_written m k.init)
+            (sym
+            (ap (λ o. option_map_or (λ k. is_some k.name || global_is_written m k.init) o false)
+            there)
+            ∙ fails_over (expression.Constant c) here),
       )
 
   -- an operand stands before it
@@ -127,16 +139,18 @@ module _ (m : Module) (ordered : GlobalsStandInOrder m) (h : ℕ)
 pub applies_operator : (e : Expression) →
     ((value : _) → e ≡ expression.Literal value → ⊥) →
     ((handle : _) → e ≡ expression.Constant handle → ⊥) →
+    ((handle : _) → e ≡ expression.Override handle → ⊥) →
     ((ty : _) → e ≡ expression.ZeroValue ty → ⊥) →
     ((ty : _) (components : _) → e ≡ expression.Compose ty components → ⊥) →
     ((size : _) (value : _) → e ≡ expression.Splat size value → ⊥) →
     is_operation e ≡ true
-applies_operator (expression.Literal value) l c z p s = absurd (l value refl)
-applies_operator (expression.Constant handle) l c z p s = absurd (c handle refl)
-applies_operator (expression.ZeroValue ty) l c z p s = absurd (z ty refl)
-applies_operator (expression.Compose ty components) l c z p s = absurd (p ty components refl)
-applies_operator (expression.Splat size value) l c z p s = absurd (s size value refl)
-applies_operator _ l c z p s = refl
+applies_operator (expression.Literal value) l c o z p s = absurd (l value refl)
+applies_operator (expression.Constant handle) l c o z p s = absurd (c handle refl)
+applies_operator (expression.Override handle) l c o z p s = absurd (o handle refl)
+applies_operator (expression.ZeroValue ty) l c o z p s = absurd (z ty refl)
+applies_operator (expression.Compose ty components) l c o z p s = absurd (p ty components refl)
+applies_operator (expression.Splat size value) l c o z p s = absurd (s size value refl)
+applies_operator _ l c o z p s = refl
 
 -- ---- constants
 pub constant_named : (m : Module) (error : Error) (c : ℕ) (k : Constant) →
@@ -147,4 +161,6 @@ constant_named m error c k there is =
 pub initialiser_fails : (m : Module) (c : ℕ) (k : Constant) → slice_get m.constants c ≡ Some k →
     constant_is_written m c ≡ false → global_is_written m k.init ≡ false
 initialiser_fails m c k there formless =
-    sym (ap (λ o. option_map_or (λ k. global_is_written m k.init) o false) there) ∙ formless
+    neither (is_some k.name) (global_is_written m k.init)
+    (sym (ap (λ o. option_map_or (λ k. is_some k.name || global_is_written m k.init) o false) there)
+    ∙ formless)

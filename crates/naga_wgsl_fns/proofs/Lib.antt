@@ -19,4 +19,5 @@ pub mod SingleFunctions
 pub mod StatementRows
 pub mod TextHandles
 pub mod TypeRows
+pub mod VariableRows
 pub mod Wanted

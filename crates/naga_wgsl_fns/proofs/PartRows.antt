@@ -3,7 +3,7 @@ use Rattle.std.proofs.Common.{◌≡◌, ℕ, zero, suc, Bool, true, false, List
 use Rattle.std.proofs.Common.{Option, Some, None, codes, refl, sym, ap, ◌∙◌, get_or, map}
 use Rattle.std.proofs.lemmas.List.{append-nil}
 use Rattle.std.specs.Prelude.{slice_get, if◌then◌else◌}
-use Rattle.std.specs.Option.{option_map_or}
+use Rattle.std.specs.Option.{is_some, option_map_or}
 use Rattle.naga_ir.specs.Operands.{expression_operands}
 use Rattle.naga_ir.specs.declared.expression.Expression as ir
 use Rattle.naga_ir.specs.declared.expression.Expression.TheVariants as expression
@@ -20,7 +20,7 @@ use Rattle.naga_wgsl_fns.specs.Expressions.{parenthesized_text, value_text}
 use Rattle.naga_wgsl_fns.specs.Expressions.{base_of, index_text, number_text, part_base, part_end}
 use Rattle.naga_wgsl_fns.specs.Expressions.{selector_end, selector_of, selector_text}
 use Rattle.naga_wgsl_fns.specs.Expressions.{named_member_text}
-use Rattle.module_meaning.specs.Names.{module_names, name_in}
+use Rattle.module_meaning.specs.Names.{constant_name, global_name, module_names, name_in}
 use Rattle.naga_names.specs.declared.key.NameKey.TheVariants as key
 use Rattle.std.proofs.lemmas.Option.{same_Some}
 use Rattle.naga_wgsl_fns.specs.Expressions.{part_base_text, part_end_text, part_reference_text}
@@ -31,7 +31,8 @@ use Rattle.module_meaning.specs.ExpressionOperators.{query_operator}
 use Rattle.naga_ir.specs.Operands.{cooperative_operands, query_operands}
 use Rattle.naga_wgsl_fns.proofs.PartForms.{part_form, part_unsigned, selected_unsigned}
 use Rattle.naga_wgsl_fns.proofs.PartForms.{tree_of_part}
-use Rattle.naga_form.specs.Expressions.{no_form, part_plain, points, selected_part}
+use Rattle.naga_form.specs.Expressions.{is_held, no_form, part_plain, points, selected_part}
+use Rattle.naga_form.specs.Expressions.{variable_plain}
 use Rattle.module_meaning.specs.ExpressionShapes.{part_selector}
 use Rattle.module_meaning.specs.OperatorTable.{PartAt}
 use Rattle.shader_runs.specs.Value.{MemberNamed, Selector}
@@ -45,7 +46,7 @@ use Rattle.std.specs.Prelude.{IsTrue}
 use Rattle.module_meaning.specs.ExpressionOperators.{Surroundings, applied_operator}
 use Rattle.module_meaning.specs.Surroundings.{surroundings}
 use Rattle.naga_form.specs.ConstantForms.{constant_form_over, global_form, global_form_within}
-use Rattle.naga_form.specs.ConstantForms.{initialiser_form, no_constant_form, written_constant_form}
+use Rattle.naga_form.specs.ConstantForms.{constant_form_by, no_constant_form, written_constant_form}
 use Rattle.naga_ir.specs.declared.module.Constant as ir_constant
 use Rattle.naga_ir.specs.declared.module.Module.{Module}
 use Rattle.naga_words.specs.Contexts.{Names as TypeNames}
@@ -54,7 +55,6 @@ use Rattle.naga_wgsl_fns.specs.FunctionText.{type_names_of}
 use Rattle.module_meaning.specs.ExpressionOperators.{load_operator, points_to_atomic}
 use Rattle.module_meaning.specs.OperatorTable.{AtomicLoad, Operator, WithoutForm}
 use Rattle.module_meaning.specs.Names.{numbered_name}
-use Rattle.module_meaning.specs.Part.{expression_is_of_part}
 use Rattle.naga_form.specs.Expressions.{PlainForm, Source, ValueForm, applied_plain, as_reference}
 use Rattle.module_meaning.specs.ExpressionOperators.{type_known}
 use Rattle.naga_form.proofs.Operators.{IsCalled, cast_called, constructor_called, load_called}
@@ -67,7 +67,6 @@ use Rattle.naga_scope.specs.Standings.{standing_of}
 use Rattle.naga_scope.specs.declared.points.BoundName.{BoundName}
 use Rattle.naga_scope.specs.declared.points.Standing.TheVariants as cell
 use Rattle.naga_wgsl_fns.proofs.ExpressionRows.{cell_form}
-use Rattle.naga_wgsl_fns.proofs.Wanted.{is_of_part}
 use Rattle.naga_wgsl_fns.specs.Expressions.{own_form}
 use Rattle.naga_wgsl_fns.specs.FunctionText.{CanWrite, IsInText, around, expressions, handles_in}
 use Rattle.naga_wgsl_fns.specs.FunctionText.{naming, source}
@@ -267,6 +266,13 @@ applied_unsigned : (one : tree.Expression) (type : Option TypeSpecifier) (operan
 applied_unsigned one type operand hs None = refl
 applied_unsigned one type operand hs (Some op) = refl
 
+-- nor does a variable of the module
+variable_unsigned : (held : Bool) (w : List ℕ) →
+    (is_signed (as_value (variable_plain held (tree.Name w))) ≡ false)
+    × (is_signed (as_reference (variable_plain held (tree.Name w))) ≡ false)
+variable_unsigned true w = (refl, refl)
+variable_unsigned false w = (refl, refl)
+
 module _ (n : Naming) (code : Source) (s : Handles) where
   -- a part that is selected
   selected_none : (operand : ℕ → PlainForm) (base index : ℕ) (o : Option Selector) →
@@ -287,6 +293,9 @@ module _ (n : Naming) (code : Source) (s : Handles) where
   own_unsigned operand (Some (expression.Constant c)) = refl
   own_unsigned operand (Some (expression.ZeroValue ty)) = refl
   own_unsigned operand (Some (expression.FunctionArgument number)) = refl
+  own_unsigned operand (Some (expression.Override o)) = refl
+  own_unsigned operand (Some (expression.GlobalVariable v)) =
+      (variable_unsigned (code.is_held v) (n.names.outer.global v)).1
   own_unsigned operand (Some (expression.LocalVariable handle)) = refl
   own_unsigned operand (Some (expression.Access base index)) =
       (part_unsigned (points code.declared.around base)
@@ -349,16 +358,25 @@ base_unpointed f table base is =
     let e = if b then as_reference (form_at f table base) else as_value (form_at f table base) in
     text (tree.base_pieces e (tree.expression_pieces e))) is)
 
--- nor does a constant without a name
+-- nor does a constant
 module _ (m : Module) (t : TypeNames) where
-  initialiser_unsigned : (own : ℕ → tree.Expression) → ((x : ℕ) → is_signed (own x) ≡ false) →
-      (c : ℕ) → is_signed (initialiser_form m own c) ≡ false
-  initialiser_unsigned own each c = by (slice_get m.constants c)
+  constant_unsigned_by : (own : ℕ → tree.Expression) → ((x : ℕ) → is_signed (own x) ≡ false) →
+      (c : ℕ) → is_signed (constant_form_by m own c) ≡ false
+  constant_unsigned_by own each c = by (slice_get m.constants c)
     where
+      named : (k : ir_constant.Constant) (b : Bool) →
+          is_signed (if b then tree.Name (constant_name (module_names m) c) else own k.init) ≡ false
+      named k true = refl
+      named k false = each k.init
+
       by : (o : Option ir_constant.Constant) →
-          is_signed (option_map_or (λ k. own k.init) o no_constant_form) ≡ false
+          is_signed
+          (option_map_or
+          (λ k. if is_some k.name then tree.Name (constant_name (module_names m) c)
+          else own k.init) o no_constant_form) ≡
+          false
       by None = refl
-      by (Some k) = each k.init
+      by (Some k) = named k (is_some k.name)
 
   global_unsigned : (levels h : ℕ) → is_signed (global_form_within levels m t h) ≡ false
   global_unsigned zero h = refl
@@ -372,10 +390,10 @@ module _ (m : Module) (t : TypeNames) where
 
       by : (o : Option ir.Expression) → ((x : ℕ) → is_signed (own x) ≡ false) →
           is_signed
-          (option_map_or (constant_form_over a t (initialiser_form m own) own) o no_constant_form) ≡
+          (option_map_or (constant_form_over a t (constant_form_by m own) own) o no_constant_form) ≡
           false
       by None each = refl
-      by (Some (expression.Constant c)) each = initialiser_unsigned own each c
+      by (Some (expression.Constant c)) each = constant_unsigned_by own each c
       by (Some (expression.ZeroValue ty)) each =
           called_unsigned _ (constructor_called a (Handle ty) 0) (type_tree t ty) []
       by (Some (expression.Compose ty components)) each =
@@ -386,7 +404,7 @@ module _ (m : Module) (t : TypeNames) where
       by (Some _) each = refl
 
   constant_unsigned : (c : ℕ) → is_signed (written_constant_form m t c) ≡ false
-  constant_unsigned c = initialiser_unsigned (global_form m t) (λ x. global_unsigned (suc x) x) c
+  constant_unsigned c = constant_unsigned_by (global_form m t) (λ x. global_unsigned (suc x) x) c
 
 -- a value starts with one where its expression is one before its operand
 abbrev pub is_prefix : Option ir.Expression → Bool
@@ -428,63 +446,64 @@ signed_row f table handle can within =
     own : (o : Option ir.Expression) → slice_get (expressions f) handle ≡ o →
         is_signed (as_value (own_if (naming f) (source f) operand o)) ≡ is_prefix o
     own None at = refl
-    own (Some e) at = of_written e at (is_of_part f can handle e at)
+    own (Some e) at = of_expression e at
       where
-        of_written : (e : ir.Expression) → slice_get (expressions f) handle ≡ Some e →
-            IsTrue (expression_is_of_part e) →
+        of_expression : (e : ir.Expression) → slice_get (expressions f) handle ≡ Some e →
             is_signed (as_value (own_plain (naming f) (source f) operand e)) ≡ is_prefix (Some e)
-        of_written (expression.Literal value) at is = refl
-        of_written (expression.Constant c) at is = constant_unsigned f.shader.now (type_names_of f) c
-        of_written (expression.ZeroValue ty) at is =
+        of_expression (expression.Literal value) at = refl
+        of_expression (expression.Constant c) at = constant_unsigned f.shader.now (type_names_of f) c
+        of_expression (expression.ZeroValue ty) at =
             called_unsigned _ (constructor_called (around f) (Handle ty) 0)
             (type_tree (source f).type_names ty) []
-        of_written (expression.Compose ty components) at is =
+        of_expression (expression.Compose ty components) at =
             called_unsigned _ (constructor_called (around f) (Handle ty) (length components.items))
             (type_tree (source f).type_names ty) (value_forms operand components.items)
-        of_written (expression.As x kind convert) at is =
+        of_expression (expression.As x kind convert) at =
             called_unsigned _ (cast_called (around f) kind convert (type_known (around f) x))
             (operator_type (around f) (source f).type_names (expression.As x kind convert))
             (value_forms operand (x ∷ []))
-        of_written (expression.Access base index) at is =
+        of_expression (expression.Access base index) at =
             parted (Some (expression.Access base index)) at base refl
-        of_written (expression.AccessIndex base index) at is =
+        of_expression (expression.AccessIndex base index) at =
             parted (Some (expression.AccessIndex base index)) at base refl
-        of_written (expression.FunctionArgument number) at is = refl
-        of_written (expression.LocalVariable local) at is = refl
-        of_written (expression.Load pointer) at is =
+        of_expression (expression.FunctionArgument number) at = refl
+        of_expression (expression.Override o) at = refl
+        of_expression (expression.GlobalVariable v) at =
+            (variable_unsigned (is_held f.shader.now v) (global_name (module_names f.shader.now) v)).0
+        of_expression (expression.LocalVariable local) at = refl
+        of_expression (expression.Load pointer) at =
             loaded pointer (points_to_atomic (around f) pointer)
-        of_written (expression.Unary op x) at is = refl
-        of_written (expression.Binary op l r) at is = refl
-        of_written (expression.Select c a r) at is = refl
-        of_written (expression.Splat size x) at is = refl
-        of_written (expression.Swizzle size v pattern) at is = refl
-        of_written (expression.Derivative axis how x) at is = refl
-        of_written (expression.Math fun x y z w) at is = refl
-        of_written (expression.Relational fun x) at is = refl
-        of_written
+        of_expression (expression.Unary op x) at = refl
+        of_expression (expression.Binary op l r) at = refl
+        of_expression (expression.Select c a r) at = refl
+        of_expression (expression.Splat size x) at = refl
+        of_expression (expression.Swizzle size v pattern) at = refl
+        of_expression (expression.Derivative axis how x) at = refl
+        of_expression (expression.Math fun x y z w) at = refl
+        of_expression (expression.Relational fun x) at = refl
+        of_expression
             (expression.ImageSample
-            image sampler gather coordinate array_index offset level depth_ref clamp) at is =
+            image sampler gather coordinate array_index offset level depth_ref clamp) at =
             refl
-        of_written (expression.ImageLoad image coordinate array_index sample level) at is = refl
-        of_written (expression.ImageQuery image query) at is =
+        of_expression (expression.ImageLoad image coordinate array_index sample level) at = refl
+        of_expression (expression.ImageQuery image query) at =
             called_unsigned (query_operator query) (query_is_called query) None
             (value_forms operand (image ∷ query_operands query))
-        of_written (expression.ArrayLength array) at is = refl
-        of_written (expression.CooperativeLoad columns rows role place) at is =
+        of_expression (expression.ArrayLength array) at = refl
+        of_expression (expression.CooperativeLoad columns rows role place) at =
             called_unsigned _ (load_called (around f) columns rows role place)
             (operator_type (around f) (source f).type_names
             (expression.CooperativeLoad columns rows role place))
             (value_forms operand (cooperative_operands place))
-        of_written (expression.CooperativeMultiplyAdd x y z) at is = refl
-        of_written (expression.CallResult function) at is = refl
-        of_written (expression.AtomicResult ty comparison) at is = refl
-        of_written (expression.WorkGroupUniformLoadResult ty) at is = refl
-        of_written (expression.SubgroupOperationResult ty) at is = refl
-        of_written expression.SubgroupBallotResult at is = refl
-        of_written expression.RayQueryProceedResult at is = refl
-        of_written (expression.RayQueryGetIntersection query committed) at is = refl
-        of_written (expression.RayQueryVertexPositions query committed) at is = refl
-        of_written _ at is = absurd cc
+        of_expression (expression.CooperativeMultiplyAdd x y z) at = refl
+        of_expression (expression.CallResult function) at = refl
+        of_expression (expression.AtomicResult ty comparison) at = refl
+        of_expression (expression.WorkGroupUniformLoadResult ty) at = refl
+        of_expression (expression.SubgroupOperationResult ty) at = refl
+        of_expression expression.SubgroupBallotResult at = refl
+        of_expression expression.RayQueryProceedResult at = refl
+        of_expression (expression.RayQueryGetIntersection query committed) at = refl
+        of_expression (expression.RayQueryVertexPositions query committed) at = refl
 
     whole : is_signed (as_value (own_form f table handle)) ≡ is_prefix (slice_get (expressions f) handle)
     whole = own (slice_get (expressions f) handle) refl

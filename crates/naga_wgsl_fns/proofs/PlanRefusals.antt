@@ -61,9 +61,9 @@ use Rattle.naga_wgsl_fns.specs.Refusals.{NamesUnspelled}
 use Rattle.module_meaning.specs.ExpressionOperators.{has_parts}
 use Rattle.module_meaning.specs.Part.{known_passes}
 use Rattle.naga_wgsl_fns.specs.Refusals.{NamesFormless, NamesLiteral, NamesMatrix, converted}
-use Rattle.naga_wgsl_fns.specs.Refusals.{NamesConstantsOf, NamesGlobal, OfConstant, OfLiteral}
+use Rattle.naga_wgsl_fns.specs.Refusals.{NamesItemsOf, NamesGlobal, OfConstant, OfLiteral}
 use Rattle.naga_wgsl_fns.specs.Refusals.{OfOperand, OfOperation, OfType, pointed_scalar}
-use Rattle.naga_ir.specs.declared.expression.Expression.TheVariants.{Constant}
+use Rattle.naga_ir.specs.declared.expression.Expression.TheVariants.{Constant, GlobalVariable}
 use Rattle.naga_ir.specs.declared.module.Constant as constant
 use Rattle.naga_ir.specs.declared.expression.Expression.TheVariants.{CooperativeLoad}
 use Rattle.naga_ir.specs.declared.types.Scalar.{Scalar}
@@ -354,18 +354,19 @@ module _ (explicit : Bool) (m : Module) (info : ModuleInfo) (accepted : IsTrue (
     plan_refusal es at namer words has (plan_error.Memory e) told refusal is =
         subst (IsPlanRefusal explicit m info earlier i) (sym is) tt
 
--- each constant that an expression of an accepted function names is there
-pub constants_there : (m : Module) (info : ModuleInfo) → IsTrue (is_accepted m info) → (i : ℕ)
+-- each constant and variable that an expression of an accepted function names is there
+pub items_there : (m : Module) (info : ModuleInfo) → IsTrue (is_accepted m info) → (i : ℕ)
     (f : ir_function.Function) → slice_get m.functions i ≡ Some f → (es : List ExpressionInfo) →
     slice_get info.functions.items i ≡ Some es → (h : ℕ) (e : Expression) →
-    slice_get f.expressions h ≡ Some e → NamesConstantsOf m e
-constants_there m info accepted i f stands es stand h e at =
+    slice_get f.expressions h ≡ Some e → NamesItemsOf m e
+items_there m info accepted i f stands es stand h e at =
     let numbered = function_there m info accepted i f stands in
     let is = accepted_at m info accepted i f numbered.0 numbered.1 in
     by is.callees e (names_are_in_range m is.callees f is.ranges h e at)
   where
     by : (callees : ℕ) (e : Expression) →
         names_in_range m callees (length f.arguments.items) (length f.local_variables) e ≡ true →
-        NamesConstantsOf m e
+        NamesItemsOf m e
     by callees (Constant c) range = ltb-true c (length m.constants) range
+    by callees (GlobalVariable v) range = range
     by callees _ range = tt

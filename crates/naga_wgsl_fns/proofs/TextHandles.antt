@@ -9,7 +9,7 @@ use Rattle.module_meaning.specs.Part.{block_is_written, statement_is_written}
 use Rattle.module_meaning.specs.Ranges.{block_in_range, is_below, statement_in_range}
 use Rattle.module_meaning.specs.Written.{IsWrittenIn, block_roots, statement_roots}
 use Rattle.naga_form.proofs.AcceptedFunctions.{ranges_are}
-use Rattle.naga_form.proofs.PartFits.{function_parts}
+use Rattle.naga_form.proofs.PartFits.{body_is_written}
 use Rattle.naga_form.proofs.WrittenHandles.{written_are_closed}
 use Rattle.naga_ir.specs.StatementTree.{BlockTree, StatementTree, emit, no_statements, return, simple}
 use Rattle.naga_ir.specs.StatementTree.{statement, store}
@@ -94,7 +94,7 @@ module _ (t : FunctionText) (can : CanWrite t) where
       let closed = written_are_closed t.shader.now t.module_info.now f t.info.now in
       in_text (block_roots (bound t) f.body)
       (block_within (bound t) t.handle (length f.expressions) f.body
-      (function_parts f can.written).body (ranges_are t.shader.now t.handle f can.ranges).1)
+      (body_is_written f can.written) (ranges_are t.shader.now t.handle f can.ranges).1)
       closed.body
 
   pub first_in_range : (l : ℕ) (v : LocalVariable) →

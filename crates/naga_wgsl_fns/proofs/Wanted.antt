@@ -87,7 +87,6 @@ use Rattle.module_meaning.specs.GivenLabels.{label_of, labels_in}
 use Rattle.naga_scope.specs.Standings.{name_of_bound, next_name}
 use Rattle.naga_wgsl_fns.specs.Names.{bound_text, next_name_text}
 use Rattle.naga_form.proofs.Ordered.{operands_stand_before}
-use Rattle.naga_form.proofs.PartFits.{function_parts}
 use Rattle.naga_form.proofs.WrittenTypes.{struct_undeclared, tree_there}
 use Rattle.naga_wgsl_fns.proofs.Members.{found_none, found_struct, member_selected, no_struct}
 use Rattle.naga_form.specs.TypeTrees.{resolution_tree}
@@ -98,7 +97,6 @@ use Rattle.wgsl_text.specs.Types.{Named, TypeSpecifier}
 use Rattle.naga_wgsl_fns.specs.declared.functions.FunctionText.{FunctionText}
 use Rattle.naga_wgsl_fns.specs.FunctionText.{CanWrite, IsEmitted, IsInText, around, bound, naming}
 use Rattle.naga_wgsl_fns.specs.FunctionText.{tells_types}
-use Rattle.module_meaning.specs.Part.{expression_is_of_part}
 use Rattle.module_meaning.specs.Written.{IsWrittenIn, OfArgument, OfLet, OfLocal, OfResult}
 use Rattle.naga_form.proofs.WrittenHandles.{all_front, all_rest, written_are_closed}
 use Rattle.std.specs.List.{AllByRecursion}
@@ -110,11 +108,13 @@ use Rattle.naga_wgsl_fns.specs.Types.{told_type_text}
 pub record IsNoOther (e : Expression) : Type 0 where
   pub literal : (value : ir_literal.Literal) → e ≡ expression.Literal value → ⊥
   pub constant : (c : ℕ) → e ≡ expression.Constant c → ⊥
+  pub overridden : (o : ℕ) → e ≡ expression.Override o → ⊥
   pub zero_value : (ty : ℕ) → e ≡ expression.ZeroValue ty → ⊥
   pub composed : (ty : ℕ) (parts : Vec ℕ Global) → e ≡ expression.Compose ty parts → ⊥
   pub element : (b i : ℕ) → e ≡ expression.Access b i → ⊥
   pub part : (b i : ℕ) → e ≡ expression.AccessIndex b i → ⊥
   pub argument : (n : ℕ) → e ≡ expression.FunctionArgument n → ⊥
+  pub global : (v : ℕ) → e ≡ expression.GlobalVariable v → ⊥
   pub local_ : (v : ℕ) → e ≡ expression.LocalVariable v → ⊥
   pub load : (p : ℕ) → e ≡ expression.Load p → ⊥
   pub unary : (op : UnaryOperator) (x : ℕ) → e ≡ expression.Unary op x → ⊥
@@ -424,9 +424,6 @@ module _ (t : FunctionText) (can : CanWrite t) where
   untold_row h is = ap (λ b. told_type_text (told_type b m (type_names m) es h)) is
 
   -- ---- expressions
-  pub is_of_part : (h : ℕ) (e : Expression) → slice_get f.expressions h ≡ Some e → IsTrue (expression_is_of_part e)
-  is_of_part h e here = list_all_at expression_is_of_part f.expressions h e (function_parts f can.written).expressions here
-
   -- one that is written has a form
   pub expression_formed : (h : ℕ) (e : Expression) → slice_get f.expressions h ≡ Some e → IsInText t h → IsTrue (expression_is_written m es e)
   expression_formed h e here is = (has_form_parts m es f.expressions e (can.formed.expressions h e here is.written)).0
@@ -448,6 +445,12 @@ module _ (t : FunctionText) (can : CanWrite t) where
 
   pub local_within : (h : ℕ) (e : Expression) (v : ℕ) → slice_get f.expressions h ≡ Some e → e ≡ expression.LocalVariable v → v < length f.local_variables
   local_within h e v here is = ltb-true v (length f.local_variables) (names_there h e (expression.LocalVariable v) here is)
+
+  pub global_within : (h : ℕ) (e : Expression) (v : ℕ) → slice_get f.expressions h ≡ Some e → e ≡ expression.GlobalVariable v → v < length m.global_variables
+  global_within h e v here is = ltb-true v (length m.global_variables) (names_there h e (expression.GlobalVariable v) here is)
+
+  pub override_within : (h : ℕ) (e : Expression) (o : ℕ) → slice_get f.expressions h ≡ Some e → e ≡ expression.Override o → o < length m.overrides
+  override_within h e o here is = ltb-true o (length m.overrides) (names_there h e (expression.Override o) here is)
 
   pub ordered : OperandsStandBefore f.expressions
   ordered h e at = operands_stand_before m g f can.ranges h e at
@@ -533,7 +536,7 @@ module _ (t : FunctionText) (can : CanWrite t) where
       by (expression.AccessIndex b i) is one two = two b i refl
       by _ is one two = absurd cc
 
-  -- a constant is written as its initialiser is
+  -- a constant has a name, or an initialiser that is written
   pub constant_passes : (h : ℕ) (e : Expression) (c : ℕ) → slice_get f.expressions h ≡ Some e →
       IsInText t h → e ≡ expression.Constant c → IsTrue (constant_is_written m c)
   constant_passes h e c here within is =
@@ -582,11 +585,13 @@ module _ (t : FunctionText) (can : CanWrite t) where
       by : (e : Expression) → IsTrue (expression_is_written m es e) → IsNoOther e → ⊥
       by (expression.Literal v) is none = none.literal v refl
       by (expression.Constant c) is none = none.constant c refl
+      by (expression.Override o) is none = none.overridden o refl
       by (expression.ZeroValue t) is none = none.zero_value t refl
       by (expression.Compose t xs) is none = none.composed t xs refl
       by (expression.Access b i) is none = none.element b i refl
       by (expression.AccessIndex b i) is none = none.part b i refl
       by (expression.FunctionArgument n) is none = none.argument n refl
+      by (expression.GlobalVariable v) is none = none.global v refl
       by (expression.LocalVariable v) is none = none.local_ v refl
       by (expression.Load p) is none = none.load p refl
       by (expression.Unary op x) is none = none.unary op x refl

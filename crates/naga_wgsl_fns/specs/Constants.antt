@@ -1,7 +1,7 @@
--- The texts of constants without names, and of the module's own expressions.
+-- The texts of constants and of a module's own expressions.
 --
--- Throughout, f is the text of a function, m a module, h is a handle of one of the module's own
--- expressions, and hs are some.
+-- Throughout, m is a module, c a constant of it, h is a handle of one of its own expressions, and hs
+-- are some.
 use Rattle.std.specs.Prelude.{ℕ, Bool, true, false, List, [], ◌++◌, codes, if◌then◌else◌, map}
 use Rattle.std.specs.Prelude.{slice_get}
 use Rattle.std.specs.Option.{option_map_or}
@@ -10,17 +10,15 @@ use Rattle.naga_ir.specs.Operands.{expression_operands}
 use Rattle.naga_form.specs.Types.{type_form}
 use Rattle.naga_ir.specs.declared.module.Module.{Module}
 use Rattle.module_meaning.specs.Types.{type_names}
-use Rattle.naga_wgsl_fns.specs.FunctionText.{type_names_of}
-use Rattle.naga_wgsl_fns.specs.declared.functions.FunctionText.{FunctionText}
 use Rattle.wgsl_text.specs.Expressions.{Call, Expression, arguments_pieces, more_arguments_pieces}
 use Rattle.wgsl_text.specs.Expressions.{operands as arguments_of}
 use Rattle.wgsl_text.specs.Reading.{expression_layout}
 use Rattle.wgsl_text.specs.Text.{text}
 use Rattle.wgsl_text.specs.Types.{Named}
 
--- a constant without a name
-unfoldable pub constant_text : FunctionText → (constant : ℕ) → List ℕ
-constant_text f c = expression_layout (written_constant_form f.shader.now (type_names_of f) c)
+-- a constant
+unfoldable pub constant_text : Module → (constant : ℕ) → List ℕ
+constant_text m c = expression_layout (written_constant_form m (type_names m) c)
 
 -- the form of one of the module's own expressions, and its text
 abbrev pub global_at : Module → (handle : ℕ) → Expression

@@ -3,7 +3,7 @@ use Rattle.std.specs.Prelude.{ℕ, Bool, true, false, List, [], ◌∷◌, ◌++
 use Rattle.std.specs.Prelude.{if◌then◌else◌, nat_lt, decimal, Option, Some, None, unwrap_or}
 use Rattle.naga_ir.specs.declared.expression.Expression as ir
 use Rattle.naga_ir.specs.declared.expression.Expression.TheVariants as expression
-use Rattle.naga_form.specs.Expressions.{ValueForm, ReferenceForm, points}
+use Rattle.naga_form.specs.Expressions.{ValueForm, ReferenceForm, is_held, points}
 use Rattle.module_meaning.specs.ExpressionOperators.{is_atomic, points_to_atomic, type_known}
 use Rattle.module_meaning.specs.ExpressionOperators.{type_with}
 use Rattle.module_meaning.specs.OperatorTable.{AtomicLoad, run_word}
@@ -19,7 +19,7 @@ use Rattle.shader_runs.specs.Value.{Selector, MemberNamed, ElementAt}
 use Rattle.std.specs.Option.{option_and_then, option_map_or}
 use Rattle.naga_names.specs.declared.key.NameKey.TheVariants as key
 use Rattle.naga_words.specs.Spelling.{is_struct}
-use Rattle.module_meaning.specs.Names.{module_names, name_in}
+use Rattle.module_meaning.specs.Names.{global_name, module_names, name_in}
 use Rattle.module_meaning.specs.Undeclared.{whole_known}
 use Rattle.naga_ir.specs.Operands.{expression_operands}
 use Rattle.wgsl_text.specs.Expressions.{Expression, Name, AddressOf, Call, Dereference, Member}
@@ -45,6 +45,7 @@ use Rattle.naga_wgsl_fns.specs.declared.functions.FunctionText.{FunctionText}
 use Rattle.naga_form.specs.Types.{type_form}
 use Rattle.naga_wgsl_fns.specs.FunctionText.{expressions, handles_in, naming, source}
 use Rattle.naga_wgsl_fns.specs.FunctionText.{type_names_of}
+use Rattle.naga_wgsl_fns.specs.Names.{name_of_global}
 
 -- the form of a handle
 abbrev pub form_at : FunctionText → (table : List Standing) → (handle : ℕ) → PlainForm
@@ -73,6 +74,23 @@ pointed_text f table handle = expression_layout (Dereference (as_value (form_at 
 -- a pointer to a local
 unfoldable pub address_text : FunctionText → (local : ℕ) → List ℕ
 address_text f local = expression_layout (AddressOf (Name ((naming f).names.local_ local)))
+
+-- a pointer to a variable of the module
+unfoldable pub global_address_text : FunctionText → (variable : ℕ) → List ℕ
+global_address_text f variable =
+    expression_layout (AddressOf (Name (global_name (module_names f.shader.now) variable)))
+
+-- such a variable as a value, and as a reference where its handle has no name
+unfoldable pub global_value_text : FunctionText → (variable : ℕ) → List ℕ
+global_value_text f variable =
+    if is_held f.shader.now variable then name_of_global f variable
+    else global_address_text f variable
+
+unfoldable pub global_reference_text : FunctionText → (table : List Standing) →
+    (handle variable : ℕ) → List ℕ
+global_reference_text f table handle variable =
+    if is_held f.shader.now variable then pointed_text f table handle
+    else name_of_global f variable
 
 -- the operands of the expression with this handle
 abbrev pub operands_at : FunctionText → (handle : ℕ) → List ℕ

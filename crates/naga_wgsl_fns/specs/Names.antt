@@ -1,7 +1,8 @@
--- The names that the text of a function uses.
+-- The names that the text of a function and those of a module's own expressions use.
 use Rattle.std.specs.Prelude.{ℕ, List}
-use Rattle.module_meaning.specs.Names.{argument_name, function_name, local_name}
-use Rattle.module_meaning.specs.Names.{module_names, numbered_name}
+use Rattle.module_meaning.specs.Names.{argument_name, constant_name, function_name, global_name}
+use Rattle.module_meaning.specs.Names.{local_name, module_names, numbered_name, override_name}
+use Rattle.naga_ir.specs.declared.module.Module.{Module}
 use Rattle.naga_scope.specs.Standings.{name_of_bound}
 use Rattle.naga_scope.specs.declared.points.BoundName.{BoundName}
 use Rattle.shader_runs.specs.Scope.{bound_name}
@@ -29,3 +30,13 @@ next_name_text f number handle = bound_name (naming f) number handle
 -- its local with this handle
 unfoldable pub name_of_local : FunctionText → (local : ℕ) → List ℕ
 name_of_local f local = local_name (module_names f.shader.now) f.handle local
+
+-- a variable, a constant and an override of the module
+unfoldable pub name_of_global : FunctionText → (variable : ℕ) → List ℕ
+name_of_global f variable = global_name (module_names f.shader.now) variable
+
+unfoldable pub name_of_constant : Module → (constant : ℕ) → List ℕ
+name_of_constant m c = constant_name (module_names m) c
+
+unfoldable pub name_of_override : Module → (override : ℕ) → List ℕ
+name_of_override m o = override_name (module_names m) o

@@ -3,12 +3,14 @@
 -- Throughout, m is the module, e an error of memory, and explicit says whether `let`s tell types.
 use Rattle.std.specs.Prelude.{◌≡◌, ⊤, ℕ, ◌<◌, List, ◌⊎◌, codes, string_bytes, IsTrue, IsFalse}
 use Rattle.std.specs.Prelude.{IsSomeAnd, Option, Some, None, length, slice_get, Bool, true, false}
+use Rattle.std.specs.Prelude.{nat_lt}
 use Rattle.std.specs.List.{IsAmong}
 use Rattle.std.specs.Option.{is_some, option_and_then}
 use Rattle.naga_ir.specs.declared.expression.Expression.{Expression}
 use Rattle.naga_ir.specs.Operands.{expression_operands}
 use Rattle.naga_ir.specs.declared.expression.Expression.TheVariants.{AccessIndex, As, Compose}
-use Rattle.naga_ir.specs.declared.expression.Expression.TheVariants.{Constant, Splat}
+use Rattle.naga_ir.specs.declared.expression.Expression.TheVariants.{Constant, Override, Splat}
+use Rattle.naga_ir.specs.declared.expression.Expression.TheVariants.{GlobalVariable}
 use Rattle.naga_ir.specs.declared.expression.Expression.TheVariants.{Literal, Math}
 use Rattle.naga_ir.specs.declared.expression.Expression.TheVariants.{ImageSample, ImageLoad}
 use Rattle.naga_ir.specs.declared.expression.Expression.TheVariants.{Relational, ZeroValue}
@@ -163,10 +165,11 @@ NamesSampling sampling offset error =
     (IsFalse sampling × IsUnimplemented (codes "sampling form") error)
     ⊎ (IsFalse offset × IsCustom (codes "operator in a constant") error)
 
--- What no constant without a name is made of, so far: overrides stand in no module that is written.
+-- what no constant is made of
 abbrev pub is_operation : Expression → Bool
 is_operation (Literal value) = false
 is_operation (Constant handle) = false
+is_operation (Override handle) = false
 is_operation (ZeroValue ty) = false
 is_operation (Compose ty components) = false
 is_operation (Splat size value) = false
@@ -197,10 +200,11 @@ pub data NamesGlobal (m : Module) (error : Error) : (handle : ℕ) → Type 0 wh
       slice_get m.global_expressions h ≡ Some (Constant c) → slice_get m.constants c ≡ Some k →
       NamesGlobal m error k.init → NamesGlobal m error h
 
--- a constant that an expression names is there
-abbrev pub NamesConstantsOf : Module → Expression → Type 0
-NamesConstantsOf m (Constant handle) = handle < length m.constants
-NamesConstantsOf m e = ⊤
+-- a constant and a variable of the module that an expression names are there
+abbrev pub NamesItemsOf : Module → Expression → Type 0
+NamesItemsOf m (Constant handle) = handle < length m.constants
+NamesItemsOf m (GlobalVariable handle) = IsTrue (nat_lt handle (length m.global_variables))
+NamesItemsOf m e = ⊤
 
 -- so it is with the initialiser of a constant
 abbrev pub NamesConstant : Module → (handle : ℕ) → Error → Type 0

@@ -1,4 +1,4 @@
-//! Constants without names, which are written as their initialisers are.
+//! Constants, which are written as their names, and without one as their initialisers are.
 
 ghost use Rattle.std.specs.Prelude.{◌≡◌, IsTrue};
 ghost use Rattle.module_meaning.specs.AlikeTypes.{has_form};
@@ -19,7 +19,7 @@ use naga_words::{Output, TextSink};
 use std::alloc::Global;
 
 impl FunctionText<'_> {
-    /// A constant without a name.
+    /// A constant.
     pub(crate) fn write_constant<W: TextSink>(
         &self,
         alloc: Global,
@@ -28,10 +28,10 @@ impl FunctionText<'_> {
     )
         requires can { CanWrite self.now }
         requires written { IsTrue (constant_is_written self.now.shader.now constant) }
-        ensures { Writes W.text W.failures out.old out.new (constant_text self.now constant) }
+        ensures { Writes W.text W.failures out.old out.new
+            (constant_text self.now.shader.now constant) }
     {
-        self.of_module()
-            .write_global(alloc, self.shader.constants[constant].init, out);
+        self.of_module().write_constant(alloc, constant, out);
     }
 
     /// The function's module, and the names of its items.
@@ -62,15 +62,35 @@ impl ModuleText<'_> {
     {
         match &self.shader.global_expressions[handle] {
             Expression::Literal(literal) => write_literal(*literal, out),
-            Expression::Constant(constant) => {
-                self.write_global(alloc, self.shader.constants[*constant].init, out)
-            }
+            Expression::Constant(constant) => self.write_constant(alloc, *constant, out),
+            Expression::Override(handle) => self.write_override_name(*handle, out),
             Expression::ZeroValue(ty) => self.write_made_global(alloc, *ty, handle, out),
             Expression::Compose { ty, .. } => self.write_made_global(alloc, *ty, handle, out),
             Expression::Splat { size, .. } => {
                 self.write_called_global(alloc, vector_str(*size), handle, out)
             }
             _ => unreachable!(),
+        }
+    }
+
+    /// A constant: its name, or without one its initialiser.
+    #[cycle(global)]
+    pub(crate) fn write_constant<W: TextSink>(
+        &self,
+        alloc: Global,
+        constant: Handle<Constant>,
+        out: &mut Output<'_, W>,
+    )
+        requires can { CanWriteIn self.now }
+        requires written { IsTrue (constant_is_written self.now.shader.now constant) }
+        ensures { Writes W.text W.failures out.old out.new
+            (constant_text self.now.shader.now constant) }
+    {
+        let item = &self.shader.constants[constant];
+        if item.name.is_some() {
+            self.write_constant_name(constant, out);
+        } else {
+            self.write_global(alloc, item.init, out);
         }
     }
 

@@ -69,6 +69,7 @@ impl FunctionText<'_> {
         match &self.function.expressions[handle] {
             Expression::Literal(literal) => write_literal(*literal, out),
             Expression::Constant(constant) => self.write_constant(alloc, *constant, out),
+            Expression::Override(handle) => self.of_module().write_override_name(*handle, out),
             Expression::ZeroValue(ty) => self.write_made(alloc, scope, handle, *ty, out),
             Expression::Compose { ty, .. } => self.write_made(alloc, scope, handle, *ty, out),
             Expression::Access { base, .. } => {
@@ -78,6 +79,7 @@ impl FunctionText<'_> {
                 self.write_part_value(alloc, scope, handle, *base, out)
             }
             Expression::FunctionArgument(number) => self.write_argument_name(*number, out),
+            Expression::GlobalVariable(variable) => self.write_global_value(*variable, out),
             Expression::LocalVariable(local) => self.write_address(*local, out),
             Expression::Load { pointer } => self.write_load(alloc, scope, handle, *pointer, out),
             Expression::Unary { op, expr } => self.write_prefix(alloc, scope, *op, *expr, out),
@@ -130,8 +132,8 @@ impl FunctionText<'_> {
         }
     }
 
-    /// An expression as a reference: a local's name, a part of what is pointed at, or a value with
-    /// `*`.
+    /// An expression as a reference: the name of a local or of a variable of the module, a part of
+    /// what is pointed at, or a value with `*`.
     #[cycle(expression)]
     #[tactic(auto, using(crate::proofs::ExpressionRows::reference_row))]
     pub(crate) fn write_reference<W: TextSink>(
@@ -149,6 +151,9 @@ impl FunctionText<'_> {
         match scope.standing(handle) {
             Standing::Named(_) => self.write_dereference(alloc, scope, handle, out),
             _ => match &self.function.expressions[handle] {
+                Expression::GlobalVariable(variable) => {
+                    self.write_global_reference(alloc, scope, handle, *variable, out)
+                }
                 Expression::LocalVariable(local) => self.write_local_name(*local, out),
                 Expression::Access { base, .. } => {
                     self.write_part_reference(alloc, scope, handle, *base, out)

@@ -1,4 +1,4 @@
-//! The refusals of constants without names, by what has no form in their initialisers.
+//! The refusals of constants, by what has no form in their initialisers.
 
 ghost use Rattle.std.specs.Prelude.{◌≡◌, ◌<◌, IsFalse, length, not};
 ghost use Rattle.std.specs.List.{find};
@@ -49,6 +49,7 @@ pub(crate) fn global_without_form(
         Expression::Constant(constant) => {
             global_without_form(alloc, module, globals, module.constants[*constant].init)
         }
+        Expression::Override(_) => unreachable!(),
         Expression::ZeroValue(ty) => {
             type_without_form(alloc, module, &TypeResolution::Handle(*ty))
         }

@@ -1,8 +1,8 @@
 //! The refusals of expressions and types without a form, by name.
 
-ghost use Rattle.std.specs.Prelude.{Bool, IsFalse, IsTrue, List, ◌&&◌};
-ghost use Rattle.module_meaning.specs.Part.{expression_has_form, expression_is_of_part};
-ghost use Rattle.module_meaning.specs.Part.{is_written_literal, known_passes};
+ghost use Rattle.std.specs.Prelude.{Bool, IsFalse, List, ◌&&◌};
+ghost use Rattle.module_meaning.specs.Part.{expression_has_form, is_written_literal};
+ghost use Rattle.module_meaning.specs.Part.{known_passes};
 ghost use Rattle.module_meaning.specs.ExpressionOperators.{has_parts, scalar_behind};
 ghost use Rattle.module_meaning.specs.Conversions.{conversion_target};
 ghost use Rattle.module_meaning.specs.Sampling.{sampling_is_written};
@@ -13,7 +13,7 @@ ghost use Rattle.naga_wgsl_fns.specs.Refusals.{NamesConversion, NamesExpression}
 ghost use Rattle.naga_wgsl_fns.specs.Refusals.{NamesFunction, NamesLiteral, NamesSampling};
 ghost use Rattle.naga_wgsl_fns.specs.Refusals.{NamesMatrix, NamesPart, NamesScalar, NamesType};
 ghost use Rattle.naga_wgsl_fns.specs.Refusals.{NamesUndeclared, converted};
-ghost use Rattle.naga_wgsl_fns.specs.Refusals.{NamesConstantsOf, pointed_scalar};
+ghost use Rattle.naga_wgsl_fns.specs.Refusals.{NamesItemsOf, pointed_scalar};
 
 use crate::error::{Error, custom, unimplemented};
 use crate::formless_constants::constant_without_form;
@@ -38,11 +38,10 @@ pub(crate) fn without_form(
     info: &FunctionInfo,
     expression: &Expression,
 ) -> Error
-    requires part { IsTrue (expression_is_of_part expression.now) }
     requires known { AreKnownIn «module».now.types info.now }
     requires ordered { GlobalsStandInOrder «module».now }
     requires globals { MarksGlobals «module».now globals.now }
-    requires named { NamesConstantsOf «module».now expression.now }
+    requires named { NamesItemsOf «module».now expression.now }
     requires formless { (es : List Expression) ×
         IsFalse (expression_has_form «module».now info.now es expression.now) }
     ensures { (es : List Expression) →

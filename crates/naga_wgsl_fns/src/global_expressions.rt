@@ -27,8 +27,8 @@ use std::collections::HashMap;
 /// the module declares. The module is accepted with what is known of it, and `names` has the names of
 /// its items in WGSL.
 ///
-/// The text has one reading as an expression. A constant is written by its initialiser. What has no
-/// form is refused, by the first part that has none: a float literal as `Unimplemented`, `float
+/// The text has one reading as an expression. An override is written by its name, and so is a constant
+/// that has one; any other constant by its initialiser. What has no form is refused, by the first part that has none: a float literal as `Unimplemented`, `float
 /// literal`; an abstract one as `Custom`, `Abstract types should not appear in IR presented to
 /// backends`; a value of a type that names a struct which no text declares as `Custom`, `predeclared
 /// struct`, one of a type with a scalar without a word as `Unsupported`, of the kind `scalar type`, and

@@ -25,6 +25,7 @@ pub mod plans;
 pub mod sinks;
 mod statements;
 mod types;
+mod variables;
 
 pub use error::Error;
 pub use functions::write_planned;

@@ -1,4 +1,4 @@
-//! Names, of which a function's module has a text for each key.
+//! Names, of which a module has a text for each key.
 
 ghost use Rattle.std.specs.Prelude.{◌≡◌, ◌<◌, Some, length};
 ghost use Rattle.module_meaning.specs.Names.{module_names, name_in, numbered_name};
@@ -6,12 +6,15 @@ ghost use Rattle.naga_names.specs.Keys.{names_in};
 ghost use Rattle.naga_names.specs.declared.key.NameKey.TheVariants as key;
 ghost use Rattle.naga_words.specs.Output.{Writes};
 ghost use Rattle.naga_wgsl_fns.specs.FunctionText.{CanWrite, given_in};
-ghost use Rattle.naga_wgsl_fns.specs.Names.{bound_text, name_of_argument, name_of_function};
-ghost use Rattle.naga_wgsl_fns.specs.Names.{name_of_local, next_name_text};
+ghost use Rattle.naga_wgsl_fns.specs.ModuleText.{CanWriteIn};
+ghost use Rattle.naga_wgsl_fns.specs.Names.{bound_text, name_of_argument, name_of_constant};
+ghost use Rattle.naga_wgsl_fns.specs.Names.{name_of_function, name_of_global, name_of_local};
+ghost use Rattle.naga_wgsl_fns.specs.Names.{name_of_override, next_name_text};
 
 use crate::functions::FunctionText;
+use crate::module_text::ModuleText;
 use itoa::Buffer;
-use naga_ir::{Expression, Handle, LocalVariable, Type_};
+use naga_ir::{Constant, Expression, GlobalVariable, Handle, LocalVariable, Override, Type_};
 use naga_names::NameKey;
 use naga_scope::{BoundName, Scope};
 use naga_words::{Output, TextSink};
@@ -50,6 +53,21 @@ impl FunctionText<'_> {
         ensures { Writes W.text W.failures out.old out.new (name_of_local self.now local) }
     {
         self.write_name(&NameKey::FunctionLocal(self.handle, local), out);
+    }
+
+    /// A variable of the module.
+    #[inline(never)]
+    #[tactic(auto, unfolding(crate::specs::Names::name_of_global))]
+    pub(crate) fn write_global_name<W: TextSink>(
+        &self,
+        variable: Handle<GlobalVariable>,
+        out: &mut Output<'_, W>,
+    )
+        requires can { CanWrite self.now }
+        requires variable { variable < length self.now.shader.now.global_variables }
+        ensures { Writes W.text W.failures out.old out.new (name_of_global self.now variable) }
+    {
+        self.write_name(&NameKey::GlobalVariable(variable), out);
     }
 
     /// A member of a struct.
@@ -113,10 +131,52 @@ impl FunctionText<'_> {
         }
     }
 
-    // In each caller the kind of the key is known, so that hashing it takes no choice there.
     #[inline(always)]
     fn write_name<W: TextSink>(&self, key: &NameKey, out: &mut Output<'_, W>)
-        requires { names_in self.now.names.now key.now
+        requires named { names_in self.now.names.now key.now
+            ≡ Some (name_in (module_names self.now.shader.now) key.now) }
+        ensures { Writes W.text W.failures out.old out.new
+            (name_in (module_names self.now.shader.now) key.now) }
+    {
+        self.of_module().write_name(key, out);
+    }
+}
+
+impl ModuleText<'_> {
+    #[inline(never)]
+    #[tactic(auto, unfolding(crate::specs::Names::name_of_constant))]
+    pub(crate) fn write_constant_name<W: TextSink>(
+        &self,
+        constant: Handle<Constant>,
+        out: &mut Output<'_, W>,
+    )
+        requires can { CanWriteIn self.now }
+        requires constant { constant < length self.now.shader.now.constants }
+        ensures { Writes W.text W.failures out.old out.new
+            (name_of_constant self.now.shader.now constant) }
+    {
+        self.write_name(&NameKey::Constant(constant), out);
+    }
+
+    #[inline(never)]
+    #[tactic(auto, unfolding(crate::specs::Names::name_of_override))]
+    pub(crate) fn write_override_name<W: TextSink>(
+        &self,
+        handle: Handle<Override>,
+        out: &mut Output<'_, W>,
+    )
+        requires can { CanWriteIn self.now }
+        requires there { handle < length self.now.shader.now.overrides }
+        ensures { Writes W.text W.failures out.old out.new
+            (name_of_override self.now.shader.now handle) }
+    {
+        self.write_name(&NameKey::Override(handle), out);
+    }
+
+    // In each caller the kind of the key is known, so that hashing it takes no choice there.
+    #[inline(always)]
+    pub(crate) fn write_name<W: TextSink>(&self, key: &NameKey, out: &mut Output<'_, W>)
+        requires named { names_in self.now.names.now key.now
             ≡ Some (name_in (module_names self.now.shader.now) key.now) }
         ensures { Writes W.text W.failures out.old out.new
             (name_in (module_names self.now.shader.now) key.now) }

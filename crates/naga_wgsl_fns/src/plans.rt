@@ -4,7 +4,7 @@ ghost use Rattle.std.specs.Prelude.{◌≡◌, ◌<◌, [], ℕ, List, IfErr, If
 ghost use Rattle.std.specs.Prelude.{length, slice_get};
 ghost use Rattle.module_meaning.specs.Accepted.{is_accepted};
 ghost use Rattle.module_meaning.specs.Names.{HasNamesOf, labels_given, wgsl_names};
-ghost use Rattle.module_meaning.specs.Part.{function_is_written, is_written_so_far};
+ghost use Rattle.module_meaning.specs.Part.{is_written_so_far};
 ghost use Rattle.naga_ir.specs.declared.expression.Expression.{Expression};
 ghost use Rattle.naga_names.specs.Keys.{names_in};
 ghost use Rattle.naga_names.specs.Naming.{HasNamed};
@@ -13,7 +13,7 @@ ghost use Rattle.naga_scope.specs.GivenNames.{HasBegunLabels, HasOtherUses, Name
 ghost use Rattle.naga_scope.specs.Marks.{GlobalsStandInOrder, MarksGlobals};
 ghost use Rattle.naga_scope.specs.Plans.{IsPlanOf};
 ghost use Rattle.naga_wgsl_fns.specs.FunctionText.{tells_types};
-ghost use Rattle.naga_wgsl_fns.specs.Refusals.{IsOfPlan, IsPlanRefusal, NamesConstantsOf};
+ghost use Rattle.naga_wgsl_fns.specs.Refusals.{IsOfPlan, IsPlanRefusal, NamesItemsOf};
 ghost use Rattle.naga_wgsl_fns.specs.Refusals.{TellsPlanError};
 
 use crate::error::{Error, custom, names_error};
@@ -91,12 +91,11 @@ fn error_of_plan(
     info: &FunctionInfo,
     error: PlanError,
 ) -> Error
-    requires written { IsTrue (function_is_written function.now) }
     requires known { AreKnownIn «module».now.types info.now }
     requires ordered { GlobalsStandInOrder «module».now }
     requires globals { MarksGlobals «module».now globals.now }
     requires named { (h : ℕ) (e : Expression) → slice_get function.now.expressions h ≡ Some e →
-        NamesConstantsOf «module».now e }
+        NamesItemsOf «module».now e }
     requires formless { IsOfPlan «module».now function.now info.now error }
     ensures { TellsPlanError «module».now function.now info.now error result }
 {

@@ -161,10 +161,10 @@ module _ (m : Module) (info : ModuleInfo) (flags : WriterFlags)
             };
             interface = reading (HasInterfaceOf m) (has_interface m info explicit (functions_counted m info accepted));
             runs = reading (RunsAs m info)
-                (runs_as m info explicit accepted written have rules w.counted);
+                (runs_as m info explicit accepted written have rules);
           };
           resolved = reading (ResolvesAs m info)
-              (resolves m info explicit accepted written have rules w.counted);
+              (resolves m info explicit accepted written have rules);
           binds = reading (BindsAs m info explicit) (binds_as m info explicit accepted written have);
           text_ok = appended;
           text_err = tt;

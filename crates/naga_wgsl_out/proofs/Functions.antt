@@ -143,7 +143,6 @@ module _ (m : Module) (info : ModuleInfo) (flags : WriterFlags) {n : ℕ} {held 
     wrote = subst (λ fs. Wrote held failed (lines_of m info flags fs) middle among)
         (take_all n all (omega (arith, is, length-enumerate_from 0 m.functions))) so_far.wrote;
     planned = λ i lt. so_far.planned i (omega (arith, is, lt));
-    counted = all_counted m namer (subst (λ k. HasNamedBefore m k namer) is so_far.named);
   }
 
   -- at the function with this handle

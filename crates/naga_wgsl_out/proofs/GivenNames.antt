@@ -12,7 +12,7 @@ use Rattle.naga_ir.specs.declared.module.Module.{Module}
 use Rattle.naga_names.specs.Naming.{HasNamed, Names, labels_with_base}
 use Rattle.module_meaning.specs.GivenLabels.{given_labels}
 use Rattle.module_meaning.specs.GivenLabels.{all_given_labels}
-use Rattle.module_meaning.specs.Names.{NamesAreCounted, given_name, item_labels, labels_before}
+use Rattle.module_meaning.specs.Names.{given_name, item_labels, labels_before}
 use Rattle.module_meaning.specs.Names.{labels_given, wgsl_names}
 use Rattle.naga_scope.specs.GivenNames.{NamesLabels}
 use Rattle.naga_scope.specs.Plans.{AreGivenNames, IsPlanOf, Planned}
@@ -80,10 +80,3 @@ module _ (m : Module) where
           [] ≡ named ++ label ∷ left → ⊥
       no_label [] label left e = absurd cc
       no_label (x ∷ named) label left e = absurd cc
-
-  -- and behind all functions the names of the module are counted
-  pub all_counted : (namer : Names) → HasNamedBefore m (length m.functions) namer → NamesAreCounted m
-  all_counted namer before =
-      let whole = ap (λ fs. item_labels m ++ all_given_labels fs) (take_all (length m.functions) m.functions (omega arith)) in
-      subst (λ ls. (base : List ℕ) → labels_with_base wgsl_names ls base ≤ 2 ^ 32) whole
-      (few_named (labels_before m (length m.functions)) namer before.words before.labels)

@@ -17,7 +17,8 @@ use Rattle.naga_names.specs.Reset.{HasNamedItems, LabelledItem, PutsInto, key_fi
 use Rattle.naga_names.specs.Reset.{type_label}
 use Rattle.naga_names.proofs.Members.{member_named}
 use Rattle.naga_names.specs.declared.key.NameKey.TheVariants as key
-use Rattle.naga_names.proofs.NamedItems.{named_there, local_stands, type_stands}
+use Rattle.naga_names.proofs.NamedItems.{constant_stands, global_stands, local_stands, named_there}
+use Rattle.naga_names.proofs.NamedItems.{override_stands, type_stands}
 use Rattle.module_meaning.specs.Names.{reserved_prefixes, wgsl_names, module_names, function_name}
 use Rattle.module_meaning.specs.Names.{HasNamesOf, item_labels}
 use Rattle.naga_form.proofs.Names.{name_is, function_item, argument_item, function_there}
@@ -64,6 +65,18 @@ module _ (m : Module) (before now : NameMap) (names : Names) (has : HasNamedItem
         let a = element f.arguments.items n lt in
         let s = argument_there m g f n a.0 found a.1 in
         ltb-true n (2 ^ 32) (list_all_at (λ item. key_fits item.0) (labelled_items wgsl_names m) s.place (argument_item m g n a.0) has.keys s.there));
+    globals = λ v lt.
+        let k = element m.global_variables v lt in
+        let s = global_stands wgsl_names m v k.0 k.1 in
+        named_there wgsl_names before m names now has _ s ∙ ap Some (sym (name_is m _ s));
+    constants = λ k lt.
+        let c = element m.constants k lt in
+        let s = constant_stands wgsl_names m k c.0 c.1 in
+        named_there wgsl_names before m names now has _ s ∙ ap Some (sym (name_is m _ s));
+    overrides = λ k lt.
+        let o = element m.overrides k lt in
+        let s = override_stands wgsl_names m k o.0 o.1 in
+        named_there wgsl_names before m names now has _ s ∙ ap Some (sym (name_is m _ s));
   }
     where
       at_most : (k : ℕ) → ((n : ℕ) → n < k → n < 2 ^ 32) → k ≤ 2 ^ 32

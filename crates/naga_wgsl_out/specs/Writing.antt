@@ -11,7 +11,7 @@ use Rattle.naga_scope.specs.Plans.{AreGivenNames, IsPlanOf, Planned}
 use Rattle.wgsl_text.specs.Functions.{function_pieces}
 use Rattle.naga_form.specs.Functions.{function_form}
 use Rattle.naga_form.specs.Declarations.{written_program}
-use Rattle.module_meaning.specs.Names.{NamesAreCounted, given_name, labels_before, module_names}
+use Rattle.module_meaning.specs.Names.{given_name, labels_before, module_names}
 use Rattle.naga_names.specs.Naming.{Names}
 use Rattle.wgsl_text.specs.Text.{text}
 use Rattle.wgsl_text.specs.Reading.{layout}
@@ -76,13 +76,11 @@ pub record IsNamedPlan (explicit : Bool) (m : Module) (info : ModuleInfo) (handl
   pub names : AreGivenNames m handle planned.given
   pub namer_is : HasNamedBefore m (handle + 1) namer
 
--- all functions stand behind what the sink held, each written by a plan of it, and the names of the
--- module are counted
+-- all functions stand behind what the sink held, each written by a plan of it
 pub record WroteFunctions (m : Module) (info : ModuleInfo) (flags : WriterFlags) (held : List ℕ)
     (failed : ℕ) (now : List ℕ) (failures : ℕ) : Type 0 where
   pub wrote : Wrote held failed (module_lines m info flags) now failures
   pub planned : (i : ℕ) → i < length m.functions → HasPlan (tells_types flags) m info i
-  pub counted : NamesAreCounted m
 
 -- the first one without a plan was met, and told
 pub record MetNoPlan (m : Module) (info : ModuleInfo) (flags : WriterFlags) (held : List ℕ)

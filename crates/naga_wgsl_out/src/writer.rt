@@ -118,12 +118,7 @@ impl<W: TextSink> Writer<W> {
     ///
     /// So far a module is refused as `Unimplemented`, `not yet written`, unless it declares nothing
     /// but types and functions: types that enable no extension, but structs; constants without names;
-    /// functions whose expressions are arguments, locals, constants, literals, zero values, values
-    /// of a type composed of others, loads, choices, operators with a sign, vectors of one value,
-    /// swizzles, parts at an index, conversions, derivatives, operations on images, lengths of arrays,
-    /// loads and products of cooperative matrices, functions of mathematics, relations, and, where
-    /// nothing uses them, results of statements and what ray queries found, and
-    /// whose statements are `Emit`s, `Store`s and `Return`s.
+    /// functions whose expressions are any, and whose statements are `Emit`s, `Store`s and `Return`s.
     ///
     /// An emitted expression is bound by a `let` where a front end named it, or where it is an
     /// operation on an image, a `Load`, a derivative or the load of a cooperative matrix that is used

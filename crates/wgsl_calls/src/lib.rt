@@ -7,6 +7,10 @@ mod back;
 #[cfg(test)]
 mod diagnostics;
 #[cfg(test)]
+mod initialisers;
+#[cfg(test)]
+mod ir;
+#[cfg(test)]
 mod keyword_set;
 #[cfg(test)]
 mod namer;

@@ -2,7 +2,7 @@
 use crate::texts::reads;
 use naga_wgsl_out::ir::{Module, Place, Scalar, Type_, TypeInner};
 use naga_wgsl_out::keyword_set::{CaseInsensitiveKeywordSet, KeywordSet};
-use naga_wgsl_out::keywords::{BUILTIN_IDENTIFIERS, RESERVED};
+use naga_wgsl_out::keywords::{BUILTIN_IDENTIFIERS, RESERVED, RESERVED_PREFIXES};
 use naga_wgsl_out::namer::{EntryPointIndex, NameKey, Namer, NamerError};
 use std::alloc::Global;
 use std::collections::HashMap;
@@ -34,7 +34,14 @@ fn reset(
     let keywords = KeywordSet::from_slice(alloc, RESERVED)?;
     let builtin = KeywordSet::from_slice(alloc, BUILTIN_IDENTIFIERS)?;
     let caseless = CaseInsensitiveKeywordSet::new(alloc);
-    namer.reset(module, keywords, builtin, caseless, &["__", "_naga"], names)
+    namer.reset(
+        module,
+        keywords,
+        builtin,
+        caseless,
+        RESERVED_PREFIXES,
+        names,
+    )
 }
 
 fn reset_holds(
@@ -78,5 +85,20 @@ fn names_are_given(rt: HostRuntime) -> Result<(), Fail> {
     drop(module);
     drop(namer);
     held?;
+    Ok(())
+}
+
+/// A namer for WGSL keeps off its words and its prefixes.
+fn wgsl_is_kept_off(rt: &impl Abort, alloc: Global) -> Result<(), NamerError> {
+    let mut namer = Namer::for_wgsl(alloc)?;
+    is_named(rt, &mut namer, "fn", "fn_")?;
+    is_named(rt, &mut namer, "_naga_x", "gen__naga_x")?;
+    is_named(rt, &mut namer, "traceRay", "traceRay_")?;
+    is_named(rt, &mut namer, "Fn", "Fn")
+}
+
+#[test]
+fn a_namer_for_wgsl_keeps_off_its_words(rt: HostRuntime) -> Result<(), Fail> {
+    wgsl_is_kept_off(&rt, rt.alloc())?;
     Ok(())
 }

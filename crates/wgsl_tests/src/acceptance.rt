@@ -24,6 +24,7 @@ mod building;
 mod demands;
 mod further;
 mod kinds;
+mod labels;
 mod operators;
 mod steps;
 mod values;

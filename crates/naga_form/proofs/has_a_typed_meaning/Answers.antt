@@ -3,10 +3,10 @@ use Rattle.naga_form.proofs.ToldItems.{items_are_told}
 use Rattle.naga_form.proofs.has_a_typed_meaning.Goals as goal
 
 pub returns-clause-consistent : goal.returns-clause-consistent
-returns-clause-consistent c = consistent
+returns-clause-consistent c = λ m info accepted. consistent m info accepted (items_are_told m)
 
 pub returns-clause-meaning : goal.returns-clause-meaning
-returns-clause-meaning c = has_meaning
+returns-clause-meaning c = λ m info accepted. has_meaning m info accepted (items_are_told m)
 
-pub returns-clause-counted : goal.returns-clause-counted
-returns-clause-counted c = items_are_told
+pub returns-clause-told : goal.returns-clause-told
+returns-clause-told c = items_are_told

@@ -1,10 +1,11 @@
 use Rattle.naga_form.proofs.FreeModules as every
 use Rattle.naga_form.proofs.Meanings.{has_world}
+use Rattle.naga_form.proofs.ToldItems.{types_are_told}
 use Rattle.naga_form.proofs.has_a_typed_world.Goals as goal
 
 pub returns-clause-written : goal.returns-clause-written
 returns-clause-written c = λ m info accepted written. has_world m info written
 
 pub returns-clause-every : goal.returns-clause-every
-returns-clause-every c = λ m info accepted told writable scopes.
-    every.has_world m info accepted told writable.constants writable.cases scopes
+returns-clause-every c = λ m info accepted writable scopes.
+    every.has_world m info accepted (types_are_told m) writable.constants writable.cases scopes

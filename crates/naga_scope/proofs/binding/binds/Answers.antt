@@ -17,7 +17,7 @@ returns-then-asks_an_image c m known same =
     || nat_le (uses_to_bind types c.args.info.now e) (get_or (map (λ k. k.ref_count) c.args.info.now) c.args.handle 0) in
     c.if-asks_an_image.true
     ∙ ap (λ b. b || counted m.types) (sym (sym c.asks_an_image.ensures ∙ c.if-asks_an_image.true))
-    ∙ emitted_binds m known c.args.function.now c.args.info.now c.requires.written c.args.handle
+    ∙ emitted_binds m known c.args.function.now c.args.info.now c.args.handle
     e at (sym (c.is_emittable.ensures ∙ ap is_emittable_kind c.kind.ensures) ∙ c.if-is_emittable.true)
 
 pub returns-else-asks_an_image : goal.returns-else-asks_an_image
@@ -29,19 +29,19 @@ returns-else-asks_an_image c m known same =
     c.is_asked_for.ensures
     ∙ ap counted (sym same)
     ∙ ap (λ b. b || counted m.types) (sym (sym c.asks_an_image.ensures ∙ c.if-asks_an_image.false))
-    ∙ emitted_binds m known c.args.function.now c.args.info.now c.requires.written c.args.handle
+    ∙ emitted_binds m known c.args.function.now c.args.info.now c.args.handle
     e at (sym (c.is_emittable.ensures ∙ ap is_emittable_kind c.kind.ensures) ∙ c.if-is_emittable.true)
 
 pub returns-else-is_emittable : goal.returns-else-is_emittable
 returns-else-is_emittable c m known same =
     let at = sym c.expression_at.ensures ∙ ap (option_map (λ e. e.now)) c.in-Some.is in
     c.if-is_emittable.false
-    ∙ others_bind m known c.args.function.now c.args.info.now c.requires.written c.args.handle
+    ∙ others_bind m known c.args.function.now c.args.info.now c.args.handle
     (ap (λ o. is_emittable_kind (option_map_or kind_of o Result)) at
     ∙ (sym (c.is_emittable.ensures ∙ ap is_emittable_kind c.kind.ensures) ∙ c.if-is_emittable.false))
 
 pub returns-in-None : goal.returns-in-None
 returns-in-None c m known same =
     let at = sym c.expression_at.ensures ∙ ap (option_map (λ e. e.now)) c.in-None.is in
-    others_bind m known c.args.function.now c.args.info.now c.requires.written c.args.handle
+    others_bind m known c.args.function.now c.args.info.now c.args.handle
     (ap (λ o. is_emittable_kind (option_map_or kind_of o Result)) at)

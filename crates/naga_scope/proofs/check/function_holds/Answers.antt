@@ -9,7 +9,7 @@ use Rattle.module_meaning.specs.Names.{given_name}
 use Rattle.module_meaning.specs.Namings.{function_naming}
 use Rattle.module_meaning.specs.Surroundings.{declared, types_known}
 use Rattle.module_meaning.specs.Part.{block_is_written}
-use Rattle.naga_form.proofs.PartFits.{function_parts}
+use Rattle.naga_form.proofs.PartFits.{body_is_written}
 use Rattle.naga_scope.specs.Standings.{KeepsStart, handles_of}
 use Rattle.naga_scope.proofs.Holding.{written_at, lines_given, lines_hold, lines_refused, lines_end}
 use Rattle.naga_scope.proofs.Holding.{room_line}
@@ -25,7 +25,7 @@ returns-then-not-first_values_hold-clause-scope c names m known given g same_typ
 pub statement_holds-requires-clause-line : goal.statement_holds-requires-clause-line
 statement_holds-requires-clause-line c =
     written_at c.as_slice-statement-items.result.now c.loop-statement.statement-index c.statement-item.result c.loop-statement-test.true c.statement-item.is
-    (ap block_is_written c.as_slice-statement-items.ensures ∙ (function_parts c.args.function.now c.requires.written).body)
+    (ap block_is_written c.as_slice-statement-items.ensures ∙ body_is_written c.args.function.now c.requires.written)
 
 pub statement_holds-requires-clause-room : goal.statement_holds-requires-clause-room
 statement_holds-requires-clause-room c =
@@ -71,7 +71,7 @@ loop-statement-preserved c =
           let own = function_naming (module_names m) (given_name m 0) m known 0 f es in
           let line =
           written_at c.as_slice-statement-items.result.now c.loop-statement.statement-index c.statement-item.result c.loop-statement-test.true c.statement-item.is
-          (ap block_is_written c.as_slice-statement-items.ensures ∙ (function_parts f c.requires.written).body) in
+          (ap block_is_written c.as_slice-statement-items.ensures ∙ body_is_written f c.requires.written) in
           subst (KeepsStart shape)
           (sym
           (c.statement_holds.ensures.after (module_names m) m known (given_name m 0) 0 same_types

@@ -1,7 +1,7 @@
 use Rattle.std.proofs.Common.{[], ap, map, string_bytes, subst, ◌∙◌, sym}
 use Rattle.module_meaning.specs.GivenLabels.{block_labels, given_labels}
 use Rattle.module_meaning.specs.Part.{block_is_written}
-use Rattle.naga_form.proofs.PartFits.{function_parts}
+use Rattle.naga_form.proofs.PartFits.{body_is_written}
 use Rattle.naga_ir.specs.StatementTree.{BlockTree}
 use Rattle.naga_names.proofs.Reset.{if_err}
 use Rattle.naga_scope.specs.GivenNames.{RefusesLabels}
@@ -25,7 +25,7 @@ name_statement-requires c =
     written_at c.as_slice-statement-items.result.now c.loop-statement.statement-index
     c.statement-item.result c.loop-statement-test.true c.statement-item.is
     (ap block_is_written c.as_slice-statement-items.ensures
-    ∙ (function_parts c.args.function.now c.requires.written).body)
+    ∙ body_is_written c.args.function.now c.requires.written)
 
 pub returns-in_err-name_statement-clause-err : goal.returns-in_err-name_statement-clause-err
 returns-in_err-name_statement-clause-err c =

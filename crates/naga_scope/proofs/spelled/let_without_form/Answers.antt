@@ -5,7 +5,7 @@ use Rattle.std.proofs.lemmas.List.Folds.{find-append}
 use Rattle.module_meaning.specs.FunctionShapes.{function_shape}
 use Rattle.module_meaning.specs.Part.{block_is_written}
 use Rattle.module_meaning.specs.Written.{block_emits, statement_emits}
-use Rattle.naga_form.proofs.PartFits.{function_parts}
+use Rattle.naga_form.proofs.PartFits.{body_is_written}
 use Rattle.naga_ir.specs.StatementViews.{block_of, tree_of}
 use Rattle.naga_scope.proofs.Holding.{written_at}
 use Rattle.naga_scope.proofs.SpelledTypes.{emits_end, emits_more}
@@ -24,7 +24,7 @@ statement_without_form-requires-clause-line c =
     written_at c.as_slice-statement-items.result.now c.loop-statement.statement-index
     c.statement-item.result c.loop-statement-test.true c.statement-item.is
     (ap block_is_written c.as_slice-statement-items.ensures
-    ∙ (function_parts c.args.function.now c.requires.written).body)
+    ∙ body_is_written c.args.function.now c.requires.written)
 
 pub returns-in-Some : goal.returns-in-Some
 returns-in-Some c known =

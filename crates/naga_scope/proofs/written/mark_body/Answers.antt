@@ -2,7 +2,7 @@ use Rattle.std.proofs.Common.{◌+◌, ap, sym, ◌∙◌, drop, length, nat_lt}
 use Rattle.module_meaning.specs.FunctionShapes.{function_shape}
 use Rattle.module_meaning.specs.Part.{block_is_written}
 use Rattle.module_meaning.specs.Written.{block_roots, statement_roots}
-use Rattle.naga_form.proofs.PartFits.{function_parts}
+use Rattle.naga_form.proofs.PartFits.{body_is_written}
 use Rattle.naga_ir.specs.StatementViews.{block_of, tree_of}
 use Rattle.naga_scope.proofs.Holding.{written_at}
 use Rattle.naga_scope.proofs.Marking.{marked_both, marked_none, roots_end, roots_more}
@@ -20,7 +20,7 @@ mark_statement-requires-clause-line c =
     written_at c.as_slice-statement-items.result.now c.loop-statement.statement-index
     c.statement-item.result c.loop-statement-test.true c.statement-item.is
     (ap block_is_written c.as_slice-statement-items.ensures
-    ∙ (function_parts c.args.function.now c.requires.written).body)
+    ∙ body_is_written c.args.function.now c.requires.written)
 
 pub loop-statement-preserved : goal.loop-statement-preserved
 loop-statement-preserved c m known h same_types =

@@ -36,6 +36,12 @@ returns-in-Constant t c =
     (c.index.ensures ∙ ap Some c.in-Constant.is) c.index-in-Constant.ensures
     c.global_without_form.ensures
 
+-- ---- an override
+pub unreachable-requires : goal.unreachable-requires
+unreachable-requires t c =
+    formless.override_fails c.args.«module».now c.requires.ordered c.args.handle c.requires.formless
+    c.index.result.now _ c.index.ensures c.in-Override.is
+
 -- ---- values of a type
 pub returns-in-ZeroValue : goal.returns-in-ZeroValue
 returns-in-ZeroValue t c =
@@ -118,5 +124,5 @@ pub returns-in_default : goal.returns-in_default
 returns-in_default t c =
     OfOperation c.args.handle c.index.result.now c.index.ensures
     (formless.applies_operator c.index.result.now c.in_default.not-Literal c.in_default.not-Constant
-    c.in_default.not-ZeroValue c.in_default.not-Compose c.in_default.not-Splat)
+    c.in_default.not-Override c.in_default.not-ZeroValue c.in_default.not-Compose c.in_default.not-Splat)
     c.custom.ensures

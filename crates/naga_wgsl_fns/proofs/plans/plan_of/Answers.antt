@@ -1,8 +1,7 @@
 use Rattle.std.proofs.Common.{◌≡◌, ◌<◌, ◌∙◌, length, subst, sym}
 use Rattle.naga_form.proofs.AcceptedFunctions.{functions_counted}
 use Rattle.naga_form.proofs.AcceptedGroups.{fits_in_range, known_is_fit}
-use Rattle.naga_wgsl_fns.specs.FunctionText.{tells_types}
-use Rattle.naga_wgsl_fns.proofs.PlanRefusals.{constants_there, function_written, is_of_plan}
+use Rattle.naga_wgsl_fns.proofs.PlanRefusals.{is_of_plan, items_there}
 use Rattle.naga_wgsl_fns.proofs.PlanRefusals.{plan_refusal}
 use Rattle.naga_scope.proofs.WrittenConstants.{globals_in_order}
 use Rattle.naga_wgsl_fns.specs.Refusals.{IsPlanRefusal}
@@ -15,11 +14,6 @@ index-requires-in-Err c =
     let same = functions_counted c.args.«module».now info c.requires.accepted in
     let counted : length info.functions.items ≡ info.functions.len = sym info.functions.ok.0 in
     subst (λ n. c.args.handle < n) (same ∙ counted) c.requires.handle
-
-pub error_of_plan-requires-clause-written : goal.error_of_plan-requires-clause-written
-error_of_plan-requires-clause-written c =
-    function_written (tells_types c.args.flags) c.args.«module».now c.args.info.now c.requires.accepted c.requires.written
-    c.args.handle c.index.result.now c.index.ensures
 
 pub error_of_plan-requires-clause-known : goal.error_of_plan-requires-clause-known
 error_of_plan-requires-clause-known c =
@@ -57,5 +51,5 @@ error_of_plan-requires-clause-ordered c =
 
 pub error_of_plan-requires-clause-named : goal.error_of_plan-requires-clause-named
 error_of_plan-requires-clause-named c =
-    constants_there c.args.«module».now c.args.info.now c.requires.accepted c.args.handle
+    items_there c.args.«module».now c.args.info.now c.requires.accepted c.args.handle
     c.index.result.now c.index.ensures c.index-in-Err.result.now c.index-in-Err.ensures

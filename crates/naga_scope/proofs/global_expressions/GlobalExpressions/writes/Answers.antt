@@ -7,7 +7,7 @@ pub returns : goal.returns
 returns c =
     let m = c.args.module.now in
     let marks = c.deref.result.now in
-    c.initialiser_is_marked.ensures
+    c.constant_is_marked.ensures
     ∙ constant_marked m marks
     (subst (MarksGlobals m) (sym c.deref.ensures.value)
     (subst (MarksGlobals m) (sym c.self.view_is) c.requires.globals))

@@ -1,4 +1,4 @@
-use Rattle.std.proofs.Common.{[], false, ap, arith, ◌∙◌, refl, subst, sym, true}
+use Rattle.std.proofs.Common.{[], ◌<◌, false, ap, arith, ◌∙◌, length, refl, subst, sym, true}
 use Rattle.std.specs.Option.{option_map_or}
 use Rattle.std.proofs.Common.{Some}
 use Rattle.naga_ir.specs.Operands.{expression_operands}
@@ -12,7 +12,11 @@ use Rattle.naga_ir.specs.Operands.{level_operands}
 use Rattle.naga_wgsl_fns.proofs.ImageRows.{furthers_none, furthers_one, furthers_two, no_offset}
 use Rattle.naga_wgsl_fns.proofs.ImageRows.{offset_row, sampling_whole}
 use Rattle.naga_wgsl_fns.proofs.Wanted.{all_in_text, are_sampled, expression_formed, highest_below}
-use Rattle.naga_wgsl_fns.proofs.Wanted.{constant_passes, offset_has_form}
+use Rattle.naga_wgsl_fns.proofs.ModuleTexts.{can_in}
+use Rattle.naga_wgsl_fns.proofs.VariableRows.{held_reference, kept_reference}
+use Rattle.naga_wgsl_fns.proofs.Wanted.{constant_passes, global_within, offset_has_form}
+use Rattle.naga_wgsl_fns.proofs.Wanted.{override_within}
+use Rattle.naga_wgsl_fns.specs.Names.{name_of_override}
 use Rattle.naga_wgsl_fns.specs.Expressions.{next_operand_text}
 use Rattle.naga_wgsl_fns.specs.FunctionText.{AreInText, expressions}
 use Rattle.naga_wgsl_fns.specs.Images.{furthers_text, level_text, offset_text}
@@ -24,7 +28,7 @@ use Rattle.naga_wgsl_fns.proofs.PartRows.{value_unpointed}
 use Rattle.naga_wgsl_fns.proofs.Wanted.{base_in, known_within_infos, no_other_part, part_is_written}
 use Rattle.naga_wgsl_fns.specs.Expressions.{operands_left, operands_text}
 use Rattle.naga_wgsl_fns.proofs.ExpressionRows.{operands_more, operands_none, operands_start}
-use Rattle.naga_wgsl_fns.proofs.ExpressionRows.{own_called, own_made}
+use Rattle.naga_wgsl_fns.proofs.ExpressionRows.{own_at, own_called, own_made, own_row}
 use Rattle.naga_wgsl_fns.proofs.ConversionRows.{conversion_row, own_conversion}
 use Rattle.naga_wgsl_fns.proofs.Wanted.{conversion_formed}
 use Rattle.naga_wgsl_fns.proofs.ImageRows.{query_called, texel_word}
@@ -41,6 +45,52 @@ write_own-write_literal-requires g t c =
 pub write_own-write_constant-requires-clause-written : goal.write_own-write_constant-requires-clause-written
 write_own-write_constant-requires-clause-written g t c =
     constant_passes c.args.self.now c.requires.can c.args.handle c.index.result.now c.in-Constant.constant c.index.ensures c.requires.handle c.in-Constant.is
+
+pub write_own-write_override_name-requires-clause-can : goal.write_own-write_override_name-requires-clause-can
+write_own-write_override_name-requires-clause-can g t c =
+    can_in c.args.self.now c.requires.can c.of_module.result c.of_module.ensures.shader
+    c.of_module.ensures.names
+
+pub write_own-write_override_name-requires-clause-there : goal.write_own-write_override_name-requires-clause-there
+write_own-write_override_name-requires-clause-there g t c =
+    subst (λ m. c.in-Override.handle < length m.overrides) (sym c.of_module.ensures.shader)
+    (override_within c.args.self.now c.requires.can c.args.handle c.index.result.now c.in-Override.handle c.index.ensures c.in-Override.is)
+
+pub write_own-returns-in-Override : goal.write_own-returns-in-Override
+write_own-returns-in-Override g t c =
+    writes_as
+    (ap (λ m. name_of_override m c.in-Override.handle) c.of_module.ensures.shader
+    ∙ sym
+    (own_row c.args.self.now c.args.scope.now.table c.args.handle c.requires.can c.requires.handle
+    ∙ ap (own_at c.args.self.now c.args.scope.now.table c.args.handle) (c.index.ensures ∙ ap Some c.in-Override.is)))
+    c.write_override_name.ensures
+
+pub write_own-write_global_value-requires-clause-variable : goal.write_own-write_global_value-requires-clause-variable
+write_own-write_global_value-requires-clause-variable g t c =
+    global_within c.args.self.now c.requires.can c.args.handle c.index.result.now c.in-GlobalVariable.variable c.index.ensures c.in-GlobalVariable.is
+
+pub write_reference-write_global_reference-requires : goal.write_reference-write_global_reference-requires
+write_reference-write_global_reference-requires g t c κs within =
+    let there = global_within c.args.self.now c.requires.can c.args.handle c.index.result.now c.in-GlobalVariable.variable c.index.ensures c.in-GlobalVariable.is in
+    (omega (arith, c.decreases), (within, (c.requires.can, (c.requires.handle, there))))
+
+pub write_global_reference-write_dereference-requires : goal.write_global_reference-write_dereference-requires
+write_global_reference-write_dereference-requires g t c κs within =
+    (omega (arith, c.decreases), (within, (c.requires.can, c.requires.handle)))
+
+pub write_global_reference-returns-then-is_held : goal.write_global_reference-returns-then-is_held
+write_global_reference-returns-then-is_held g t c =
+    writes_as
+    (held_reference c.args.self.now c.args.scope.now.table c.args.handle c.args.variable
+    (sym c.is_held.ensures ∙ c.if-is_held.true))
+    c.write_dereference.ensures
+
+pub write_global_reference-returns-else-is_held : goal.write_global_reference-returns-else-is_held
+write_global_reference-returns-else-is_held g t c =
+    writes_as
+    (kept_reference c.args.self.now c.args.scope.now.table c.args.handle c.args.variable
+    (sym c.is_held.ensures ∙ c.if-is_held.false))
+    c.write_global_name.ensures
 
 pub write_own-write_argument_name-requires-clause-argument : goal.write_own-write_argument_name-requires-clause-argument
 write_own-write_argument_name-requires-clause-argument g t c =
@@ -143,11 +193,13 @@ write_own-unreachable-requires g t c =
     (record {
       literal = c.in_default.not-Literal;
       constant = c.in_default.not-Constant;
+      overridden = c.in_default.not-Override;
       zero_value = c.in_default.not-ZeroValue;
       composed = c.in_default.not-Compose;
       element = c.in_default.not-Access;
       part = c.in_default.not-AccessIndex;
       argument = c.in_default.not-FunctionArgument;
+      global = c.in_default.not-GlobalVariable;
       local_ = c.in_default.not-LocalVariable;
       load = c.in_default.not-Load;
       unary = c.in_default.not-Unary;

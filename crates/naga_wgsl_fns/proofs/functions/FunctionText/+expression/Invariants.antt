@@ -61,6 +61,9 @@ decreases-write_base g l = 16 * l.handle + 7
 abbrev pub decreases-write_part_reference : goal.decreases-write_part_reference
 decreases-write_part_reference g l = 16 * l.handle + 7
 
+abbrev pub decreases-write_global_reference : goal.decreases-write_global_reference
+decreases-write_global_reference g l = 16 * l.handle + 7
+
 abbrev pub decreases-write_reference : goal.decreases-write_reference
 decreases-write_reference g l = 16 * l.handle + 8
 

@@ -1,7 +1,7 @@
 use Rattle.std.proofs.Common.{arith}
 use Rattle.naga_form.proofs.AcceptedFunctions.{ranges_are}
 use Rattle.module_meaning.specs.Written.{block_emits}
-use Rattle.naga_form.proofs.PartFits.{function_parts}
+use Rattle.naga_form.proofs.PartFits.{body_is_written}
 use Rattle.naga_form.proofs.WrittenHandles.{all_among}
 use Rattle.naga_words.proofs.Writing.{writes_as, writes_then}
 use Rattle.naga_wgsl_fns.proofs.FunctionRows.{body_row}
@@ -15,7 +15,7 @@ write_block-requires-clause-in_range g c =
 
 pub write_block-requires-clause-written : goal.write_block-requires-clause-written
 write_block-requires-clause-written g c =
-    (function_parts c.args.self.now.function.now c.requires.can.written).body
+    (body_is_written c.args.self.now.function.now c.requires.can.written)
 
 pub write_block-requires-clause-roots : goal.write_block-requires-clause-roots
 write_block-requires-clause-roots g c = body_in_text c.args.self.now c.requires.can

@@ -3,8 +3,11 @@ use Rattle.std.specs.Option.{option_map_or}
 use Rattle.naga_ir.specs.Operands.{expression_operands}
 use Rattle.naga_words.proofs.Writing.{leaves_as, leaves_last, leaves_more, leaves_start, writes_as}
 use Rattle.naga_wgsl_fns.proofs.ConstantRows.{ArePartsBelow, composed_passes, composed_row}
-use Rattle.naga_wgsl_fns.proofs.ConstantRows.{constant_before, constant_there, global_there, in_order}
-use Rattle.naga_wgsl_fns.proofs.ConstantRows.{literal_passes, literal_row, named_row, no_other_global}
+use Rattle.naga_wgsl_fns.proofs.ConstantRows.{constant_passes, constant_row, constant_there}
+use Rattle.naga_wgsl_fns.proofs.ConstantRows.{global_there, in_order, initialiser_before}
+use Rattle.naga_wgsl_fns.proofs.ConstantRows.{initialiser_written, literal_passes, literal_row}
+use Rattle.naga_wgsl_fns.proofs.ConstantRows.{named_constant, no_other_global, override_row}
+use Rattle.naga_wgsl_fns.proofs.ConstantRows.{override_there, unnamed_constant}
 use Rattle.naga_wgsl_fns.proofs.ConstantRows.{parts_are_written, parts_more, parts_none, parts_start}
 use Rattle.naga_wgsl_fns.proofs.ConstantRows.{splat_row, zero_passes, zero_row}
 use Rattle.naga_wgsl_fns.specs.Constants.{parts_left, parts_text}
@@ -21,21 +24,56 @@ write_global-write_literal-requires g t c =
     literal_passes m (in_order m c.requires.can.of_module) c.args.handle c.index.result.now
     c.in-Literal.literal c.index.ensures c.in-Literal.is c.requires.written
 
-pub write_global-index-requires-in-Constant : goal.write_global-index-requires-in-Constant
-write_global-index-requires-in-Constant g t c =
+pub write_global-write_constant-requires : goal.write_global-write_constant-requires
+write_global-write_constant-requires g t c κs within =
     let m = c.args.self.now.shader.now in
-    constant_there m (in_order m c.requires.can.of_module) c.args.handle c.index.result.now
-    c.in-Constant.constant c.index.ensures c.in-Constant.is c.requires.written
+    let order = in_order m c.requires.can.of_module in
+    let before =
+    initialiser_before m order c.args.handle c.index.result.now c.in-Constant.constant
+    c.index.ensures c.in-Constant.is c.requires.written in
+    let written =
+    constant_passes m order c.args.handle c.index.result.now c.in-Constant.constant
+    c.index.ensures c.in-Constant.is c.requires.written in
+    (omega (arith, before, c.decreases), (within, (c.requires.can, written)))
 
-pub write_global-write_global-requires : goal.write_global-write_global-requires
-write_global-write_global-requires g t c κs within =
+pub write_global-write_override_name-requires-clause-there : goal.write_global-write_override_name-requires-clause-there
+write_global-write_override_name-requires-clause-there g t c =
+    override_there c.args.self.now.shader.now c.requires.can.of_module c.args.handle
+    c.index.result.now _ c.index.ensures c.in-Override.is
+
+pub write_constant-index-requires : goal.write_constant-index-requires
+write_constant-index-requires g t c =
     let m = c.args.self.now.shader.now in
-    let one =
-    constant_before m (in_order m c.requires.can.of_module) c.args.handle c.index.result.now
-    c.in-Constant.constant c.index.ensures c.in-Constant.is c.requires.written
-    c.index-in-Constant.result.now c.index-in-Constant.ensures in
-    let before = one.0 in
-    (omega (arith, before, c.decreases), (within, (c.requires.can, one.1)))
+    constant_there m (in_order m c.requires.can.of_module) c.args.constant c.requires.written
+
+pub write_constant-write_constant_name-requires-clause-constant : goal.write_constant-write_constant_name-requires-clause-constant
+write_constant-write_constant_name-requires-clause-constant g t c =
+    let m = c.args.self.now.shader.now in
+    constant_there m (in_order m c.requires.can.of_module) c.args.constant c.requires.written
+
+pub write_constant-write_global-requires : goal.write_constant-write_global-requires
+write_constant-write_global-requires g t c κs within =
+    let m = c.args.self.now.shader.now in
+    let item = c.index-item.result.now in
+    let written =
+    initialiser_written m (in_order m c.requires.can.of_module) c.args.constant c.requires.written
+    item c.index-item.ensures (sym c.is_some.ensures ∙ c.if-is_some.false) in
+    let same = ap (λ o. option_map_or (λ k. k.init) o 0) c.index-item.ensures in
+    (omega (arith, same, c.decreases), (within, (c.requires.can, written)))
+
+pub write_constant-returns-then-is_some : goal.write_constant-returns-then-is_some
+write_constant-returns-then-is_some g t c =
+    writes_as
+    (named_constant c.args.self.now.shader.now c.args.constant c.index-item.result.now
+    c.index-item.ensures (sym c.is_some.ensures ∙ c.if-is_some.true))
+    c.write_constant_name.ensures
+
+pub write_constant-returns-else-is_some : goal.write_constant-returns-else-is_some
+write_constant-returns-else-is_some g t c =
+    writes_as
+    (unnamed_constant c.args.self.now.shader.now c.args.constant c.index-item.result.now
+    c.index-item.ensures (sym c.is_some.ensures ∙ c.if-is_some.false))
+    c.write_global.ensures
 
 pub write_global-write_made_global-requires : goal.write_global-write_made_global-requires
 write_global-write_made_global-requires g t c κs within =
@@ -63,9 +101,16 @@ write_global-returns-in-Literal g t c =
 pub write_global-returns-in-Constant : goal.write_global-returns-in-Constant
 write_global-returns-in-Constant g t c =
     writes_as
-    (named_row c.args.self.now.shader.now c.requires.can.of_module c.args.handle c.index.result.now
-    c.in-Constant.constant c.index-in-Constant.result.now c.index.ensures c.in-Constant.is c.index-in-Constant.ensures)
-    c.write_global.ensures
+    (constant_row c.args.self.now.shader.now c.requires.can.of_module c.args.handle
+    c.index.result.now _ c.index.ensures c.in-Constant.is)
+    c.write_constant.ensures
+
+pub write_global-returns-in-Override : goal.write_global-returns-in-Override
+write_global-returns-in-Override g t c =
+    writes_as
+    (override_row c.args.self.now.shader.now c.requires.can.of_module c.args.handle
+    c.index.result.now _ c.index.ensures c.in-Override.is)
+    c.write_override_name.ensures
 
 pub write_global-returns-in-ZeroValue : goal.write_global-returns-in-ZeroValue
 write_global-returns-in-ZeroValue g t c =
@@ -104,6 +149,7 @@ write_global-unreachable-requires g t c =
     (record {
       literal = c.in_default.not-Literal;
       constant = c.in_default.not-Constant;
+      overridden = c.in_default.not-Override;
       zero_value = c.in_default.not-ZeroValue;
       composed = c.in_default.not-Compose;
       splat = c.in_default.not-Splat;

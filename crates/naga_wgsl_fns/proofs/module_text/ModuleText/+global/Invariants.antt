@@ -1,7 +1,7 @@
 use Rattle.std.proofs.Common.{◌+◌, ◌*◌, ℕ, Bool, List}
 use Rattle.naga_words.specs.Output.{OutputView, output_view}
 use Rattle.naga_words.proofs.Writing.{Leaves}
-use Rattle.naga_wgsl_fns.proofs.ConstantRows.{ArePartsBelow}
+use Rattle.naga_wgsl_fns.proofs.ConstantRows.{ArePartsBelow, initialiser_at}
 use Rattle.naga_wgsl_fns.specs.Constants.{parts_left, parts_text}
 use Rattle.naga_ir.specs.declared.module.Module.{Module}
 use Rattle.naga_wgsl_fns.proofs.module_text.ModuleText.+global.Given as goal
@@ -18,6 +18,9 @@ decreases-write_called_global g l = 4 * l.handle + 1
 
 abbrev pub decreases-write_global : goal.decreases-write_global
 decreases-write_global g l = 4 * l.handle + 2
+
+abbrev pub decreases-write_constant : goal.decreases-write_constant
+decreases-write_constant g l = 4 * initialiser_at l.self.shader.now l.constant + 3
 
 abbrev pub decreases-write_next_part : goal.decreases-write_next_part
 decreases-write_next_part g l = 4 * l.part + 3

@@ -1,7 +1,7 @@
 use Rattle.std.proofs.Common.{◌≡◌, drop}
 use Rattle.naga_ir.specs.StatementViews.{cases_of}
 use Rattle.module_meaning.specs.StatementsFit.{labels_differ}
-use Rattle.naga_acceptance.proofs.statements.none_is_repeated.Given as goal
+use Rattle.naga_acceptance.proofs.statements.few_differ.Given as goal
 
 abbrev pub invariant-loop-index : goal.invariant-loop-index
 invariant-loop-index l = labels_differ (cases_of (drop l.index l.cases)) ≡ labels_differ (cases_of l.cases)

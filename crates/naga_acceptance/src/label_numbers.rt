@@ -1,0 +1,108 @@
+//! Whether labels of a switch, in any order, differ: their numbers are sorted a part at a time.
+
+ghost use Rattle.std.specs.Prelude.{◌≡◌, ◌≤◌, ◌++◌, length, take, nat_lt, MatchBool, false};
+ghost use Rattle.std.specs.List.Sorted.{IsNonDecreasing};
+ghost use Rattle.naga_ir.specs.StatementViews.{cases_of};
+ghost use Rattle.module_meaning.specs.StatementsFit.{labels_differ};
+ghost use Rattle.naga_acceptance.specs.Labels.{AreApart, AreOnce, IsTwice, number_of, numbers_of};
+ghost use Rattle.naga_acceptance.specs.Labels.{shares, times};
+
+use naga_ir::{SwitchCase, SwitchValue};
+
+/// How many labels are sorted at once.
+const SORTED_LABELS: usize = 4096;
+
+/// A number of its own for each label.
+fn number_of(label: SwitchValue) -> u64
+    ensures { result ≡ number_of label }
+{
+    match label {
+        SwitchValue::I32(value) => {
+            let sign = if value < 0 { 2 } else { 1 };
+            3 * u64::from(value.unsigned_abs()) + sign
+        }
+        SwitchValue::U32(value) => 3 * u64::from(value) + 3,
+        SwitchValue::Default => 0,
+    }
+}
+
+/// The numbers of the labels, in order, and zeros behind them.
+fn numbers_of(cases: &[SwitchCase]) -> [u64; SORTED_LABELS]
+    requires { length cases.now ≤ 4096 }
+    ensures numbers { take (length cases.now) result ≡ numbers_of (cases_of cases.now) }
+    ensures size { length result ≡ 4096 }
+{
+    let mut numbers = [0; SORTED_LABELS];
+    for index in 0..cases.len() {
+        numbers[index] = number_of(cases[index].value);
+    }
+    numbers
+}
+
+/// Whether a number stands beside itself.
+fn has_equal_neighbours(numbers: &[u64]) -> bool
+    ensures { MatchBool result (IsTwice numbers.now) (AreApart numbers.now) }
+{
+    for index in 1..numbers.len() {
+        if numbers[index - 1] == numbers[index] {
+            return true;
+        }
+    }
+    false
+}
+
+/// Whether the number is one of these, which ascend.
+fn is_among(numbers: &[u64], number: u64) -> bool
+    requires { IsNonDecreasing numbers.now }
+    ensures { result ≡ nat_lt 0 (times number numbers.now) }
+{
+    numbers.binary_search(&number).is_ok()
+}
+
+/// Whether the number of a label is one of these, which ascend.
+fn shares(numbers: &[u64], cases: &[SwitchCase]) -> bool
+    requires { IsNonDecreasing numbers.now }
+    ensures { result ≡ shares numbers.now (numbers_of (cases_of cases.now)) }
+{
+    for case in cases {
+        if is_among(numbers, number_of(case.value)) {
+            return true;
+        }
+    }
+    false
+}
+
+/// Whether the first labels differ from one another and from those behind them. Its table stays out
+/// of the frames of its callers, which go as deep as blocks are nested.
+#[inline(never)]
+fn first_differ(first: &[SwitchCase], behind: &[SwitchCase]) -> bool
+    requires { length first.now ≤ 4096 }
+    ensures { MatchBool result
+        (AreOnce (numbers_of (cases_of first.now)) (numbers_of (cases_of behind.now)))
+        (labels_differ (cases_of (first.now ++ behind.now)) ≡ false) }
+{
+    let mut table = numbers_of(first);
+    let numbers = &mut table[..first.len()];
+    numbers.sort_unstable();
+    !has_equal_neighbours(numbers) && !shares(numbers, behind)
+}
+
+/// Whether no label is repeated, in whatever order they stand.
+///
+/// It takes no memory: 4,096 labels at a time are sorted on the stack, and those behind are looked
+/// for among them. So `n` labels take `n log n` steps where there are no more than 4,096. More, in
+/// whatever order, take a sort for each 4,096, and `n² / 8,192` searches of 13 comparisons. Since
+/// those that were sorted differ, no label is looked for more than 2^21 times.
+pub(crate) fn none_is_repeated(cases: &[SwitchCase]) -> bool
+    ensures { result ≡ labels_differ (cases_of cases.now) }
+{
+    let mut rest = cases;
+    while !rest.is_empty() {
+        let (first, behind) = rest.split_at(rest.len().min(SORTED_LABELS));
+        if !first_differ(first, behind) {
+            return false;
+        }
+        rest = behind;
+    }
+    true
+}
