@@ -62,10 +62,10 @@ pub fn unaccepted(module: &Module, info: &ModuleInfo) -> Option<Unaccepted>
 /// Types are alike where WGSL spells them alike, each struct and each override standing for its
 /// handle; a type without a form is alike only to itself. The counts are not looked at.
 ///
-/// It takes no memory and answers whatever numbers a module holds. Time grows with the module; the
-/// labels of a switch that don't ascend, the default behind all, are sorted, 4,096 at a time, and of
-/// more than that each is looked for among all 4,096 that stand before its own; an operator that
-/// shares its slot of a table with another is looked for from the start.
+/// It takes no memory and answers whatever numbers a module holds. Time grows with the module; labels
+/// of a switch that don't ascend, the default behind all, are sorted, 4,096 at a time, and those
+/// behind are looked for among each 4,096; an operator that shares its slot of a table with another
+/// is looked for from the start.
 ///
 /// A module that is accepted may be counted and written:
 ///

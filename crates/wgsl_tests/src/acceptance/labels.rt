@@ -77,26 +77,33 @@ fn shuffled(alloc: Global) -> Result<Vec<SwitchValue>, AllocError> {
     Ok(labels)
 }
 
-/// A label that is repeated is found wherever it stands, also among more labels than are looked at
-/// in one round, and among such as share one slot, which lie 4,093 apart.
+/// A label that is repeated is found wherever it stands: among the 4,096 that are sorted at once,
+/// as the last of them, as the first behind them, and far behind.
 #[test]
 fn no_label_stands_twice(rt: HostRuntime) -> Result<(), Fail> {
     let alloc = rt.alloc();
     check(&rt, alloc, descending(alloc, 100, 1)?, 99)?;
     check(&rt, alloc, descending(alloc, 100, 1)?, 50)?;
+    check(&rt, alloc, descending(alloc, 4_094, 1)?, 0)?;
+    check(&rt, alloc, descending(alloc, 4_094, 1)?, 4_093)?;
+    check(&rt, alloc, descending(alloc, 4_095, 1)?, 0)?;
+    check(&rt, alloc, descending(alloc, 4_095, 1)?, 4_094)?;
     check(&rt, alloc, descending(alloc, 10_000, 1)?, 0)?;
     check(&rt, alloc, descending(alloc, 10_000, 1)?, 9_999)?;
     check(&rt, alloc, descending(alloc, 10_000, 1)?, 5_000)?;
     check(&rt, alloc, shuffled(alloc)?, 0)?;
     check(&rt, alloc, shuffled(alloc)?, 9_999)?;
-    check(&rt, alloc, descending(alloc, 300, 4_093)?, 0)?;
-    check(&rt, alloc, descending(alloc, 300, 4_093)?, 150 * 4_093)?;
-    check(&rt, alloc, descending(alloc, 300, 4_093)?, 299 * 4_093)?;
+    check(&rt, alloc, descending(alloc, 300, 1_000_003)?, 0)?;
+    check(
+        &rt,
+        alloc,
+        descending(alloc, 300, 1_000_003)?,
+        299 * 1_000_003,
+    )?;
     Ok(())
 }
 
-/// So are labels at the ends of their types, which differ though they lie far apart, and a default
-/// that stands in front.
+/// Labels at the ends of their types differ, and a default may stand anywhere.
 #[test]
 fn labels_far_apart_differ(rt: HostRuntime) -> Result<(), Fail> {
     let alloc = rt.alloc();
@@ -105,13 +112,28 @@ fn labels_far_apart_differ(rt: HostRuntime) -> Result<(), Fail> {
     let one = SwitchValue::I32(1);
     assert!(rt; is_signed_accepted(alloc, &[high, zero, low, DEFAULT])?);
     assert!(rt; is_signed_accepted(alloc, &[DEFAULT, before, one, zero])?);
-    assert_eq!(rt; is_signed_accepted(alloc, &[high, low, DEFAULT, high])?, false);
-    assert_eq!(rt; is_signed_accepted(alloc, &[low, zero, low, DEFAULT])?, false);
-    assert_eq!(rt; is_signed_accepted(alloc, &[before, DEFAULT, before])?, false);
-    assert_eq!(rt; is_signed_accepted(alloc, &[DEFAULT, zero, DEFAULT])?, false);
+    assert_eq!(rt;
+        is_signed_accepted(alloc, &[high, low, DEFAULT, high])?,
+        false
+    );
+    assert_eq!(rt;
+        is_signed_accepted(alloc, &[low, zero, low, DEFAULT])?,
+        false
+    );
+    assert_eq!(rt;
+        is_signed_accepted(alloc, &[before, DEFAULT, before])?,
+        false
+    );
+    assert_eq!(rt;
+        is_signed_accepted(alloc, &[DEFAULT, zero, DEFAULT])?,
+        false
+    );
     let (low, high) = (SwitchValue::U32(0), SwitchValue::U32(u32::MAX));
     assert!(rt; is_unsigned_accepted(alloc, &[high, DEFAULT, low])?);
     assert_eq!(rt; is_unsigned_accepted(alloc, &[high, DEFAULT, high])?, false);
-    assert_eq!(rt; is_unsigned_accepted(alloc, &[low, high, low, DEFAULT])?, false);
+    assert_eq!(rt;
+        is_unsigned_accepted(alloc, &[low, high, low, DEFAULT])?,
+        false
+    );
     Ok(())
 }
