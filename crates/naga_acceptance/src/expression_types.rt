@@ -19,8 +19,7 @@ use crate::parts::{
 use naga_info::TypeResolution;
 use naga_ir::{
     AddressSpace, Arena, BinaryOperator, Constant, Expression, Function, GlobalVariable, Handle,
-    LocalVariable, Module, Override, Scalar, ScalarKind, Type_, TypeInner, UniqueArena,
-    VectorSize,
+    LocalVariable, Module, Override, Scalar, ScalarKind, Type_, TypeInner, UniqueArena, VectorSize,
 };
 
 /// What an expression's type may be.
@@ -245,9 +244,7 @@ pub fn wanted_type(
 {
     let types = &module.types;
     match expression {
-        Expression::Literal(literal) => {
-            Wanted::LikeThis(GivenType::Scalar(literal.scalar()))
-        }
+        Expression::Literal(literal) => { Wanted::LikeThis(GivenType::Scalar(literal.scalar())) }
         Expression::Constant(handle) => only(constant_type(module, *handle)),
         Expression::Override(handle) => only(override_type(module, *handle)),
         Expression::ZeroValue(ty)
