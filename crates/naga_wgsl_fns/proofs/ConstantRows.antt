@@ -255,16 +255,17 @@ own_form_is m can h e own at same =
 -- a constant has its name for a text, and without one its initialiser's text
 module _ (m : Module) (c : ℕ) (k : ir_constant.Constant) (there : slice_get m.constants c ≡ Some k)
   where
-    by_name : ir_constant.Constant → Bool → Expression
-    by_name k named =
-        if named then Name (constant_name (module_names m) c) else global_at m k.init
+    abbrev by_name : ir_constant.Constant → Bool → Expression
+    by_name item named =
+        if named then Name (constant_name (module_names m) c) else global_at m item.init
 
     of_constant : (named : Bool) → is_some k.name ≡ named →
         constant_text m c ≡ expression_layout (by_name k named)
     unfolding constant_text
     of_constant named is =
         ap
-        (λ o. expression_layout (option_map_or (λ k. by_name k (is_some k.name)) o no_constant_form))
+        (λ o. expression_layout
+        (option_map_or (λ item. by_name item (is_some item.name)) o no_constant_form))
         there
         ∙ ap (λ b. expression_layout (by_name k b)) is
 

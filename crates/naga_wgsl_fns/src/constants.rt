@@ -63,7 +63,7 @@ impl ModuleText<'_> {
         match &self.shader.global_expressions[handle] {
             Expression::Literal(literal) => write_literal(*literal, out),
             Expression::Constant(constant) => self.write_constant(alloc, *constant, out),
-            Expression::Override(handle) => self.write_override_name(*handle, out),
+            Expression::Override(item) => self.write_override_name(*item, out),
             Expression::ZeroValue(ty) => self.write_made_global(alloc, *ty, handle, out),
             Expression::Compose { ty, .. } => self.write_made_global(alloc, *ty, handle, out),
             Expression::Splat { size, .. } => {

@@ -69,7 +69,7 @@ impl FunctionText<'_> {
         match &self.function.expressions[handle] {
             Expression::Literal(literal) => write_literal(*literal, out),
             Expression::Constant(constant) => self.write_constant(alloc, *constant, out),
-            Expression::Override(handle) => self.of_module().write_override_name(*handle, out),
+            Expression::Override(item) => self.of_module().write_override_name(*item, out),
             Expression::ZeroValue(ty) => self.write_made(alloc, scope, handle, *ty, out),
             Expression::Compose { ty, .. } => self.write_made(alloc, scope, handle, *ty, out),
             Expression::Access { base, .. } => {

@@ -53,13 +53,13 @@ write_own-write_override_name-requires-clause-can g t c =
 
 pub write_own-write_override_name-requires-clause-there : goal.write_own-write_override_name-requires-clause-there
 write_own-write_override_name-requires-clause-there g t c =
-    subst (λ m. c.in-Override.handle < length m.overrides) (sym c.of_module.ensures.shader)
-    (override_within c.args.self.now c.requires.can c.args.handle c.index.result.now c.in-Override.handle c.index.ensures c.in-Override.is)
+    subst (λ m. c.in-Override.item < length m.overrides) (sym c.of_module.ensures.shader)
+    (override_within c.args.self.now c.requires.can c.args.handle c.index.result.now c.in-Override.item c.index.ensures c.in-Override.is)
 
 pub write_own-returns-in-Override : goal.write_own-returns-in-Override
 write_own-returns-in-Override g t c =
     writes_as
-    (ap (λ m. name_of_override m c.in-Override.handle) c.of_module.ensures.shader
+    (ap (λ m. name_of_override m c.in-Override.item) c.of_module.ensures.shader
     ∙ sym
     (own_row c.args.self.now c.args.scope.now.table c.args.handle c.requires.can c.requires.handle
     ∙ ap (own_at c.args.self.now c.args.scope.now.table c.args.handle) (c.index.ensures ∙ ap Some c.in-Override.is)))

@@ -7,9 +7,12 @@ use Rattle.naga_wgsl_fns.proofs.functions.FunctionText.write_name.Goals as goal
 pub write_name-requires : goal.write_name-requires
 write_name-requires g c =
     let key = c.args.key.now in
-    ap (λ n. names_in n key) c.of_module.ensures.names
-    ∙ (c.requires.named
-    ∙ sym (ap (λ m. Some (name_in (module_names m) key)) c.of_module.ensures.shader))
+    record {
+      named =
+          ap (λ n. names_in n key) c.of_module.ensures.names
+          ∙ (c.requires.named
+          ∙ sym (ap (λ m. Some (name_in (module_names m) key)) c.of_module.ensures.shader));
+    }
 
 pub returns : goal.returns
 returns g c =
