@@ -20,7 +20,7 @@ abbrev pub decreases-write_global : goal.decreases-write_global
 decreases-write_global g l = 4 * l.handle + 2
 
 abbrev pub decreases-write_constant : goal.decreases-write_constant
-decreases-write_constant g l = 4 * initialiser_at l.self.shader.now l.constant + 3
+decreases-write_constant g l = 4 * initialiser_at l.self.now.shader.now l.constant + 3
 
 abbrev pub decreases-write_next_part : goal.decreases-write_next_part
 decreases-write_next_part g l = 4 * l.part + 3
