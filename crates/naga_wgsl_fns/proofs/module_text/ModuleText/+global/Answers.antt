@@ -41,7 +41,7 @@ write_global-write_override_name-requires-clause-there g t c =
     override_there c.args.self.now.shader.now c.requires.can.of_module c.args.handle
     c.index.result.now _ c.index.ensures c.in-Override.is
 
-pub write_constant-index-item-requires : goal.write_constant-index-requires
+pub write_constant-index-item-requires : goal.write_constant-index-item-requires
 write_constant-index-item-requires g t c =
     let m = c.args.self.now.shader.now in
     constant_there m (in_order m c.requires.can.of_module) c.args.constant c.requires.written
