@@ -27,14 +27,15 @@ use std::collections::HashMap;
 /// the module declares. The module is accepted with what is known of it, and `names` has the names of
 /// its items in WGSL.
 ///
-/// The text has one reading as an expression. An override is written by its name, and so is a constant
-/// that has one; any other constant by its initialiser. What has no form is refused, by the first part that has none: a float literal as `Unimplemented`, `float
-/// literal`; an abstract one as `Custom`, `Abstract types should not appear in IR presented to
-/// backends`; a value of a type that names a struct which no text declares as `Custom`, `predeclared
-/// struct`, one of a type with a scalar without a word as `Unsupported`, of the kind `scalar type`, and
-/// one of any other type without a form as `Custom`, `type without a WGSL form`; an operator as
-/// `Custom`, `operator in a constant`. Such a refusal leaves the sink as it was. After want of memory
-/// or a failure of the sink a beginning of the text may stand behind what the sink held.
+/// The text has one reading as an expression. An override is written by its name, and so is a
+/// constant that has one; any other constant by its initialiser. What has no form is refused, by the
+/// first part that has none: a float literal as `Unimplemented`, `float literal`; an abstract one as
+/// `Custom`, `Abstract types should not appear in IR presented to backends`; a value of a type that
+/// names a struct which no text declares as `Custom`, `predeclared struct`, one of a type with a
+/// scalar without a word as `Unsupported`, of the kind `scalar type`, and one of any other type
+/// without a form as `Custom`, `type without a WGSL form`; an operator as `Custom`, `operator in a
+/// constant`. Such a refusal leaves the sink as it was. After want of memory or a failure of the sink
+/// a beginning of the text may stand behind what the sink held.
 ///
 /// So far a module of which not every part is written, as one whose constants have names or that
 /// declares overrides, is refused as `Unimplemented`, `not yet written`.
