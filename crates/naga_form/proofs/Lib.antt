@@ -36,6 +36,7 @@ pub mod MemberNames
 pub mod ModulePlaces
 pub mod NamedConstants
 pub mod Names
+mod NumberedNames
 pub mod OperatorEvents
 pub mod OperatorKeys
 pub mod OperatorTable

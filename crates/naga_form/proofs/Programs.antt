@@ -125,6 +125,7 @@ use Rattle.naga_form.proofs.Facts.{further, from_start}
 use Rattle.naga_form.proofs.Literals.{literal_is}
 use Rattle.naga_form.proofs.Names.{item_is_identifier, function_item, argument_item, function_there}
 use Rattle.naga_form.proofs.Names.{argument_there}
+use Rattle.naga_form.proofs.NumberedNames.{numbered_is}
 use Rattle.std.specs.Char.{is_ascii_digit}
 use Rattle.std.specs.Str.{bytes_eq}
 use Rattle.std.proofs.lemmas.Option.{slice_get_within}
@@ -150,46 +151,6 @@ use Rattle.module_meaning.specs.GivenLabels.{block_labels, cases_labels, given_l
 use Rattle.module_meaning.specs.GivenLabels.{labels_in, labels_of_each}
 use Rattle.module_meaning.specs.Names.{given_name}
 use Rattle.naga_form.proofs.ModulePlaces.{expression_is}
-
--- ---- numbered names
-digits_are_bytes : (w : List ℕ) → list_all is_ascii_digit w ≡ true → all_word_bytes w ≡ true
-digits_are_bytes [] e = refl
-digits_are_bytes (c ∷ w) e = and_from (is_word_byte c) (all_word_bytes w) (or_right (is_letter c) (is_ascii_digit c) (and_left (is_ascii_digit c) (list_all is_ascii_digit w) e)) (digits_are_bytes w (and_right (is_ascii_digit c) (list_all is_ascii_digit w) e))
-
--- a word that begins with `_e`
-abbrev begins_numbered : List ℕ → Bool
-begins_numbered w = nat_eq (get_or w 0 0) 95 && nat_eq (get_or w 1 0) 101
-
-none_begins : (ws : List (List ℕ)) (d : List ℕ) → list_all (λ w. not (begins_numbered w)) ws ≡ true → stands_in ws (codes "_e" ++ d) ≡ false
-none_begins [] d e = refl
-none_begins (w ∷ ws) d e =
-    neither (bytes_eq w (codes "_e" ++ d)) (stands_in ws (codes "_e" ++ d)) (other (bytes_eq w (codes "_e" ++ d)) refl) (none_begins ws d (and_right (not (begins_numbered w)) (list_all (λ w. not (begins_numbered w)) ws) e))
-  where
-    neither : (a b : Bool) → a ≡ false → b ≡ false → (a || b) ≡ false
-    neither true b e f = e
-    neither false b e f = f
-
-    other : (b : Bool) → bytes_eq w (codes "_e" ++ d) ≡ b → b ≡ false
-    other false is = refl
-    other true is = absurd (true≢false (sym (and_left (not (begins_numbered w)) (list_all (λ w. not (begins_numbered w)) ws) e) ∙ ap (λ w. not (begins_numbered w)) ((bytes_eq-Decides w (codes "_e" ++ d)).0 is)))
-
-not_reserved : (d : List ℕ) → is_reserved (codes "_e" ++ d) ≡ false
-unfolding is_reserved reserved_words
-not_reserved d = none_begins reserved_words d refl
-
-not_builtin : (d : List ℕ) → is_builtin (codes "_e" ++ d) ≡ false
-unfolding is_builtin builtin_words
-not_builtin d = none_begins builtin_words d refl
-
-handle_name_is : (h : ℕ) → IsIdentifier (codes "_e" ++ decimal h)
-handle_name_is h = record {
-  word = record { text = digits_are_bytes (decimal h) (all_digits-decimal h); free = not_reserved (decimal h) };
-  own = not_builtin (decimal h);
-}
-
-pub numbered_is : (h : ℕ) → h < 2 ^ 64 → IsIdentifier (numbered_name h)
-unfolding numbered_name
-numbered_is h lt = subst (λ b. IsIdentifier (numbered_text b h)) (sym (lt-ltb h (2 ^ 64) lt)) (handle_name_is h)
 
 -- ---- functions
 -- a plain form of the grammar

@@ -11,7 +11,7 @@ use Rattle.module_meaning.specs.ExpressionOperators.{level_of, query_operator}
 use Rattle.module_meaning.specs.ExpressionOperators.{sample_operator, texel_of}
 use Rattle.module_meaning.specs.OperatorTable.{Sample, Splat, Texel, if_word, run_word}
 use Rattle.module_meaning.specs.Writable.{is_written_out, written_out_over, written_out_within}
-use Rattle.naga_form.proofs.Operators.{IsCalled}
+use Rattle.naga_form.proofs.Operators.{query_is_called}
 use Rattle.naga_form.specs.ConstantForms.{constant_form_over, constant_form_within, no_constant_form}
 use Rattle.naga_form.specs.ConstantForms.{built_form}
 use Rattle.naga_form.specs.Expressions.{as_value, constant_form, own_if, own_plain}
@@ -24,7 +24,6 @@ use Rattle.naga_ir.specs.Operands.{expression_operands, level_operands, query_op
 use Rattle.naga_ir.specs.declared.expression.Expression as ir
 use Rattle.naga_ir.specs.declared.expression.Expression.TheVariants as expression
 use Rattle.naga_ir.specs.declared.expression.ImageQuery.{ImageQuery}
-use Rattle.naga_ir.specs.declared.expression.ImageQuery.TheVariants as query
 use Rattle.naga_ir.specs.declared.expression.SampleLevel.{SampleLevel}
 use Rattle.naga_ir.specs.declared.expression.SwizzleComponent.{SwizzleComponent}
 use Rattle.naga_ir.specs.declared.expression.SwizzleComponent.TheVariants as component
@@ -69,12 +68,6 @@ texel_word f can h e image coordinate array_index sample level here within is =
     texel_row (is_some array_index) sample level
     (expression_formed f can h (expression.ImageLoad image coordinate array_index sample level)
     (here ∙ ap Some is) within)
-
-pub query_is_called : (q : ImageQuery) → IsCalled (query_operator q)
-query_is_called (query.Size level) type = refl
-query_is_called query.NumLevels type = refl
-query_is_called query.NumLayers type = refl
-query_is_called query.NumSamples type = refl
 
 pub query_called : (f : FunctionText) (table : List Standing) (image : ℕ) (q : ImageQuery) →
     application_at f table None (image ∷ query_operands q) (Some (query_operator q)) ≡

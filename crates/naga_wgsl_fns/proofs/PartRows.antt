@@ -26,7 +26,7 @@ use Rattle.std.proofs.lemmas.Option.{same_Some}
 use Rattle.naga_wgsl_fns.specs.Expressions.{part_base_text, part_end_text, part_reference_text}
 use Rattle.naga_wgsl_fns.specs.Expressions.{part_value_text, plain_address_text, plain_text}
 use Rattle.naga_wgsl_fns.specs.Expressions.{plain_tree, pointed_text, reference_text, word_text}
-use Rattle.naga_wgsl_fns.proofs.ImageRows.{query_is_called}
+use Rattle.naga_form.proofs.Operators.{query_is_called}
 use Rattle.module_meaning.specs.ExpressionOperators.{query_operator}
 use Rattle.naga_ir.specs.Operands.{cooperative_operands, query_operands}
 use Rattle.naga_wgsl_fns.proofs.PartForms.{part_form, part_unsigned, selected_unsigned}
@@ -42,7 +42,6 @@ use Rattle.naga_form.specs.Expressions.{as_value}
 use Rattle.wgsl_text.proofs.Expressions.{member_text as member_row_text}
 use Rattle.wgsl_text.proofs.Text.{text-append}
 use Rattle.wgsl_text.specs.Expressions as tree
-use Rattle.std.specs.Prelude.{IsTrue}
 use Rattle.module_meaning.specs.ExpressionOperators.{Surroundings, applied_operator}
 use Rattle.module_meaning.specs.Surroundings.{surroundings}
 use Rattle.naga_form.specs.ConstantForms.{constant_form_over, global_form, global_form_within}

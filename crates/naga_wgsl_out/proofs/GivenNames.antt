@@ -1,24 +1,24 @@
 -- What a namer that goes on with the labels of a function knows of them.
-use Rattle.std.proofs.Common.{◌≡◌, ◌+◌, ◌<◌, ◌≤◌, ◌^◌, ◌∙◌, ◌++◌, ℕ, List, [], ◌∷◌, Some}
-use Rattle.std.proofs.Common.{None, Option, append-nil, append_assoc, ap, arith, length, refl}
+use Rattle.std.proofs.Common.{◌≡◌, ◌+◌, ◌<◌, ◌∙◌, ◌++◌, ℕ, List, [], ◌∷◌, Some}
+use Rattle.std.proofs.Common.{None, Option, append-nil, append_assoc, ap, length, refl}
 use Rattle.std.proofs.Common.{Bool, slice_get, subst, sym, take}
 use Rattle.std.specs.Option.{option_map_or}
 use Rattle.std.proofs.lemmas.List.Concat.{flat_map-append}
-use Rattle.std.proofs.lemmas.List.{take_all, take_more}
+use Rattle.std.proofs.lemmas.List.{take_more}
 use Rattle.std.proofs.lemmas.Option.{get_or_from_slice_get, none-some}
 use Rattle.naga_names.proofs.Refusal.{element}
 use Rattle.naga_ir.specs.declared.module.Function.{Function}
 use Rattle.naga_ir.specs.declared.module.Module.{Module}
-use Rattle.naga_names.specs.Naming.{HasNamed, Names, labels_with_base}
+use Rattle.naga_names.specs.Naming.{HasNamed, Names}
 use Rattle.module_meaning.specs.GivenLabels.{given_labels}
 use Rattle.module_meaning.specs.GivenLabels.{all_given_labels}
 use Rattle.module_meaning.specs.Names.{given_name, item_labels, labels_before}
-use Rattle.module_meaning.specs.Names.{labels_given, wgsl_names}
+use Rattle.module_meaning.specs.Names.{labels_given}
 use Rattle.naga_scope.specs.GivenNames.{NamesLabels}
 use Rattle.naga_scope.specs.Plans.{AreGivenNames, IsPlanOf, Planned}
 use Rattle.naga_info.specs.declared.info.ModuleInfo.{ModuleInfo}
 use Rattle.naga_wgsl_fns.specs.Refusals.{GivenAreFullIn}
-use Rattle.naga_wgsl_fns.proofs.GivenNames.{few_named, given_are, none_full as none_full_behind}
+use Rattle.naga_wgsl_fns.proofs.GivenNames.{given_are, none_full as none_full_behind}
 use Rattle.naga_wgsl_out.specs.ModuleRefusals.{HasNamedBefore}
 use Rattle.naga_wgsl_out.specs.Writing.{IsNamedPlan}
 

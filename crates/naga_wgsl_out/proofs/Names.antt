@@ -1,6 +1,6 @@
 -- What a `Namer` that was reset by a module knows of the module's names.
 use Rattle.std.proofs.Common.{◌≡◌, ℕ, zero, suc, ◌<◌, ◌≤◌, ◌^◌, true, false, List, length, Some}
-use Rattle.std.proofs.Common.{None, refl, sym, ap, subst, unwrap_or, [], ◌∙◌, arith, append-nil}
+use Rattle.std.proofs.Common.{None, sym, ap, subst, unwrap_or, [], ◌∙◌, arith, append-nil}
 use Rattle.std.specs.Prelude.{slice_get, map, Result, Ok, Err, OnOk, IfErr, IsErr}
 use Rattle.std.specs.FinSet as set
 use Rattle.std.proofs.lemmas.Bool.{ltb-true}
@@ -13,9 +13,9 @@ use Rattle.naga_names.specs.Refusal.{SomeNameIsFull, SomeKeyIsFull, IsResetRefus
 use Rattle.naga_names.specs.declared.error.NamerError.{NamerError}
 use Rattle.wgsl_text.specs.Keywords.{reserved_words, builtin_words}
 use Rattle.naga_names.specs.Keys.{NameMap}
-use Rattle.naga_names.specs.Reset.{HasNamedItems, LabelledItem, PutsInto, key_fits, labelled_items, named_items}
+use Rattle.naga_names.specs.Reset.{HasNamedItems, LabelledItem, key_fits, labelled_items}
 use Rattle.naga_names.specs.Reset.{type_label}
-use Rattle.naga_names.proofs.Members.{member_named}
+use Rattle.naga_names.proofs.Members.{member_named, member_put}
 use Rattle.naga_names.specs.declared.key.NameKey.TheVariants as key
 use Rattle.naga_names.proofs.NamedItems.{constant_stands, global_stands, local_stands, named_there}
 use Rattle.naga_names.proofs.NamedItems.{override_stands, type_stands}
@@ -23,15 +23,11 @@ use Rattle.module_meaning.specs.Names.{reserved_prefixes, wgsl_names, module_nam
 use Rattle.module_meaning.specs.Names.{HasNamesOf, item_labels}
 use Rattle.naga_form.proofs.Names.{name_is, function_item, argument_item, function_there}
 use Rattle.naga_form.proofs.Names.{argument_there}
+use Rattle.naga_form.proofs.MemberNames.{puts}
 use Rattle.naga_names.proofs.Refusal.{element}
 use Rattle.module_meaning.proofs.Lists.{list_all_at}
 use Rattle.naga_form.proofs.Fits.{local_item}
 use Rattle.naga_wgsl_out.specs.ModuleRefusals.{ItemsAreFull, KeyIsOutOfRange, HasAllNames, HasNamedBefore}
-
-puts : (m : Module) →
-    PutsInto (λ _. None) (named_items wgsl_names (labelled_items wgsl_names m)) (module_names m)
-unfolding module_names
-puts m = record { finds = λ k. refl }
 
 module _ (m : Module) (before now : NameMap) (names : Names) (has : HasNamedItems wgsl_names before (labelled_items wgsl_names m) names now) where
   -- the map has an item's name
@@ -47,10 +43,8 @@ module _ (m : Module) (before now : NameMap) (names : Names) (has : HasNamedItem
         let item : LabelledItem = (key.Type_ h, type_label m.entry_points.items h t) in
         named_there wgsl_names before m names now has item s ∙ ap Some (sym (name_is m item s));
     members = λ h t at i a there.
-        let own : HasNamedItems wgsl_names (λ _. None) (labelled_items wgsl_names m) names (module_names m) =
-        record { words = has.words; labels = has.labels; keys = has.keys; put = puts m } in
         let here = member_named wgsl_names m h t at i a there before now names has in
-        let named = member_named wgsl_names m h t at i a there (λ _. None) (module_names m) names own in
+        let named = member_put wgsl_names m h t at i a there (λ _. None) (module_names m) (puts m) in
         here ∙ ap Some (sym (ap (λ o. unwrap_or o []) named));
     functions = λ g lt. let f = element m.functions g lt in function_is g f.0 f.1;
     arguments = λ g f found n lt.
