@@ -38,7 +38,7 @@ use Rattle.naga_form.proofs.NamedConstants.{constant_numbered, override_numbered
 use Rattle.naga_form.proofs.SameValues.{or_nothing}
 use Rattle.naga_form.proofs.WrittenHandles.{all_map}
 use Rattle.naga_form.proofs.Literals.{literal_read}
-use Rattle.naga_form.proofs.Operators.{IsCalled, Spells, SpellsTypes, called_applied}
+use Rattle.naga_form.proofs.Operators.{IsCalled, SpellsTypes, called_applied}
 use Rattle.naga_form.proofs.Operators.{constructor_called, constructor_spelled}
 use Rattle.naga_form.proofs.Operators.{HasFormAt, splat_called, typed_notation}
 use Rattle.naga_form.specs.ConstantForms.{built_form, constant_form_by, constant_form_over}

@@ -9,7 +9,7 @@ use Rattle.std.proofs.Common.{◌≡◌, ℕ, zero, suc, Bool, true, false, List
 use Rattle.std.proofs.Common.{Option, Some, None, slice_get, map, ◌&&◌, if◌then◌else◌}
 use Rattle.std.specs.List.{list_all}
 use Rattle.std.specs.Prelude.{IsTrue, unwrap_or}
-use Rattle.std.specs.Option.{option_map, option_map_or, option_and_then, is_some}
+use Rattle.std.specs.Option.{option_map, option_map_or, is_some}
 use Rattle.std.proofs.lemmas.Bool.{and_parts}
 use Rattle.std.proofs.lemmas.Option.{same_Some}
 use Rattle.std.proofs.lemmas.Slice.Eq.{bytes_eq-Decides}
@@ -34,7 +34,7 @@ use Rattle.module_meaning.specs.AgreeingOperators.{Group, module_operators_agree
 use Rattle.module_meaning.specs.AlikeTypes.{type_identity, are_alike}
 use Rattle.module_meaning.specs.ExpressionOperators.{constructor}
 use Rattle.module_meaning.specs.ExpressionShapes.{Declared, trees, tree_then, trees_of, built, tree_over, tree_within, constant_tree}
-use Rattle.module_meaning.specs.ExpressionTypes.{LikeThis, only, is_wanted, wanted_type, expression_type_fits}
+use Rattle.module_meaning.specs.ExpressionTypes.{only, is_wanted}
 use Rattle.naga_ir.specs.Literals.{literal_scalar}
 use Rattle.module_meaning.specs.ExpressionTypes as types
 use Rattle.module_meaning.specs.InfoSizes.{all_paired}

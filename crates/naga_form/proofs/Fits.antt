@@ -19,8 +19,7 @@ use Rattle.naga_info.specs.declared.info.ModuleInfo.{ModuleInfo}
 use Rattle.naga_names.specs.Reset.{LabelledItem}
 use Rattle.shader_runs.specs.Value.{ValueType, BooleanType, type_at}
 use Rattle.shader_runs.specs.Program as shapes
-use Rattle.shader_runs.specs.Program.{operands_of, handle_type, argument_count, expression_of}
-use Rattle.shader_runs.specs.Program.{is_given, local_count, from}
+use Rattle.shader_runs.specs.Program.{is_given, from}
 use Rattle.shader_runs.specs.Scope.{given_by_all, given_by_cases, given_after}
 use Rattle.shader_runs.specs.Scope.{given_after_all, given_by}
 use Rattle.module_meaning.specs.ExpressionOperators.{Surroundings, points_to_atomic}

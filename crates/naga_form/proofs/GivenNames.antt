@@ -1,21 +1,19 @@
 -- The names that front ends gave: each is that of a label that stands in the list of a module's
 -- labels behind those in front of it, so that no two places of this list have one name.
-use Rattle.std.proofs.Common.{◌≡◌, ◌≢◌, ℕ, ◌+◌, ◌<◌, ◌≤◌, zero, suc, Bool, true, false, List, [], ◌∷◌}
-use Rattle.std.proofs.Common.{◌++◌, length, take, Some, refl, sym, ap, subst, ◌∙◌, ◌||◌, arith, cond}
-use Rattle.std.proofs.Common.{append_assoc, length-append, ◌^◌}
+use Rattle.std.proofs.Common.{◌≡◌, ◌≢◌, ℕ, ◌+◌, ◌<◌, zero, suc, Bool, true, false, List, [], ◌∷◌}
+use Rattle.std.proofs.Common.{◌++◌, length, take, Some, sym, ap, subst, ◌∙◌, ◌||◌, arith}
+use Rattle.std.proofs.Common.{append_assoc, length-append}
 use Rattle.std.specs.Prelude.{slice_get, ◌⊎◌, not}
 use Rattle.std.specs.Option.{option_map_or}
-use Rattle.std.specs.Str.{bytes_eq}
 use mathlib.Core.Logic.{inl, inr}
 use Rattle.std.proofs.lemmas.Bool.{cases_order}
 use Rattle.std.proofs.lemmas.List.{length-take-le}
 use Rattle.std.proofs.lemmas.List.Concat.{flat_map-append}
-use Rattle.std.proofs.lemmas.List.Sums.{sum_by-append}
 use Rattle.std.proofs.lemmas.Option.{none-some, same_Some}
 use Rattle.naga_ir.specs.declared.module.Function as ir_function
 use Rattle.naga_ir.specs.declared.module.Module.{Module}
 use Rattle.naga_keywords.specs.Plain.{is_word}
-use Rattle.naga_names.specs.Naming.{label_base, labels_with_base, name_after}
+use Rattle.naga_names.specs.Naming.{name_after}
 use Rattle.naga_names.specs.Reset.{LabelledItem, labelled_items, labels_of}
 use Rattle.naga_names.proofs.NameShapes.{name_after_is_word, name_after_not_numbered, names_differ}
 use Rattle.naga_names.proofs.NamedItems.{Stands}

@@ -50,8 +50,8 @@ use Rattle.module_meaning.proofs.Shapes.{operator_any}
 use Rattle.naga_names.specs.Reset.{LabelledItem, labelled_items, labels_of, type_label}
 use Rattle.shader_runs.specs.Value.{ValueType}
 use Rattle.shader_runs.specs.Program as shapes
-use Rattle.shader_runs.specs.Program.{operands_of, handle_type, argument_count, expression_of}
-use Rattle.shader_runs.specs.Program.{is_given, local_count, from}
+use Rattle.shader_runs.specs.Program.{argument_count}
+use Rattle.shader_runs.specs.Program.{local_count, from}
 use Rattle.shader_runs.specs.Scope.{Naming, given_by_all}
 use Rattle.shader_runs.specs.Scope.{fits_function}
 use Rattle.shader_runs.specs.Premises.{WordFits}
@@ -101,18 +101,16 @@ use Rattle.module_meaning.specs.ExpressionOperators.{is_depth_image, level_of, q
 use Rattle.module_meaning.specs.ExpressionOperators.{sample_operator, texel_of, matrix_load}
 use Rattle.module_meaning.specs.ExpressionOperators.{points_to_atomic}
 use Rattle.module_meaning.specs.StatementShapes.{store_shape}
-use Rattle.module_meaning.specs.ExpressionShapes.{asking, built, constant_tree, tree_over, tree_then}
-use Rattle.module_meaning.specs.ExpressionShapes.{tree_within, trees, trees_of, written_zero}
+use Rattle.module_meaning.specs.ExpressionShapes.{asking, constant_tree}
+use Rattle.module_meaning.specs.ExpressionShapes.{trees, written_zero}
 use Rattle.module_meaning.specs.OperatorTable.{ArrayLength, CooperativeMultiplyAdd, Texel, asks}
 use Rattle.module_meaning.specs.Shapes.{operator_shape}
 use Rattle.naga_form.proofs.OperatingWords.{length_free, product_free, query_free, sampling_free}
 use Rattle.naga_form.proofs.OperatingWords.{texel_free}
 use Rattle.naga_ir.specs.Operands.{cooperative_operands, query_operands}
 use Rattle.naga_ir.specs.declared.expression.SampleLevel.{SampleLevel}
-use Rattle.naga_ir.specs.declared.expression.SampleLevel.TheVariants as level
 use Rattle.naga_ir.specs.declared.types.VectorSize.{VectorSize}
-use Rattle.shader_runs.specs.Premises.{ConstantWords, ConstantsWords}
-use Rattle.shader_runs.specs.Program.{ConstantTree}
+use Rattle.shader_runs.specs.Premises.{ConstantsWords}
 use Rattle.std.proofs.Common.{◌++◌}
 use Rattle.std.specs.Option.{is_some, option_to_list}
 use Rattle.std.specs.Prelude.{if◌then◌else◌}

@@ -1,45 +1,33 @@
 -- The types of an accepted module of the part: their parts stand before them, they name no override,
 -- and structs by the module's names.
-use Rattle.std.proofs.Common.{◌≡◌, ℕ, zero, suc, ◌<◌, ◌≤◌, ◌+◌, Bool, true, List, length, Option}
+use Rattle.std.proofs.Common.{◌≡◌, ℕ, ◌≤◌, ◌+◌, true, length, Option}
 use Rattle.std.proofs.Common.{Some, None, refl, sym, ap, subst, ◌∙◌, slice_get, arith}
-use Rattle.std.specs.Prelude.{IsTrue, nat_lt, ◌==◌}
+use Rattle.std.specs.Prelude.{IsTrue, ◌==◌}
 use Rattle.std.specs.List.{list_all}
 use Rattle.std.specs.Option.{is_none, option_map}
 use Rattle.std.proofs.lemmas.Bool.{and_parts, eqb-true, ltb-true}
 use Rattle.std.proofs.lemmas.Option.{same_Some}
 use Rattle.naga_info.specs.Resolution.{inner_of}
-use Rattle.naga_info.specs.declared.info.ExpressionInfo.{ExpressionInfo}
 use Rattle.naga_info.specs.declared.info.ModuleInfo.{ModuleInfo}
 use Rattle.naga_info.specs.declared.info.TypeResolution.{TypeResolution}
 use Rattle.naga_info.specs.declared.info.TypeResolution.TheVariants.{Handle, Value}
-use Rattle.naga_ir.specs.declared.module.Function.{Function}
-use Rattle.naga_ir.specs.declared.module.FunctionArgument.{FunctionArgument}
-use Rattle.naga_ir.specs.declared.module.FunctionResult.{FunctionResult}
-use Rattle.naga_ir.specs.declared.module.LocalVariable.{LocalVariable}
 use Rattle.naga_ir.specs.declared.module.Module.{Module}
 use Rattle.naga_ir.specs.declared.types.Type_.{Type_}
 use Rattle.naga_ir.specs.declared.types.TypeInner.{TypeInner}
 use Rattle.naga_ir.specs.declared.types.TypeInner.TheVariants as inner
-use Rattle.naga_names.proofs.Refusal.{element}
 use Rattle.naga_names.specs.Keys.{NameMap}
 use Rattle.naga_names.specs.declared.key.NameKey.TheVariants as key
 use Rattle.naga_words.specs.Contexts.{name_or_nothing}
 use Rattle.naga_words.specs.Spelling.{end_of_base, length_within}
-use Rattle.module_meaning.proofs.Lists.{list_all_at, placed_at}
+use Rattle.module_meaning.proofs.Lists.{placed_at}
 use Rattle.module_meaning.proofs.Part.{written_so_far_parts}
 use Rattle.module_meaning.specs.Accepted.{is_accepted}
-use Rattle.module_meaning.specs.AlikeTypes.{has_form}
 use Rattle.module_meaning.specs.InfoSizes.{resolution_is_fit}
 use Rattle.module_meaning.specs.Names.{HasNamesOf, module_names}
 use Rattle.module_meaning.specs.Part.{is_written_so_far}
-use Rattle.module_meaning.specs.Numbers.{signature_fits_32_bits}
-use Rattle.module_meaning.specs.Ranges.{function_in_range, is_below, local_in_range, parts_before}
+use Rattle.module_meaning.specs.Ranges.{parts_before}
 use Rattle.module_meaning.specs.Ranges.{numbers_in_range, parts_stand_before, resolution_fits}
-use Rattle.module_meaning.specs.Ranges.{signature_fits, signature_types_fit}
-use Rattle.module_meaning.specs.Written.{AllWrittenHaveForms, ExpressionsHaveForms, IsSpelledIn}
-use Rattle.module_meaning.specs.Written.{OfArgument, OfEachFunction, OfLet, OfLocal, OfResult}
-use Rattle.naga_form.proofs.AcceptedFunctions.{accepted_at, function_there, locals_are_in_range}
-use Rattle.naga_form.proofs.AcceptedGroups.{known_is_fit, types_are_fit, types_range}
+use Rattle.naga_form.proofs.AcceptedGroups.{types_are_fit, types_range}
 use Rattle.naga_form.proofs.SameValues.{or_nothing}
 use Rattle.naga_form.proofs.WrittenTypes.{AreNamedAlike}
 

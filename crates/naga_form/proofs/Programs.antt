@@ -8,23 +8,20 @@ use Rattle.naga_form.specs.Expressions.{is_held, part_plain, points, selected_pa
 use Rattle.naga_form.specs.Expressions.{variable_plain}
 use Rattle.shader_runs.specs.Value.{Selector, MemberNamed, ElementAt}
 use Rattle.wgsl_text.specs.Expressions.{Index}
-use Rattle.std.specs.Prelude.{◌==◌}
-use Rattle.std.specs.List.{zip}
 use Rattle.std.specs.Option.{option_map_or}
 use Rattle.module_meaning.specs.Ranges.{function_in_range, local_in_range}
-use Rattle.module_meaning.proofs.Lists.{list_all_at}
 use Rattle.module_meaning.proofs.Part.{written_so_far_parts}
 use Rattle.naga_form.proofs.AcceptedFunctions.{accepted_at, locals_are_in_range, names_are_in_range}
 use Rattle.naga_form.proofs.AcceptedFunctions.{function_there as known_function}
 use Rattle.naga_form.proofs.PartFits.{body_is_written}
-use Rattle.std.proofs.Common.{◌≡◌, ℕ, ◌<◌, ◌≤◌, suc, Bool, true, false, not, ◌&&◌, List, [], ◌∷◌}
-use Rattle.std.proofs.Common.{◌++◌, length, refl, sym, ap, subst, ◌∙◌, arith, ◌||◌, zero, codes}
-use Rattle.std.proofs.Common.{nat_lt, ◌+◌, pos, negsuc, Option, Some, None, ◌-◌, ◌^◌, decimal}
+use Rattle.std.proofs.Common.{◌≡◌, ℕ, ◌<◌, ◌≤◌, suc, Bool, true, false, ◌&&◌, List, [], ◌∷◌}
+use Rattle.std.proofs.Common.{◌++◌, length, refl, sym, ap, subst, ◌∙◌, arith, zero}
+use Rattle.std.proofs.Common.{nat_lt, ◌+◌, pos, negsuc, Option, Some, None, ◌-◌, ◌^◌}
 use Rattle.std.proofs.Common.{nat_eq, nat_le, true≢false}
-use Rattle.std.specs.Prelude.{IsTrue, slice_get, cond, get_or}
+use Rattle.std.specs.Prelude.{IsTrue, slice_get, cond}
 use Rattle.std.specs.List.{list_all}
 use Rattle.std.specs.Option.{option_map}
-use Rattle.std.proofs.lemmas.Bool.{and_from, or_right, lt-ltb, ltb-true, leb-true, and_parts}
+use Rattle.std.proofs.lemmas.Bool.{ltb-true, leb-true, and_parts}
 use Rattle.naga_ir.specs.StatementTree.{SimpleStatement, emit, store, return, StatementTree, simple}
 use Rattle.naga_ir.specs.StatementTree.{break, continue, kill}
 use Rattle.naga_ir.specs.StatementTree.{block, branch, switch, loop, BlockTree, no_statements}
@@ -42,8 +39,7 @@ use Rattle.module_meaning.proofs.Part.{form_of_spellable}
 use Rattle.module_meaning.specs.Part.{types_are_of_part}
 use Rattle.module_meaning.specs.Undeclared.{is_spellable}
 use Rattle.module_meaning.specs.Ranges.{is_below}
-use Rattle.wgsl_text.specs.Words.{stands_in, is_builtin, IsIdentifier, is_letter, is_word_byte}
-use Rattle.wgsl_text.specs.Words.{all_word_bytes, is_reserved}
+use Rattle.wgsl_text.specs.Words.{IsIdentifier}
 use Rattle.wgsl_text.specs.Declarations.{IsProgram}
 use Rattle.wgsl_text.specs.Expressions.{IsExpression}
 use Rattle.wgsl_text.specs.Expressions as tree_expressions
@@ -52,9 +48,7 @@ use Rattle.wgsl_text.specs.Statements.{is_reference, IsLabel, IsLabels, has_case
 use Rattle.wgsl_text.specs.Statements.{IsStatements, IsCases}
 use Rattle.wgsl_text.specs.Statements as tree
 use Rattle.wgsl_text.specs.Types.{TypeSpecifier, IsType}
-use Rattle.shader_runs.proofs.Update.{and_left, and_right}
 use Rattle.shader_runs.proofs.Sources.{forgotten_named}
-use Rattle.naga_names.proofs.Label.{all_digits-decimal}
 use Rattle.naga_names.proofs.Refusal.{element}
 use Rattle.naga_form.specs.Declarations.{written_program}
 use Rattle.naga_form.specs.Expressions.{PlainForm, ValueForm, ReferenceForm, as_value, as_reference}
@@ -67,7 +61,7 @@ use Rattle.naga_form.specs.Statements.{let_form, then_if, lets_form, return_line
 use Rattle.naga_form.specs.Statements.{loop_form, label_form, labels_form, line_form, lines_form}
 use Rattle.naga_form.specs.Statements.{cases_form, has_form, store_line}
 use Rattle.module_meaning.specs.Premises.{handles_are_counted}
-use Rattle.module_meaning.specs.Names.{global_name, module_names, wgsl_names, numbered_text}
+use Rattle.module_meaning.specs.Names.{global_name, module_names, wgsl_names}
 use Rattle.module_meaning.specs.Names.{numbered_name}
 use Rattle.module_meaning.specs.Types.{type_names}
 use Rattle.naga_form.specs.Types.{told_type}
@@ -126,14 +120,10 @@ use Rattle.naga_form.proofs.Literals.{literal_is}
 use Rattle.naga_form.proofs.Names.{item_is_identifier, function_item, argument_item, function_there}
 use Rattle.naga_form.proofs.Names.{argument_there}
 use Rattle.naga_form.proofs.NumberedNames.{numbered_is}
-use Rattle.std.specs.Char.{is_ascii_digit}
-use Rattle.std.specs.Str.{bytes_eq}
 use Rattle.std.proofs.lemmas.Option.{slice_get_within}
-use Rattle.std.proofs.lemmas.Slice.Eq.{bytes_eq-Decides}
 use Rattle.naga_names.proofs.NamedItems.{local_stands}
 use Rattle.naga_ir.specs.declared.expression.Expression.TheVariants as expression
 use Rattle.naga_ir.specs.declared.module.LocalVariable.{LocalVariable}
-use Rattle.wgsl_text.specs.Keywords.{builtin_words, reserved_words}
 use Rattle.shader_runs.specs.World.{update}
 use Rattle.shader_runs.specs.Program.{binds, from, expression_of, operands_of, binds_as}
 use Rattle.shader_runs.specs.Program.{holds_continue}

@@ -60,7 +60,7 @@ use Rattle.shader_runs.specs.Premises.{ResultFits, ActionFits, CallFits, ResultW
 use Rattle.shader_runs.specs.Premises.{AsksBy, EachAsks, IsNoName, handle_types}
 use Rattle.shader_runs.specs.Program as shapes
 use Rattle.shader_runs.specs.Program.{Statement, Block, If, Switch, Loop, Barrier, Act, Asked, Called}
-use Rattle.shader_runs.specs.Program.{Statements, end, then, Cases, no_case, handle_type, expression_of}
+use Rattle.shader_runs.specs.Program.{Statements, end, then, Cases, no_case, handle_type}
 use Rattle.shader_runs.specs.Program.{function_numbered}
 use Rattle.shader_runs.specs.ProgramRun.{barrier_words}
 use Rattle.shader_runs.specs.Scope.{Naming, Names}

@@ -1,9 +1,5 @@
 -- The program that is written for a module does what the module does.
-use Rattle.naga_form.proofs.AcceptedFunctions.{accepted_at, locals_are_in_range}
-use Rattle.naga_form.proofs.AcceptedFunctions.{function_there as function_there_known}
 use Rattle.module_meaning.specs.Part.{types_are_of_part}
-use Rattle.module_meaning.specs.Types.{type_names}
-use Rattle.naga_form.specs.Types.{LocalsHaveForms}
 use Rattle.std.proofs.Common.{[], ◌≡◌, ℕ, suc, ◌+◌, ◌<◌, Bool, List, ◌∷◌, map, length}
 use Rattle.std.proofs.Common.{Some, refl, sym, ap, subst, ◌∙◌, arith, add-one, append-nil}
 use Rattle.std.specs.Prelude.{IsTrue, slice_get, reverse}
@@ -22,7 +18,7 @@ use Rattle.naga_info.specs.declared.info.ExpressionInfo.{ExpressionInfo}
 use Rattle.naga_info.specs.declared.info.ModuleInfo.{ModuleInfo}
 use Rattle.naga_form.specs.Functions.{functions_form}
 use Rattle.naga_form.specs.Declarations.{written_program}
-use Rattle.naga_form.proofs.Abstraction.{locals_have_forms, function_reads}
+use Rattle.naga_form.proofs.Abstraction.{function_reads}
 use Rattle.naga_form.proofs.AcceptedFunctions.{functions_paired}
 use Rattle.module_meaning.specs.InfoSizes.{function_size_fits}
 use Rattle.module_meaning.proofs.SideBySide.{paired_at}
@@ -54,12 +50,9 @@ use Rattle.naga_form.proofs.PartFits.{is_left, no_case_falls}
 use Rattle.naga_form.proofs.ConstantsFit.{constants_are_typed}
 use Rattle.naga_form.proofs.FunctionsFit.{IsLeft, AllBehind, all_fit}
 use Rattle.naga_form.proofs.AcceptedFunctions.{functions_known, group_at, numbered, Numbered, functions_counted, AsFunction, AsEntryPoint}
-use Rattle.naga_form.proofs.ConstantTrees.{trees_are}
 use Rattle.naga_form.proofs.Leaves.{ConstantsAreTyped}
 use Rattle.module_meaning.specs.Accepted.{is_accepted}
-use Rattle.module_meaning.specs.AgreeingOperators.{function_group}
 use Rattle.module_meaning.specs.Part.{function_is_written}
-use Rattle.std.specs.List.{zip}
 use Rattle.module_meaning.proofs.Lists.{list_all_at}
 use Rattle.naga_ir.specs.declared.module.EntryPoint.{EntryPoint}
 use Rattle.std.proofs.lemmas.List.{nil_from_length}

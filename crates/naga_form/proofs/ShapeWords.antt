@@ -1,15 +1,12 @@
 -- The words of the program of shapes of a module whose types are counted: no name hides one, where
 -- names are free, and each that asks is a request.
-use Rattle.std.proofs.Common.{◌≡◌, ℕ, zero, suc, ◌+◌, Bool, true, false, ◌||◌, List, [], ◌∷◌, ◌++◌, length, Option}
-use Rattle.std.proofs.Common.{Some, None, refl, subst, ◌∙◌}
-use Rattle.std.specs.Prelude.{slice_get, unwrap_or, if◌then◌else◌}
+use Rattle.std.proofs.Common.{◌≡◌, ℕ, zero, suc, ◌+◌, Bool, true, false, ◌||◌, List, [], ◌∷◌, Option}
+use Rattle.std.proofs.Common.{Some, None, refl, ◌∙◌}
+use Rattle.std.specs.Prelude.{slice_get, if◌then◌else◌}
 use Rattle.std.specs.Option.{option_and_then, option_to_list, is_some}
-use Rattle.std.proofs.lemmas.Option.{same_Some}
 use Rattle.naga_ir.specs.Operands.{expression_operands}
 use Rattle.naga_ir.specs.declared.expression.Expression as ir
 use Rattle.naga_ir.specs.declared.expression.Expression.TheVariants as expression
-use Rattle.naga_ir.specs.declared.expression.SampleLevel.{SampleLevel}
-use Rattle.naga_ir.specs.declared.expression.SampleLevel.TheVariants as level
 use Rattle.naga_ir.specs.declared.module.Constant as ir_constant
 use Rattle.naga_ir.specs.declared.module.Function as ir_function
 use Rattle.naga_ir.specs.declared.module.Module.{Module}
@@ -17,32 +14,30 @@ use Rattle.naga_info.specs.declared.info.ExpressionInfo.{ExpressionInfo}
 use Rattle.naga_info.specs.declared.info.ModuleInfo.{ModuleInfo}
 use Rattle.naga_info.specs.declared.info.TypeResolution.{TypeResolution}
 use Rattle.naga_info.specs.declared.info.TypeResolution.TheVariants.{Handle}
-use Rattle.naga_info.proofs.Options.{then_some, map_some}
+use Rattle.naga_info.proofs.Options.{then_some}
 use Rattle.module_meaning.specs.ExpressionOperators.{applied_operator, constructor, load_operator}
 use Rattle.module_meaning.specs.ExpressionOperators.{level_of}
-use Rattle.module_meaning.specs.ExpressionShapes.{Declared, trees, tree_then, trees_of, built, tree_over}
-use Rattle.module_meaning.specs.ExpressionShapes.{tree_within, constant_tree}
+use Rattle.module_meaning.specs.ExpressionShapes.{built}
+use Rattle.module_meaning.specs.ExpressionShapes.{constant_tree}
 use Rattle.module_meaning.specs.ExpressionShapes.{applied_shape, applied_or, part_shape, part_selector}
-use Rattle.module_meaning.specs.ExpressionShapes.{written_zero, shape_of, asking}
+use Rattle.module_meaning.specs.ExpressionShapes.{shape_of, asking}
 use Rattle.module_meaning.specs.FunctionShapes.{function_shape, shapes_from}
-use Rattle.module_meaning.specs.Literals.{literal_value}
 use Rattle.module_meaning.specs.ModuleShapes.{initialiser}
 use Rattle.module_meaning.specs.OperatorTable.{Operator, Splat, WithoutForm, PartAt, run_word, asks}
 use Rattle.module_meaning.specs.OperatorTable.{TypeIsSound}
 use Rattle.module_meaning.specs.Shapes.{operator_shape}
-use Rattle.module_meaning.specs.Surroundings.{declared, declared_over, global_types_known, types_known}
-use Rattle.module_meaning.specs.Surroundings.{constant_over, global_tree, global_tree_within, written_constant, constant_number}
-use Rattle.module_meaning.specs.Surroundings.{surroundings, zero_of_type}
+use Rattle.module_meaning.specs.Surroundings.{declared, types_known}
+use Rattle.module_meaning.specs.Surroundings.{written_constant}
+use Rattle.module_meaning.specs.Surroundings.{surroundings}
 use Rattle.module_meaning.proofs.ExpressionShapes.{constructor_asks}
 use Rattle.module_meaning.proofs.Shapes.{operator_any}
 use Rattle.shader_runs.specs.Program as shapes
-use Rattle.shader_runs.specs.Program.{ConstantTree, Fixed, NamedConstant, Constructed, ConstantTrees}
 use Rattle.shader_runs.specs.Program.{Expression, Constant, Load, Request, Result, no_constant}
 use Rattle.shader_runs.specs.Program.{expression_of}
 use Rattle.shader_runs.specs.Scope.{Naming}
-use Rattle.shader_runs.specs.Premises.{EachWord, EachWordOf, WordFits, OperatesBy, AsksBy}
+use Rattle.shader_runs.specs.Premises.{EachWord, WordFits, OperatesBy, AsksBy}
 use Rattle.shader_runs.specs.Premises.{OperatesOutside}
-use Rattle.shader_runs.specs.Value.{Selector, Truth}
+use Rattle.shader_runs.specs.Value.{Selector}
 use Rattle.naga_form.proofs.FreeNames.{free_names, freely_named, asks_freely, operates_freely}
 use Rattle.naga_form.proofs.FreeNames.{operates_outside}
 use Rattle.naga_form.proofs.FreeWords.{free_request, word_is_told}

@@ -1,25 +1,13 @@
 -- Structs, overrides and members are told apart by their names.
-use Rattle.std.proofs.Common.{◌≡◌, ℕ, ◌<◌, true, length, Some, ap, arith, slice_get}
-use Rattle.std.specs.Prelude.{IsTrue, ◌==◌}
-use Rattle.std.specs.Option.{is_none}
-use Rattle.std.specs.List.{list_all}
-use Rattle.std.proofs.lemmas.Bool.{and_parts, eqb-true}
-use Rattle.naga_info.specs.declared.info.ModuleInfo.{ModuleInfo}
+use Rattle.std.proofs.Common.{◌≡◌, ℕ, ap}
 use Rattle.naga_ir.specs.declared.module.Module.{Module}
-use Rattle.naga_ir.specs.declared.types.StructMember.{StructMember}
 use Rattle.naga_ir.specs.declared.types.Type_.{Type_}
-use Rattle.naga_ir.specs.declared.types.TypeInner.{TypeInner}
-use Rattle.naga_ir.specs.declared.types.TypeInner.TheVariants as inner
-use Rattle.naga_names.specs.Reset.{LabelledItem, labelled_items, members_of}
+use Rattle.naga_names.specs.Reset.{LabelledItem, labelled_items}
 use Rattle.naga_names.specs.declared.key.NameKey.TheVariants as key
 use Rattle.naga_names.proofs.NamedItems.{Stands, type_stands, override_stands}
 use Rattle.naga_names.proofs.Refusal.{element}
-use Rattle.naga_words.specs.Spelling.{is_struct}
 use Rattle.module_meaning.specs.Names.{ItemsAreTold}
 use Rattle.module_meaning.specs.Names.{TypesAreTold, module_names, name_in, wgsl_names}
-use Rattle.module_meaning.specs.Part.{is_written_so_far, needs_nothing, type_is_of_part}
-use Rattle.module_meaning.proofs.Lists.{list_all_at}
-use Rattle.module_meaning.proofs.Part.{written_so_far_parts}
 use Rattle.naga_form.proofs.MemberNames.{member_names_tell}
 use Rattle.naga_form.proofs.Names.{items_tell}
 

@@ -1,7 +1,7 @@
 -- The types that have a form: their trees, which are types of the grammar and are spelled as no name
 -- is.
-use Rattle.std.proofs.Common.{[], ◌≡◌, ℕ, zero, suc, ◌<◌, Bool, true, false, not, List, ◌∷◌, ◌++◌}
-use Rattle.std.proofs.Common.{Option, Some, None, refl, sym, ap, subst, ◌∙◌, slice_get, arith}
+use Rattle.std.proofs.Common.{[], ◌≡◌, ℕ, zero, suc, ◌<◌, Bool, true, false, List, ◌∷◌, ◌++◌}
+use Rattle.std.proofs.Common.{Option, Some, None, refl, sym, ap, subst, slice_get, arith}
 use Rattle.std.proofs.Common.{codes}
 use Rattle.std.specs.Prelude.{if◌then◌else◌, unwrap_or, ◌⊎◌, ◌&&◌, ◌||◌}
 use mathlib.Core.Logic.{inl, inr}
@@ -27,7 +27,7 @@ use Rattle.naga_ir.specs.declared.types.VectorSize.{VectorSize}
 use Rattle.naga_names.specs.Keys.{NameMap}
 use Rattle.naga_words.specs.Contexts.{Names, names_of}
 use Rattle.naga_words.specs.Spelling.{is_struct, length_within}
-use Rattle.naga_words.specs.Words.{image_word, sampler_word}
+use Rattle.naga_words.specs.Words.{sampler_word}
 use Rattle.module_meaning.specs.AlikeTypes.{has_form, type_form as form_numbers}
 use Rattle.module_meaning.proofs.Part.{type_of_part}
 use Rattle.module_meaning.specs.Part.{needs_nothing, types_are_of_part}
@@ -49,9 +49,9 @@ use Rattle.naga_form.proofs.OperatingWords.{operates_freely, plain_types_free, t
 use Rattle.naga_form.proofs.SameValues.{IsFit, TypesAreFit, tree_is}
 use Rattle.naga_form.proofs.TypeTrees.{depth_is_plain}
 use Rattle.naga_form.specs.TypeTrees.{array_tree, found_tree_by, image_tree, inner_tree_by}
-use Rattle.naga_form.specs.TypeTrees.{inner_tree, pointer_tree_in, ray_tree, resolution_tree}
+use Rattle.naga_form.specs.TypeTrees.{pointer_tree_in, ray_tree, resolution_tree}
 use Rattle.naga_form.specs.TypeTrees.{scalar_tree, tree_within, type_tree, value_pointer_tree_in}
-use Rattle.naga_form.specs.TypeTrees.{value_tree, vector_tree}
+use Rattle.naga_form.specs.TypeTrees.{value_tree}
 use Rattle.naga_form.specs.Types.{told_type, type_form}
 
 -- ---- trees
