@@ -1,5 +1,5 @@
-//! Functions of mathematics, each with its word. `Modf` and `Frexp` give structs, which are not
-//! written so far.
+//! Functions of mathematics, each with its word, but `Modf` and `Frexp`, which give structs that no
+//! text declares (`predeclared`).
 
 use crate::program::tests::operators::is_written;
 use crate::program::tests::values::{

@@ -48,6 +48,17 @@ fn add_parts(sample: &mut Sample, labels: (&str, &str)) -> Result<Handle<Type_>,
     Ok(ty)
 }
 
+/// What `frexp` gives for an `f32`.
+fn add_significand(sample: &mut Sample) -> Result<Handle<Type_>, AllocError> {
+    let scalar = Scalar::F32;
+    let fract = sample.shader.scalar(scalar)?;
+    let exp = sample.shader.scalar(Scalar::I32)?;
+    let of = PredeclaredType::FrexpResult { size: None, scalar };
+    let ty = sample.structure("__frexp_result_f32", &[("fract", fract), ("exp", exp)])?;
+    sample.shader.predeclared(of, ty)?;
+    Ok(ty)
+}
+
 fn add_undeclared(sample: &mut Sample, ty: Undeclared) -> Result<Handle<Type_>, AllocError> {
     match ty {
         Undeclared::Parts => add_parts(sample, ("fract", "whole")),
@@ -161,15 +172,21 @@ fn structs_that_no_text_declares_are_refused_where_they_are_named(
     Ok(())
 }
 
-/// A function that returns a part of a number, of a struct whose members have these labels.
-fn build_part(sample: &mut Sample, labels: (&str, &str), index: u32) -> Result<(), AllocError> {
-    let parts = add_parts(sample, labels)?;
+/// A function that returns a part, of this type, of what a function of mathematics gives for a number.
+fn build_split(
+    sample: &mut Sample,
+    fun: MathFunction,
+    parts: Handle<Type_>,
+    index: u32,
+    scalar: Scalar,
+) -> Result<(), AllocError> {
     let f32_type = sample.shader.scalar(Scalar::F32)?;
+    let part_type = sample.shader.scalar(scalar)?;
     sample.function.label("f")?;
-    sample.function.returns(f32_type);
+    sample.function.returns(part_type);
     let arg = sample.function.argument("x", f32_type)?;
     let split = Expression::Math {
-        fun: MathFunction::Modf,
+        fun,
         arg,
         arg1: None,
         arg2: None,
@@ -178,14 +195,40 @@ fn build_part(sample: &mut Sample, labels: (&str, &str), index: u32) -> Result<(
     let base = sample.function.expression(split, parts)?;
     let part = sample
         .function
-        .expression(Expression::AccessIndex { base, index }, f32_type)?;
+        .expression(Expression::AccessIndex { base, index }, part_type)?;
     sample.function.body.emit(base, part)?;
     sample.end_with(part)
+}
+
+/// A function that returns a part of what `modf` gives, of a struct whose members have these labels.
+fn build_part(sample: &mut Sample, labels: (&str, &str), index: u32) -> Result<(), AllocError> {
+    let parts = add_parts(sample, labels)?;
+    build_split(sample, MathFunction::Modf, parts, index, Scalar::F32)
+}
+
+/// One that returns a part of what `frexp` gives.
+fn build_significand(sample: &mut Sample, index: u32, scalar: Scalar) -> Result<(), AllocError> {
+    let parts = add_significand(sample)?;
+    build_split(sample, MathFunction::Frexp, parts, index, scalar)
 }
 
 fn part_is_written(alloc: Global, index: u32, want: &str) -> Result<bool, AllocError> {
     let mut sample = Sample::new(alloc);
     let built = build_part(&mut sample, ("fract", "whole"), index);
+    let given = has_text(alloc, &sample, want);
+    drop(sample);
+    built?;
+    Ok(given)
+}
+
+fn significand_is_written(
+    alloc: Global,
+    index: u32,
+    scalar: Scalar,
+    want: &str,
+) -> Result<bool, AllocError> {
+    let mut sample = Sample::new(alloc);
+    let built = build_significand(&mut sample, index, scalar);
     let given = has_text(alloc, &sample, want);
     drop(sample);
     built?;
@@ -220,6 +263,15 @@ fn members_are_written_by_their_words(rt: HostRuntime) -> Result<(), Fail> {
         other_part_is_refused(rt.alloc(), ("fract", "fract"), 1)?,
         "twice"
     );
+    Ok(())
+}
+
+#[test]
+fn parts_of_a_significand_are_written(rt: HostRuntime) -> Result<(), Fail> {
+    let fract = "fn f(x: f32) -> f32 {\n    return frexp(x).fract;\n}\n\n";
+    let exp = "fn f(x: f32) -> i32 {\n    return frexp(x).exp;\n}\n\n";
+    assert!(rt; significand_is_written(rt.alloc(), 0, Scalar::F32, fract)?, "the first");
+    assert!(rt; significand_is_written(rt.alloc(), 1, Scalar::I32, exp)?, "the second");
     Ok(())
 }
 
