@@ -270,8 +270,14 @@ fn members_are_written_by_their_words(rt: HostRuntime) -> Result<(), Fail> {
 fn parts_of_a_significand_are_written(rt: HostRuntime) -> Result<(), Fail> {
     let fract = "fn f(x: f32) -> f32 {\n    return frexp(x).fract;\n}\n\n";
     let exp = "fn f(x: f32) -> i32 {\n    return frexp(x).exp;\n}\n\n";
-    assert!(rt; significand_is_written(rt.alloc(), 0, Scalar::F32, fract)?, "the first");
-    assert!(rt; significand_is_written(rt.alloc(), 1, Scalar::I32, exp)?, "the second");
+    assert!(rt;
+        significand_is_written(rt.alloc(), 0, Scalar::F32, fract)?,
+        "the first"
+    );
+    assert!(rt;
+        significand_is_written(rt.alloc(), 1, Scalar::I32, exp)?,
+        "the second"
+    );
     Ok(())
 }
 
