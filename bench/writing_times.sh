@@ -1,8 +1,9 @@
 #!/bin/sh
 # What the program as users get it, proved and built for release, takes for each item of modules of several
 # shapes and sizes: nanoseconds of processor time in `Namer::reset`, `accepts`, `count` and `write_string`, and the
-# megabytes of text that are written in a second; where valgrind is there, allocations; and for each level of nested operands bytes of the stack. Run it at the top of
-# the repository; it works on a copy, with the proofs that earlier checks kept (some GB).
+# megabytes of text that are written in a second; where valgrind is there, allocations; and for each level of nested
+# operands bytes of the stack. Run it at the top of the repository; it works on a copy, with the proofs that earlier
+# checks kept (some GB).
 set -- writing_times bench/writing_times/*.rt.txt
 . bench/on_a_whole_copy.sh
 program="$copy/crates/writing_times/out/writing_times"
