@@ -27,6 +27,7 @@ pub mod FunctionsFit
 pub mod GivenNames
 pub mod Images
 pub mod Interface
+mod LeafExamples
 pub mod Leaves
 pub mod Letters
 pub mod LiteralTypes
