@@ -7,9 +7,7 @@ ghost use Rattle.naga_names.specs.Keys.{names_in};
 use crate::texts::reads;
 use naga_wgsl_out::builder::ModuleBuilder;
 use naga_wgsl_out::info::{ModuleInfo, accepts};
-use naga_wgsl_out::ir::{
-    Constant, Expression, Handle, Literal, Module, Override, Scalar, VectorSize,
-};
+use naga_wgsl_out::ir::{Constant, Expression, Handle, Literal, Module, Scalar, VectorSize};
 use naga_wgsl_out::namer::NameKey;
 use naga_wgsl_out::wgsl::{Error, names_of, write_global_expression};
 use std::alloc::{AllocError, Global};
@@ -38,47 +36,17 @@ fn text_of(
 /// A constant without a name, and a vector of it.
 fn add_vector(alloc: Global, shader: &mut ModuleBuilder) -> Result<Handle<Expression>, AllocError> {
     let i32_type = shader.scalar(Scalar::I32)?;
+    let vector = shader.vector(VectorSize::Bi, Scalar::I32)?;
     let seven = shader.global_expression(Expression::Literal(Literal::I32(-7)), i32_type)?;
     let constant = shader.add_constant(Constant {
         name: None,
         ty: i32_type,
         init: seven,
     })?;
-    let unnamed = shader.global_expression(Expression::Constant(constant), i32_type)?;
-    add_pair(alloc, shader, unnamed, seven)
-}
-
-/// A constant with a name, an override, and a vector of them.
-fn add_named(alloc: Global, shader: &mut ModuleBuilder) -> Result<Handle<Expression>, AllocError> {
-    let i32_type = shader.scalar(Scalar::I32)?;
-    let seven = shader.global_expression(Expression::Literal(Literal::I32(-7)), i32_type)?;
-    let constant = shader.add_constant(Constant {
-        name: Some(String::from_str(alloc, "limit")?),
-        ty: i32_type,
-        init: seven,
-    })?;
-    let scale = shader.add_override(Override {
-        name: Some(String::from_str(alloc, "limit")?),
-        id: Some(3),
-        ty: i32_type,
-        init: Some(seven),
-    })?;
-    let limit = shader.global_expression(Expression::Constant(constant), i32_type)?;
-    let scale = shader.global_expression(Expression::Override(scale), i32_type)?;
-    add_pair(alloc, shader, limit, scale)
-}
-
-/// A vector of two components.
-fn add_pair(
-    alloc: Global,
-    shader: &mut ModuleBuilder,
-    left: Handle<Expression>,
-    right: Handle<Expression>,
-) -> Result<Handle<Expression>, AllocError> {
-    let vector = shader.vector(VectorSize::Bi, Scalar::I32)?;
+    let named = shader.global_expression(Expression::Constant(constant), i32_type)?;
     let mut components = Vec::new(alloc);
-    components.push(left)?;
-    components.push(right)?;
+    components.push(named)?;
+    components.push(seven)?;
     shader.global_expression(
         Expression::Compose {
             ty: vector,
@@ -88,33 +56,13 @@ fn add_pair(
     )
 }
 
-/// Asks for the text of an expression of the module.
-fn written(
-    rt: &impl Abort,
-    alloc: Global,
-    shader: &ModuleBuilder,
-    handle: Handle<Expression>,
-) -> Result<String, Error> {
-    assert!(rt; handle.index() < shader.module.global_expressions.len());
-    assert!(rt; accepts(&shader.module, &shader.info));
-    let (names, _namer) = names_of(alloc, &shader.module)?;
-    text_of(alloc, &shader.module, &shader.info, &names, handle)
-}
-
 fn writes(rt: &impl Abort, alloc: Global, shader: &mut ModuleBuilder) -> Result<(), Error> {
     let vector = add_vector(alloc, shader)?;
-    let text = written(rt, alloc, shader, vector)?;
+    assert!(rt; vector.index() < shader.module.global_expressions.len());
+    assert!(rt; accepts(&shader.module, &shader.info));
+    let (names, _namer) = names_of(alloc, &shader.module)?;
+    let text = text_of(alloc, &shader.module, &shader.info, &names, vector)?;
     reads(rt, text.as_str(), "vec2<i32>(-7i, -7i)");
-    Ok(())
-}
-
-fn refuses(rt: &impl Abort, alloc: Global, shader: &mut ModuleBuilder) -> Result<(), AllocError> {
-    let named = add_named(alloc, shader)?;
-    match written(rt, alloc, shader, named) {
-        Err(Error::Unimplemented(told)) => reads(rt, told.as_str(), "not yet written"),
-        Err(_) => assert!(rt; false),
-        Ok(_) => assert!(rt; false),
-    }
     Ok(())
 }
 
@@ -124,14 +72,5 @@ fn an_initialiser_is_written(rt: HostRuntime) -> Result<(), Fail> {
     let written = writes(&rt, rt.alloc(), &mut shader);
     drop(shader);
     written?;
-    Ok(())
-}
-
-#[test]
-fn names_wait_for_their_declarations(rt: HostRuntime) -> Result<(), Fail> {
-    let mut shader = ModuleBuilder::new(rt.alloc());
-    let refused = refuses(&rt, rt.alloc(), &mut shader);
-    drop(shader);
-    refused?;
     Ok(())
 }
