@@ -19,10 +19,16 @@ fn add_double(alloc: Global, shader: &mut ModuleBuilder) -> Result<(), AllocErro
     Ok(())
 }
 
+/// What the module has.
+fn build(alloc: Global, shader: &mut ModuleBuilder) -> Result<(), AllocError> {
+    add_double(alloc, shader)?;
+    Ok(())
+}
+
 fn main(rt: HostRuntime) -> anyhow::Result<()> {
     let alloc = rt.alloc();
     let mut shader = ModuleBuilder::new(alloc);
-    add_double(alloc, &mut shader)?;
+    build(alloc, &mut shader)?;
     let text = write_checked(alloc, &shader.module, &mut shader.info, no_flags())?;
     print!(rt; "{text}")?;
     Ok(())
