@@ -1,9 +1,8 @@
 //! Sinks.
-use naga_words::{SinkError, TextSink};
+use naga_words::{IoSink, Limited, SinkError, TextSink};
 use std::io::Cursor;
 use std::process::Abort;
 use std::test::Fail;
-use text_sinks::{IoSink, Limited};
 
 #[test]
 fn a_limited_text_refuses_once(rt: HostRuntime) -> Result<(), Fail> {

@@ -20,4 +20,4 @@
 //! }
 //! ```
 
-pub use text_sinks::{IoSink, Limited};
+pub use naga_words::{IoSink, Limited};

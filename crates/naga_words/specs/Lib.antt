@@ -1,5 +1,7 @@
 pub mod Contexts
 pub mod Diagnostics
+pub mod Handing
+pub mod Limited
 pub mod Output
 pub mod Parts
 pub mod Predeclared

@@ -1,10 +1,13 @@
-//! Text sinks, outputs over them, and the spelling of types: words, and whole types in a context
-//! that names structs and overrides; and the words of diagnostics. It passes on WGSL's words.
+//! Text sinks, one over a writer of bytes and one with a limit among them, and outputs over sinks;
+//! the spelling of types: words, and whole types in a context that names structs and overrides; the
+//! words of diagnostics. It passes on WGSL's words.
 #![tactic(auto)]
 
 pub mod diagnostics;
 pub mod error;
 pub mod images;
+mod io_sink;
+mod limited;
 pub mod output;
 pub mod pieces;
 pub mod predeclared;
@@ -14,6 +17,8 @@ pub mod types;
 pub mod words;
 
 pub use error::TypeTextError;
+pub use io_sink::IoSink;
+pub use limited::Limited;
 pub use output::Output;
 pub use predeclared::PredeclaredName;
 pub use sink::{SinkError, TextSink};

@@ -10,14 +10,14 @@ use naga_ir::{
 use naga_names::NameKey;
 use naga_words::types::{type_fits, types_in_order};
 use naga_words::{
-    PredeclaredName, SinkError, TextSink, TryToWgsl, TypeContext, TypeTextError, WriterTypeContext,
+    Limited, PredeclaredName, SinkError, TextSink, TryToWgsl, TypeContext, TypeTextError,
+    WriterTypeContext,
 };
 use std::alloc::{AllocError, Global};
 use std::collections::HashMap;
 use std::num::NonZeroU32;
 use std::process::Abort;
 use std::test::Fail;
-use text_sinks::Limited;
 
 mod handles;
 mod labels;

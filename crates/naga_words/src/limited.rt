@@ -2,9 +2,9 @@
 
 ghost use Rattle.std.specs.Prelude.{◌≡◌, ◌<◌, ◌++◌, OnOk, OnErr, IsErrOf, IsTrue, false, []};
 ghost use Rattle.std.specs.Prelude.{alloc_error};
-ghost use Rattle.text_sinks.specs.Limited.{goes_past};
+ghost use Rattle.naga_words.specs.Limited.{goes_past};
 
-use naga_words::{SinkError, TextSink};
+use crate::sink::{SinkError, TextSink};
 use std::alloc::Global;
 use std::marker::Model;
 
@@ -29,7 +29,7 @@ pub struct Limited {
 
 impl Model for Limited {
     ghost use Rattle.std.specs.Prelude.{string_bytes};
-    ghost use Rattle.text_sinks.specs.Limited.{HeldText};
+    ghost use Rattle.naga_words.specs.Limited.{HeldText};
 
     ghost Value = { HeldText };
 

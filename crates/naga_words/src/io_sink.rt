@@ -3,9 +3,9 @@
 ghost use Rattle.std.specs.Prelude.{◌≡◌, ◌<◌, ◌++◌, OnOk, OnErr, IsErrOf, [], string_bytes};
 ghost use Rattle.std.specs.Io.KnownBytes.{Appends};
 ghost use Rattle.naga_words.specs.Sink.{IsBehind};
-ghost use Rattle.text_sinks.specs.Handing.{Handing};
+ghost use Rattle.naga_words.specs.Handing.{Handing};
 
-use naga_words::{SinkError, TextSink};
+use crate::sink::{SinkError, TextSink};
 use std::alloc::{AllocError, Global};
 use std::io::Write;
 use std::marker::Model;

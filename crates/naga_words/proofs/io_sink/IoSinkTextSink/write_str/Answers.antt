@@ -1,6 +1,6 @@
 use Rattle.std.proofs.Common.{[], arith}
 use Rattle.std.proofs.lemmas.Grind.{common_steps}
-use Rattle.text_sinks.proofs.io_sink.IoSinkTextSink.write_str.Goals as goal
+use Rattle.naga_words.proofs.io_sink.IoSinkTextSink.write_str.Goals as goal
 
 -- the whole piece counts as handed over
 pub returns-in-Err-clause-text_err : goal.returns-in-Err-clause-text_err
