@@ -16,7 +16,8 @@ PATH = re.compile(r"(?<![/\w])[\w.*-]+(?:/[\w.*+-]+)+/?")
 ITEM = re.compile(r"(\w+)((?:::\w+)+)")
 SPAN = re.compile(r"`([^`]+)`")
 # some names, and the file or the crate that has them
-OWNED = re.compile(r"((?:`[^`]+`(?:, | and |, and )?)+) of `([\w/]+)`")
+NAMES = r"((?:`[^`]+`(?:, | and |, and )?)+)"
+OWNED = [re.compile(NAMES + r" of `([\w/]+)`"), re.compile(NAMES + r" \(`([\w.]+/[\w./]+)`\)")]
 
 # A name that stands for any other.
 ANY = re.compile(r"\b(?:NAME|WHAT|PATH)\b")
@@ -97,7 +98,7 @@ class Tree:
 
     def misplaced(self, line):
         """Names that the file or the crate has not of which a line says that it has them."""
-        for names, owner in OWNED.findall(line):
+        for names, owner in (found for pattern in OWNED for found in pattern.findall(line)):
             words = self.words_at(owner)
             for name in SPAN.findall(names) if words else []:
                 if WORD.fullmatch(name) and name not in words:
