@@ -627,9 +627,14 @@ module _ (m : Module) (info : ModuleInfo) (g : ℕ) (f : ir_function.Function) (
     line_is told told_well k (branch condition accept reject) fit s well room rest is w =
         let behind = given_by_all own.function (statements_shape d.around accept) k in
         let one = all_front W (block_roots bound accept) (block_roots bound reject) w.1 in
-        let other = all_rest W (block_roots bound accept) (block_roots bound reject) w.1 in
-        ((value_at_is s well condition w.0, lines_are told told_well k accept fit.0 s well (room_front k (block_labels f accept) (block_labels f reject) room) one, 
-        optional_is reject _ (lines_are told told_well behind reject fit.1 s well (room_beyond k accept (block_labels f reject) room) other)), is)
+        let other = all_rest W (block_roots bound accept) (block_roots bound reject) w.1 in (
+          (
+            value_at_is s well condition w.0,
+            lines_are told told_well k accept fit.0 s well (room_front k (block_labels f accept) (block_labels f reject) room) one,
+            optional_is reject _ (lines_are told told_well behind reject fit.1 s well (room_beyond k accept (block_labels f reject) room) other),
+          ),
+          is,
+        )
     line_is told told_well k (switch selector cs) fit s well room rest is w =
         ((value_at_is s well selector w.0, cases_are told told_well k [] tt cs fit.1 s well room w.1, cases_stay told k [] cs fit.0 s), is)
     line_is told told_well k (loop body continuing break_if) fit s well room rest is w =
