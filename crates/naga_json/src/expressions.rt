@@ -5,7 +5,7 @@ use crate::shape::{FromJson, Variants, item_of, items_of, member, mistyped, read
 use naga_ir::{CooperativeData, Expression, ImageQuery, Literal, SampleLevel, SwizzleComponent};
 use serde_json::Value;
 use std::alloc::Global;
-use std::num::nearest_f64_to_f32;
+use std::num::nearest_f64_to_f32_with_nan;
 
 /// The words of [`SwizzleComponent`].
 const SWIZZLE_COMPONENT_WORDS: &[(&str, SwizzleComponent)] = &[
@@ -588,7 +588,7 @@ fn double_bits(alloc: Global, value: &Value) -> Result<u64, ReadError> {
         return member(alloc, value, BITS);
     }
     match value.as_f64() {
-        Some(number) if !number.is_nan() => Ok(number.to_bits()),
+        Some(number) if number.is_finite() => Ok(number.to_bits()),
         _ => Err(mistyped(alloc, Wanted::Number)),
     }
 }
@@ -599,14 +599,14 @@ fn single_bits(alloc: Global, value: &Value) -> Result<u32, ReadError> {
         return member(alloc, value, BITS);
     }
     match value.as_f64() {
-        Some(number) if !number.is_nan() => nearest_bits(alloc, number),
-        _ => Err(mistyped(alloc, Wanted::Number)),
+        Some(number) => nearest_bits(alloc, number),
+        None => Err(mistyped(alloc, Wanted::Number)),
     }
 }
 
 /// The bits of the nearest number of four bytes, where there is one.
 fn nearest_bits(alloc: Global, number: f64) -> Result<u32, ReadError> {
-    let single = nearest_f64_to_f32(number);
+    let single = nearest_f64_to_f32_with_nan(number);
     if single.is_finite() {
         Ok(single.to_bits())
     } else {
