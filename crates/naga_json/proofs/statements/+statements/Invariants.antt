@@ -1,0 +1,30 @@
+-- The levels that are left, and the order of the functions that pass them on.
+use Rattle.std.proofs.Common.{◌+◌, ◌*◌}
+use Rattle.naga_json.proofs.statements.+statements.Given as goal
+
+abbrev pub decreases-block : goal.decreases-block
+decreases-block l = 9 * l.levels
+
+abbrev pub decreases-statement : goal.decreases-statement
+decreases-statement l = 9 * l.levels + 8
+
+abbrev pub decreases-named_statement : goal.decreases-named_statement
+decreases-named_statement l = 9 * l.levels + 7
+
+abbrev pub decreases-switch : goal.decreases-switch
+decreases-switch l = 9 * l.levels + 6
+
+abbrev pub decreases-cases_of : goal.decreases-cases_of
+decreases-cases_of l = 9 * l.levels + 5
+
+abbrev pub decreases-case_of : goal.decreases-case_of
+decreases-case_of l = 9 * l.levels + 4
+
+abbrev pub decreases-if_else : goal.decreases-if_else
+decreases-if_else l = 9 * l.levels + 3
+
+abbrev pub decreases-loop_of : goal.decreases-loop_of
+decreases-loop_of l = 9 * l.levels + 2
+
+abbrev pub decreases-member_block : goal.decreases-member_block
+decreases-member_block l = 9 * l.levels + 1

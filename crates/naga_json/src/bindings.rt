@@ -1,0 +1,225 @@
+//! Bindings.
+
+use crate::error::ReadError;
+use crate::shape::{FromJson, Variants, member, read_variant, word};
+use naga_ir::{Binding, BuiltIn, Interpolation, ResourceBinding, Sampling};
+use serde_json::Value;
+use std::alloc::Global;
+
+/// The variants of [`BuiltIn`].
+#[derive(Clone, Copy)]
+pub(crate) enum BuiltInName {
+    Unit(BuiltIn),
+    Position,
+    Barycentric,
+}
+
+/// The names of [`BuiltIn`].
+const BUILT_IN_NAMES: &[(&str, BuiltInName)] = &[
+    ("Position", BuiltInName::Position),
+    ("Barycentric", BuiltInName::Barycentric),
+    ("ViewIndex", BuiltInName::Unit(BuiltIn::ViewIndex)),
+    ("InstanceIndex", BuiltInName::Unit(BuiltIn::InstanceIndex)),
+    ("VertexIndex", BuiltInName::Unit(BuiltIn::VertexIndex)),
+    ("ClipDistances", BuiltInName::Unit(BuiltIn::ClipDistances)),
+    ("FragDepth", BuiltInName::Unit(BuiltIn::FragDepth)),
+    ("FrontFacing", BuiltInName::Unit(BuiltIn::FrontFacing)),
+    ("PrimitiveIndex", BuiltInName::Unit(BuiltIn::PrimitiveIndex)),
+    ("DrawIndex", BuiltInName::Unit(BuiltIn::DrawIndex)),
+    ("SampleIndex", BuiltInName::Unit(BuiltIn::SampleIndex)),
+    ("SampleMask", BuiltInName::Unit(BuiltIn::SampleMask)),
+    (
+        "GlobalInvocationId",
+        BuiltInName::Unit(BuiltIn::GlobalInvocationId),
+    ),
+    (
+        "LocalInvocationId",
+        BuiltInName::Unit(BuiltIn::LocalInvocationId),
+    ),
+    (
+        "LocalInvocationIndex",
+        BuiltInName::Unit(BuiltIn::LocalInvocationIndex),
+    ),
+    ("WorkGroupId", BuiltInName::Unit(BuiltIn::WorkGroupId)),
+    ("NumWorkGroups", BuiltInName::Unit(BuiltIn::NumWorkGroups)),
+    ("NumSubgroups", BuiltInName::Unit(BuiltIn::NumSubgroups)),
+    ("SubgroupId", BuiltInName::Unit(BuiltIn::SubgroupId)),
+    ("SubgroupSize", BuiltInName::Unit(BuiltIn::SubgroupSize)),
+    (
+        "SubgroupInvocationId",
+        BuiltInName::Unit(BuiltIn::SubgroupInvocationId),
+    ),
+    ("MeshTaskSize", BuiltInName::Unit(BuiltIn::MeshTaskSize)),
+    (
+        "TriangleIndices",
+        BuiltInName::Unit(BuiltIn::TriangleIndices),
+    ),
+    ("LineIndices", BuiltInName::Unit(BuiltIn::LineIndices)),
+    ("PointIndex", BuiltInName::Unit(BuiltIn::PointIndex)),
+    ("Vertices", BuiltInName::Unit(BuiltIn::Vertices)),
+    ("Primitives", BuiltInName::Unit(BuiltIn::Primitives)),
+    ("VertexCount", BuiltInName::Unit(BuiltIn::VertexCount)),
+    ("PrimitiveCount", BuiltInName::Unit(BuiltIn::PrimitiveCount)),
+    ("CullPrimitive", BuiltInName::Unit(BuiltIn::CullPrimitive)),
+    (
+        "RayInvocationId",
+        BuiltInName::Unit(BuiltIn::RayInvocationId),
+    ),
+    (
+        "NumRayInvocations",
+        BuiltInName::Unit(BuiltIn::NumRayInvocations),
+    ),
+    (
+        "InstanceCustomData",
+        BuiltInName::Unit(BuiltIn::InstanceCustomData),
+    ),
+    ("GeometryIndex", BuiltInName::Unit(BuiltIn::GeometryIndex)),
+    ("WorldRayOrigin", BuiltInName::Unit(BuiltIn::WorldRayOrigin)),
+    (
+        "WorldRayDirection",
+        BuiltInName::Unit(BuiltIn::WorldRayDirection),
+    ),
+    (
+        "ObjectRayOrigin",
+        BuiltInName::Unit(BuiltIn::ObjectRayOrigin),
+    ),
+    (
+        "ObjectRayDirection",
+        BuiltInName::Unit(BuiltIn::ObjectRayDirection),
+    ),
+    ("RayTmin", BuiltInName::Unit(BuiltIn::RayTmin)),
+    ("RayTCurrentMax", BuiltInName::Unit(BuiltIn::RayTCurrentMax)),
+    ("ObjectToWorld", BuiltInName::Unit(BuiltIn::ObjectToWorld)),
+    ("WorldToObject", BuiltInName::Unit(BuiltIn::WorldToObject)),
+    ("HitKind", BuiltInName::Unit(BuiltIn::HitKind)),
+    ("BaseInstance", BuiltInName::Unit(BuiltIn::BaseInstance)),
+    ("BaseVertex", BuiltInName::Unit(BuiltIn::BaseVertex)),
+    ("CullDistance", BuiltInName::Unit(BuiltIn::CullDistance)),
+    ("PointSize", BuiltInName::Unit(BuiltIn::PointSize)),
+    ("PointCoord", BuiltInName::Unit(BuiltIn::PointCoord)),
+    ("WorkGroupSize", BuiltInName::Unit(BuiltIn::WorkGroupSize)),
+];
+
+impl FromJson for BuiltIn {
+    fn from_json(alloc: Global, value: &Value) -> Result<BuiltIn, ReadError> {
+        read_variant(alloc, value)
+    }
+}
+
+impl Variants for BuiltIn {
+    type Name = BuiltInName;
+
+    fn names() -> &'static [(&'static str, BuiltInName)] {
+        BUILT_IN_NAMES
+    }
+
+    fn from_content(
+        alloc: Global,
+        variant: BuiltInName,
+        content: &Value,
+    ) -> Result<BuiltIn, ReadError> {
+        match variant {
+            BuiltInName::Unit(unit) => Ok(unit),
+            BuiltInName::Position => builtin_position(alloc, content),
+            BuiltInName::Barycentric => builtin_barycentric(alloc, content),
+        }
+    }
+}
+
+fn builtin_position(alloc: Global, content: &Value) -> Result<BuiltIn, ReadError> {
+    Ok(BuiltIn::Position {
+        invariant: member(alloc, content, "invariant")?,
+    })
+}
+
+fn builtin_barycentric(alloc: Global, content: &Value) -> Result<BuiltIn, ReadError> {
+    Ok(BuiltIn::Barycentric {
+        perspective: member(alloc, content, "perspective")?,
+    })
+}
+
+/// The words of [`Interpolation`].
+const INTERPOLATION_WORDS: &[(&str, Interpolation)] = &[
+    ("Perspective", Interpolation::Perspective),
+    ("Linear", Interpolation::Linear),
+    ("Flat", Interpolation::Flat),
+    ("PerVertex", Interpolation::PerVertex),
+];
+
+impl FromJson for Interpolation {
+    fn from_json(alloc: Global, value: &Value) -> Result<Interpolation, ReadError> {
+        word(alloc, value, INTERPOLATION_WORDS)
+    }
+}
+
+/// The words of [`Sampling`].
+const SAMPLING_WORDS: &[(&str, Sampling)] = &[
+    ("Center", Sampling::Center),
+    ("Centroid", Sampling::Centroid),
+    ("Sample", Sampling::Sample),
+    ("First", Sampling::First),
+    ("Either", Sampling::Either),
+];
+
+impl FromJson for Sampling {
+    fn from_json(alloc: Global, value: &Value) -> Result<Sampling, ReadError> {
+        word(alloc, value, SAMPLING_WORDS)
+    }
+}
+
+/// The variants of [`Binding`].
+#[derive(Clone, Copy)]
+pub(crate) enum BindingName {
+    BuiltIn,
+    Location,
+}
+
+/// The names of [`Binding`].
+const BINDING_NAMES: &[(&str, BindingName)] = &[
+    ("BuiltIn", BindingName::BuiltIn),
+    ("Location", BindingName::Location),
+];
+
+impl FromJson for Binding {
+    fn from_json(alloc: Global, value: &Value) -> Result<Binding, ReadError> {
+        read_variant(alloc, value)
+    }
+}
+
+impl Variants for Binding {
+    type Name = BindingName;
+
+    fn names() -> &'static [(&'static str, BindingName)] {
+        BINDING_NAMES
+    }
+
+    fn from_content(
+        alloc: Global,
+        variant: BindingName,
+        content: &Value,
+    ) -> Result<Binding, ReadError> {
+        match variant {
+            BindingName::BuiltIn => Ok(Binding::BuiltIn(FromJson::from_json(alloc, content)?)),
+            BindingName::Location => bound_location(alloc, content),
+        }
+    }
+}
+
+fn bound_location(alloc: Global, content: &Value) -> Result<Binding, ReadError> {
+    Ok(Binding::Location {
+        location: member(alloc, content, "location")?,
+        interpolation: member(alloc, content, "interpolation")?,
+        sampling: member(alloc, content, "sampling")?,
+        blend_src: member(alloc, content, "blend_src")?,
+        per_primitive: member(alloc, content, "per_primitive")?,
+    })
+}
+
+impl FromJson for ResourceBinding {
+    fn from_json(alloc: Global, content: &Value) -> Result<ResourceBinding, ReadError> {
+        Ok(ResourceBinding {
+            group: member(alloc, content, "group")?,
+            binding: member(alloc, content, "binding")?,
+        })
+    }
+}

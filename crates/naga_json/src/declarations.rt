@@ -1,0 +1,298 @@
+//! Functions, and what modules declare.
+
+use crate::error::{Problem, ReadError, Wanted};
+use crate::shape::{FromJson, fill, in_item, in_member, item_of, items_of, member, mistyped, word};
+use indexmap::IndexMap;
+use naga_ir::{
+    Constant, EntryPoint, Expression, Function, FunctionArgument, FunctionResult, GlobalVariable,
+    Handle, LocalVariable, MeshStageInfo, Module, Override, Place, PredeclaredType, ShaderStage,
+    SpecialTypes, Type_,
+};
+use serde_json::Value;
+use std::alloc::Global;
+
+/// The words of [`ShaderStage`].
+const SHADER_STAGE_WORDS: &[(&str, ShaderStage)] = &[
+    ("Vertex", ShaderStage::Vertex),
+    ("Task", ShaderStage::Task),
+    ("Mesh", ShaderStage::Mesh),
+    ("Fragment", ShaderStage::Fragment),
+    ("Compute", ShaderStage::Compute),
+    ("RayGeneration", ShaderStage::RayGeneration),
+    ("Miss", ShaderStage::Miss),
+    ("AnyHit", ShaderStage::AnyHit),
+    ("ClosestHit", ShaderStage::ClosestHit),
+];
+
+impl FromJson for ShaderStage {
+    fn from_json(alloc: Global, value: &Value) -> Result<ShaderStage, ReadError> {
+        word(alloc, value, SHADER_STAGE_WORDS)
+    }
+}
+
+impl FromJson for Constant {
+    fn from_json(alloc: Global, content: &Value) -> Result<Constant, ReadError> {
+        Ok(Constant {
+            name: member(alloc, content, "name")?,
+            ty: member(alloc, content, "ty")?,
+            init: member(alloc, content, "init")?,
+        })
+    }
+}
+
+impl FromJson for Override {
+    fn from_json(alloc: Global, content: &Value) -> Result<Override, ReadError> {
+        Ok(Override {
+            name: member(alloc, content, "name")?,
+            id: member(alloc, content, "id")?,
+            ty: member(alloc, content, "ty")?,
+            init: member(alloc, content, "init")?,
+        })
+    }
+}
+
+impl FromJson for GlobalVariable {
+    fn from_json(alloc: Global, content: &Value) -> Result<GlobalVariable, ReadError> {
+        Ok(GlobalVariable {
+            name: member(alloc, content, "name")?,
+            space: member(alloc, content, "space")?,
+            binding: member(alloc, content, "binding")?,
+            ty: member(alloc, content, "ty")?,
+            init: member(alloc, content, "init")?,
+            memory_decorations: member(alloc, content, "memory_decorations")?,
+        })
+    }
+}
+
+impl FromJson for LocalVariable {
+    fn from_json(alloc: Global, content: &Value) -> Result<LocalVariable, ReadError> {
+        Ok(LocalVariable {
+            name: member(alloc, content, "name")?,
+            ty: member(alloc, content, "ty")?,
+            init: member(alloc, content, "init")?,
+        })
+    }
+}
+
+impl FromJson for FunctionArgument {
+    fn from_json(alloc: Global, content: &Value) -> Result<FunctionArgument, ReadError> {
+        Ok(FunctionArgument {
+            name: member(alloc, content, "name")?,
+            ty: member(alloc, content, "ty")?,
+            binding: member(alloc, content, "binding")?,
+        })
+    }
+}
+
+impl FromJson for FunctionResult {
+    fn from_json(alloc: Global, content: &Value) -> Result<FunctionResult, ReadError> {
+        Ok(FunctionResult {
+            ty: member(alloc, content, "ty")?,
+            binding: member(alloc, content, "binding")?,
+        })
+    }
+}
+
+impl FromJson for MeshStageInfo {
+    fn from_json(alloc: Global, content: &Value) -> Result<MeshStageInfo, ReadError> {
+        Ok(MeshStageInfo {
+            output_variable: member(alloc, content, "output_variable")?,
+        })
+    }
+}
+
+impl FromJson for EntryPoint {
+    fn from_json(alloc: Global, content: &Value) -> Result<EntryPoint, ReadError> {
+        Ok(EntryPoint {
+            name: member(alloc, content, "name")?,
+            stage: member(alloc, content, "stage")?,
+            workgroup_size: member(alloc, content, "workgroup_size")?,
+            function: member(alloc, content, "function")?,
+            mesh_info: member(alloc, content, "mesh_info")?,
+            task_payload: member(alloc, content, "task_payload")?,
+            incoming_ray_payload: member(alloc, content, "incoming_ray_payload")?,
+        })
+    }
+}
+
+impl FromJson for [u32; 3] {
+    fn from_json(alloc: Global, value: &Value) -> Result<[u32; 3], ReadError> {
+        match items_of(alloc, value)? {
+            [x, y, z] => Ok([
+                item_of(alloc, x, 0)?,
+                item_of(alloc, y, 1)?,
+                item_of(alloc, z, 2)?,
+            ]),
+            _ => Err(ReadError::at(alloc, Problem::WrongLength(3))),
+        }
+    }
+}
+
+/// A label, with the index of the expression that it is for.
+#[derive(Drop)]
+struct NamedExpression {
+    index: usize,
+    label: String,
+}
+
+impl FromJson for IndexMap<Handle<Expression>, String> {
+    fn from_json(
+        alloc: Global,
+        value: &Value,
+    ) -> Result<IndexMap<Handle<Expression>, String>, ReadError> {
+        let Some(members) = value.as_object() else {
+            return Err(mistyped(alloc, Wanted::Object));
+        };
+        let mut named = Vec::new(alloc);
+        for (key, label) in members.iter() {
+            named.push(in_member(
+                alloc,
+                key.as_str(),
+                named_expression(alloc, key.as_str(), label),
+            )?)?;
+        }
+        // the members' order is that of texts: "10" stands before "2"
+        named.sort_unstable_by_key(|named| named.index);
+        let mut read = IndexMap::new(alloc);
+        for named in named {
+            read.insert(Place::from_index(named.index), named.label)?;
+        }
+        Ok(read)
+    }
+
+    fn absent(alloc: Global) -> Option<IndexMap<Handle<Expression>, String>> {
+        Some(IndexMap::new(alloc))
+    }
+}
+
+/// The label of an expression, whose index is the member's name.
+fn named_expression(alloc: Global, key: &str, label: &Value) -> Result<NamedExpression, ReadError> {
+    let Ok(index) = key.parse::<usize>() else {
+        return Err(mistyped(alloc, Wanted::WholeNumber));
+    };
+    let label = String::from_json(alloc, label)?;
+    Ok(NamedExpression { index, label })
+}
+
+impl FromJson for IndexMap<PredeclaredType, Handle<Type_>> {
+    fn from_json(
+        alloc: Global,
+        value: &Value,
+    ) -> Result<IndexMap<PredeclaredType, Handle<Type_>>, ReadError> {
+        let mut read = IndexMap::new(alloc);
+        for (index, pair) in pairs_of(alloc, value)?.iter().enumerate() {
+            let pair = in_item(alloc, index, predeclared_pair(alloc, pair))?;
+            read.insert(pair.key, pair.ty)?;
+        }
+        Ok(read)
+    }
+
+    fn absent(alloc: Global) -> Option<IndexMap<PredeclaredType, Handle<Type_>>> {
+        Some(IndexMap::new(alloc))
+    }
+}
+
+/// A predeclared struct, with its type in the module.
+#[derive(Clone, Copy)]
+struct PredeclaredPair {
+    key: PredeclaredType,
+    ty: Handle<Type_>,
+}
+
+/// A pair of a map: a list of two.
+fn predeclared_pair(alloc: Global, value: &Value) -> Result<PredeclaredPair, ReadError> {
+    match items_of(alloc, value)? {
+        [key, ty] => Ok(PredeclaredPair {
+            key: item_of(alloc, key, 0)?,
+            ty: item_of(alloc, ty, 1)?,
+        }),
+        _ => Err(ReadError::at(alloc, Problem::WrongLength(2))),
+    }
+}
+
+/// The pairs of a map whose keys are no texts: a list of them, or an object without members.
+fn pairs_of(alloc: Global, value: &Value) -> Result<&[Value], ReadError> {
+    match value.as_object() {
+        Some(members) if members.is_empty() => Ok(&[]),
+        _ => items_of(alloc, value),
+    }
+}
+
+impl FromJson for SpecialTypes {
+    fn from_json(alloc: Global, content: &Value) -> Result<SpecialTypes, ReadError> {
+        Ok(SpecialTypes {
+            external_texture_params: member(alloc, content, "external_texture_params")?,
+            external_texture_transfer_function: member(
+                alloc,
+                content,
+                "external_texture_transfer_function",
+            )?,
+            predeclared_types: member(alloc, content, "predeclared_types")?,
+        })
+    }
+
+    fn absent(alloc: Global) -> Option<SpecialTypes> {
+        Some(SpecialTypes {
+            external_texture_params: None,
+            external_texture_transfer_function: None,
+            predeclared_types: IndexMap::new(alloc),
+        })
+    }
+}
+
+impl FromJson for Function {
+    fn from_json(alloc: Global, value: &Value) -> Result<Function, ReadError> {
+        let mut function = Function::new(alloc);
+        fill_function(alloc, value, &mut function)?;
+        Ok(function)
+    }
+}
+
+fn fill_function(alloc: Global, value: &Value, function: &mut Function) -> Result<(), ReadError> {
+    fill(alloc, value, "name", &mut function.name)?;
+    fill(alloc, value, "result", &mut function.result)?;
+    fill(alloc, value, "arguments", &mut function.arguments)?;
+    fill(
+        alloc,
+        value,
+        "local_variables",
+        &mut function.local_variables,
+    )?;
+    fill(alloc, value, "expressions", &mut function.expressions)?;
+    fill(
+        alloc,
+        value,
+        "named_expressions",
+        &mut function.named_expressions,
+    )?;
+    fill(alloc, value, "body", &mut function.body)
+}
+
+impl FromJson for Module {
+    fn from_json(alloc: Global, value: &Value) -> Result<Module, ReadError> {
+        let mut module = Module::new(alloc);
+        fill_module(alloc, value, &mut module)?;
+        Ok(module)
+    }
+}
+
+fn fill_module(alloc: Global, value: &Value, module: &mut Module) -> Result<(), ReadError> {
+    fill(alloc, value, "types", &mut module.types)?;
+    fill(alloc, value, "special_types", &mut module.special_types)?;
+    fill(alloc, value, "constants", &mut module.constants)?;
+    fill(alloc, value, "overrides", &mut module.overrides)?;
+    fill(
+        alloc,
+        value,
+        "global_variables",
+        &mut module.global_variables,
+    )?;
+    fill(
+        alloc,
+        value,
+        "global_expressions",
+        &mut module.global_expressions,
+    )?;
+    fill(alloc, value, "functions", &mut module.functions)?;
+    fill(alloc, value, "entry_points", &mut module.entry_points)
+}

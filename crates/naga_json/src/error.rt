@@ -1,0 +1,168 @@
+//! Why nothing was read.
+
+use serde_json::error::Category;
+use std::alloc::{AllocError, AllocFailed, Global};
+use std::error::Error;
+use std::fmt;
+
+/// What a JSON value should be.
+#[derive(Clone, Copy, Debug, PartialEq, Eq)]
+pub enum Wanted {
+    /// A number.
+    Number,
+    /// A number without a fraction.
+    WholeNumber,
+    /// A text.
+    Text,
+    /// A list.
+    List,
+    /// An object.
+    Object,
+    /// `true` or `false`.
+    TruthValue,
+    /// A variant of an enum: its name, or an object with this name for its one member.
+    Variant,
+}
+
+impl fmt::Display for Wanted {
+    fn fmt<W: fmt::Write>(&self, f: &mut fmt::Formatter<W>) -> fmt::Result {
+        match self {
+            Wanted::Number => f.write_str("number"),
+            Wanted::WholeNumber => f.write_str("whole number"),
+            Wanted::Text => f.write_str("text"),
+            Wanted::List => f.write_str("list"),
+            Wanted::Object => f.write_str("object"),
+            Wanted::TruthValue => f.write_str("truth value"),
+            Wanted::Variant => f.write_str("name and no object with one member"),
+        }
+    }
+}
+
+/// What is wrong with a JSON value.
+#[derive(Debug, Drop)]
+pub enum Problem {
+    /// It is absent.
+    Missing,
+    /// It is something else than is wanted.
+    Mistyped(Wanted),
+    /// It is a number that the wanted type does not have. No number is cut.
+    OutOfRange,
+    /// It is a list of another length than this.
+    WrongLength(usize),
+    /// It is, or has for its one member, this name, which is none of those that are wanted.
+    UnknownName(String),
+    /// It is a type that equals one before it. The types of a module differ.
+    Doubled,
+    /// It is a block in too many others. Those of a text, whose nesting is bounded, are few enough.
+    TooDeep,
+}
+
+impl fmt::Display for Problem {
+    fn fmt<W: fmt::Write>(&self, f: &mut fmt::Formatter<W>) -> fmt::Result {
+        match self {
+            Problem::Missing => f.write_str("missing"),
+            Problem::Mistyped(wanted) => write!(f, "no {wanted}"),
+            Problem::OutOfRange => f.write_str("number out of range"),
+            Problem::WrongLength(length) => write!(f, "no list of {length}"),
+            Problem::UnknownName(name) => write!(f, "unknown name `{name}`"),
+            Problem::Doubled => f.write_str("equals an earlier type"),
+            Problem::TooDeep => f.write_str("blocks nest too deep"),
+        }
+    }
+}
+
+/// Why nothing was read. It displays as `functions[2].expressions[7].Binary.left: no number`.
+#[derive(Debug, Drop)]
+pub enum ReadError {
+    /// Memory was refused.
+    OutOfMemory,
+    /// The text is no JSON from this place on, or lists and objects nest more than 127 deep there.
+    NoJson {
+        /// The line, counted from 1.
+        line: usize,
+        /// The column, counted from 1.
+        column: usize,
+    },
+    /// The JSON is no such module or info.
+    Misfit {
+        /// Where: the names of members and variants and the numbers of items, counted from zero,
+        /// that lead there from the outermost value. At that value itself it is empty.
+        place: String,
+        /// What is wrong there.
+        problem: Problem,
+    },
+}
+
+impl fmt::Display for ReadError {
+    fn fmt<W: fmt::Write>(&self, f: &mut fmt::Formatter<W>) -> fmt::Result {
+        match self {
+            ReadError::OutOfMemory => f.write_str("out of memory"),
+            ReadError::NoJson { line, column } => {
+                write!(f, "no JSON at line {line}, column {column}")
+            }
+            ReadError::Misfit { place, problem } => {
+                if place.is_empty() {
+                    write!(f, "{problem}")
+                } else {
+                    write!(f, "{place}: {problem}")
+                }
+            }
+        }
+    }
+}
+
+impl Error for ReadError {}
+
+impl ReadError {
+    /// The problem, at the value itself.
+    pub(crate) fn at(alloc: Global, problem: Problem) -> ReadError {
+        ReadError::Misfit {
+            place: String::new(alloc),
+            problem,
+        }
+    }
+
+    /// The same, seen from the value around it.
+    pub(crate) fn behind(self, alloc: Global, step: &str) -> ReadError {
+        match self {
+            ReadError::Misfit { place, problem } => match joined(alloc, step, place.as_str()) {
+                Ok(place) => ReadError::Misfit { place, problem },
+                Err(_) => ReadError::OutOfMemory,
+            },
+            error => error,
+        }
+    }
+}
+
+/// The place behind a step.
+fn joined(alloc: Global, step: &str, place: &str) -> Result<String, AllocError> {
+    if place.is_empty() || place.starts_with('[') {
+        format!(in alloc; "{step}{place}")
+    } else {
+        format!(in alloc; "{step}.{place}")
+    }
+}
+
+impl From<serde_json::Error> for ReadError {
+    fn from(error: serde_json::Error) -> ReadError {
+        match error.classify() {
+            Category::Memory => ReadError::OutOfMemory,
+            _ => ReadError::NoJson {
+                line: error.line(),
+                column: error.column(),
+            },
+        }
+    }
+}
+
+impl<T: Drop> From<AllocFailed<T>> for ReadError {
+    fn from(_failed: AllocFailed<T>) -> ReadError {
+        ReadError::OutOfMemory
+    }
+}
+
+impl From<AllocError> for ReadError {
+    fn from(_error: AllocError) -> ReadError {
+        ReadError::OutOfMemory
+    }
+}

@@ -1,0 +1,44 @@
+//! Reads modules, and what is known of them, from JSON.
+//!
+//! The JSON is that of naga's own `serde` forms, which a user of naga 30 gets from
+//! `serde_json::to_string` of a `Module` and of a `ModuleInfo` with naga's feature `serialize`:
+//!
+//! - A struct is an object. Members that this crate does not ask for are let be. An absent member
+//!   is `None`, an empty list, arena, map, block or set of flags, or `false`; others are missed.
+//! - An enum is the name of a variant, or an object whose one member is the variant's content, as
+//!   `"Break"` and `{"Load": {"pointer": 2}}`.
+//! - An arena is a list, and a handle a place in it, counted from zero. No two types are equal.
+//! - An `Emit` is `{"start": 3, "end": 5}`, from the first place to behind the last.
+//! - Flags are their names, as `"LOAD | STORE"`, or their bits, as `3`.
+//! - A float is a number. What JSON has no number for is given by its bits, as
+//!   `{"F32": {"bits": 2139095040}}` for the infinity. An `F16` is given by its bits, as 15360 or
+//!   `{"bits": 15360}`. An `F32` is the nearest to its number; one beyond its range is refused.
+//! - `named_expressions` is an object, read in the order of its members' numbers.
+//! - `predeclared_types`, whose keys are no texts, is a list of pairs `[key, handle]`.
+//!
+//! What is known of a function may be given short, by the list of its expressions' types, and a
+//! type by its handle alone. Each `ref_count` is 0 then.
+//!
+//! Where nothing is read, a [`ReadError`] tells why, and in which place:
+//!
+//! ```text
+//! let error = read_module(alloc, r#"{"types": [{"inner": {"Atomic": 7}}]}"#).unwrap_err();
+//! // types[0].inner.Atomic: no object
+//! ```
+#![tactic(auto)]
+
+mod bindings;
+mod declarations;
+mod error;
+mod expressions;
+mod infos;
+mod modules;
+mod operators;
+mod shape;
+mod statements;
+#[cfg(test)]
+mod tests;
+mod types;
+
+pub use error::{Problem, ReadError, Wanted};
+pub use modules::{Known, info_of, known_of, module_of, read_info, read_known, read_module};

@@ -1,0 +1,59 @@
+//! What is read: from a text, or from JSON that a caller parsed who wants more of it.
+
+use crate::error::ReadError;
+use crate::shape::{FromJson, member};
+use naga_info::ModuleInfo;
+use naga_ir::Module;
+use serde_json::Value;
+use std::alloc::Global;
+
+/// Reads a module: `read_module(alloc, r#"{"functions": [{"name": "f"}]}"#)`. A refusal leaves
+/// nothing behind, here and in the functions below: [`ReadError::OutOfMemory`] where memory is
+/// refused, [`ReadError::NoJson`] where the text is no JSON or nests more than 127 deep, and
+/// [`ReadError::Misfit`] where the JSON is no module.
+pub fn read_module(alloc: Global, text: &str) -> Result<Module, ReadError> {
+    let value = Value::from_str(alloc, text)?;
+    module_of(alloc, &value)
+}
+
+/// Reads what is known of a module: `read_info(alloc, r#"{"functions": [[0, 0]]}"#)`. It fails as
+/// [`read_module`] does. Whether it fits a module is not asked.
+pub fn read_info(alloc: Global, text: &str) -> Result<ModuleInfo, ReadError> {
+    let value = Value::from_str(alloc, text)?;
+    info_of(alloc, &value)
+}
+
+/// A module with what is known of it.
+#[derive(Debug, Drop)]
+pub struct Known {
+    /// The module.
+    pub module: Module,
+    /// What is known of it.
+    pub info: ModuleInfo,
+}
+
+/// Reads an object with a module and what is known of it, as its members `module` and `info`. It
+/// fails as [`read_module`] does. Members beside these two are let be.
+pub fn read_known(alloc: Global, text: &str) -> Result<Known, ReadError> {
+    let value = Value::from_str(alloc, text)?;
+    known_of(alloc, &value)
+}
+
+/// Reads a module from JSON that was parsed before. It fails as [`read_module`] does, but there is
+/// always JSON. Its blocks may nest 64 deep, more than those of any text.
+pub fn module_of(alloc: Global, value: &Value) -> Result<Module, ReadError> {
+    Module::from_json(alloc, value)
+}
+
+/// Reads what is known of a module from JSON that was parsed before. It fails as [`module_of`]
+/// does.
+pub fn info_of(alloc: Global, value: &Value) -> Result<ModuleInfo, ReadError> {
+    ModuleInfo::from_json(alloc, value)
+}
+
+/// Reads what [`read_known`] reads from JSON that was parsed before. It fails as [`module_of`] does.
+pub fn known_of(alloc: Global, value: &Value) -> Result<Known, ReadError> {
+    let module = member(alloc, value, "module")?;
+    let info = member(alloc, value, "info")?;
+    Ok(Known { module, info })
+}

@@ -1,0 +1,624 @@
+//! Types, and the sets of flags.
+
+use crate::error::{Problem, ReadError, Wanted};
+use crate::shape::{
+    FromJson, Variants, in_item, item_of, items_of, member, mistyped, read_variant, unknown, word,
+};
+use bitflags::{Flags, parser};
+use naga_ir::{
+    AddressSpace, ArraySize, Barrier, CooperativeRole, CooperativeSize, ImageClass, ImageDimension,
+    MemoryDecorations, PredeclaredType, Scalar, ScalarKind, StorageAccess, StorageFormat,
+    StructMember, Type_, TypeInner, UniqueArena, VectorSize,
+};
+use serde_json::Value;
+use std::alloc::Global;
+use std::num::NonZeroU32;
+
+/// The words of [`VectorSize`].
+const VECTOR_SIZE_WORDS: &[(&str, VectorSize)] = &[
+    ("Bi", VectorSize::Bi),
+    ("Tri", VectorSize::Tri),
+    ("Quad", VectorSize::Quad),
+];
+
+impl FromJson for VectorSize {
+    fn from_json(alloc: Global, value: &Value) -> Result<VectorSize, ReadError> {
+        word(alloc, value, VECTOR_SIZE_WORDS)
+    }
+}
+
+/// The words of [`CooperativeSize`].
+const COOPERATIVE_SIZE_WORDS: &[(&str, CooperativeSize)] = &[
+    ("Eight", CooperativeSize::Eight),
+    ("Sixteen", CooperativeSize::Sixteen),
+];
+
+impl FromJson for CooperativeSize {
+    fn from_json(alloc: Global, value: &Value) -> Result<CooperativeSize, ReadError> {
+        word(alloc, value, COOPERATIVE_SIZE_WORDS)
+    }
+}
+
+/// The words of [`CooperativeRole`].
+const COOPERATIVE_ROLE_WORDS: &[(&str, CooperativeRole)] = &[
+    ("A", CooperativeRole::A),
+    ("B", CooperativeRole::B),
+    ("C", CooperativeRole::C),
+];
+
+impl FromJson for CooperativeRole {
+    fn from_json(alloc: Global, value: &Value) -> Result<CooperativeRole, ReadError> {
+        word(alloc, value, COOPERATIVE_ROLE_WORDS)
+    }
+}
+
+/// The words of [`ScalarKind`].
+const SCALAR_KIND_WORDS: &[(&str, ScalarKind)] = &[
+    ("Sint", ScalarKind::Sint),
+    ("Uint", ScalarKind::Uint),
+    ("Float", ScalarKind::Float),
+    ("Bool", ScalarKind::Bool),
+    ("AbstractInt", ScalarKind::AbstractInt),
+    ("AbstractFloat", ScalarKind::AbstractFloat),
+];
+
+impl FromJson for ScalarKind {
+    fn from_json(alloc: Global, value: &Value) -> Result<ScalarKind, ReadError> {
+        word(alloc, value, SCALAR_KIND_WORDS)
+    }
+}
+
+impl FromJson for Scalar {
+    fn from_json(alloc: Global, content: &Value) -> Result<Scalar, ReadError> {
+        Ok(Scalar {
+            kind: member(alloc, content, "kind")?,
+            width: member(alloc, content, "width")?,
+        })
+    }
+}
+
+/// The variants of [`AddressSpace`].
+#[derive(Clone, Copy)]
+pub(crate) enum AddressSpaceName {
+    Unit(AddressSpace),
+    Storage,
+}
+
+/// The names of [`AddressSpace`].
+const ADDRESS_SPACE_NAMES: &[(&str, AddressSpaceName)] = &[
+    ("Storage", AddressSpaceName::Storage),
+    ("Function", AddressSpaceName::Unit(AddressSpace::Function)),
+    ("Private", AddressSpaceName::Unit(AddressSpace::Private)),
+    ("WorkGroup", AddressSpaceName::Unit(AddressSpace::WorkGroup)),
+    ("Uniform", AddressSpaceName::Unit(AddressSpace::Uniform)),
+    ("Handle", AddressSpaceName::Unit(AddressSpace::Handle)),
+    ("Immediate", AddressSpaceName::Unit(AddressSpace::Immediate)),
+    (
+        "TaskPayload",
+        AddressSpaceName::Unit(AddressSpace::TaskPayload),
+    ),
+    (
+        "RayPayload",
+        AddressSpaceName::Unit(AddressSpace::RayPayload),
+    ),
+    (
+        "IncomingRayPayload",
+        AddressSpaceName::Unit(AddressSpace::IncomingRayPayload),
+    ),
+];
+
+impl FromJson for AddressSpace {
+    fn from_json(alloc: Global, value: &Value) -> Result<AddressSpace, ReadError> {
+        read_variant(alloc, value)
+    }
+}
+
+impl Variants for AddressSpace {
+    type Name = AddressSpaceName;
+
+    fn names() -> &'static [(&'static str, AddressSpaceName)] {
+        ADDRESS_SPACE_NAMES
+    }
+
+    fn from_content(
+        alloc: Global,
+        variant: AddressSpaceName,
+        content: &Value,
+    ) -> Result<AddressSpace, ReadError> {
+        match variant {
+            AddressSpaceName::Unit(unit) => Ok(unit),
+            AddressSpaceName::Storage => space_storage(alloc, content),
+        }
+    }
+}
+
+fn space_storage(alloc: Global, content: &Value) -> Result<AddressSpace, ReadError> {
+    Ok(AddressSpace::Storage {
+        access: member(alloc, content, "access")?,
+    })
+}
+
+/// The variants of [`PredeclaredType`].
+#[derive(Clone, Copy)]
+pub(crate) enum PredeclaredTypeName {
+    AtomicCompareExchangeWeakResult,
+    ModfResult,
+    FrexpResult,
+}
+
+/// The names of [`PredeclaredType`].
+const PREDECLARED_TYPE_NAMES: &[(&str, PredeclaredTypeName)] = &[
+    (
+        "AtomicCompareExchangeWeakResult",
+        PredeclaredTypeName::AtomicCompareExchangeWeakResult,
+    ),
+    ("ModfResult", PredeclaredTypeName::ModfResult),
+    ("FrexpResult", PredeclaredTypeName::FrexpResult),
+];
+
+impl FromJson for PredeclaredType {
+    fn from_json(alloc: Global, value: &Value) -> Result<PredeclaredType, ReadError> {
+        read_variant(alloc, value)
+    }
+}
+
+impl Variants for PredeclaredType {
+    type Name = PredeclaredTypeName;
+
+    fn names() -> &'static [(&'static str, PredeclaredTypeName)] {
+        PREDECLARED_TYPE_NAMES
+    }
+
+    fn from_content(
+        alloc: Global,
+        variant: PredeclaredTypeName,
+        content: &Value,
+    ) -> Result<PredeclaredType, ReadError> {
+        match variant {
+            PredeclaredTypeName::AtomicCompareExchangeWeakResult => Ok(
+                PredeclaredType::AtomicCompareExchangeWeakResult(FromJson::from_json(
+                    alloc, content,
+                )?),
+            ),
+            PredeclaredTypeName::ModfResult => predeclared_modf_result(alloc, content),
+            PredeclaredTypeName::FrexpResult => predeclared_frexp_result(alloc, content),
+        }
+    }
+}
+
+fn predeclared_modf_result(alloc: Global, content: &Value) -> Result<PredeclaredType, ReadError> {
+    Ok(PredeclaredType::ModfResult {
+        size: member(alloc, content, "size")?,
+        scalar: member(alloc, content, "scalar")?,
+    })
+}
+
+fn predeclared_frexp_result(alloc: Global, content: &Value) -> Result<PredeclaredType, ReadError> {
+    Ok(PredeclaredType::FrexpResult {
+        size: member(alloc, content, "size")?,
+        scalar: member(alloc, content, "scalar")?,
+    })
+}
+
+impl FromJson for StructMember {
+    fn from_json(alloc: Global, content: &Value) -> Result<StructMember, ReadError> {
+        Ok(StructMember {
+            name: member(alloc, content, "name")?,
+            ty: member(alloc, content, "ty")?,
+            binding: member(alloc, content, "binding")?,
+            offset: member(alloc, content, "offset")?,
+        })
+    }
+}
+
+/// The variants of [`TypeInner`] with content.
+#[derive(Clone, Copy)]
+pub(crate) enum TypeInnerName {
+    Scalar,
+    Vector,
+    Matrix,
+    CooperativeMatrix,
+    Atomic,
+    Pointer,
+    ValuePointer,
+    Array,
+    Struct,
+    Image,
+    Sampler,
+    AccelerationStructure,
+    RayQuery,
+    BindingArray,
+}
+
+/// The names of [`TypeInner`].
+const TYPE_INNER_NAMES: &[(&str, TypeInnerName)] = &[
+    ("Scalar", TypeInnerName::Scalar),
+    ("Vector", TypeInnerName::Vector),
+    ("Matrix", TypeInnerName::Matrix),
+    ("CooperativeMatrix", TypeInnerName::CooperativeMatrix),
+    ("Atomic", TypeInnerName::Atomic),
+    ("Pointer", TypeInnerName::Pointer),
+    ("ValuePointer", TypeInnerName::ValuePointer),
+    ("Array", TypeInnerName::Array),
+    ("Struct", TypeInnerName::Struct),
+    ("Image", TypeInnerName::Image),
+    ("Sampler", TypeInnerName::Sampler),
+    (
+        "AccelerationStructure",
+        TypeInnerName::AccelerationStructure,
+    ),
+    ("RayQuery", TypeInnerName::RayQuery),
+    ("BindingArray", TypeInnerName::BindingArray),
+];
+
+impl FromJson for TypeInner {
+    fn from_json(alloc: Global, value: &Value) -> Result<TypeInner, ReadError> {
+        read_variant(alloc, value)
+    }
+}
+
+impl Variants for TypeInner {
+    type Name = TypeInnerName;
+
+    fn names() -> &'static [(&'static str, TypeInnerName)] {
+        TYPE_INNER_NAMES
+    }
+
+    fn from_content(
+        alloc: Global,
+        variant: TypeInnerName,
+        content: &Value,
+    ) -> Result<TypeInner, ReadError> {
+        match variant {
+            TypeInnerName::Scalar => Ok(TypeInner::Scalar(FromJson::from_json(alloc, content)?)),
+            TypeInnerName::Vector => vector_type(alloc, content),
+            TypeInnerName::Matrix => matrix_type(alloc, content),
+            TypeInnerName::CooperativeMatrix => cooperative_matrix_type(alloc, content),
+            TypeInnerName::Atomic => Ok(TypeInner::Atomic(FromJson::from_json(alloc, content)?)),
+            TypeInnerName::Pointer => pointer_type(alloc, content),
+            TypeInnerName::ValuePointer => value_pointer_type(alloc, content),
+            TypeInnerName::Array => array_of_type(alloc, content),
+            TypeInnerName::Struct => struct_type(alloc, content),
+            TypeInnerName::Image => image_type(alloc, content),
+            TypeInnerName::Sampler => sampler_type(alloc, content),
+            TypeInnerName::AccelerationStructure => acceleration_structure_type(alloc, content),
+            TypeInnerName::RayQuery => ray_query_type(alloc, content),
+            TypeInnerName::BindingArray => binding_array_type(alloc, content),
+        }
+    }
+}
+
+fn vector_type(alloc: Global, content: &Value) -> Result<TypeInner, ReadError> {
+    Ok(TypeInner::Vector {
+        size: member(alloc, content, "size")?,
+        scalar: member(alloc, content, "scalar")?,
+    })
+}
+
+fn matrix_type(alloc: Global, content: &Value) -> Result<TypeInner, ReadError> {
+    Ok(TypeInner::Matrix {
+        columns: member(alloc, content, "columns")?,
+        rows: member(alloc, content, "rows")?,
+        scalar: member(alloc, content, "scalar")?,
+    })
+}
+
+fn cooperative_matrix_type(alloc: Global, content: &Value) -> Result<TypeInner, ReadError> {
+    Ok(TypeInner::CooperativeMatrix {
+        columns: member(alloc, content, "columns")?,
+        rows: member(alloc, content, "rows")?,
+        scalar: member(alloc, content, "scalar")?,
+        role: member(alloc, content, "role")?,
+    })
+}
+
+fn pointer_type(alloc: Global, content: &Value) -> Result<TypeInner, ReadError> {
+    Ok(TypeInner::Pointer {
+        base: member(alloc, content, "base")?,
+        space: member(alloc, content, "space")?,
+    })
+}
+
+fn value_pointer_type(alloc: Global, content: &Value) -> Result<TypeInner, ReadError> {
+    Ok(TypeInner::ValuePointer {
+        size: member(alloc, content, "size")?,
+        scalar: member(alloc, content, "scalar")?,
+        space: member(alloc, content, "space")?,
+    })
+}
+
+fn array_of_type(alloc: Global, content: &Value) -> Result<TypeInner, ReadError> {
+    Ok(TypeInner::Array {
+        base: member(alloc, content, "base")?,
+        size: member(alloc, content, "size")?,
+        stride: member(alloc, content, "stride")?,
+    })
+}
+
+fn struct_type(alloc: Global, content: &Value) -> Result<TypeInner, ReadError> {
+    Ok(TypeInner::Struct {
+        members: member(alloc, content, "members")?,
+        span: member(alloc, content, "span")?,
+    })
+}
+
+fn image_type(alloc: Global, content: &Value) -> Result<TypeInner, ReadError> {
+    Ok(TypeInner::Image {
+        dim: member(alloc, content, "dim")?,
+        arrayed: member(alloc, content, "arrayed")?,
+        class: member(alloc, content, "class")?,
+    })
+}
+
+fn sampler_type(alloc: Global, content: &Value) -> Result<TypeInner, ReadError> {
+    Ok(TypeInner::Sampler {
+        comparison: member(alloc, content, "comparison")?,
+    })
+}
+
+fn acceleration_structure_type(alloc: Global, content: &Value) -> Result<TypeInner, ReadError> {
+    Ok(TypeInner::AccelerationStructure {
+        vertex_return: member(alloc, content, "vertex_return")?,
+    })
+}
+
+fn ray_query_type(alloc: Global, content: &Value) -> Result<TypeInner, ReadError> {
+    Ok(TypeInner::RayQuery {
+        vertex_return: member(alloc, content, "vertex_return")?,
+    })
+}
+
+fn binding_array_type(alloc: Global, content: &Value) -> Result<TypeInner, ReadError> {
+    Ok(TypeInner::BindingArray {
+        base: member(alloc, content, "base")?,
+        size: member(alloc, content, "size")?,
+    })
+}
+
+impl FromJson for Type_ {
+    fn from_json(alloc: Global, content: &Value) -> Result<Type_, ReadError> {
+        Ok(Type_ {
+            name: member(alloc, content, "name")?,
+            inner: member(alloc, content, "inner")?,
+        })
+    }
+}
+
+/// The words of [`ImageDimension`].
+const IMAGE_DIMENSION_WORDS: &[(&str, ImageDimension)] = &[
+    ("D1", ImageDimension::D1),
+    ("D2", ImageDimension::D2),
+    ("D3", ImageDimension::D3),
+    ("Cube", ImageDimension::Cube),
+];
+
+impl FromJson for ImageDimension {
+    fn from_json(alloc: Global, value: &Value) -> Result<ImageDimension, ReadError> {
+        word(alloc, value, IMAGE_DIMENSION_WORDS)
+    }
+}
+
+/// The variants of [`ImageClass`].
+#[derive(Clone, Copy)]
+pub(crate) enum ImageClassName {
+    Sampled,
+    Depth,
+    External,
+    Storage,
+}
+
+/// The names of [`ImageClass`].
+const IMAGE_CLASS_NAMES: &[(&str, ImageClassName)] = &[
+    ("Sampled", ImageClassName::Sampled),
+    ("Depth", ImageClassName::Depth),
+    ("External", ImageClassName::External),
+    ("Storage", ImageClassName::Storage),
+];
+
+impl FromJson for ImageClass {
+    fn from_json(alloc: Global, value: &Value) -> Result<ImageClass, ReadError> {
+        read_variant(alloc, value)
+    }
+}
+
+impl Variants for ImageClass {
+    type Name = ImageClassName;
+
+    fn names() -> &'static [(&'static str, ImageClassName)] {
+        IMAGE_CLASS_NAMES
+    }
+
+    fn from_content(
+        alloc: Global,
+        variant: ImageClassName,
+        content: &Value,
+    ) -> Result<ImageClass, ReadError> {
+        match variant {
+            ImageClassName::Sampled => class_sampled(alloc, content),
+            ImageClassName::Depth => class_depth(alloc, content),
+            ImageClassName::External => Ok(ImageClass::External),
+            ImageClassName::Storage => class_storage(alloc, content),
+        }
+    }
+}
+
+fn class_sampled(alloc: Global, content: &Value) -> Result<ImageClass, ReadError> {
+    Ok(ImageClass::Sampled {
+        kind: member(alloc, content, "kind")?,
+        multi: member(alloc, content, "multi")?,
+    })
+}
+
+fn class_depth(alloc: Global, content: &Value) -> Result<ImageClass, ReadError> {
+    Ok(ImageClass::Depth {
+        multi: member(alloc, content, "multi")?,
+    })
+}
+
+fn class_storage(alloc: Global, content: &Value) -> Result<ImageClass, ReadError> {
+    Ok(ImageClass::Storage {
+        format: member(alloc, content, "format")?,
+        access: member(alloc, content, "access")?,
+    })
+}
+
+/// The words of [`StorageFormat`].
+const STORAGE_FORMAT_WORDS: &[(&str, StorageFormat)] = &[
+    ("R8Unorm", StorageFormat::R8Unorm),
+    ("R8Snorm", StorageFormat::R8Snorm),
+    ("R8Uint", StorageFormat::R8Uint),
+    ("R8Sint", StorageFormat::R8Sint),
+    ("Rg8Unorm", StorageFormat::Rg8Unorm),
+    ("Rg8Snorm", StorageFormat::Rg8Snorm),
+    ("Rg8Uint", StorageFormat::Rg8Uint),
+    ("Rg8Sint", StorageFormat::Rg8Sint),
+    ("Rgba8Unorm", StorageFormat::Rgba8Unorm),
+    ("Rgba8Snorm", StorageFormat::Rgba8Snorm),
+    ("Rgba8Uint", StorageFormat::Rgba8Uint),
+    ("Rgba8Sint", StorageFormat::Rgba8Sint),
+    ("R16Unorm", StorageFormat::R16Unorm),
+    ("R16Snorm", StorageFormat::R16Snorm),
+    ("R16Uint", StorageFormat::R16Uint),
+    ("R16Sint", StorageFormat::R16Sint),
+    ("R16Float", StorageFormat::R16Float),
+    ("Rg16Unorm", StorageFormat::Rg16Unorm),
+    ("Rg16Snorm", StorageFormat::Rg16Snorm),
+    ("Rg16Uint", StorageFormat::Rg16Uint),
+    ("Rg16Sint", StorageFormat::Rg16Sint),
+    ("Rg16Float", StorageFormat::Rg16Float),
+    ("Rgba16Unorm", StorageFormat::Rgba16Unorm),
+    ("Rgba16Snorm", StorageFormat::Rgba16Snorm),
+    ("Rgba16Uint", StorageFormat::Rgba16Uint),
+    ("Rgba16Sint", StorageFormat::Rgba16Sint),
+    ("Rgba16Float", StorageFormat::Rgba16Float),
+    ("R32Uint", StorageFormat::R32Uint),
+    ("R32Sint", StorageFormat::R32Sint),
+    ("R32Float", StorageFormat::R32Float),
+    ("Rg32Uint", StorageFormat::Rg32Uint),
+    ("Rg32Sint", StorageFormat::Rg32Sint),
+    ("Rg32Float", StorageFormat::Rg32Float),
+    ("Rgba32Uint", StorageFormat::Rgba32Uint),
+    ("Rgba32Sint", StorageFormat::Rgba32Sint),
+    ("Rgba32Float", StorageFormat::Rgba32Float),
+    ("Bgra8Unorm", StorageFormat::Bgra8Unorm),
+    ("Rgb10a2Uint", StorageFormat::Rgb10a2Uint),
+    ("Rgb10a2Unorm", StorageFormat::Rgb10a2Unorm),
+    ("Rg11b10Ufloat", StorageFormat::Rg11b10Ufloat),
+    ("R64Uint", StorageFormat::R64Uint),
+];
+
+impl FromJson for StorageFormat {
+    fn from_json(alloc: Global, value: &Value) -> Result<StorageFormat, ReadError> {
+        word(alloc, value, STORAGE_FORMAT_WORDS)
+    }
+}
+
+/// The variants of [`ArraySize`].
+#[derive(Clone, Copy)]
+pub(crate) enum ArraySizeName {
+    Constant,
+    Pending,
+    Dynamic,
+}
+
+/// The names of [`ArraySize`].
+const ARRAY_SIZE_NAMES: &[(&str, ArraySizeName)] = &[
+    ("Constant", ArraySizeName::Constant),
+    ("Pending", ArraySizeName::Pending),
+    ("Dynamic", ArraySizeName::Dynamic),
+];
+
+impl FromJson for ArraySize {
+    fn from_json(alloc: Global, value: &Value) -> Result<ArraySize, ReadError> {
+        read_variant(alloc, value)
+    }
+}
+
+impl Variants for ArraySize {
+    type Name = ArraySizeName;
+
+    fn names() -> &'static [(&'static str, ArraySizeName)] {
+        ARRAY_SIZE_NAMES
+    }
+
+    fn from_content(
+        alloc: Global,
+        variant: ArraySizeName,
+        content: &Value,
+    ) -> Result<ArraySize, ReadError> {
+        match variant {
+            ArraySizeName::Constant => constant_size(alloc, content),
+            ArraySizeName::Pending => Ok(ArraySize::Pending(FromJson::from_json(alloc, content)?)),
+            ArraySizeName::Dynamic => Ok(ArraySize::Dynamic),
+        }
+    }
+}
+
+fn constant_size(alloc: Global, content: &Value) -> Result<ArraySize, ReadError> {
+    match NonZeroU32::new(u32::from_json(alloc, content)?) {
+        Some(count) => Ok(ArraySize::Constant(count)),
+        None => Err(ReadError::at(alloc, Problem::OutOfRange)),
+    }
+}
+
+/// A set of flags: the text of their names with bars between them, or their bits.
+fn flags<T: Flags<Bits = u32>>(alloc: Global, value: &Value) -> Result<T, ReadError> {
+    match value.as_str() {
+        Some(text) => match parser::from_str_strict(text) {
+            Ok(found) => Ok(found),
+            Err(_) => Err(unknown(alloc, text)),
+        },
+        None => match T::from_bits(u32::from_json(alloc, value)?) {
+            Some(found) => Ok(found),
+            None => Err(ReadError::at(alloc, Problem::OutOfRange)),
+        },
+    }
+}
+
+impl FromJson for StorageAccess {
+    fn from_json(alloc: Global, value: &Value) -> Result<StorageAccess, ReadError> {
+        flags(alloc, value)
+    }
+
+    fn absent(_alloc: Global) -> Option<StorageAccess> {
+        Some(StorageAccess::empty())
+    }
+}
+
+impl FromJson for MemoryDecorations {
+    fn from_json(alloc: Global, value: &Value) -> Result<MemoryDecorations, ReadError> {
+        flags(alloc, value)
+    }
+
+    fn absent(_alloc: Global) -> Option<MemoryDecorations> {
+        Some(MemoryDecorations::empty())
+    }
+}
+
+impl FromJson for Barrier {
+    fn from_json(alloc: Global, value: &Value) -> Result<Barrier, ReadError> {
+        flags(alloc, value)
+    }
+
+    fn absent(_alloc: Global) -> Option<Barrier> {
+        Some(Barrier::empty())
+    }
+}
+
+impl FromJson for UniqueArena<Type_> {
+    fn from_json(alloc: Global, value: &Value) -> Result<UniqueArena<Type_>, ReadError> {
+        let items = items_of(alloc, value)?;
+        let mut read = UniqueArena::new(alloc);
+        for (index, item) in items.iter().enumerate() {
+            let place = read.insert(item_of(alloc, item, index)?)?;
+            if place.index() != index {
+                return in_item(alloc, index, Err(ReadError::at(alloc, Problem::Doubled)));
+            }
+        }
+        Ok(read)
+    }
+
+    fn absent(alloc: Global) -> Option<UniqueArena<Type_>> {
+        Some(UniqueArena::new(alloc))
+    }
+}
