@@ -1,0 +1,33 @@
+//! Why the program cannot go on.
+
+use naga_json::ReadError;
+use std::{fmt, io};
+
+/// Why the program cannot go on.
+#[derive(Debug, Drop)]
+pub enum Failure<'a> {
+    /// The file of this name cannot be read.
+    Input(&'a str, io::Error),
+    /// The file of this name holds no module or info.
+    Json(&'a str, ReadError),
+    /// The output cannot be written.
+    Output(io::Error),
+    /// Memory was refused.
+    Memory,
+}
+
+impl fmt::Display for Failure<'_> {
+    fn fmt<W: fmt::Write>(&self, f: &mut fmt::Formatter<W>) -> fmt::Result {
+        match self {
+            Failure::Input(name, error) => write!(f, "{}: {}", title(name), error),
+            Failure::Json(name, error) => write!(f, "{}: {}", title(name), error),
+            Failure::Output(error) => write!(f, "standard output: {}", error),
+            Failure::Memory => f.write_str("out of memory"),
+        }
+    }
+}
+
+/// How an input is called in a message.
+fn title(name: &str) -> &str {
+    if name == "-" { "standard input" } else { name }
+}

@@ -1,0 +1,78 @@
+//! What is read from files and from the standard input.
+
+use crate::failure::Failure;
+use crate::words::Request;
+use naga_info::ModuleInfo;
+use naga_json::{Known, read_info, read_known, read_module};
+use naga_wgsl_out::ir::Module;
+use std::rt::Files;
+use std::{fs, io};
+
+/// The module that the request names, with what is known of it.
+pub fn known_of<'a, R: Files + Input + AllocGlobal>(
+    rt: &R,
+    request: Request<'a>,
+) -> Result<Known, Failure<'a>> {
+    match request.info {
+        Some(info) => known_in_two(rt, request.module, info),
+        None => known_in(rt, request.module),
+    }
+}
+
+fn known_in<'a, R: Files + Input + AllocGlobal>(
+    rt: &R,
+    name: &'a str,
+) -> Result<Known, Failure<'a>> {
+    match read_known(rt.alloc(), text_of(rt, name)?.as_str()) {
+        Ok(known) => Ok(known),
+        Err(error) => Err(Failure::Json(name, error)),
+    }
+}
+
+fn known_in_two<'a, R: Files + Input + AllocGlobal>(
+    rt: &R,
+    module_name: &'a str,
+    info_name: &'a str,
+) -> Result<Known, Failure<'a>> {
+    let info = info_in(rt, info_name)?;
+    match module_in(rt, module_name) {
+        Ok(module) => Ok(Known { module, info }),
+        Err(failure) => Err(failure),
+    }
+}
+
+fn module_in<'a, R: Files + Input + AllocGlobal>(
+    rt: &R,
+    name: &'a str,
+) -> Result<Module, Failure<'a>> {
+    match read_module(rt.alloc(), text_of(rt, name)?.as_str()) {
+        Ok(module) => Ok(module),
+        Err(error) => Err(Failure::Json(name, error)),
+    }
+}
+
+fn info_in<'a, R: Files + Input + AllocGlobal>(
+    rt: &R,
+    name: &'a str,
+) -> Result<ModuleInfo, Failure<'a>> {
+    match read_info(rt.alloc(), text_of(rt, name)?.as_str()) {
+        Ok(info) => Ok(info),
+        Err(error) => Err(Failure::Json(name, error)),
+    }
+}
+
+/// The text of the file of this name, or of the standard input where the name is `-`.
+fn text_of<'a, R: Files + Input + AllocGlobal>(
+    rt: &R,
+    name: &'a str,
+) -> Result<String, Failure<'a>> {
+    let read = if name == "-" {
+        io::read_to_string(rt.alloc(), rt.reader())
+    } else {
+        fs::read_to_string(rt, name)
+    };
+    match read {
+        Ok(text) => Ok(text),
+        Err(error) => Err(Failure::Input(name, error)),
+    }
+}

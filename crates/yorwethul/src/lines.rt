@@ -1,0 +1,154 @@
+//! Many modules: each line of the input is answered by a line of the output.
+
+use crate::answers::{Answer, answer_to, flags_for};
+use crate::failure::Failure;
+use crate::places::JsonPlace;
+use naga_json::{ReadError, known_of};
+use naga_wgsl_out::info::Unaccepted;
+use naga_wgsl_out::wgsl::{Error, WriterFlags};
+use serde_json::{Map, Value};
+use std::alloc::{AllocError, Global};
+use std::fmt::Display;
+use std::io;
+use std::io::{BufRead, Write};
+
+/// Answers each line of the input, of the file of this name, by a line of the output: the answer to
+/// one module is written before the next one is read. A line that holds no module is answered too.
+pub fn answer_lines<'a, B: BufRead + Drop, W: Write>(
+    alloc: Global,
+    name: &'a str,
+    input: B,
+    explicit_types: bool,
+    out: &mut W,
+) -> Result<(), Failure<'a>> {
+    for line in input.split(alloc, b'\n') {
+        match line {
+            Ok(line) => answer_line(alloc, line.as_slice(), explicit_types, out)?,
+            Err(error) => return Err(Failure::Input(name, error)),
+        }
+    }
+    match out.flush() {
+        Ok(()) => Ok(()),
+        Err(error) => Err(Failure::Output(error)),
+    }
+}
+
+fn answer_line<'a, W: Write>(
+    alloc: Global,
+    line: &[u8],
+    explicit_types: bool,
+    out: &mut W,
+) -> Result<(), Failure<'a>> {
+    let Ok(text) = line_answer(alloc, line, explicit_types) else {
+        return Err(Failure::Memory);
+    };
+    match write_line(text.as_str(), out) {
+        Ok(()) => Ok(()),
+        Err(error) => Err(Failure::Output(error)),
+    }
+}
+
+fn write_line<W: Write>(text: &str, out: &mut W) -> io::Result<()> {
+    out.write_all(text.as_bytes())?;
+    out.write_all(b"\n")
+}
+
+/// The members of an answer, in the order of their names.
+type Members = Map<String, Value>;
+
+/// The answer to a line.
+fn line_answer(alloc: Global, line: &[u8], explicit_types: bool) -> Result<String, AllocError> {
+    let mut members = Map::new(alloc);
+    match Value::from_slice(alloc, line) {
+        Ok(mut request) => answer_request(alloc, &mut request, explicit_types, &mut members)?,
+        Err(error) => tell_unread(alloc, ReadError::from(error), &mut members)?,
+    }
+    Value::Object(members).to_string(alloc)
+}
+
+/// Tells what becomes of the module that is asked for, under the id that came with it.
+fn answer_request(
+    alloc: Global,
+    request: &mut Value,
+    explicit_types: bool,
+    members: &mut Members,
+) -> Result<(), AllocError> {
+    match flags_in(request, explicit_types) {
+        Some(flags) => answer_module(alloc, request, flags, members)?,
+        None => tell(alloc, "error", "explicit_types: no truth value", members)?,
+    }
+    if let Some(id) = request.get_mut("id") {
+        put(alloc, "id", id.take(), members)?;
+    }
+    Ok(())
+}
+
+/// The flags that are asked for, unless what tells them is no truth value.
+fn flags_in(request: &Value, explicit_types: bool) -> Option<WriterFlags> {
+    match request.get("explicit_types") {
+        Some(told) => Some(flags_for(told.as_bool()?)),
+        None => Some(flags_for(explicit_types)),
+    }
+}
+
+fn answer_module(
+    alloc: Global,
+    request: &Value,
+    flags: WriterFlags,
+    members: &mut Members,
+) -> Result<(), AllocError> {
+    match known_of(alloc, request) {
+        Ok(mut known) => tell_answer(alloc, answer_to(alloc, &mut known, flags), members),
+        Err(error) => tell_unread(alloc, error, members),
+    }
+}
+
+fn tell_answer(alloc: Global, answer: Answer, members: &mut Members) -> Result<(), AllocError> {
+    match answer {
+        Answer::Text(text) => put(alloc, "text", Value::String(text), members),
+        Answer::Refused { reason, text } => tell_refused(alloc, reason, text, members),
+        Answer::NotAccepted(fault) => tell_unaccepted(alloc, fault, members),
+        Answer::OutOfMemory => Err(AllocError),
+    }
+}
+
+fn tell_refused(
+    alloc: Global,
+    reason: Error,
+    text: String,
+    members: &mut Members,
+) -> Result<(), AllocError> {
+    tell(alloc, "refused", reason, members)?;
+    put(alloc, "text", Value::String(text), members)
+}
+
+fn tell_unaccepted(
+    alloc: Global,
+    unaccepted: Unaccepted,
+    members: &mut Members,
+) -> Result<(), AllocError> {
+    let mut told = Map::new(alloc);
+    tell(alloc, "place", JsonPlace(unaccepted.item), &mut told)?;
+    tell(alloc, "fault", unaccepted.fault, &mut told)?;
+    put(alloc, "not_accepted", Value::Object(told), members)
+}
+
+fn tell_unread(alloc: Global, error: ReadError, members: &mut Members) -> Result<(), AllocError> {
+    tell(alloc, "error", error, members)
+}
+
+/// Adds a member whose value is a text.
+fn tell(
+    alloc: Global,
+    name: &str,
+    text: impl Display + Drop,
+    members: &mut Members,
+) -> Result<(), AllocError> {
+    let text = format!(in alloc; "{text}")?;
+    put(alloc, name, Value::String(text), members)
+}
+
+fn put(alloc: Global, name: &str, value: Value, members: &mut Members) -> Result<(), AllocError> {
+    members.insert(String::from_str(alloc, name)?, value)?;
+    Ok(())
+}

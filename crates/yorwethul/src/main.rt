@@ -1,0 +1,36 @@
+//! Reads modules from JSON, and prints their WGSL texts.
+//!
+//! `yorwethul MODULE.json` prints the text of one module, and `yorwethul --lines` answers many, one
+//! a line.
+#![tactic(auto)]
+
+mod answers;
+mod failure;
+mod inputs;
+mod lines;
+mod places;
+mod program;
+mod words;
+
+use std::io;
+use std::io::{BufWriter, Write};
+use std::process::ExitCode;
+
+/// Runs the program on its words, and ends with its status.
+fn main(rt: HostRuntime) -> ExitCode {
+    match answer(&rt) {
+        Ok(status) => ExitCode::from(status),
+        Err(error) => {
+            let _ = writeln!(rt.stderr(), "{error}");
+            ExitCode::from(program::FAILED)
+        }
+    }
+}
+
+fn answer(rt: &HostRuntime) -> io::Result<u8> {
+    let alloc = rt.alloc();
+    let words: Vec<String> = std::env::args(rt)?.collect(alloc)?;
+    let mut out = BufWriter::new(alloc, rt.stdout())?;
+    let mut err = rt.stderr();
+    Ok(program::run(rt, &words, &mut out, &mut err))
+}

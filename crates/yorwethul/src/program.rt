@@ -1,0 +1,173 @@
+//! The program: its answers and its statuses.
+
+use crate::answers::{Answer, answer_to, flags_for};
+use crate::failure::Failure;
+use crate::inputs::known_of;
+use crate::lines::answer_lines;
+use crate::places::JsonPlace;
+use crate::words::{Request, Task, request_of};
+use naga_json::Known;
+use naga_wgsl_out::info::{Unaccepted, unaccepted};
+use std::alloc::Global;
+use std::fmt::Display;
+use std::io::{BufReader, Read, Write};
+use std::rt::Files;
+use std::{fs, io};
+
+#[cfg(test)]
+mod tests;
+
+/// The status where a module is refused or not accepted.
+pub const REFUSED: u8 = 1;
+
+/// The status where the words are wrong, the input is no module, or something cannot be read or
+/// written.
+pub const FAILED: u8 = 2;
+
+/// Does what the words ask for, of which the first is the program's name, and gives the status.
+/// What is told of a failure or a refusal goes to `err`; a failure of `err` changes nothing.
+pub fn run<R: Files + Input + AllocGlobal, O: Write, E: Write>(
+    rt: &R,
+    words: &[String],
+    out: &mut O,
+    err: &mut E,
+) -> u8 {
+    match request_of(rt.alloc(), words) {
+        Ok(request) => serve(rt, request, out, err),
+        Err(error) => tell_words(error, out, err),
+    }
+}
+
+/// Tells what is wrong with the words, or the help or the version where they ask for it.
+fn tell_words<O: Write, E: Write>(error: clap::Error, out: &mut O, err: &mut E) -> u8 {
+    if error.use_stderr() {
+        let _ = write!(err, "{error}");
+        FAILED
+    } else {
+        print(error, out, err)
+    }
+}
+
+fn serve<R: Files + Input + AllocGlobal, O: Write, E: Write>(
+    rt: &R,
+    request: Request<'_>,
+    out: &mut O,
+    err: &mut E,
+) -> u8 {
+    match request.task {
+        Task::Lines => serve_lines(rt, request, out, err),
+        Task::Write | Task::Check => serve_module(rt, request, out, err),
+    }
+}
+
+fn serve_lines<R: Files + Input + AllocGlobal, O: Write, E: Write>(
+    rt: &R,
+    request: Request<'_>,
+    out: &mut O,
+    err: &mut E,
+) -> u8 {
+    let done = if request.module == "-" {
+        read_lines(rt.alloc(), request, Ok(rt.reader()), out)
+    } else {
+        read_lines(rt.alloc(), request, fs::open(rt, request.module), out)
+    };
+    match done {
+        Ok(()) => 0,
+        Err(failure) => fail(failure, err),
+    }
+}
+
+fn serve_module<R: Files + Input + AllocGlobal, O: Write, E: Write>(
+    rt: &R,
+    request: Request<'_>,
+    out: &mut O,
+    err: &mut E,
+) -> u8 {
+    match known_of(rt, request) {
+        Ok(mut known) => answer(rt.alloc(), request, &mut known, out, err),
+        Err(failure) => fail(failure, err),
+    }
+}
+
+/// Answers the lines of an input, where it could be opened.
+fn read_lines<'a, I: Read + Drop, O: Write>(
+    alloc: Global,
+    request: Request<'a>,
+    input: io::Result<I>,
+    out: &mut O,
+) -> Result<(), Failure<'a>> {
+    let name = request.module;
+    match buffered(alloc, input) {
+        Ok(input) => answer_lines(alloc, name, input, request.explicit_types, out),
+        Err(error) => Err(Failure::Input(name, error)),
+    }
+}
+
+fn buffered<I: Read + Drop>(alloc: Global, input: io::Result<I>) -> io::Result<BufReader<I>> {
+    BufReader::new(alloc, input?)
+}
+
+/// Prints what the request wants to know of a module.
+fn answer<O: Write, E: Write>(
+    alloc: Global,
+    request: Request<'_>,
+    known: &mut Known,
+    out: &mut O,
+    err: &mut E,
+) -> u8 {
+    match request.task {
+        Task::Check => check(known, out, err),
+        Task::Write | Task::Lines => {
+            print_answer(
+                answer_to(alloc, known, flags_for(request.explicit_types)),
+                out,
+                err,
+            )
+        }
+    }
+}
+
+fn check<O: Write, E: Write>(known: &Known, out: &mut O, err: &mut E) -> u8 {
+    match unaccepted(&known.module, &known.info) {
+        Some(fault) => refuse_unaccepted(fault, err),
+        None => print("accepted\n", out, err),
+    }
+}
+
+fn print_answer<O: Write, E: Write>(answer: Answer, out: &mut O, err: &mut E) -> u8 {
+    match answer {
+        Answer::Text(text) => print(text, out, err),
+        Answer::Refused { reason, .. } => refuse(reason, err),
+        Answer::NotAccepted(fault) => refuse_unaccepted(fault, err),
+        Answer::OutOfMemory => fail(Failure::Memory, err),
+    }
+}
+
+fn print<O: Write, E: Write>(text: impl Display + Drop, out: &mut O, err: &mut E) -> u8 {
+    match write_and_flush(text, out) {
+        Ok(()) => 0,
+        Err(error) => fail(Failure::Output(error), err),
+    }
+}
+
+fn write_and_flush<O: Write>(text: impl Display + Drop, out: &mut O) -> io::Result<()> {
+    write!(out, "{text}")?;
+    out.flush()
+}
+
+fn refuse_unaccepted<E: Write>(unaccepted: Unaccepted, err: &mut E) -> u8 {
+    let place = JsonPlace(unaccepted.item);
+    let fault = unaccepted.fault;
+    let _ = writeln!(err, "not accepted: {place}: {fault}");
+    REFUSED
+}
+
+fn refuse<E: Write>(reason: impl Display + Drop, err: &mut E) -> u8 {
+    let _ = writeln!(err, "refused: {reason}");
+    REFUSED
+}
+
+fn fail<E: Write>(failure: Failure<'_>, err: &mut E) -> u8 {
+    let _ = writeln!(err, "{failure}");
+    FAILED
+}

@@ -1,0 +1,224 @@
+use super::{FAILED, REFUSED, answer, run};
+use crate::words::{Request, Task};
+use naga_json::read_known;
+use std::alloc::{AllocError, Global};
+use std::io;
+use std::io::Write;
+use std::test::Fail;
+
+/// What is told: the status, and how the output and the error output begin, which else are empty.
+type Told = (u8, &'static str, &'static str);
+
+fn is_told(told: Told, status: u8, out: &[u8], err: &[u8]) -> bool {
+    told.0 == status && begins(out, told.1) && begins(err, told.2)
+}
+
+fn begins(written: &[u8], beginning: &str) -> bool {
+    written.is_empty() == beginning.is_empty() && written.starts_with(beginning.as_bytes())
+}
+
+/// Whether this is told of the words behind the program's name.
+fn words_give(rt: &HostRuntime, words: &[&str], told: Told) -> Result<bool, AllocError> {
+    let mut texts = vec![in rt.alloc(); String::from_str(rt.alloc(), "yorwethul")?]?;
+    for word in words {
+        texts.push(String::from_str(rt.alloc(), *word)?)?;
+    }
+    let mut out = Vec::new(rt.alloc());
+    let mut err = Vec::new(rt.alloc());
+    let status = run(rt, &texts, &mut out, &mut err);
+    Ok(is_told(told, status, out.as_slice(), err.as_slice()))
+}
+
+/// Words, with what is told.
+const WORDS: &[(&[&str], Told)] = &[
+    (&["--version"], (0, "yorwethul 0.1.0\n", "")),
+    (
+        &["--help"],
+        (
+            0,
+            "Reads a module of naga's intermediate representation from JSON",
+            "",
+        ),
+    ),
+    (
+        &["no/such.json"],
+        (FAILED, "", "no/such.json: entity not found\n"),
+    ),
+    (
+        &["--lines", "no/such.jsonl"],
+        (FAILED, "", "no/such.jsonl: entity not found\n"),
+    ),
+    (
+        &["--info", "no/info.json", "no/such.json"],
+        (FAILED, "", "no/info.json: entity not found\n"),
+    ),
+    (
+        &["--explicit"],
+        (
+            FAILED,
+            "",
+            "error: unexpected argument '--explicit' found\n",
+        ),
+    ),
+    (
+        &["--lines", "--check"],
+        (
+            FAILED,
+            "",
+            "error: the argument '--lines' cannot be used with",
+        ),
+    ),
+    (
+        &["--lines", "--info", "info.json"],
+        (
+            FAILED,
+            "",
+            "error: the argument '--lines' cannot be used with",
+        ),
+    ),
+    (
+        &["--info"],
+        (FAILED, "", "error: a value is required for '--info <FILE>'"),
+    ),
+    (
+        &["one.json", "two.json"],
+        (FAILED, "", "error: unexpected argument 'two.json' found\n"),
+    ),
+];
+
+#[test]
+fn words_are_answered(rt: HostRuntime) -> Result<(), Fail> {
+    for (words, told) in WORDS {
+        assert!(rt; words_give(&rt, *words, *told)?, "{words:?}");
+    }
+    Ok(())
+}
+
+/// `fn double(x: i32) -> i32`.
+const DOUBLE: &str = r#"{
+    "module": {
+        "types": [{"inner": {"Scalar": {"kind": "Sint", "width": 4}}}],
+        "functions": [{
+            "name": "double", "arguments": [{"name": "x", "ty": 0}], "result": {"ty": 0},
+            "expressions": [{"FunctionArgument": 0}, {"Binary": {"op": "Add", "left": 0, "right": 0}}],
+            "body": [{"Emit": {"start": 1, "end": 2}}, {"Return": {"value": 1}}]
+        }]
+    },
+    "info": {"functions": [[0, 0]]}
+}"#;
+
+/// The same, whose sum has itself for an operand.
+const ITS_OWN_OPERAND: &str = r#"{
+    "module": {
+        "types": [{"inner": {"Scalar": {"kind": "Sint", "width": 4}}}],
+        "functions": [{
+            "name": "double", "arguments": [{"name": "x", "ty": 0}], "result": {"ty": 0},
+            "expressions": [{"FunctionArgument": 0}, {"Binary": {"op": "Add", "left": 1, "right": 0}}],
+            "body": [{"Emit": {"start": 1, "end": 2}}, {"Return": {"value": 1}}]
+        }]
+    },
+    "info": {"functions": [[0, 0]]}
+}"#;
+
+/// `fn half() -> f32`, with a literal of a float.
+const FLOAT_LITERAL: &str = r#"{
+    "module": {
+        "types": [{"inner": {"Scalar": {"kind": "Float", "width": 4}}}],
+        "functions": [{
+            "name": "half", "result": {"ty": 0}, "expressions": [{"Literal": {"F32": 0.5}}],
+            "body": [{"Return": {"value": 0}}]
+        }]
+    },
+    "info": {"functions": [[0]]}
+}"#;
+
+const OPERAND_FAULT: &str =
+    "not accepted: functions[0].expressions[1]: an operand does not stand before the expression\n";
+
+/// Modules, with what is done and what is told.
+const MODULES: &[(&str, Task, Told)] = &[
+    (
+        DOUBLE,
+        Task::Write,
+        (
+            0,
+            "fn double(x: i32) -> i32 {\n    return (x + x);\n}\n\n",
+            "",
+        ),
+    ),
+    (DOUBLE, Task::Check, (0, "accepted\n", "")),
+    (
+        FLOAT_LITERAL,
+        Task::Write,
+        (REFUSED, "", "refused: float literal\n"),
+    ),
+    (FLOAT_LITERAL, Task::Check, (0, "accepted\n", "")),
+    (ITS_OWN_OPERAND, Task::Write, (REFUSED, "", OPERAND_FAULT)),
+    (ITS_OWN_OPERAND, Task::Check, (REFUSED, "", OPERAND_FAULT)),
+];
+
+/// The status where this is done with a module, or none where it cannot be read.
+fn status_of<O: Write, E: Write>(
+    alloc: Global,
+    json: &str,
+    task: Task,
+    out: &mut O,
+    err: &mut E,
+) -> Option<u8> {
+    let request = Request {
+        task,
+        explicit_types: false,
+        module: "-",
+        info: None,
+    };
+    match read_known(alloc, json) {
+        Ok(mut known) => Some(answer(alloc, request, &mut known, out, err)),
+        Err(_) => None,
+    }
+}
+
+fn module_gives(alloc: Global, json: &str, task: Task, told: Told) -> bool {
+    let mut out = Vec::new(alloc);
+    let mut err = Vec::new(alloc);
+    match status_of(alloc, json, task, &mut out, &mut err) {
+        Some(status) => is_told(told, status, out.as_slice(), err.as_slice()),
+        None => false,
+    }
+}
+
+#[test]
+fn modules_are_answered(rt: HostRuntime) -> Result<(), Fail> {
+    for (json, task, told) in MODULES {
+        assert!(rt;
+            module_gives(rt.alloc(), *json, *task, *told),
+            "{json}, {task:?}"
+        );
+    }
+    Ok(())
+}
+
+/// An output that takes nothing.
+#[derive(Drop)]
+struct Broken;
+
+impl Write for Broken {
+    fn write(&mut self, _buf: &[u8]) -> io::Result<usize> {
+        Err(io::Error::from(io::ErrorKind::BrokenPipe))
+    }
+
+    fn flush(&mut self) -> io::Result<()> {
+        Ok(())
+    }
+}
+
+#[test]
+fn broken_outputs_are_told(rt: HostRuntime) -> Result<(), Fail> {
+    let mut err = Vec::new(rt.alloc());
+    let status = status_of(rt.alloc(), DOUBLE, Task::Write, &mut Broken, &mut err);
+    assert_eq!(rt; status, Some(FAILED));
+    assert_eq!(rt;
+        err.as_slice(),
+        b"standard output: broken pipe\n".as_slice()
+    );
+    Ok(())
+}

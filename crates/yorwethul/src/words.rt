@@ -1,0 +1,106 @@
+//! The words that the program is called with.
+
+use clap::{Arg, ArgAction, ArgMatches, Command, Error};
+use std::alloc::{AllocError, Global};
+
+/// What is done with the modules that are read.
+#[derive(Clone, Copy, Debug, PartialEq, Eq)]
+pub enum Task {
+    /// The text of one module is printed.
+    Write,
+    /// One module is only asked whether it is accepted.
+    Check,
+    /// Many modules are answered, one a line.
+    Lines,
+}
+
+/// What the words ask for.
+#[derive(Clone, Copy, Debug, PartialEq, Eq)]
+pub struct Request<'a> {
+    /// What is done.
+    pub task: Task,
+    /// Whether each `let` tells its type.
+    pub explicit_types: bool,
+    /// The file with the module, or `-` for the standard input.
+    pub module: &'a str,
+    /// The file with what is known of the module, where it does not stand beside the module.
+    pub info: Option<&'a str>,
+}
+
+/// What the words behind the program's name ask for. The error is also what tells the help and the
+/// version.
+pub fn request_of(alloc: Global, words: &[String]) -> Result<Request<'_>, Error> {
+    let matches = command(alloc)?.try_get_matches_from(words)?;
+    Ok(request_in(&matches))
+}
+
+fn request_in<'a>(matches: &ArgMatches<'a>) -> Request<'a> {
+    Request {
+        task: task_in(matches),
+        explicit_types: matches.get_flag("explicit-types"),
+        module: matches.get_str("module").unwrap_or("-"),
+        info: matches.get_str("info"),
+    }
+}
+
+fn task_in(matches: &ArgMatches<'_>) -> Task {
+    if matches.get_flag("lines") {
+        Task::Lines
+    } else if matches.get_flag("check") {
+        Task::Check
+    } else {
+        Task::Write
+    }
+}
+
+const ABOUT: &str =
+    "Reads a module of naga's intermediate representation from JSON, and prints its WGSL text.";
+
+const AFTER_HELP: &str = "\
+The file holds an object with the members module and info, as serde writes naga's Module and
+ModuleInfo. With --lines each line is such an object, which may have the members explicit_types
+and id beside, and is answered by one line, an object with one of the members text, refused,
+not_accepted and error, and with the same id.
+
+The status is 0; 1 where the module is refused or not accepted; 2 where words or input are wrong.";
+
+fn command<'a>(alloc: Global) -> Result<Command<'a>, AllocError> {
+    Command::new(alloc, "yorwethul")
+        .version("0.1.0")
+        .about(ABOUT)
+        .after_help(AFTER_HELP)
+        .arg(flag(alloc, "explicit-types", "Has each let tell its type"))?
+        .arg(flag(
+            alloc,
+            "check",
+            "Only says whether the module is accepted, and else where it is not and why",
+        ))?
+        .arg(lines(alloc)?)?
+        .arg(info(alloc))?
+        .arg(module(alloc))
+}
+
+fn flag<'a>(alloc: Global, name: &'a str, help: &'a str) -> Arg<'a> {
+    Arg::new(alloc, name)
+        .long(name)
+        .action(ArgAction::SetTrue)
+        .help(help)
+}
+
+fn lines<'a>(alloc: Global) -> Result<Arg<'a>, AllocError> {
+    flag(alloc, "lines", "Answers many modules, one a line")
+        .conflicts_with("check")?
+        .conflicts_with("info")
+}
+
+fn info<'a>(alloc: Global) -> Arg<'a> {
+    Arg::new(alloc, "info").long("info").value_name("FILE").help(
+        "What is known of the module, where the first file holds the module alone",
+    )
+}
+
+fn module<'a>(alloc: Global) -> Arg<'a> {
+    Arg::new(alloc, "module").value_name("MODULE.json").help(
+        "The module with what is known of it; the standard input where it is - or absent",
+    )
+}
