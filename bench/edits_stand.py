@@ -1,8 +1,8 @@
 #!/usr/bin/env python3
-"""Says which edits no longer stand: those of crates/*/must-fail, and those of bench/edits, which crates name as folders.
+"""Says which edits no longer stand: those of crates/*/must-fail, and those of bench/edits, by their crates' folders.
 
-An edit names files of its crate, and behind each pairs of an old and a new text. Each old one must stand there exactly once,
-as the pairs in front of it left the file. Where all stand it says nothing, and its status is 0. It tries no edit:
+An edit names files of its crate, and behind each pairs of an old and a new text. Each old one must stand there exactly
+once, as the pairs in front of it left the file. Where all stand it says nothing, and its status is 0. It tries no edit:
 `rt must-fail` and `bench/more_edits.sh` do. Run it from anywhere.
 """
 
