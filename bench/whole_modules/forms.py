@@ -304,16 +304,23 @@ def some_json(r):
     return r.choice(["null", "0", "-1.5", '""', '"x"', "[]", "{}", "[[0,null]]", '{"start":0,"end":"1"}'])
 
 
+class Bare(NamedTuple):
+    """A variant with members that may all be absent, told by its name alone, and how it is shown then."""
+    name: str
+    debug: str
+
+
 class Enum(Form):
-    """Variants without content, by their names; with a value, by name and form; and with members, as structs."""
+    """Variants without content, by their names; with a value, by name and form; with members, as structs; and bare."""
 
     def __init__(self, name, *variants):
         self.name, self.variants = name, list(variants)
         EVERY.update(map(self.told_as, variants))
 
     def told_as(self, variant):
-        name = variant if isinstance(variant, str) else variant.name if isinstance(variant, Struct) else variant[0]
-        return f"{self.name}::{name}"
+        if isinstance(variant, str):
+            return f"{self.name}::{variant}"
+        return f"{self.name}::{variant.name if isinstance(variant, (Struct, Bare)) else variant[0]}"
 
     def tell(self, r):
         return self.of_variant(r.choice(self.variants), r)
@@ -322,6 +329,8 @@ class Enum(Form):
         r.told[self.told_as(variant)] += 1
         if isinstance(variant, str):
             return Told(json.dumps(variant), variant)
+        if isinstance(variant, Bare):
+            return Told(json.dumps(variant.name), variant.debug)
         if isinstance(variant, Struct):
             told = variant.tell(r)
             return Told(object_of([(variant.name, told.json)]), told.debug)

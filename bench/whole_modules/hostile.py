@@ -1,9 +1,10 @@
 """Tells modules that are spoiled in one place, and looks at what a program answers.
 
 Each value of each module is replaced in turn by others, each member of an object left out, another member put beside
-each, and the text cut off at each tenth character; texts nest deep, or tell no module. The program (`main.rt.txt`) must
-answer each with a module or with an error, and go on. An error must tell the place that was spoiled, or one in or
-around it, and a problem that can be there; where a number is read, it must be the one that was told.
+each, the last item of each list doubled, and the text cut off at each tenth character; texts nest deep, or tell no
+module. The program (`main.rt.txt`) must answer each with a module or with an error, and go on. An error must tell the
+place that was spoiled, or one in or around it, and a problem that can be there; where a number is read, it must be the
+one that was told.
 
 Usage: hostile PROGRAM MODULES SEED
 """
@@ -79,6 +80,9 @@ def spoiled(known):
         for other, never in OTHERS.items():
             yield Spoiled(frame.replace(json.dumps(MARK), other), "replaced by " + other, place, tuple(never))
         yield Spoiled(frame.replace(json.dumps(MARK), BEYOND), "replaced by " + BEYOND, place)
+        if isinstance(value, list) and value:
+            doubled = json.dumps(value + value[-1:])
+            yield Spoiled(frame.replace(json.dumps(MARK), doubled), "one doubled", f"{place}[{len(value)}]")
         if isinstance(parent, dict):
             del parent[key]
             yield Spoiled(json.dumps(known), "left out", place)

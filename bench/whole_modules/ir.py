@@ -4,7 +4,7 @@ The names in Rust differ where a contract can't spell one: `data_`, `Type_`.
 """
 
 from forms import (
-    Distinct, Double, Enum, Fixed, Flags, Form, Half, Listed, Maybe, Number, Numbered, Paired, Place, Short, Shown,
+    Bare, Double, Enum, Fixed, Flags, Form, Half, Listed, Maybe, Number, Numbered, Paired, Place, Short, Shown,
     Single, Struct, Text, Truth, arena, unique_arena)
 
 
@@ -176,8 +176,9 @@ RAY_PIPELINE = Enum(
     "RayPipelineFunction", Struct("TraceRay", ("acceleration_structure", X), ("descriptor", X), ("payload", X)))
 
 FLAT = Enum(
-    "Statement", ("Emit", RANGE), "Break", "Continue", Struct("Return", ("value", MAYBE_X)), "Kill",
-    ("ControlBarrier", BARRIER), ("MemoryBarrier", BARRIER), Struct("Store", ("pointer", X), ("value", X)),
+    "Statement", ("Emit", RANGE), "Break", "Continue", Struct("Return", ("value", MAYBE_X)),
+    Bare("Return", "Return { value: None }"), "Kill", ("ControlBarrier", BARRIER), ("MemoryBarrier", BARRIER),
+    Struct("Store", ("pointer", X), ("value", X)),
     Struct("ImageStore", *TEXEL, ("value", X)),
     Struct("Atomic", ("pointer", X), ("fun", ATOMIC_FUNCTION), ("value", X), ("result", MAYBE_X)),
     Struct("ImageAtomic", *TEXEL, ("fun", ATOMIC_FUNCTION), ("value", X)),
