@@ -1,7 +1,7 @@
 """Tells modules over every form, and compares what a program reads of them with what was told.
 
 The program prints each module that it reads, and what is known of it, as `Debug` has them (`main.rt.txt`). The forms
-tell a value as JSON and as `Debug` has it at once, apart from the reader. Some hundreds of modules tell every form.
+tell a value as JSON and as `Debug` has it at once, apart from the reader. Five hundred modules tell every form.
 
 Usage: whole_modules PROGRAM MODULES SEED
 """

@@ -323,7 +323,9 @@ class Enum(Form):
         return f"{self.name}::{variant.name if isinstance(variant, (Struct, Bare)) else variant[0]}"
 
     def tell(self, r):
-        return self.of_variant(r.choice(self.variants), r)
+        # most often the variant that was told least, so that rare ones are told too
+        least = r.often(0.7) and min(self.variants, key=lambda variant: r.told[self.told_as(variant)])
+        return self.of_variant(least or r.choice(self.variants), r)
 
     def of_variant(self, variant, r):
         r.told[self.told_as(variant)] += 1

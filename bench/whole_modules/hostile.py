@@ -77,8 +77,10 @@ def spoiled(known):
         value = parent[key]
         parent[key] = MARK
         frame = json.dumps(known)
+        # a number in place of an info is its type, which may be the same
+        done = "an info replaced by " if isinstance(value, dict) and "ref_count" in value else "replaced by "
         for other, never in OTHERS.items():
-            yield Spoiled(frame.replace(json.dumps(MARK), other), "replaced by " + other, place, tuple(never))
+            yield Spoiled(frame.replace(json.dumps(MARK), other), done + other, place, tuple(never))
         yield Spoiled(frame.replace(json.dumps(MARK), BEYOND), "replaced by " + BEYOND, place)
         if isinstance(value, list) and value:
             doubled = json.dumps(value + value[-1:])
