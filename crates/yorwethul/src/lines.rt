@@ -1,9 +1,9 @@
 //! Many modules: each line of the input is answered by a line of the output.
 
-use crate::answers::{Answer, answer_to, flags_for};
 use crate::failure::Failure;
 use crate::places::JsonPlace;
-use naga_json::{ReadError, known_of};
+use crate::writing::{Written, flags_for, write};
+use naga_json::{Known, ReadError, known_of};
 use naga_wgsl_out::info::Unaccepted;
 use naga_wgsl_out::wgsl::{Error, WriterFlags};
 use serde_json::{Map, Value};
@@ -98,17 +98,29 @@ fn answer_module(
     members: &mut Members,
 ) -> Result<(), AllocError> {
     match known_of(alloc, request) {
-        Ok(mut known) => tell_answer(alloc, answer_to(alloc, &mut known, flags), members),
+        Ok(mut known) => tell_known(alloc, &mut known, flags, members),
         Err(error) => tell_unread(alloc, error, members),
     }
 }
 
-fn tell_answer(alloc: Global, answer: Answer, members: &mut Members) -> Result<(), AllocError> {
+fn tell_known(
+    alloc: Global,
+    known: &mut Known,
+    flags: WriterFlags,
+    members: &mut Members,
+) -> Result<(), AllocError> {
+    match write(alloc, &known.module, &mut known.info, flags) {
+        Ok(written) => tell_written(alloc, written, members),
+        Err(unaccepted) => tell_unaccepted(alloc, unaccepted, members),
+    }
+}
+
+fn tell_written(alloc: Global, written: Written, members: &mut Members) -> Result<(), AllocError> {
+    let Written { answer, text } = written;
     match answer {
-        Answer::Text(text) => put(alloc, "text", Value::String(text), members),
-        Answer::Refused { reason, text } => tell_refused(alloc, reason, text, members),
-        Answer::NotAccepted(fault) => tell_unaccepted(alloc, fault, members),
-        Answer::OutOfMemory => Err(AllocError),
+        Ok(()) => put(alloc, "text", Value::String(text), members),
+        Err(Error::Memory(error)) => Err(error),
+        Err(reason) => tell_refused(alloc, reason, text, members),
     }
 }
 

@@ -4,13 +4,13 @@
 //! a line.
 #![tactic(auto)]
 
-mod answers;
 mod failure;
 mod inputs;
 mod lines;
 mod places;
 mod program;
 mod words;
+mod writing;
 
 use std::io;
 use std::io::{BufWriter, Write};

@@ -1,13 +1,14 @@
 //! The program: its answers and its statuses.
 
-use crate::answers::{Answer, answer_to, flags_for};
 use crate::failure::Failure;
 use crate::inputs::known_of;
 use crate::lines::answer_lines;
 use crate::places::JsonPlace;
 use crate::words::{Request, Task, request_of};
+use crate::writing::{Written, flags_for, write};
 use naga_json::Known;
 use naga_wgsl_out::info::{Unaccepted, unaccepted};
+use naga_wgsl_out::wgsl::Error;
 use std::alloc::Global;
 use std::fmt::Display;
 use std::io::{BufReader, Read, Write};
@@ -115,15 +116,13 @@ fn answer<O: Write, E: Write>(
     out: &mut O,
     err: &mut E,
 ) -> u8 {
-    match request.task {
-        Task::Check => check(known, out, err),
-        Task::Write | Task::Lines => {
-            print_answer(
-                answer_to(alloc, known, flags_for(request.explicit_types)),
-                out,
-                err,
-            )
-        }
+    if request.task == Task::Check {
+        return check(known, out, err);
+    }
+    let flags = flags_for(request.explicit_types);
+    match write(alloc, &known.module, &mut known.info, flags) {
+        Ok(written) => print_written(written, out, err),
+        Err(unaccepted) => refuse_unaccepted(unaccepted, err),
     }
 }
 
@@ -134,12 +133,12 @@ fn check<O: Write, E: Write>(known: &Known, out: &mut O, err: &mut E) -> u8 {
     }
 }
 
-fn print_answer<O: Write, E: Write>(answer: Answer, out: &mut O, err: &mut E) -> u8 {
+fn print_written<O: Write, E: Write>(written: Written, out: &mut O, err: &mut E) -> u8 {
+    let Written { answer, text } = written;
     match answer {
-        Answer::Text(text) => print(text, out, err),
-        Answer::Refused { reason, .. } => refuse(reason, err),
-        Answer::NotAccepted(fault) => refuse_unaccepted(fault, err),
-        Answer::OutOfMemory => fail(Failure::Memory, err),
+        Ok(()) => print(text, out, err),
+        Err(Error::Memory(_)) => fail(Failure::Memory, err),
+        Err(reason) => refuse(reason, err),
     }
 }
 
