@@ -10,7 +10,8 @@ import re
 import sys
 from pathlib import Path
 
-from notation import CaseError, Module
+sys.dont_write_bytecode = True
+from notation import CaseError, Module  # noqa: E402
 
 HERE = Path(__file__).resolve().parent
 CRATE = HERE.parent
@@ -29,7 +30,7 @@ class Line:
         self.number = number
 
     def replaced(self, text):
-        return Line(" " * self.indent + text, self.number)
+        return Line(" " * self.indent + text.strip(), self.number)
 
 
 class Case:
@@ -127,6 +128,25 @@ class Expected:
         return text + (f"refused: {refusal}\n" if refusal is not None else "")
 
 
+def with_definitions(case):
+    """The case with what its lines `where $NAME = TEXT` define in the place of these names."""
+    heads = [head for head, _ in sections(case) if head.text.startswith("where ")]
+    values = {}
+    for head in heads:
+        match = re.fullmatch(r"where (\$[a-z_]+) = (.*)", head.text)
+        if not match:
+            raise case.error("a definition is `where $NAME = TEXT`", head)
+        values[match.group(1)] = replaced(match.group(2), values)
+    made = Case(case.file, replaced(case.name, values), case.number)
+    made.lines = [line.replaced(replaced(line.text, values)) for line in case.lines if line not in heads]
+    return made
+
+
+def replaced(text, values):
+    """The text with values in the place of their names, which stand behind `$`."""
+    return re.sub(r"\$[a-z_]+", lambda match: values.get(match.group(0), match.group(0)), text)
+
+
 def rows_of(case):
     """The cases that a case stands for: itself, or one for each row of its table."""
     tables = [(head, lines) for head, lines in sections(case) if head.text.startswith("each ")]
@@ -149,28 +169,17 @@ def rows_of(case):
             raise case.error(f"{len(cells)} cells for {len(columns)} columns", row)
         values = {name: "" if cell == "''" else cell for name, cell in zip(columns, cells)}
         name = case.name if "$" in case.name else f"{case.name}: {columns[0]}"
-        made = Case(case.file, filled(name, values, case, row), row.number)
+        made = Case(case.file, replaced(name, values), row.number)
         for line in others:
-            text = filled(line.text, values, case, row)
+            text = replaced(line.text, values)
             if text or not line.text:
                 made.lines.append(line.replaced(text))
         found.append(made)
     return found
 
 
-def filled(text, values, case, row):
-    """The text with the row's cells in the place of the columns' names."""
-
-    def cell(match):
-        if match.group(0) not in values:
-            raise case.error(f"no column {match.group(0)}", row)
-        return values[match.group(0)]
-
-    return re.sub(r"\$[a-z_]+", cell, text)
-
-
 def edited(case, lines, edits):
-    """The lines after the edits `OLD => NEW`, or `in HEAD: OLD => NEW`."""
+    """The lines after the edits, each `OLD => NEW` or `LINE / OLD => NEW`, behind `in PART: ` or not."""
     for edit in edits:
         old, new = (part.strip() for part in edit.text.split("=>", 1))
         start, end = 0, len(lines)
@@ -178,19 +187,37 @@ def edited(case, lines, edits):
         if inside:
             start, end = part_named(case, lines, inside.group(1), edit)
             old = inside.group(2)
-        found = [i for i in range(start, end) if lines[i].text == old]
-        if not found:
-            found = [i for i in range(start, end) if lines[i].text.startswith(old)]
-        if len(found) != 1:
-            raise case.error(f"`{old}` begins {len(found)} lines", edit)
-        at = found[0]
-        behind = at + 1
-        if not new:
-            while behind < len(lines) and lines[behind].indent > lines[at].indent:
-                behind += 1
+        old, slash, words = old.partition(" / ")
+        at = place_of(case, lines, start, end, old, edit)
+        behind = at + 1 if slash or new else end_of(lines, at)
+        if slash:
+            if lines[at].text.count(words) != 1:
+                raise case.error(f"`{words}` does not stand once in `{lines[at].text}`", edit)
+            new = lines[at].text.replace(words, new)
         parts = [lines[at].replaced(part.strip()) for part in new.split(";;")] if new else []
         lines = lines[:at] + parts + lines[behind:]
     return lines
+
+
+def place_of(case, lines, start, end, old, edit):
+    """Where the one line is that is or begins so; each step of `HEAD > LINE` looks below the last."""
+    for step in old.split(" > "):
+        found = [i for i in range(start, end) if lines[i].text == step]
+        if not found:
+            found = [i for i in range(start, end) if lines[i].text.startswith(step)]
+        if len(found) != 1:
+            raise case.error(f"`{step}` begins {len(found)} lines", edit)
+        at = found[0]
+        start, end = at + 1, end_of(lines, at)
+    return at
+
+
+def end_of(lines, at):
+    """Where what stands below a line ends."""
+    behind = at + 1
+    while behind < len(lines) and lines[behind].indent > lines[at].indent:
+        behind += 1
+    return behind
 
 
 def part_named(case, lines, head, edit):
@@ -220,7 +247,7 @@ class Joined:
 
     def add_file(self, file):
         for case in cases_of(file):
-            for row in rows_of(case):
+            for row in rows_of(with_definitions(case)):
                 self.add(row)
 
     def add(self, case):
@@ -249,6 +276,9 @@ class Joined:
         if case.name in self.modules:
             raise case.error(f"a case `{case.name}` stands before")
         self.modules[case.name] = module
+        unknown = re.search(r"\$[a-z_]+", case.name + "".join(line.text for line in case.lines))
+        if unknown:
+            raise case.error(f"nothing is told of {unknown.group(0)}")
         told = Module.of([line for line in module if line.text and not is_comment(line)], case)
         told = {"name": case.name, **told}
         self.input.append(json.dumps(told, ensure_ascii=False, separators=(",", ":")) + "\n")

@@ -35,7 +35,7 @@ ACCESSES = {
 # What stands for a word and not for an absent value: the control of a derivative.
 WORD_NONE = {"ctrl"}
 # The fields and variants that hold a type.
-OF_A_TYPE = {"ty", "base", "ZeroValue"}
+OF_A_TYPE = {"ty", "ZeroValue"}
 
 TOKEN = re.compile(
     r"""\s*(?:(?P<text>"(?:[^"\\]|\\.)*")
