@@ -26,7 +26,7 @@ ANY = re.compile(r"\b(?:NAME|WHAT|PATH)\b")
 
 def files():
     """The files of the tree that names may stand in."""
-    for folder in ("crates", "bench"):
+    for folder in ("crates", "bench", "examples", "scripts"):
         for path in sorted((TOP / folder).rglob("*")):
             parts = path.relative_to(TOP).parts
             if path.is_file() and "out" not in parts and "__pycache__" not in parts:
@@ -87,7 +87,7 @@ class Tree:
             return
         for path in PATH.findall(span):
             first = path.split("/")[0]
-            is_ours = first in self.of_crate or first in ("bench", "crates", "docs", "proofs", "specs", "src")
+            is_ours = first in self.of_crate or first in ("bench", "crates", "docs", "examples", "proofs", "scripts", "specs", "src")
             if is_ours and not self.at(path):
                 yield path
         for crate, rest in ITEM.findall(span):
