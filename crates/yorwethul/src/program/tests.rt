@@ -42,15 +42,27 @@ const WORDS: &[(&[&str], Told)] = &[
     ),
     (
         &["no/such.json"],
-        (FAILED, "", "no/such.json: entity not found\n"),
+        (
+            FAILED,
+            "",
+            "no/such.json: No such file or directory (os error 2)\n",
+        ),
     ),
     (
         &["--lines", "no/such.jsonl"],
-        (FAILED, "", "no/such.jsonl: entity not found\n"),
+        (
+            FAILED,
+            "",
+            "no/such.jsonl: No such file or directory (os error 2)\n",
+        ),
     ),
     (
         &["--info", "no/info.json", "no/such.json"],
-        (FAILED, "", "no/info.json: entity not found\n"),
+        (
+            FAILED,
+            "",
+            "no/info.json: No such file or directory (os error 2)\n",
+        ),
     ),
     (
         &["--explicit"],
