@@ -171,6 +171,8 @@ def judge(spoiled, given, whole, tally):
         judge_module(spoiled, given, whole, tally)
     elif given.startswith("error: "):
         judge_error(spoiled, given.removeprefix("error: "), tally)
+        if spoiled.what == "as it is" or spoiled.what.endswith("at most 127 deep"):
+            tally.fault("sound, and refused", spoiled, given)
     else:
         tally.add(spoiled.what, "stopped")
         tally.fault("no answer", spoiled, given)
@@ -178,13 +180,11 @@ def judge(spoiled, given, whole, tally):
 
 def judge_module(spoiled, given, whole, tally):
     tally.add(spoiled.what, "the same module" if given == whole else "another module")
-    if spoiled.what in ("cut off", "no module") or (spoiled.what == "as it is" and given != whole):
+    if spoiled.what in ("cut off", "no module") or spoiled.what.endswith("more than 127 deep"):
         tally.fault("a module is read", spoiled, given)
     shown = SHOWN.get(spoiled.what.removeprefix("replaced by "))
     if shown and given != whole and not shown & changed(whole, given):
         tally.fault("another value is read", spoiled, " ".join(changed(whole, given)))
-    if spoiled.what.endswith("127 deep") and "more" in spoiled.what:
-        tally.fault("too deep, and read", spoiled, given)
 
 
 def bits_of(number):
@@ -218,8 +218,6 @@ def judge_error(spoiled, error, tally):
         tally.add(spoiled.what, kind)
         if spoiled.what not in ("cut off", "no module", "replaced by " + BEYOND) and " nested " not in spoiled.what:
             tally.fault("JSON is called none", spoiled, error)
-        if spoiled.what.endswith("at most 127 deep"):
-            tally.fault("not too deep, and refused", spoiled, error)
         return
     where = relation(place or "", spoiled.place)
     tally.add(spoiled.what, kind, where)
