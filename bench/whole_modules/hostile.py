@@ -63,12 +63,21 @@ def main():
     answer(program, [*nested(), *others()], tally)
     for _ in range(modules):
         line = object_of([("module", MODULE.tell(r).json), ("info", INFO.tell(r).json)])
-        answer(program, list(spoiled(json.loads(line))), tally)
+        for part in parts(json.loads(line)):
+            answer(program, list(spoiled(part)), tally)
     print(f"{tally}\n{modules:8} modules of seed {seed}, with {len(r.told)} variants and structs")
     sys.exit(1 if tally.faults else 0)
 
 
 # ---- what is spoiled
+def parts(known):
+    """The module in parts, each of one member: the others may all be absent, and short texts are soon read."""
+    for name, value in known["module"].items():
+        yield {"module": {name: value}, "info": {}}
+    for name, value in known["info"].items():
+        yield {"module": {}, "info": {name: value}}
+
+
 def spoiled(known):
     """The module as it is, and spoiled in each way."""
     text = json.dumps(known)
@@ -118,12 +127,13 @@ def nested():
         "loops": (body, '[{"Loop":{"continuing":', "[]", "}}]"),
         "cases": (body, '[{"Switch":{"selector":0,"cases":[{"value":"Default","body":', "[]", "}]}}]")}
     for name, (around, before, inner, behind) in wraps.items():
-        for count in (*range(1, 130), 10000):
+        # around the depths at which a block and what stands around it nest 127 deep
+        for count in (1, *range(20, 30), *range(38, 45), *range(58, 66), *range(122, 130), 10000):
             text = around % (before * count + inner + behind * count)
             depth = depth_of(text)
             kind = "10,000 times" if count == 10000 else "more than 127 deep" if depth > 127 else "at most 127 deep"
             yield Spoiled(text, f"{name} nested {kind}", "")
-            if count in (1, 127, 10000):
+            if count in (1, 129, 10000):
                 yield Spoiled(text[:len(text) // 2], f"{name} nested and cut off", "")
 
 
