@@ -110,6 +110,16 @@ class Maybe(Form):
         return Told(inner.json, f"Some({inner.debug})")
 
 
+class Needed(Form):
+    """A value that must be there, though it may be an empty one."""
+
+    def __init__(self, form):
+        self.form = form
+
+    def tell(self, r):
+        return self.form.tell(r)
+
+
 class Listed(Form):
     """A list of values, most often a short one, between what `Debug` puts around it."""
 
@@ -282,7 +292,8 @@ class Struct(Form):
 
     def object(self, r, told):
         members = [(member.name, value.json) for member, value in told if value.json is not None]
-        if r.often(0.1):
+        # an object of a module has some known member, or none at all
+        if members and r.often(0.1):
             members += [(name, some_json(r)) for name in (*self.others, "unknown") if r.often(0.5)]
         if r.often(0.3):
             r.shuffle(members)

@@ -1,10 +1,10 @@
 """Tells modules that are spoiled in one place, and looks at what a program answers.
 
 Each value of each module is replaced in turn by others, each member of an object left out, another member put beside
-each, the last item of each list doubled, and the text cut off at each tenth character; texts nest deep, or tell no
-module. The program (`main.rt.txt`) must answer each with a module or with an error, and go on. An error must tell the
-place that was spoiled, or one in or around it, and a problem that can be there; where a number is read, it must be the
-one that was told.
+each, content put behind each name of a variant that has none, the last item of each list doubled, and the text cut
+off at each tenth character; texts nest deep, or tell no module. The program (`main.rt.txt`) must answer each with a
+module or with an error, and go on. An error must tell the place that was spoiled, or one in or around it, and a problem
+that can be there; where a number is read, it must be the one that was told.
 
 Usage: hostile PROGRAM MODULES SEED
 """
@@ -17,19 +17,23 @@ import sys
 from collections import Counter
 from typing import NamedTuple
 
-from forms import Chance, object_of
+from forms import EVERY, Chance, object_of
 from ir import INFO, MODULE
 
 BATCH = 2000
 # what a value is replaced by, and what no error may say of that
 OTHERS = {
-    "null": [], "true": ["no truth value"], "1": ["no number", "no whole number", "number out of range"],
+    "null": ["no null"], "true": ["no truth value"], "1": ["no number", "no whole number", "number out of range"],
     "-1": ["no number", "no whole number"], "1.5": ["no number", "number out of range"],
     "18446744073709551615": ["no number", "no whole number"], "18446744073709551616": ["no number"],
     '"x"': ["no text"], "[]": ["no list"], "{}": ["no object"]}
 # JSON has this number, but no double
 BEYOND = "1e999"
 MARK = "\x01"
+# what must be refused
+NEVER_READ = ("cut off", "no module", "content behind a name")
+# what is told by its name alone is one of these
+VARIANTS = {name.split("::")[1] for name in EVERY if "::" in name}
 
 
 class Spoiled(NamedTuple):
@@ -91,6 +95,8 @@ def spoiled(known):
         for other, never in OTHERS.items():
             yield Spoiled(frame.replace(json.dumps(MARK), other), done + other, place, tuple(never))
         yield Spoiled(frame.replace(json.dumps(MARK), BEYOND), "replaced by " + BEYOND, place)
+        if isinstance(value, str) and value in VARIANTS:
+            yield Spoiled(frame.replace(json.dumps(MARK), object_of([(value, "7")])), "content behind a name", place)
         if isinstance(value, list) and value:
             doubled = json.dumps(value + value[-1:])
             yield Spoiled(frame.replace(json.dumps(MARK), doubled), "one doubled", f"{place}[{len(value)}]")
@@ -124,7 +130,7 @@ def nested():
         "lists": (known, "[", "", "]"), "objects": (known, '{"a":', "0", "}"),
         "blocks": (body, '[{"Block":', "[]", "}]"),
         "choices": (body, '[{"If":{"condition":0,"accept":', "[]", "}}]"),
-        "loops": (body, '[{"Loop":{"continuing":', "[]", "}}]"),
+        "loops": (body, '[{"Loop":{"body":[],"continuing":', "[]", "}}]"),
         "cases": (body, '[{"Switch":{"selector":0,"cases":[{"value":"Default","body":', "[]", "}]}}]")}
     for name, (around, before, inner, behind) in wraps.items():
         # around the depths at which a block and what stands around it nest 127 deep
@@ -190,7 +196,8 @@ def judge(spoiled, given, whole, tally):
 
 def judge_module(spoiled, given, whole, tally):
     tally.add(spoiled.what, "the same module" if given == whole else "another module")
-    if spoiled.what in ("cut off", "no module") or spoiled.what.endswith("more than 127 deep"):
+    never = spoiled.what in NEVER_READ or spoiled.what.endswith("more than 127 deep")
+    if never or (spoiled.what == "as it is" and given != whole):
         tally.fault("a module is read", spoiled, given)
     shown = SHOWN.get(spoiled.what.removeprefix("replaced by "))
     if shown and given != whole and not shown & changed(whole, given):

@@ -4,8 +4,8 @@ The names in Rust differ where a contract can't spell one: `data_`, `Type_`.
 """
 
 from forms import (
-    Bare, Double, Enum, Fixed, Flags, Form, Half, Listed, Maybe, Number, Numbered, Paired, Place, Short, Shown,
-    Single, Struct, Text, Truth, arena, unique_arena)
+    Bare, Double, Enum, Fixed, Flags, Form, Half, Listed, Maybe, Needed, Number, Numbered, Paired, Place, Short,
+    Shown, Single, Struct, Text, Truth, arena, unique_arena)
 
 
 def words(text):
@@ -31,7 +31,7 @@ U8, U16, U32, U64, TRUTH = unsigned(8), unsigned(16), unsigned(32), unsigned(64)
 MAYBE_X, NAME = Maybe(X), Maybe(Text())
 
 # ---- types
-STORAGE_ACCESS = Flags("StorageAccess", "LOAD", "STORE", "ATOMIC")
+STORAGE_ACCESS = Needed(Flags("StorageAccess", "LOAD", "STORE", "ATOMIC"))
 MEMORY_DECORATIONS = Flags("MemoryDecorations", "COHERENT", "VOLATILE")
 BARRIER = Flags("Barrier", "STORAGE", "WORK_GROUP", "SUB_GROUP", "TEXTURE")
 
@@ -85,7 +85,7 @@ TYPE_INNER = Enum(
     ("Atomic", SCALAR), Struct("Pointer", ("base", PLACE), ("space", ADDRESS_SPACE)),
     Struct("ValuePointer", *MAYBE_SIZED, ("space", ADDRESS_SPACE)),
     Struct("Array", ("base", PLACE), ("size", ARRAY_SIZE), ("stride", U32)),
-    Struct("Struct", ("members", Listed(STRUCT_MEMBER)), ("span", U32)),
+    Struct("Struct", ("members", Needed(Listed(STRUCT_MEMBER))), ("span", U32)),
     Struct("Image", ("dim", IMAGE_DIMENSION), ("arrayed", TRUTH), ("class", IMAGE_CLASS)),
     Struct("Sampler", ("comparison", TRUTH)), Struct("AccelerationStructure", FLAG), Struct("RayQuery", FLAG),
     Struct("BindingArray", ("base", PLACE), ("size", ARRAY_SIZE)))
@@ -119,7 +119,7 @@ COOPERATIVE_DATA = Struct("CooperativeData", ("pointer", X), ("stride", X), ("ro
 
 EXPRESSION = Enum(
     "Expression", ("Literal", LITERAL), ("Constant", PLACE), ("Override", PLACE), ("ZeroValue", PLACE),
-    Struct("Compose", ("ty", PLACE), ("components", Listed(X))), Struct("Access", ("base", X), ("index", X)),
+    Struct("Compose", ("ty", PLACE), ("components", Needed(Listed(X)))), Struct("Access", ("base", X), ("index", X)),
     Struct("AccessIndex", ("base", X), ("index", U32)), Struct("Splat", ("size", VECTOR_SIZE), ("value", X)),
     Struct("Swizzle", ("size", VECTOR_SIZE), ("vector", X), ("pattern", Fixed(COMPONENT, 4))),
     ("FunctionArgument", U32), ("GlobalVariable", PLACE), ("LocalVariable", PLACE), Struct("Load", ("pointer", X)),
@@ -159,6 +159,7 @@ class Block(Form):
 
 
 BLOCK = Block()
+NEEDED_BLOCK = Needed(BLOCK)
 ATOMIC_FUNCTION = Enum(
     "AtomicFunction", *words("Add Subtract And ExclusiveOr InclusiveOr Min Max"),
     Struct("Exchange", ("compare", MAYBE_X)))
@@ -169,7 +170,7 @@ GATHER_MODE = Enum(
 COLLECTIVE = Enum("CollectiveOperation", "Reduce", "InclusiveScan", "ExclusiveScan")
 SUBGROUP_OPERATION = Enum("SubgroupOperation", *words("All Any Add Mul Min Max And Or Xor"))
 SWITCH_VALUE = Enum("SwitchValue", ("I32", signed(32)), ("U32", U32), "Default")
-SWITCH_CASE = Struct("SwitchCase", ("value", SWITCH_VALUE), ("body", BLOCK), ("fall_through", TRUTH))
+SWITCH_CASE = Struct("SwitchCase", ("value", SWITCH_VALUE), ("body", NEEDED_BLOCK), ("fall_through", TRUTH))
 RANGE = Struct("Range", ("start", Number(0, 2**32 - 1), "first"), ("end", Number(0, 2**32 - 1)))
 TEXEL = ("image", X), ("coordinate", X), ("array_index", MAYBE_X)
 RAY_PIPELINE = Enum(
@@ -183,7 +184,7 @@ FLAT = Enum(
     Struct("Atomic", ("pointer", X), ("fun", ATOMIC_FUNCTION), ("value", X), ("result", MAYBE_X)),
     Struct("ImageAtomic", *TEXEL, ("fun", ATOMIC_FUNCTION), ("value", X)),
     Struct("WorkGroupUniformLoad", ("pointer", X), ("result", X)),
-    Struct("Call", ("function", PLACE), ("arguments", Listed(X)), ("result", MAYBE_X)),
+    Struct("Call", ("function", PLACE), ("arguments", Needed(Listed(X))), ("result", MAYBE_X)),
     # naga tells too what the query is asked, which is not read
     Struct("RayQuery", ("query", X), others=("fun",)),
     Struct("SubgroupBallot", ("result", X), ("predicate", MAYBE_X)),
@@ -193,9 +194,10 @@ FLAT = Enum(
     Struct("CooperativeStore", ("target", X), ("data", COOPERATIVE_DATA, "data_")),
     ("RayPipelineFunction", RAY_PIPELINE))
 STATEMENT = Enum(
-    "Statement", *FLAT.variants, ("Block", BLOCK), Struct("If", ("condition", X), ("accept", BLOCK), ("reject", BLOCK)),
-    Struct("Switch", ("selector", X), ("cases", Listed(SWITCH_CASE))),
-    Struct("Loop", ("body", BLOCK), ("continuing", BLOCK), ("break_if", MAYBE_X)))
+    "Statement", *FLAT.variants, ("Block", BLOCK),
+    Struct("If", ("condition", X), ("accept", NEEDED_BLOCK), ("reject", BLOCK)),
+    Struct("Switch", ("selector", X), ("cases", Needed(Listed(SWITCH_CASE)))),
+    Struct("Loop", ("body", NEEDED_BLOCK), ("continuing", BLOCK), ("break_if", MAYBE_X)))
 
 # ---- declarations
 CONSTANT = Struct("Constant", ("name", NAME), ("ty", PLACE), ("init", X))

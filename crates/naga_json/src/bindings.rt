@@ -1,7 +1,7 @@
 //! Bindings.
 
 use crate::error::ReadError;
-use crate::shape::{FromJson, Variants, member, read_variant, word};
+use crate::shape::{FromJson, Variants, member, read_variant, unit, word};
 use naga_ir::{Binding, BuiltIn, Interpolation, ResourceBinding, Sampling};
 use serde_json::Value;
 use std::alloc::Global;
@@ -119,7 +119,7 @@ impl Variants for BuiltIn {
         content: &Value,
     ) -> Result<BuiltIn, ReadError> {
         match variant {
-            BuiltInName::Unit(unit) => Ok(unit),
+            BuiltInName::Unit(builtin) => unit(alloc, content, builtin),
             BuiltInName::Position => builtin_position(alloc, content),
             BuiltInName::Barycentric => builtin_barycentric(alloc, content),
         }

@@ -1,7 +1,9 @@
 //! Functions, and what modules declare.
 
 use crate::error::{Problem, ReadError, Wanted};
-use crate::shape::{FromJson, fill, in_item, in_member, item_of, items_of, member, mistyped, word};
+use crate::shape::{
+    FromJson, expect_known, fill, in_item, in_member, item_of, items_of, member, mistyped, word,
+};
 use indexmap::IndexMap;
 use naga_ir::{
     Constant, EntryPoint, Expression, Function, FunctionArgument, FunctionResult, GlobalVariable,
@@ -159,19 +161,30 @@ impl FromJson for IndexMap<Handle<Expression>, String> {
         }
         Ok(read)
     }
-
-    fn absent(alloc: Global) -> Option<IndexMap<Handle<Expression>, String>> {
-        Some(IndexMap::new(alloc))
-    }
 }
 
 /// The label of an expression, whose index is the member's name.
 fn named_expression(alloc: Global, key: &str, label: &Value) -> Result<NamedExpression, ReadError> {
-    let Ok(index) = key.parse::<usize>() else {
-        return Err(mistyped(alloc, Wanted::WholeNumber));
-    };
+    let index = index_in(alloc, key)?;
     let label = String::from_json(alloc, label)?;
     Ok(NamedExpression { index, label })
+}
+
+/// The index that a member's name is.
+fn index_in(alloc: Global, key: &str) -> Result<usize, ReadError> {
+    if !is_numeral(key) {
+        return Err(mistyped(alloc, Wanted::WholeNumber));
+    }
+    match key.parse::<usize>() {
+        Ok(index) => Ok(index),
+        Err(_) => Err(ReadError::at(alloc, Problem::OutOfRange)),
+    }
+}
+
+/// Whether the text is a number in the one way that numbers are written: so no two keys are one.
+fn is_numeral(text: &str) -> bool {
+    let has_digits = !text.is_empty() && text.bytes().all(|byte| byte.is_ascii_digit());
+    has_digits && (text == "0" || !text.starts_with('0'))
 }
 
 impl FromJson for IndexMap<PredeclaredType, Handle<Type_>> {
@@ -182,13 +195,11 @@ impl FromJson for IndexMap<PredeclaredType, Handle<Type_>> {
         let mut read = IndexMap::new(alloc);
         for (index, pair) in pairs_of(alloc, value)?.iter().enumerate() {
             let pair = in_item(alloc, index, predeclared_pair(alloc, pair))?;
-            read.insert(pair.key, pair.ty)?;
+            if read.insert(pair.key, pair.ty)?.is_some() {
+                return in_item(alloc, index, Err(ReadError::at(alloc, Problem::Doubled)));
+            }
         }
         Ok(read)
-    }
-
-    fn absent(alloc: Global) -> Option<IndexMap<PredeclaredType, Handle<Type_>>> {
-        Some(IndexMap::new(alloc))
     }
 }
 
@@ -220,6 +231,8 @@ fn pairs_of(alloc: Global, value: &Value) -> Result<&[Value], ReadError> {
 
 impl FromJson for SpecialTypes {
     fn from_json(alloc: Global, content: &Value) -> Result<SpecialTypes, ReadError> {
+        let mut predeclared_types = IndexMap::new(alloc);
+        fill(alloc, content, "predeclared_types", &mut predeclared_types)?;
         Ok(SpecialTypes {
             external_texture_params: member(alloc, content, "external_texture_params")?,
             external_texture_transfer_function: member(
@@ -227,15 +240,7 @@ impl FromJson for SpecialTypes {
                 content,
                 "external_texture_transfer_function",
             )?,
-            predeclared_types: member(alloc, content, "predeclared_types")?,
-        })
-    }
-
-    fn absent(alloc: Global) -> Option<SpecialTypes> {
-        Some(SpecialTypes {
-            external_texture_params: None,
-            external_texture_transfer_function: None,
-            predeclared_types: IndexMap::new(alloc),
+            predeclared_types,
         })
     }
 }
@@ -268,8 +273,21 @@ fn fill_function(alloc: Global, value: &Value, function: &mut Function) -> Resul
     fill(alloc, value, "body", &mut function.body)
 }
 
+/// The members of [`Module`].
+const MODULE_MEMBERS: &[&str] = &[
+    "types",
+    "special_types",
+    "constants",
+    "overrides",
+    "global_variables",
+    "global_expressions",
+    "functions",
+    "entry_points",
+];
+
 impl FromJson for Module {
     fn from_json(alloc: Global, value: &Value) -> Result<Module, ReadError> {
+        expect_known(alloc, value, MODULE_MEMBERS)?;
         let mut module = Module::new(alloc);
         fill_module(alloc, value, &mut module)?;
         Ok(module)

@@ -10,7 +10,7 @@ use std::fmt;
 pub enum Wanted {
     /// A number.
     Number,
-    /// A number without a fraction.
+    /// A whole number, told without a point or an exponent: `1.0` is none.
     WholeNumber,
     /// A text.
     Text,
@@ -22,6 +22,10 @@ pub enum Wanted {
     TruthValue,
     /// A variant of an enum: its name, or an object with this name for its one member.
     Variant,
+    /// The type of an expression: a handle, or a variant.
+    Resolution,
+    /// Nothing, which `null` tells too: the content of a variant that has none.
+    Null,
 }
 
 impl fmt::Display for Wanted {
@@ -34,6 +38,8 @@ impl fmt::Display for Wanted {
             Wanted::Object => f.write_str("object"),
             Wanted::TruthValue => f.write_str("truth value"),
             Wanted::Variant => f.write_str("name and no object with one member"),
+            Wanted::Resolution => f.write_str("number and no object with one member"),
+            Wanted::Null => f.write_str("null"),
         }
     }
 }
@@ -49,9 +55,13 @@ pub enum Problem {
     OutOfRange,
     /// It is a list of another length than this.
     WrongLength(usize),
-    /// It is, or has for its one member, this name, which is none of those that are wanted.
+    /// It is, or has for its one member, this name, which is none of those that are wanted. Special
+    /// characters are escaped, and of a long name only the front is told.
     UnknownName(String),
-    /// It is a type that equals one before it. The types of a module differ.
+    /// It is an object with members, of which the module or the info that is wanted has none.
+    NoKnownMember,
+    /// It is a type that equals one before it. The types of a module differ, and so do the
+    /// predeclared ones.
     Doubled,
     /// It is a block in too many others. Those of a text, whose nesting is bounded, are few enough.
     TooDeep,
@@ -65,6 +75,7 @@ impl fmt::Display for Problem {
             Problem::OutOfRange => f.write_str("number out of range"),
             Problem::WrongLength(length) => write!(f, "no list of {length}"),
             Problem::UnknownName(name) => write!(f, "unknown name `{name}`"),
+            Problem::NoKnownMember => f.write_str("no known member"),
             Problem::Doubled => f.write_str("equals an earlier type"),
             Problem::TooDeep => f.write_str("blocks nest too deep"),
         }
@@ -76,17 +87,21 @@ impl fmt::Display for Problem {
 pub enum ReadError {
     /// Memory was refused.
     OutOfMemory,
-    /// The text is no JSON from this place on, or lists and objects nest more than 127 deep there.
+    /// The text is no JSON from about this place on. It is said too where lists and objects nest
+    /// more than 127 deep there, or where a number is beyond those of eight bytes: the parser
+    /// refuses both, and tells them no otherwise.
     NoJson {
         /// The line, counted from 1.
         line: usize,
-        /// The column, counted from 1.
+        /// The column in bytes, counted from 1; where the text ends too early, how many bytes its
+        /// last line has.
         column: usize,
     },
     /// The JSON is no such module or info.
     Misfit {
         /// Where: the names of members and variants and the numbers of items, counted from zero,
-        /// that lead there from the outermost value. At that value itself it is empty.
+        /// that lead there from the outermost value. At that value itself it is empty. A member's
+        /// name is told as an unknown one is.
         place: String,
         /// What is wrong there.
         problem: Problem,
@@ -134,8 +149,32 @@ impl ReadError {
     }
 }
 
+/// How many characters of a name are told.
+const MOST_TOLD: usize = 40;
+
+/// What is told of a name from JSON: its front, in which special characters are escaped.
+pub(crate) fn told_name(alloc: Global, name: &str) -> Result<String, AllocError> {
+    let mut told = String::new(alloc);
+    for character in name.chars().take(MOST_TOLD) {
+        write_escaped(&mut told, character)?;
+    }
+    if name.chars().nth(MOST_TOLD).is_some() {
+        told.push_str("..")?;
+    }
+    Ok(told)
+}
+
+/// Adds a character as `Debug` shows it in a text.
+fn write_escaped(told: &mut String, character: char) -> Result<(), AllocError> {
+    for shown in character.escape_debug() {
+        told.push(shown)?;
+    }
+    Ok(())
+}
+
 /// The place behind a step.
 fn joined(alloc: Global, step: &str, place: &str) -> Result<String, AllocError> {
+    let step = told_name(alloc, step)?;
     if place.is_empty() || place.starts_with('[') {
         format!(in alloc; "{step}{place}")
     } else {

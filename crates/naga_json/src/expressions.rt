@@ -1,8 +1,11 @@
 //! Expressions, and literals.
 
 use crate::error::{Problem, ReadError, Wanted};
-use crate::shape::{FromJson, Variants, item_of, items_of, member, mistyped, read_variant, word};
+use crate::shape::{
+    FromJson, Variants, item_of, items_of, member, mistyped, read_variant, unit, word,
+};
 use naga_ir::{CooperativeData, Expression, ImageQuery, Literal, SampleLevel, SwizzleComponent};
+use ryu::Buffer;
 use serde_json::Value;
 use std::alloc::Global;
 use std::num::nearest_f64_to_f32_with_nan;
@@ -59,8 +62,8 @@ impl Variants for SampleLevel {
         content: &Value,
     ) -> Result<SampleLevel, ReadError> {
         match variant {
-            SampleLevelName::Auto => Ok(SampleLevel::Auto),
-            SampleLevelName::Zero => Ok(SampleLevel::Zero),
+            SampleLevelName::Auto => unit(alloc, content, SampleLevel::Auto),
+            SampleLevelName::Zero => unit(alloc, content, SampleLevel::Zero),
             SampleLevelName::Exact => Ok(SampleLevel::Exact(FromJson::from_json(alloc, content)?)),
             SampleLevelName::Bias => Ok(SampleLevel::Bias(FromJson::from_json(alloc, content)?)),
             SampleLevelName::Gradient => level_gradient(alloc, content),
@@ -112,9 +115,9 @@ impl Variants for ImageQuery {
     ) -> Result<ImageQuery, ReadError> {
         match variant {
             ImageQueryName::Size => query_size(alloc, content),
-            ImageQueryName::NumLevels => Ok(ImageQuery::NumLevels),
-            ImageQueryName::NumLayers => Ok(ImageQuery::NumLayers),
-            ImageQueryName::NumSamples => Ok(ImageQuery::NumSamples),
+            ImageQueryName::NumLevels => unit(alloc, content, ImageQuery::NumLevels),
+            ImageQueryName::NumLayers => unit(alloc, content, ImageQuery::NumLayers),
+            ImageQueryName::NumSamples => unit(alloc, content, ImageQuery::NumSamples),
         }
     }
 }
@@ -296,14 +299,22 @@ impl Variants for Expression {
             ExpressionName::ArrayLength => Ok(Expression::ArrayLength(FromJson::from_json(
                 alloc, content,
             )?)),
-            ExpressionName::RayQueryProceedResult => Ok(Expression::RayQueryProceedResult),
+            ExpressionName::RayQueryProceedResult => unit(
+                alloc,
+                content,
+                Expression::RayQueryProceedResult,
+            ),
             ExpressionName::RayQueryGetIntersection => ray_query_get_intersection_expression(
                 alloc, content,
             ),
             ExpressionName::RayQueryVertexPositions => ray_query_vertex_positions_expression(
                 alloc, content,
             ),
-            ExpressionName::SubgroupBallotResult => Ok(Expression::SubgroupBallotResult),
+            ExpressionName::SubgroupBallotResult => unit(
+                alloc,
+                content,
+                Expression::SubgroupBallotResult,
+            ),
             ExpressionName::SubgroupOperationResult => subgroup_operation_result_expression(
                 alloc, content,
             ),
@@ -593,24 +604,46 @@ fn double_bits(alloc: Global, value: &Value) -> Result<u64, ReadError> {
     }
 }
 
-/// The bits of the number of four bytes that is nearest to a number.
+/// The bits of a number of four bytes.
 fn single_bits(alloc: Global, value: &Value) -> Result<u32, ReadError> {
     if value.is_object() {
         return member(alloc, value, BITS);
     }
     match value.as_f64() {
-        Some(number) => nearest_bits(alloc, number),
+        Some(number) => bits_within(alloc, nearest_single(number)),
         None => Err(mistyped(alloc, Wanted::Number)),
     }
 }
 
-/// The bits of the nearest number of four bytes, where there is one.
-fn nearest_bits(alloc: Global, number: f64) -> Result<u32, ReadError> {
-    let single = nearest_f64_to_f32_with_nan(number);
+/// The bits of a number of four bytes, which is infinite where none is within their range.
+fn bits_within(alloc: Global, single: f32) -> Result<u32, ReadError> {
     if single.is_finite() {
         Ok(single.to_bits())
     } else {
         Err(ReadError::at(alloc, Problem::OutOfRange))
+    }
+}
+
+/// The number of four bytes that is nearest to a double. Halfway between two of them, it is the one
+/// whose shortest text tells the double, if there is one: that text was read as the double before.
+fn nearest_single(number: f64) -> f32 {
+    let nearest = nearest_f64_to_f32_with_nan(number);
+    // as far away on the other side, where there is a number of four bytes only from halfway
+    let mirrored = number + (number - f64::from(nearest));
+    let other = nearest_f64_to_f32_with_nan(mirrored);
+    if other != nearest && f64::from(other) == mirrored && tells(other, number) {
+        other
+    } else {
+        nearest
+    }
+}
+
+/// Whether the shortest text of a number of four bytes is read as this double.
+fn tells(single: f32, number: f64) -> bool {
+    let mut buffer = Buffer::new();
+    match buffer.format(single).parse::<f64>() {
+        Ok(read) => read == number,
+        Err(_) => false,
     }
 }
 

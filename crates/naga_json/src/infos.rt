@@ -1,7 +1,7 @@
 //! What is known of modules.
 
-use crate::error::ReadError;
-use crate::shape::{FromJson, Variants, member, read_variant};
+use crate::error::{ReadError, Wanted};
+use crate::shape::{FromJson, Variants, expect_known, fill, member, mistyped, read_variant};
 use naga_info::{ExpressionInfo, FunctionInfo, ModuleInfo, TypeResolution};
 use naga_ir::Place;
 use serde_json::Value;
@@ -25,8 +25,10 @@ impl FromJson for TypeResolution {
     fn from_json(alloc: Global, value: &Value) -> Result<TypeResolution, ReadError> {
         if value.is_number() {
             Ok(TypeResolution::Handle(Place::from_json(alloc, value)?))
-        } else {
+        } else if value.is_object() {
             read_variant(alloc, value)
+        } else {
+            Err(mistyped(alloc, Wanted::Resolution))
         }
     }
 }
@@ -75,23 +77,39 @@ impl FromJson for ExpressionInfo {
 impl FromJson for FunctionInfo {
     fn from_json(alloc: Global, value: &Value) -> Result<FunctionInfo, ReadError> {
         if value.is_array() {
-            Ok(FunctionInfo {
+            return Ok(FunctionInfo {
                 expressions: FromJson::from_json(alloc, value)?,
-            })
-        } else {
-            Ok(FunctionInfo {
-                expressions: member(alloc, value, "expressions")?,
-            })
+            });
         }
+        let mut expressions = Vec::new(alloc);
+        fill(alloc, value, "expressions", &mut expressions)?;
+        Ok(FunctionInfo { expressions })
     }
 }
 
+/// The members of [`ModuleInfo`].
+const INFO_MEMBERS: &[&str] = &["functions", "entry_points", "const_expression_types"];
+
 impl FromJson for ModuleInfo {
     fn from_json(alloc: Global, value: &Value) -> Result<ModuleInfo, ReadError> {
-        Ok(ModuleInfo {
-            functions: member(alloc, value, "functions")?,
-            entry_points: member(alloc, value, "entry_points")?,
-            const_expression_types: member(alloc, value, "const_expression_types")?,
-        })
+        expect_known(alloc, value, INFO_MEMBERS)?;
+        let mut info = ModuleInfo {
+            functions: Vec::new(alloc),
+            entry_points: Vec::new(alloc),
+            const_expression_types: Vec::new(alloc),
+        };
+        fill_info(alloc, value, &mut info)?;
+        Ok(info)
     }
+}
+
+fn fill_info(alloc: Global, value: &Value, info: &mut ModuleInfo) -> Result<(), ReadError> {
+    fill(alloc, value, "functions", &mut info.functions)?;
+    fill(alloc, value, "entry_points", &mut info.entry_points)?;
+    fill(
+        alloc,
+        value,
+        "const_expression_types",
+        &mut info.const_expression_types,
+    )
 }

@@ -3,8 +3,10 @@
 //! The JSON is that of naga's own `serde` forms, which a user of naga 30 gets from
 //! `serde_json::to_string` of a `Module` and of a `ModuleInfo` with naga's feature `serialize`:
 //!
-//! - A struct is an object. Members that this crate does not ask for are let be. An absent member
-//!   is `None`, an empty list, arena, map, block or set of flags, or `false`; others are missed.
+//! - A struct is an object. Members that this crate does not ask for are let be. An absent option
+//!   is `None`, an absent truth value `false`, and what an absent member of a module, a function or
+//!   an info has is empty, as are `reject`, `continuing` and `memory_decorations`. Other members
+//!   are missed, and so are all in an object that has only unknown ones for a module or an info.
 //! - An enum is the name of a variant, or an object whose one member is the variant's content, as
 //!   `"Break"` and `{"Load": {"pointer": 2}}`.
 //! - An arena is a list, and a handle a place in it, counted from zero. No two types are equal.
@@ -12,7 +14,8 @@
 //! - Flags are their names, as `"LOAD | STORE"`, or their bits, as `3`.
 //! - A float is a number. What JSON has no number for is given by its bits, as
 //!   `{"F32": {"bits": 2139095040}}` for the infinity. An `F16` is given by its bits, as 15360 or
-//!   `{"bits": 15360}`. An `F32` is the nearest to its number; one beyond its range is refused.
+//!   `{"bits": 15360}`. An `F32` is the nearest to the double that its number is; halfway between
+//!   two it is the one whose shortest text tells that double. One beyond its range is refused.
 //! - `named_expressions` is an object, read in the order of its members' numbers.
 //! - `predeclared_types`, whose keys are no texts, is a list of pairs `[key, handle]`.
 //!

@@ -51,7 +51,8 @@ pub fn info_of(alloc: Global, value: &Value) -> Result<ModuleInfo, ReadError> {
     ModuleInfo::from_json(alloc, value)
 }
 
-/// Reads what [`read_known`] reads from JSON that was parsed before. It fails as [`module_of`] does.
+/// Reads what [`read_known`] reads from JSON that was parsed before. It fails as [`module_of`]
+/// does.
 pub fn known_of(alloc: Global, value: &Value) -> Result<Known, ReadError> {
     let module = member(alloc, value, "module")?;
     let info = member(alloc, value, "info")?;

@@ -1,7 +1,7 @@
 //! Operators and functions.
 
 use crate::error::ReadError;
-use crate::shape::{FromJson, Variants, member, read_variant, word};
+use crate::shape::{FromJson, Variants, member, read_variant, unit, word};
 use naga_ir::{
     AtomicFunction, BinaryOperator, CollectiveOperation, DerivativeAxis, DerivativeControl,
     Direction, GatherMode, MathFunction, RelationalFunction, SubgroupOperation, UnaryOperator,
@@ -268,13 +268,13 @@ impl Variants for AtomicFunction {
         content: &Value,
     ) -> Result<AtomicFunction, ReadError> {
         match variant {
-            AtomicFunctionName::Add => Ok(AtomicFunction::Add),
-            AtomicFunctionName::Subtract => Ok(AtomicFunction::Subtract),
-            AtomicFunctionName::And => Ok(AtomicFunction::And),
-            AtomicFunctionName::ExclusiveOr => Ok(AtomicFunction::ExclusiveOr),
-            AtomicFunctionName::InclusiveOr => Ok(AtomicFunction::InclusiveOr),
-            AtomicFunctionName::Min => Ok(AtomicFunction::Min),
-            AtomicFunctionName::Max => Ok(AtomicFunction::Max),
+            AtomicFunctionName::Add => unit(alloc, content, AtomicFunction::Add),
+            AtomicFunctionName::Subtract => unit(alloc, content, AtomicFunction::Subtract),
+            AtomicFunctionName::And => unit(alloc, content, AtomicFunction::And),
+            AtomicFunctionName::ExclusiveOr => unit(alloc, content, AtomicFunction::ExclusiveOr),
+            AtomicFunctionName::InclusiveOr => unit(alloc, content, AtomicFunction::InclusiveOr),
+            AtomicFunctionName::Min => unit(alloc, content, AtomicFunction::Min),
+            AtomicFunctionName::Max => unit(alloc, content, AtomicFunction::Max),
             AtomicFunctionName::Exchange => atomic_exchange(alloc, content),
         }
     }
@@ -330,7 +330,7 @@ impl Variants for GatherMode {
         content: &Value,
     ) -> Result<GatherMode, ReadError> {
         match variant {
-            GatherModeName::BroadcastFirst => Ok(GatherMode::BroadcastFirst),
+            GatherModeName::BroadcastFirst => unit(alloc, content, GatherMode::BroadcastFirst),
             GatherModeName::Broadcast => Ok(GatherMode::Broadcast(FromJson::from_json(
                 alloc, content,
             )?)),

@@ -1,7 +1,7 @@
 //! The shapes of JSON that values of Rust's types have: numbers, lists, objects, and enums whose
 //! variant is a text or the only member of an object.
 
-use crate::error::{Problem, ReadError, Wanted};
+use crate::error::{Problem, ReadError, Wanted, told_name};
 use naga_ir::{Arena, Item, Place};
 use serde_json::Value;
 use std::alloc::Global;
@@ -25,7 +25,7 @@ pub(crate) trait Variants: Sized + Drop {
     /// What each name stands for.
     fn names() -> &'static [(&'static str, Self::Name)];
 
-    /// Reads the content of this variant; for a variant without content it is left alone.
+    /// Reads the content of this variant. For a variant without content it is null.
     fn from_content(alloc: Global, variant: Self::Name, content: &Value) -> Result<Self, ReadError>;
 }
 
@@ -81,19 +81,41 @@ pub(crate) fn member<T: FromJson>(
 fn stand_in<T: FromJson>(alloc: Global) -> Result<T, ReadError> {
     match T::absent(alloc) {
         Some(value) => Ok(value),
-        None => Err(ReadError::at(alloc, Problem::Missing)),
+        None => Err(missing(alloc)),
     }
 }
 
-/// Puts the member of this name in the place of what `slot` holds.
+/// The error of a value that is absent.
+pub(crate) fn missing(alloc: Global) -> ReadError {
+    ReadError::at(alloc, Problem::Missing)
+}
+
+/// Puts the member of this name, where it is there, in the place of what `slot` holds.
 pub(crate) fn fill<T: FromJson>(
     alloc: Global,
     value: &Value,
     name: &str,
     slot: &mut T,
 ) -> Result<(), ReadError> {
-    *slot = member(alloc, value, name)?;
+    if !value.is_object() {
+        return Err(mistyped(alloc, Wanted::Object));
+    }
+    if let Some(found) = value.get(name) {
+        *slot = in_member(alloc, name, T::from_json(alloc, found))?;
+    }
     Ok(())
+}
+
+/// Refuses an object that has members, but none of these: it is another thing than was meant.
+pub(crate) fn expect_known(alloc: Global, value: &Value, names: &[&str]) -> Result<(), ReadError> {
+    let Some(members) = value.as_object() else {
+        return Err(mistyped(alloc, Wanted::Object));
+    };
+    if members.is_empty() || names.iter().any(|name| value.get(*name).is_some()) {
+        Ok(())
+    } else {
+        Err(ReadError::at(alloc, Problem::NoKnownMember))
+    }
 }
 
 /// The variant of an enum: its name, and its content where it has some.
@@ -101,16 +123,16 @@ pub(crate) fn fill<T: FromJson>(
 pub(crate) struct Variant<'a> {
     /// Its name.
     pub name: &'a str,
-    /// Its content; where there is only a name, this.
+    /// Its content; where there is only a name, null.
     pub content: &'a Value,
 }
 
-/// The variant that a value names.
-pub(crate) fn named_variant(value: &Value) -> Option<Variant<'_>> {
+/// The variant that a value names; where there is only a name, with null for its content.
+pub(crate) fn named_variant<'a>(value: &'a Value, null: &'a Value) -> Option<Variant<'a>> {
     match value {
         Value::String(name) => Some(Variant {
             name: name.as_str(),
-            content: value,
+            content: null,
         }),
         Value::Object(members) => {
             let (name, content) = members.iter().next()?;
@@ -132,7 +154,8 @@ pub(crate) fn read_variant<T: Variants + 'static>(
     alloc: Global,
     value: &Value,
 ) -> Result<T, ReadError> {
-    let Some(found) = named_variant(value) else {
+    let null = Value::Null;
+    let Some(found) = named_variant(value, &null) else {
         return Err(mistyped(alloc, Wanted::Variant));
     };
     let which = meaning(alloc, found.name, T::names())?;
@@ -141,6 +164,15 @@ pub(crate) fn read_variant<T: Variants + 'static>(
         found.name,
         T::from_content(alloc, which, found.content),
     )
+}
+
+/// The variant, which has no content.
+pub(crate) fn unit<T: Drop>(alloc: Global, content: &Value, variant: T) -> Result<T, ReadError> {
+    if content.is_null() {
+        Ok(variant)
+    } else {
+        Err(mistyped(alloc, Wanted::Null))
+    }
 }
 
 /// What the word stands for in a table, as the variants of an enum without content.
@@ -171,14 +203,15 @@ pub(crate) fn meaning<T: Copy>(
 
 /// The error of a name that no table has.
 pub(crate) fn unknown(alloc: Global, name: &str) -> ReadError {
-    match String::from_str(alloc, name) {
+    match told_name(alloc, name) {
         Ok(name) => ReadError::at(alloc, Problem::UnknownName(name)),
         Err(_) => ReadError::OutOfMemory,
     }
 }
 
-/// The number from which on a double has no fraction that whole numbers of 64 bits lack.
-const BEYOND_WHOLE_NUMBERS: f64 = 9007199254740992.0;
+/// A double nearer to zero than this was told with a point or an exponent. Farther away it may be a
+/// whole number that 64 bits lack.
+const BEYOND_WHOLE_NUMBERS: f64 = 9223372036854775808.0;
 
 /// The error of a value that is no whole number of the wanted type.
 fn no_such_number(alloc: Global, value: &Value) -> ReadError {
@@ -317,10 +350,6 @@ impl<T: FromJson> FromJson for Vec<T> {
         }
         Ok(read)
     }
-
-    fn absent(alloc: Global) -> Option<Vec<T>> {
-        Some(Vec::new(alloc))
-    }
 }
 
 impl<T: FromJson + Item> FromJson for Arena<T> {
@@ -331,10 +360,6 @@ impl<T: FromJson + Item> FromJson for Arena<T> {
             read.append(item_of(alloc, item, index)?)?;
         }
         Ok(read)
-    }
-
-    fn absent(alloc: Global) -> Option<Arena<T>> {
-        Some(Arena::new(alloc))
     }
 }
 

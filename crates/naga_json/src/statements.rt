@@ -2,8 +2,8 @@
 
 use crate::error::{Problem, ReadError, Wanted};
 use crate::shape::{
-    FromJson, Variants, in_item, in_member, items_of, meaning, member, mistyped, named_variant,
-    read_variant,
+    FromJson, Variants, in_item, in_member, items_of, meaning, member, missing, mistyped,
+    named_variant, read_variant, unit,
 };
 use naga_ir::{Block, Range, RayPipelineFunction, Statement, SwitchCase, SwitchValue};
 use serde_json::Value;
@@ -45,7 +45,7 @@ impl Variants for SwitchValue {
         match variant {
             SwitchValueName::I32 => Ok(SwitchValue::I32(FromJson::from_json(alloc, content)?)),
             SwitchValueName::U32 => Ok(SwitchValue::U32(FromJson::from_json(alloc, content)?)),
-            SwitchValueName::Default => Ok(SwitchValue::Default),
+            SwitchValueName::Default => unit(alloc, content, SwitchValue::Default),
         }
     }
 }
@@ -186,10 +186,10 @@ const STATEMENT_NAMES: &[(&str, StatementName)] = &[
 fn simple(alloc: Global, name: SimpleName, content: &Value) -> Result<Statement, ReadError> {
     match name {
         SimpleName::Emit => Ok(Statement::Emit(FromJson::from_json(alloc, content)?)),
-        SimpleName::Break => Ok(Statement::Break),
-        SimpleName::Continue => Ok(Statement::Continue),
+        SimpleName::Break => unit(alloc, content, Statement::Break),
+        SimpleName::Continue => unit(alloc, content, Statement::Continue),
         SimpleName::Return => return_of(alloc, content),
-        SimpleName::Kill => Ok(Statement::Kill),
+        SimpleName::Kill => unit(alloc, content, Statement::Kill),
         SimpleName::ControlBarrier => Ok(Statement::ControlBarrier(FromJson::from_json(
             alloc, content,
         )?)),
@@ -214,8 +214,7 @@ fn simple(alloc: Global, name: SimpleName, content: &Value) -> Result<Statement,
 }
 
 fn return_of(alloc: Global, content: &Value) -> Result<Statement, ReadError> {
-    // a name by itself is its own content
-    if content.is_string() {
+    if content.is_null() {
         return Ok(Statement::Return { value: None });
     }
     Ok(Statement::Return {
@@ -326,10 +325,6 @@ impl FromJson for Block {
     fn from_json(alloc: Global, value: &Value) -> Result<Block, ReadError> {
         block(alloc, value, MOST_LEVELS)
     }
-
-    fn absent(alloc: Global) -> Option<Block> {
-        Some(Block::new(alloc))
-    }
 }
 
 /// The block, whose blocks nest at most `levels` deep.
@@ -348,7 +343,8 @@ fn block(alloc: Global, value: &Value, levels: u32) -> Result<Block, ReadError> 
 
 #[cycle(statements)]
 fn statement(alloc: Global, value: &Value, levels: u32) -> Result<Statement, ReadError> {
-    let Some(found) = named_variant(value) else {
+    let null = Value::Null;
+    let Some(found) = named_variant(value, &null) else {
         return Err(mistyped(alloc, Wanted::Variant));
     };
     let name = meaning(alloc, found.name, STATEMENT_NAMES)?;
@@ -375,9 +371,23 @@ fn named_statement(
     }
 }
 
-/// The block that is the member of this name; absent, one without statements.
+/// The block that is the member of this name.
 #[cycle(statements)]
 fn member_block(
+    alloc: Global,
+    content: &Value,
+    name: &str,
+    levels: u32,
+) -> Result<Block, ReadError> {
+    match content.get(name) {
+        Some(found) => in_member(alloc, name, block(alloc, found, levels)),
+        None => in_member(alloc, name, Err(missing(alloc))),
+    }
+}
+
+/// The block that is the member of this name; absent, one without statements.
+#[cycle(statements)]
+fn block_if_told(
     alloc: Global,
     content: &Value,
     name: &str,
@@ -393,7 +403,7 @@ fn member_block(
 fn if_else(alloc: Global, content: &Value, levels: u32) -> Result<Statement, ReadError> {
     let condition = member(alloc, content, "condition")?;
     let accept = member_block(alloc, content, "accept", levels)?;
-    let reject = member_block(alloc, content, "reject", levels)?;
+    let reject = block_if_told(alloc, content, "reject", levels)?;
     Ok(Statement::If {
         condition,
         accept,
@@ -405,7 +415,7 @@ fn if_else(alloc: Global, content: &Value, levels: u32) -> Result<Statement, Rea
 fn loop_of(alloc: Global, content: &Value, levels: u32) -> Result<Statement, ReadError> {
     let break_if = member(alloc, content, "break_if")?;
     let body = member_block(alloc, content, "body", levels)?;
-    let continuing = member_block(alloc, content, "continuing", levels)?;
+    let continuing = block_if_told(alloc, content, "continuing", levels)?;
     Ok(Statement::Loop {
         body,
         continuing,
@@ -417,10 +427,13 @@ fn loop_of(alloc: Global, content: &Value, levels: u32) -> Result<Statement, Rea
 fn switch(alloc: Global, content: &Value, levels: u32) -> Result<Statement, ReadError> {
     let selector = member(alloc, content, "selector")?;
     let cases = match content.get("cases") {
-        Some(listed) => in_member(alloc, "cases", cases_of(alloc, listed, levels))?,
-        None => Vec::new(alloc),
+        Some(listed) => cases_of(alloc, listed, levels),
+        None => Err(missing(alloc)),
     };
-    Ok(Statement::Switch { selector, cases })
+    Ok(Statement::Switch {
+        selector,
+        cases: in_member(alloc, "cases", cases)?,
+    })
 }
 
 #[cycle(statements)]

@@ -2,7 +2,8 @@
 
 use crate::error::{Problem, ReadError, Wanted};
 use crate::shape::{
-    FromJson, Variants, in_item, item_of, items_of, member, mistyped, read_variant, unknown, word,
+    FromJson, Variants, in_item, item_of, items_of, member, mistyped, read_variant, unit, unknown,
+    word,
 };
 use bitflags::{Flags, parser};
 use naga_ir::{
@@ -126,7 +127,7 @@ impl Variants for AddressSpace {
         content: &Value,
     ) -> Result<AddressSpace, ReadError> {
         match variant {
-            AddressSpaceName::Unit(unit) => Ok(unit),
+            AddressSpaceName::Unit(space) => unit(alloc, content, space),
             AddressSpaceName::Storage => space_storage(alloc, content),
         }
     }
@@ -436,7 +437,7 @@ impl Variants for ImageClass {
         match variant {
             ImageClassName::Sampled => class_sampled(alloc, content),
             ImageClassName::Depth => class_depth(alloc, content),
-            ImageClassName::External => Ok(ImageClass::External),
+            ImageClassName::External => unit(alloc, content, ImageClass::External),
             ImageClassName::Storage => class_storage(alloc, content),
         }
     }
@@ -549,7 +550,7 @@ impl Variants for ArraySize {
         match variant {
             ArraySizeName::Constant => constant_size(alloc, content),
             ArraySizeName::Pending => Ok(ArraySize::Pending(FromJson::from_json(alloc, content)?)),
-            ArraySizeName::Dynamic => Ok(ArraySize::Dynamic),
+            ArraySizeName::Dynamic => unit(alloc, content, ArraySize::Dynamic),
         }
     }
 }
@@ -579,10 +580,6 @@ impl FromJson for StorageAccess {
     fn from_json(alloc: Global, value: &Value) -> Result<StorageAccess, ReadError> {
         flags(alloc, value)
     }
-
-    fn absent(_alloc: Global) -> Option<StorageAccess> {
-        Some(StorageAccess::empty())
-    }
 }
 
 impl FromJson for MemoryDecorations {
@@ -599,10 +596,6 @@ impl FromJson for Barrier {
     fn from_json(alloc: Global, value: &Value) -> Result<Barrier, ReadError> {
         flags(alloc, value)
     }
-
-    fn absent(_alloc: Global) -> Option<Barrier> {
-        Some(Barrier::empty())
-    }
 }
 
 impl FromJson for UniqueArena<Type_> {
@@ -616,9 +609,5 @@ impl FromJson for UniqueArena<Type_> {
             }
         }
         Ok(read)
-    }
-
-    fn absent(alloc: Global) -> Option<UniqueArena<Type_>> {
-        Some(UniqueArena::new(alloc))
     }
 }

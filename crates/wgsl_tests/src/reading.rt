@@ -110,6 +110,107 @@ const REFUSALS: &[(&str, &str, &str)] = &[
         r#"{"functions": [[-1]]}"#,
         "info.functions[0][0]: number out of range",
     ),
+    (r#"{"fuctions": []}"#, "{}", "module: no known member"),
+    (
+        "{}",
+        r#"{"module": {}, "info": {}}"#,
+        "info: no known member",
+    ),
+    (
+        r#"{"functions": [{"named_expressions": {"+2": "label"}}]}"#,
+        "{}",
+        "module.functions[0].named_expressions.+2: no whole number",
+    ),
+    (
+        r#"{"functions": [{"named_expressions": {"02": "label"}}]}"#,
+        "{}",
+        "module.functions[0].named_expressions.02: no whole number",
+    ),
+    (
+        r#"{"functions": [{"named_expressions": {"18446744073709551616": "label"}}]}"#,
+        "{}",
+        "module.functions[0].named_expressions.18446744073709551616: number out of range",
+    ),
+    (
+        r#"{"functions": [{"named_expressions": {"a\n\u001b[31m": "label"}}]}"#,
+        "{}",
+        r"module.functions[0].named_expressions.a\n\u{1b}[31m: no whole number",
+    ),
+    (
+        r#"{"types": [{"inner": "NNNNNNNNNNNNNNNNNNNNNNNNNNNNNNNNNNNNNNNNN"}]}"#,
+        "{}",
+        "module.types[0].inner: unknown name `NNNNNNNNNNNNNNNNNNNNNNNNNNNNNNNNNNNNNNNN..`",
+    ),
+    (
+        r#"{"functions": [{"body": [{"Break": 7}]}]}"#,
+        "{}",
+        "module.functions[0].body[0].Break: no null",
+    ),
+    (
+        r#"{"functions": [{"body": [{"Kill": {"value": 1}}]}]}"#,
+        "{}",
+        "module.functions[0].body[0].Kill: no null",
+    ),
+    (
+        r#"{"functions": [{"body": ["Store"]}]}"#,
+        "{}",
+        "module.functions[0].body[0].Store: no object",
+    ),
+    (
+        r#"{"functions": [{"body": [{"If": {"condition": 0, "acept": []}}]}]}"#,
+        "{}",
+        "module.functions[0].body[0].If.accept: missing",
+    ),
+    (
+        r#"{"functions": [{"body": [{"Loop": {"continuing": []}}]}]}"#,
+        "{}",
+        "module.functions[0].body[0].Loop.body: missing",
+    ),
+    (
+        r#"{"functions": [{"body": [{"Switch": {"selector": 0}}]}]}"#,
+        "{}",
+        "module.functions[0].body[0].Switch.cases: missing",
+    ),
+    (
+        r#"{"functions": [{"body": [{"Switch": {"selector":0, "cases":[{"value":{"I32": 1}}]}}]}]}"#,
+        "{}",
+        "module.functions[0].body[0].Switch.cases[0].body: missing",
+    ),
+    (
+        r#"{"functions": [{"body": [{"Call": {"function": 0}}]}]}"#,
+        "{}",
+        "module.functions[0].body[0].Call.arguments: missing",
+    ),
+    (
+        r#"{"functions": [{"expressions": [{"Compose": {"ty": 0}}]}]}"#,
+        "{}",
+        "module.functions[0].expressions[0].Compose.components: missing",
+    ),
+    (
+        r#"{"functions": [{"expressions": [{"AccessIndex": {"base": 0, "index": 1.0}}]}]}"#,
+        "{}",
+        "module.functions[0].expressions[0].AccessIndex.index: no whole number",
+    ),
+    (
+        r#"{"types": [{"inner": {"Struct": {"span": 4}}}]}"#,
+        "{}",
+        "module.types[0].inner.Struct.members: missing",
+    ),
+    (
+        r#"{"types": [{"inner": {"Array": {"base": 0, "size": {"Dynamic": 4}, "stride": 4}}}]}"#,
+        "{}",
+        "module.types[0].inner.Array.size.Dynamic: no null",
+    ),
+    (
+        r#"{"global_variables": [{"space": {"Storage": {}}, "ty": 0}]}"#,
+        "{}",
+        "module.global_variables[0].space.Storage.access: missing",
+    ),
+    (
+        "{}",
+        r#"{"functions": [[null]]}"#,
+        "info.functions[0][0]: no number and no object with one member",
+    ),
 ];
 
 /// A module's text, an info's, and a part of how what is read is printed.
@@ -123,6 +224,17 @@ const READINGS: &[(&str, &str, &str)] = &[
         r#"{"global_expressions": [{"Literal": {"F32": 16777217}}]}"#,
         "{}",
         "Literal(F32(1266679808))",
+    ),
+    // the double that this text is read as is halfway to the next number of four bytes
+    (
+        r#"{"global_expressions": [{"Literal": {"F32": 7.038531e-26}}]}"#,
+        "{}",
+        "Literal(F32(363742205))",
+    ),
+    (
+        r#"{"global_expressions": [{"Literal": {"F32": -7.038531e-26}}]}"#,
+        "{}",
+        "Literal(F32(2511225853))",
     ),
     (
         r#"{"global_expressions": [{"Literal": {"F32": {"bits": 2139095040}}}]}"#,
@@ -165,9 +277,9 @@ const READINGS: &[(&str, &str, &str)] = &[
         "[Return { value: None }]",
     ),
     (
-        r#"{"special_types": {"predeclared_types": [[{"ModfResult": {"size": "Bi"}}, 0]]}}"#,
+        r#"{"types": [{"inner": {"Array": {"base": 0, "size": {"Dynamic": null}, "stride": 4}}}]}"#,
         "{}",
-        "ModfResult",
+        "size: Dynamic,",
     ),
     (
         "{}",
@@ -176,21 +288,21 @@ const READINGS: &[(&str, &str, &str)] = &[
     ),
 ];
 
-/// What reading module and info tells.
-fn told(alloc: Global, module: &str, info: &str) -> Result<String, AllocError> {
-    let text = format!(in alloc; "{{\"module\": {module}, \"info\": {info}}}")?;
-    match read_known(alloc, text.as_str()) {
-        Ok(known) => format!(in alloc; "{known:?}"),
-        Err(error) => format!(in alloc; "{error}"),
-    }
+/// An object with module and info.
+fn known_text(alloc: Global, module: &str, info: &str) -> Result<String, AllocError> {
+    format!(in alloc; "{{\"module\": {module}, \"info\": {info}}}")
 }
 
 #[test]
 fn a_refusal_tells_place_and_problem(rt: HostRuntime) -> Result<(), Fail> {
     let alloc = rt.alloc();
     for (module, info, wanted) in REFUSALS {
-        let message = told(alloc, module, info)?;
-        assert_eq!(rt; message.as_str(), *wanted, "{module} {info}");
+        let text = known_text(alloc, module, info)?;
+        let Err(error) = read_known(alloc, text.as_str()) else {
+            panic!(rt; "it was read: {text}");
+        };
+        let message = format!(in alloc; "{error}")?;
+        assert_eq!(rt; message.as_str(), *wanted, "{text}");
     }
     Ok(())
 }
@@ -199,12 +311,50 @@ fn a_refusal_tells_place_and_problem(rt: HostRuntime) -> Result<(), Fail> {
 fn values_are_read(rt: HostRuntime) -> Result<(), Fail> {
     let alloc = rt.alloc();
     for (module, info, wanted) in READINGS {
-        let printed = told(alloc, module, info)?;
-        assert!(rt;
-            printed.as_str().contains(*wanted),
-            "{module} {info}: {printed}"
-        );
+        let text = known_text(alloc, module, info)?;
+        let known = read_known(alloc, text.as_str())?;
+        let printed = format!(in alloc; "{known:?}")?;
+        assert!(rt; printed.as_str().contains(*wanted), "{text}: {printed}");
     }
+    Ok(())
+}
+
+/// A predeclared type, which is a key.
+const MODF: &str = r#"{"ModfResult": {"size": "Bi", "scalar": {"kind": "Float", "width": 4}}}"#;
+
+/// A module with these pairs of predeclared types.
+fn with_predeclared(alloc: Global, pairs: &str) -> Result<String, AllocError> {
+    format!(in alloc; "{{\"special_types\": {{\"predeclared_types\": [{pairs}]}}}}")
+}
+
+#[test]
+fn predeclared_types_are_pairs(rt: HostRuntime) -> Result<(), Fail> {
+    let alloc = rt.alloc();
+    let pair = format!(in alloc; "[{MODF}, 1]")?;
+    let text = with_predeclared(alloc, pair.as_str())?;
+    let module = read_module(alloc, text.as_str())?;
+    let printed = format!(in alloc; "{:?}", module.special_types.predeclared_types)?;
+    assert_eq!(rt;
+        printed.as_str(),
+        "{ModfResult { size: Some(Bi), scalar: Scalar { kind: Float, width: 4 } }: \
+        Place { index: 1, mark: PhantomData<_> }}"
+    );
+    Ok(())
+}
+
+#[test]
+fn no_predeclared_type_comes_twice(rt: HostRuntime) -> Result<(), Fail> {
+    let alloc = rt.alloc();
+    let pairs = format!(in alloc; "[{MODF}, 1], [{MODF}, 2]")?;
+    let text = with_predeclared(alloc, pairs.as_str())?;
+    let Err(error) = read_module(alloc, text.as_str()) else {
+        panic!(rt; "it was read: {text}");
+    };
+    let message = format!(in alloc; "{error}")?;
+    assert_eq!(rt;
+        message.as_str(),
+        "special_types.predeclared_types[1]: equals an earlier type"
+    );
     Ok(())
 }
 

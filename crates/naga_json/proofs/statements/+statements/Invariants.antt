@@ -28,3 +28,6 @@ decreases-loop_of l = 9 * l.levels + 2
 
 abbrev pub decreases-member_block : goal.decreases-member_block
 decreases-member_block l = 9 * l.levels + 1
+
+abbrev pub decreases-block_if_told : goal.decreases-block_if_told
+decreases-block_if_told l = 9 * l.levels + 1
