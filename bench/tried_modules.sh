@@ -1,10 +1,12 @@
 #!/bin/sh
 # As generated_modules.sh, with the program tried and not proved: some hundreds of modules in a few minutes. Run it at
-# the top of the repository, with how many modules and which seed; it works on a copy.
+# the top of the repository, with how many modules and which seed.
+set -e
 modules=${1:-500}
 seed=${2:-1}
-model=$(pwd)/bench/generated_modules/model
-tried=$(pwd)/bench/generated_modules/tried.sh
-set -- generated_modules bench/generated_modules/*.rt.txt
-. bench/on_a_whole_copy.sh
-python3 "$model" "$tried" "$modules" "$seed"
+top=$(pwd)
+kept=$(mktemp -d)
+trap 'rm -rf "$kept"' EXIT
+cd crates/yorwethul
+"$top/bench/keep_tried.sh" "$kept/yorwethul" --lines
+python3 "$top/bench/generated_modules/model" "$kept/yorwethul" "$modules" "$seed"

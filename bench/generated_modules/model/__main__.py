@@ -8,9 +8,12 @@ and the results.
 Where several constructs stand for which a module is refused, any one of them may be told, behind the functions in
 front of the refused one.
 
+The program answers a line of JSON for each line of JSON, as `yorwethul --lines` does.
+
 Usage: model PROGRAM MODULES SEED
 """
 
+import json
 import random
 import subprocess
 import sys
@@ -20,11 +23,13 @@ from generator import generate
 from modules import EVENTS, PARTS
 from rows import check_rows
 from runs import ModuleRun, TextRun
+from serde import line_of
 from spelling import points, whole_of
 from words import MATH
-from writer import answers_of, written_of
+from writer import answers_of, refusal, written_of
 
 BATCH = 5000
+NOT_ACCEPTED = "not accepted"
 
 
 def main():
@@ -37,29 +42,37 @@ def main():
         texts = texts_of(program, samples)
         for number, module in enumerate(samples):
             compare(module, start + number, texts, tally)
-        assert texts == [""], texts[:2]
     print(tally)
     sys.exit(1 if tally.differ else 0)
 
 
 def texts_of(program, samples):
-    """What the program says of each module, one behind another; the last is what stands behind them."""
-    lines = "".join(" ".join(map(str, module.numbers())) + "\n" for module in samples)
-    answer = subprocess.run([program], input=lines.encode(), stdout=subprocess.PIPE, check=True)
-    texts = answer.stdout.decode().split("%%\n")
+    """What the program says of each module, without and with types told, one behind another."""
+    lines = [line_of(module, explicit) for module in samples for explicit in (False, True)]
+    answer = subprocess.run([program, "--lines"], input="".join(lines).encode(), stdout=subprocess.PIPE, check=True)
+    answers = answer.stdout.decode().split("\n")[:-1]
+    assert len(answers) == len(lines), (len(answers), len(lines))
+    return [text_in(json.loads(answer)) for answer in answers]
+
+
+def text_in(answer):
+    """A text, with the refusal behind it where there is one; or that the module is not accepted."""
     # the program reads each module
-    assert "malformed\n" not in texts, texts.index("malformed\n")
-    return texts
+    assert "error" not in answer, answer
+    if "not_accepted" in answer:
+        return NOT_ACCEPTED
+    return answer["text"] + (refusal(answer["refused"]) if "refused" in answer else "")
 
 
 def compare(module, number, texts, tally):
+    given = texts.pop(0), texts.pop(0)
     if not is_accepted(module):
-        tally.check(number, module, texts.pop(0), {"invalid\n"})
-        tally.add("invalid")
+        for text in given:
+            tally.check(number, module, text, {NOT_ACCEPTED})
+        tally.add(NOT_ACCEPTED)
         return
-    for explicit in (False, True):
-        text = texts.pop(0)
-        is_written, answers = answers_of(module, explicit)
+    for explicit, text in enumerate(given):
+        is_written, answers = answers_of(module, bool(explicit))
         if tally.check(number, module, text, answers) and is_written:
             tally.run(number, module, text)
     if is_written:
@@ -91,7 +104,7 @@ class Tally:
 
     def tell(self, number, module, what, given, *wanted):
         self.differ += 1
-        print(f"module {number} {what}\n{' '.join(map(str, module.numbers()))}\n---- given\n{given}")
+        print(f"module {number} {what}\n{line_of(module, False)}---- given\n{given}")
         for text in wanted:
             print(f"---- wanted\n{text}")
 

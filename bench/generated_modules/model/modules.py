@@ -1,11 +1,7 @@
-"""Modules of functions, and the numbers by which the builder makes them."""
+"""Modules of functions."""
 
-from spelling import SCALAR_KINDS, bases_of, label_numbers, type_numbers
-
-KINDS = [
-    "literal", "argument", "local", "load", "unary", "binary", "select", "math", "relational", "splat", "compose",
-    "zero", "swizzle", "access", "access index", "conversion", "derivative", "sample", "image load", "image query",
-    "array length", "multiply add", "constant"]
+from serde import Serde
+from spelling import bases_of
 
 # these are not emitted
 LEAVES = ("literal", "argument", "local", "zero", "constant")
@@ -14,9 +10,6 @@ IMAGES = ("sample", "image load", "image query")
 # these are events where they are used at all, and the images' anyhow
 READS = ("load", "derivative")
 EVENTS = (*READS, *IMAGES)
-
-# what gives structs that no text declares: functions, by the size and the scalar of what they give, and external images
-GIVERS = ["modf", "frexp", "exchange", "params", "transfer"]
 
 
 class Expression:
@@ -37,10 +30,6 @@ class Sampling:
     def __init__(self, gather, level, layer, depth, offset, clamp):
         self.gather, self.level, self.layer, self.depth = gather, level, layer, depth
         self.offset, self.clamp = offset, clamp
-
-    def numbers(self):
-        gather = 0 if self.gather is None else self.gather + 1
-        return [gather, self.LEVELS.index(self.level), *map(int, (self.layer, self.depth, self.offset, self.clamp))]
 
 
 class Function:
@@ -94,57 +83,6 @@ class Module:
             return ty in self.special_types()
         return ty[0] in ("array", "pointer") and self.names_undeclared(ty[1])
 
-    def special_numbers(self):
-        special = []
-        for (giver, size, (kind, width)), ty in self.special:
-            handle = len(self.types) if ty is None else self.types.index(ty)
-            special += [GIVERS.index(giver), size, SCALAR_KINDS.index(kind), width, handle]
-        return [len(self.special), *special]
-
-    def numbers(self):
-        functions = [n for f in self.functions for n in self.function_numbers(f)]
-        types = []
-        for label, ty in zip(self.labels, self.types):
-            types += [*label_numbers(label), *type_numbers(ty, self.types.index)]
-        own = [n for e in self.own.expressions for n in self.expression_numbers(e)]
-        constants = [n for ty, init in self.constants for n in (self.types.index(ty), init)]
-        return [
-            len(self.types), *types, *self.special_numbers(), len(self.own.expressions), *own, len(self.constants),
-            *constants, len(self.functions), *functions]
-
-    def function_numbers(self, f):
-        handle = self.types.index
-        out = [*label_numbers(f.label), len(f.arguments)]
-        for label, ty in f.arguments:
-            out += [*label_numbers(label), handle(ty)]
-        out.append(-1 if f.result is None else handle(f.result))
-        out.append(len(f.locals))
-        for label, ty, init in f.locals:
-            out += [*label_numbers(label), handle(ty), -1 if init is None else init]
-        out.append(len(f.expressions))
-        for expression in f.expressions:
-            out += self.expression_numbers(expression)
-        out.append(len(f.labels))
-        for expression, label in f.labels.items():
-            out += [expression, *label_numbers(label)]
-        out.append(len(f.body))
-        for kind, *operands in f.body:
-            out += [["emit", "store", "return"].index(kind), *(-1 if h is None else h for h in operands)]
-        return out
-
-    def expression_numbers(self, e):
-        known = [1, *type_numbers(e.type, self.types.index)]
-        if e.by_handle:
-            known = [0, self.types.index(e.type)]
-        return [KINDS.index(e.kind), *known, *self.what_numbers(e), *e.operands]
-
-    def what_numbers(self, e):
-        if e.kind == "zero":
-            return [self.types.index(e.what[0])]
-        if e.kind == "compose":
-            return [self.types.index(e.what[0]), len(e.operands)]
-        if e.kind == "math":
-            return [e.what[0], len(e.operands)]
-        if e.kind == "sample":
-            return e.what[0].numbers()
-        return [int(n) for n in e.what]
+    def json(self):
+        """The module and what is known of it, in naga's forms."""
+        return Serde(self).known()

@@ -6,7 +6,7 @@ from spelling import (
     with_scalar)
 from words import AXES, BINARY, CONTROLS, MATH, QUERIES, RELATIONAL, UNARY
 
-# the scalars of literals, by the builder's numbers
+# the scalars of literals, by their numbers
 LITERALS = [BOOL, I32, U32, I64, U64, F32, F64, I16, U16]
 SUFFIX = {I32: "i", U32: "u", I64: "li", U64: "lu"}
 LEVEL_ZERO = "0.0"

@@ -30,7 +30,6 @@ HANDLE = ("", 0)
 SPACES = [
     FUNCTION, ("private", 0), ("workgroup", 0), ("uniform", 0), ("storage", LOAD), HANDLE, ("immediate", 0),
     ("task_payload", 0), ("ray_payload", 0), ("incoming_ray_payload", 0)]
-SPACE_WORDS = [word for word, _ in SPACES]
 
 
 def spelled(ty):
@@ -198,47 +197,3 @@ def bases_of(ty):
 
 def has_pointer_to_handle(ty):
     return (ty[0] == "pointer" and ty[2] == HANDLE) or any(has_pointer_to_handle(base) for base in bases_of(ty))
-
-
-# ---- the builder's numbers
-def scalar_numbers(scalar):
-    return [SCALAR_KINDS.index(scalar[0]), scalar[1]]
-
-
-def space_numbers(space):
-    return [SPACE_WORDS.index(space[0]), space[1]]
-
-
-def label_numbers(label):
-    return [-1] if label is None else [len(label), *map(ord, label)]
-
-
-def type_numbers(ty, handle_of):
-    """The numbers of a type, in which `handle_of` gives that of another one."""
-    kind, *rest = ty
-    if kind == "struct":
-        members = [n for label, member in rest[0] for n in (*label_numbers(label), handle_of(member))]
-        return [10, len(rest[0]), *members, rest[1]]
-    if kind in ("scalar", "vector", "matrix"):
-        *sizes, scalar = rest
-        return [len(sizes), *sizes, *scalar_numbers(scalar)]
-    if kind == "array":
-        return [3, handle_of(rest[0]), *rest[1:]]
-    if kind == "pointer":
-        return [4, handle_of(rest[0]), *space_numbers(rest[1])]
-    if kind == "value pointer":
-        return [5, rest[0], *scalar_numbers(rest[1]), *space_numbers(rest[2])]
-    if kind == "image":
-        return [6, rest[0], int(rest[1]), *class_numbers(rest[2])]
-    if kind == "atomic":
-        return [9, *scalar_numbers(rest[0])]
-    return [7 if kind == "sampler" else 8, int(rest[0])]
-
-
-def class_numbers(image_class):
-    kind, *rest = image_class
-    if kind == "sampled":
-        return [0, SCALAR_KINDS.index(rest[0]), int(rest[1])]
-    if kind == "depth":
-        return [1, int(rest[0]), 0]
-    return [2, *rest] if kind == "storage" else [3, 0, 0]

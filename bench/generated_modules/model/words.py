@@ -71,7 +71,7 @@ KEYWORDS = BUILTIN.union(RESERVED)
 
 BINARY = ["+", "-", "*", "/", "%", "==", "!=", "<", "<=", ">", ">=", "&", "^", "|", "&&", "||", "<<", ">>"]
 UNARY = ["-", "!", "~"]
-# the functions of mathematics that are generated, by the builder's numbers, with how many operands they take
+# the functions of mathematics that are generated, by their numbers, with how many operands they take
 MATH = [
     ("abs", 1), ("min", 2), ("clamp", 3), ("insertBits", 4), ("dot", 2), ("fma", 3), ("smoothstep", 3),
     ("Outer", 2), ("Inverse", 1), ("modf", 1), ("frexp", 1)]

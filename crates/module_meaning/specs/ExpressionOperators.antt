@@ -1,6 +1,6 @@
 -- Which operator each expression applies, of all expressions: by itself, or by what stands around
 -- it, as the types of its operands are. What applies none is a constant, a leaf, a plain load, a
--- part, or the result of a statement. (`Applications` has those that are read and written so far.)
+-- part of what has parts, components of a vector, or the result of a statement.
 --
 -- Throughout, a is what stands around an expression, h the handle of an operand, r what is known of
 -- the type of an expression, t a type of the module, and s a scalar.

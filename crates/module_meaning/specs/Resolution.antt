@@ -1,5 +1,6 @@
 -- Each identifier of a program stands for what it was written for. What it stands for is told of
--- the abstract text, which forgets types and member words: no identifier stands there so far.
+-- the abstract text, which forgets types and member words: so far no type of a text has a name of
+-- the module, and a member's word is one that WGSL gives (`Undeclared`).
 use Rattle.std.specs.Prelude.{◌≡◌, map, Some}
 use Rattle.naga_ir.specs.declared.module.Module.{Module}
 use Rattle.naga_info.specs.declared.info.ModuleInfo.{ModuleInfo}

@@ -1,6 +1,6 @@
--- The kind of what an expression evaluates, in the words that sort the module's expressions. What
--- is not written so far evaluates as a result, whatever its kind in the module is, and so does a
--- handle without an expression.
+-- The kind of what an expression evaluates, in the words that sort the module's expressions. A shape
+-- has the kind of its expression, but that the load of an atomic is a request
+-- (`proofs/ExpressionShapes`). A handle without an expression counts as a result.
 use Rattle.std.specs.Prelude.{Option, Some, None}
 use Rattle.naga_ir.specs.declared.kind.ExpressionKind.{ExpressionKind}
 use Rattle.naga_ir.specs.declared.kind.ExpressionKind.TheVariants as kind

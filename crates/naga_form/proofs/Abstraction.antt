@@ -103,7 +103,7 @@ use Rattle.naga_form.specs.Functions.{locals_form, parameters_form, function_for
 use Rattle.naga_form.specs.Statements.{let_form, then_if, lets_form, return_line, simple_form}
 use Rattle.naga_form.specs.Statements.{loop_form, label_form, labels_form, line_form, lines_form}
 use Rattle.naga_form.specs.Statements.{cases_form, has_form, have_forms, have_forms_in, store_line}
-use Rattle.naga_form.specs.Statements.{cases_have_forms}
+use Rattle.naga_form.specs.Statements.{cases_have_forms, optional_form}
 use Rattle.module_meaning.specs.Names.{function_name, argument_name, module_names}
 use Rattle.naga_form.specs.Types.{type_form, told_type, LocalsHaveForms}
 use Rattle.naga_form.specs.TypeTrees.{type_tree}
@@ -128,7 +128,7 @@ use Rattle.naga_form.proofs.ModulePlaces.{expression_is, shapes_length}
 use Rattle.naga_form.proofs.PartFits.{body_is_written}
 use Rattle.naga_ir.specs.Operands.{expression_operands}
 use Rattle.text_meaning.specs.Abstraction.{expression_read, label_read, labels_read}
-use Rattle.text_meaning.specs.Abstraction.{statements_read, cases_read, function_read}
+use Rattle.text_meaning.specs.Abstraction.{statements_read, optional_read, cases_read, function_read}
 use Rattle.text_meaning.specs.Abstraction.{statement_read, local_pointer_read, variable_read}
 use Rattle.naga_ir.specs.declared.expression.Expression.TheVariants as expression
 use Rattle.naga_form.proofs.Operators.{applied_read}
@@ -171,10 +171,14 @@ labels_read_as : (labels : List tree.Label) (value : SwitchValue) → labels_rea
 labels_read_as [] value = ap (λ l. l ∷ []) (label_reads value)
 labels_read_as (l ∷ ls) value = ap (λ more. label_read l ∷ more) (labels_read_as ls value)
 
--- a loop
-loop_reads : (body continuing : tree.Statements) (e : Option tree_expressions.Expression) → statement_read (loop_form body continuing e) ≡ LoopOf (statements_read body) (statements_read continuing) (option_map expression_read e)
-loop_reads body continuing None = refl
-loop_reads body continuing (Some e) = refl
+-- a loop, of which a `continuing` without statements has no lines
+loop_reads : (body : tree.Statements) (b : BlockTree) (continuing : tree.Statements)
+    (e : Option tree_expressions.Expression) →
+    optional_read (optional_form b continuing) ≡ statements_read continuing →
+    statement_read (loop_form body b continuing e)
+    ≡ LoopOf (statements_read body) (statements_read continuing) (option_map expression_read e)
+loop_reads body b continuing None same = ap (λ ls. LoopOf (statements_read body) ls None) same
+loop_reads body b continuing (Some e) same = refl
 
 -- ---- expressions
 -- a value of this type is a place
@@ -661,6 +665,13 @@ module _ (given : ℕ → List ℕ) (m : Module) (info : ModuleInfo) (g : ℕ) (
   simple_reads told k kill s rest has w = refl
   simple_reads told k _ s rest has w = absurd cc
 
+  -- what is left out where a block has no statements does nothing
+  optional_reads : (told : ℕ → Option TypeSpecifier) (k : ℕ) (b : BlockTree) (s : Handles) →
+      optional_read (optional_form b (lines_form own told source k b s))
+      ≡ statements_read (lines_form own told source k b s)
+  optional_reads told k no_statements s = refl
+  optional_reads told k (statement st b) s = refl
+
   mutual
     line_reads : (told : ℕ → Option TypeSpecifier) (k : ℕ) (st : StatementTree) (s : Handles) (rest : tree.Statements) → have_forms_in st ≡ true → Writes (statement_roots bound st) → statements_read (line_form own told source k st s rest) ≡ runs.form own k (statement_shape d.around st) s (statements_read rest)
     line_reads told k (simple st) s rest have w = simple_reads told k st s rest have w
@@ -670,7 +681,8 @@ module _ (given : ℕ → List ℕ) (m : Module) (info : ModuleInfo) (g : ℕ) (
         let behind = given_by_all own.function (statements_shape d.around accept) k in
         let one = all_front W (block_roots bound accept) (block_roots bound reject) w.1 in
         let other = all_rest W (block_roots bound accept) (block_roots bound reject) w.1 in
-        λ i. before (IfElse (value_reads s condition w.0 i) (lines_read told k accept s both.0 one i) (lines_read told behind reject s both.1 other i)) (statements_read rest)
+        λ i. before (IfElse (value_reads s condition w.0 i) (lines_read told k accept s both.0 one i)
+        ((optional_reads told behind reject s ∙ lines_read told behind reject s both.1 other) i)) (statements_read rest)
     line_reads told k (switch selector cases) s rest have w =
         λ i. before (SwitchOn (value_reads s selector w.0 i) (cases_read_as told k [] cases s have w.1 i)) (statements_read rest)
     line_reads told k (loop body continuing break_if) s rest have w =
@@ -682,7 +694,8 @@ module _ (given : ℕ → List ℕ) (m : Module) (info : ModuleInfo) (g : ℕ) (
         let more = all_rest W (block_roots bound body) (block_roots bound continuing ++ option_to_list break_if) w in
         let other = all_front W (block_roots bound continuing) (option_to_list break_if) more in
         let value = all_rest W (block_roots bound continuing) (option_to_list break_if) more in
-        ap (λ l. before l (statements_read rest)) (loop_reads (lines_form own told source k body s) (lines_form own told source behind continuing inside) (option_map (value_form own source last) break_if))
+        ap (λ l. before l (statements_read rest)) (loop_reads (lines_form own told source k body s) continuing (lines_form own told source behind continuing inside)
+        (option_map (value_form own source last) break_if) (optional_reads told behind continuing inside))
         ∙ λ i. before (LoopOf (lines_read told k body s both.0 one i) (lines_read told behind continuing inside both.1 other i) (value_if_reads last break_if value i)) (statements_read rest)
 
     lines_read : (told : ℕ → Option TypeSpecifier) (k : ℕ) (b : BlockTree) (s : Handles) → have_forms b ≡ true → Writes (block_roots bound b) → statements_read (lines_form own told source k b s) ≡ runs.form_all own k (statements_shape d.around b) s

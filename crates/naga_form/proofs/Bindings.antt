@@ -47,7 +47,7 @@ use Rattle.module_meaning.specs.FunctionShapes.{function_shapes}
 use Rattle.module_meaning.specs.ModuleShapes.{module_shape}
 use Rattle.module_meaning.specs.Namings.{namings_from, namings, outer_names, function_naming}
 use Rattle.module_meaning.specs.StatementShapes.{simple_shape, store_shape}
-use Rattle.text_meaning.specs.Bindings.{statement_annotations, statements_annotations}
+use Rattle.text_meaning.specs.Bindings.{statement_annotations, statements_annotations, optional_annotations}
 use Rattle.text_meaning.specs.Bindings.{cases_annotations}
 use Rattle.module_meaning.specs.Bindings.{module_annotations, BindsAs}
 use Rattle.module_meaning.specs.Part.{function_is_written}
@@ -55,7 +55,7 @@ use Rattle.module_meaning.proofs.Part.{functions_are_written}
 use Rattle.naga_form.proofs.Abstraction.{written_have_forms}
 use Rattle.naga_form.proofs.PartFits.{body_is_written}
 use Rattle.naga_form.specs.Statements.{has_form, have_forms, have_forms_in, cases_have_forms}
-use Rattle.naga_form.specs.Statements.{store_line}
+use Rattle.naga_form.specs.Statements.{store_line, optional_form}
 use Rattle.naga_ir.specs.StatementTree.{break, continue, kill}
 use Rattle.std.specs.List.{list_all}
 use Rattle.std.proofs.lemmas.Bool.{and_parts}
@@ -78,9 +78,19 @@ module _ (n : Naming) (told : ℕ → Option TypeSpecifier) (source : Source) wh
   return_tells s None = refl
   return_tells s (Some h) = refl
 
-  loop_tells : (body continuing : tree.Statements) (e : Option tree_expressions.Expression) → statement_annotations (loop_form body continuing e) ≡ statements_annotations body ++ statements_annotations continuing
-  loop_tells body continuing None = refl
-  loop_tells body continuing (Some e) = refl
+  optional_tells : (k : ℕ) (b : BlockTree) (s : Handles) →
+      optional_annotations (optional_form b (lines_form n told source k b s))
+      ≡ statements_annotations (lines_form n told source k b s)
+  optional_tells k no_statements s = refl
+  optional_tells k (statement st b) s = refl
+
+  loop_tells : (body : tree.Statements) (b : BlockTree) (continuing : tree.Statements)
+      (e : Option tree_expressions.Expression) →
+      optional_annotations (optional_form b continuing) ≡ statements_annotations continuing →
+      statement_annotations (loop_form body b continuing e)
+      ≡ statements_annotations body ++ statements_annotations continuing
+  loop_tells body b continuing None same = ap (λ ts. statements_annotations body ++ ts) same
+  loop_tells body b continuing (Some e) same = refl
 
   lets_tell : (k : ℕ) (hs : List ℕ) (s : Handles) (rest : tree.Statements) → statements_annotations (lets_form n told source k hs s rest) ≡ told_of (emit_bindings n k hs) ++ statements_annotations rest
   lets_tell k [] s rest = refl
@@ -119,14 +129,16 @@ module _ (n : Naming) (told : ℕ → Option TypeSpecifier) (source : Source) wh
     line_tells k (branch condition accept reject) have s rest =
         let both = and_parts (have_forms accept) (have_forms reject) have in
         let k1 = given_by_all n.function (statements_shape source.declared.around accept) k in
-        ap (λ ts. ts ++ statements_annotations rest) (told_both (statements_bindings n k (statements_shape source.declared.around accept)) (statements_bindings n k1 (statements_shape source.declared.around reject)) (lines_tell k accept both.0 s) (lines_tell k1 reject both.1 s))
+        ap (λ ts. ts ++ statements_annotations rest) (told_both (statements_bindings n k (statements_shape source.declared.around accept)) (statements_bindings n k1 (statements_shape source.declared.around reject)) (lines_tell k accept both.0 s)
+        (optional_tells k1 reject s ∙ lines_tell k1 reject both.1 s))
     line_tells k (switch selector cs) have s rest = ap (λ ts. ts ++ statements_annotations rest) (cases_tell k [] cs have s)
     line_tells k (loop body continuing break_if) have s rest =
         let both = and_parts (have_forms body) (have_forms continuing) have in
         let k1 = given_by_all n.function (statements_shape source.declared.around body) k in
         let inside = after_all n k (statements_shape source.declared.around body) s in
         ap (λ ts. ts ++ statements_annotations rest)
-        (loop_tells (lines_form n told source k body s) (lines_form n told source k1 continuing inside) _
+        (loop_tells (lines_form n told source k body s) continuing (lines_form n told source k1 continuing inside) _
+        (optional_tells k1 continuing inside)
         ∙ told_both (statements_bindings n k (statements_shape source.declared.around body)) (statements_bindings n k1 (statements_shape source.declared.around continuing)) (lines_tell k body both.0 s) (lines_tell k1 continuing both.1 inside))
 
     lines_tell : (k : ℕ) (b : BlockTree) → have_forms b ≡ true → (s : Handles) → statements_annotations (lines_form n told source k b s) ≡ told_of (statements_bindings n k (statements_shape source.declared.around b))

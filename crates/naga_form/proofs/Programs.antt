@@ -45,7 +45,7 @@ use Rattle.wgsl_text.specs.Expressions.{IsExpression}
 use Rattle.wgsl_text.specs.Expressions as tree_expressions
 use Rattle.wgsl_text.specs.Functions.{IsValue, IsParameter, IsResult, IsLocal, Each, IsFunction}
 use Rattle.wgsl_text.specs.Statements.{is_reference, IsLabel, IsLabels, has_case, IsStatement}
-use Rattle.wgsl_text.specs.Statements.{IsStatements, IsCases}
+use Rattle.wgsl_text.specs.Statements.{IsStatements, IsOptionalBlock, IsCases}
 use Rattle.wgsl_text.specs.Statements as tree
 use Rattle.wgsl_text.specs.Types.{TypeSpecifier, IsType}
 use Rattle.shader_runs.proofs.Sources.{forgotten_named}
@@ -59,7 +59,7 @@ use Rattle.naga_form.specs.Functions.{locals_form, parameters_form, result_form,
 use Rattle.naga_form.specs.Functions.{functions_form}
 use Rattle.naga_form.specs.Statements.{let_form, then_if, lets_form, return_line, simple_form}
 use Rattle.naga_form.specs.Statements.{loop_form, label_form, labels_form, line_form, lines_form}
-use Rattle.naga_form.specs.Statements.{cases_form, has_form, store_line}
+use Rattle.naga_form.specs.Statements.{cases_form, has_form, store_line, optional_form}
 use Rattle.module_meaning.specs.Premises.{handles_are_counted}
 use Rattle.module_meaning.specs.Names.{global_name, module_names, wgsl_names}
 use Rattle.module_meaning.specs.Names.{numbered_name}
@@ -602,9 +602,17 @@ module _ (m : Module) (info : ModuleInfo) (g : ℕ) (f : ir_function.Function) (
   value_at_is : (s : Handles) → NamesAre s → (h : ℕ) → W h → IsExpression (value_form own source s h)
   value_at_is s well h w = value_is_one (plain_form own source s h) (plain_is s well h w)
 
-  loop_is : (body continuing : tree.Statements) (s : Handles) → NamesAre s → (e : Option ℕ) → Writes (option_to_list e) → IsStatements body → IsStatements continuing → IsStatement (loop_form body continuing (option_map (value_form own source s) e))
-  loop_is body continuing s well None w b d = (b, d)
-  loop_is body continuing s well (Some h) w b d = (b, d, value_at_is s well h w.0)
+  optional_is : (b : BlockTree) (ss : tree.Statements) → IsStatements ss →
+      IsOptionalBlock (optional_form b ss)
+  optional_is no_statements ss is = tt
+  optional_is (statement st b) ss is = is
+
+  loop_is : (body : tree.Statements) (b : BlockTree) (continuing : tree.Statements)
+      (s : Handles) → NamesAre s → (e : Option ℕ) → Writes (option_to_list e) →
+      IsStatements body → IsStatements continuing →
+      IsStatement (loop_form body b continuing (option_map (value_form own source s) e))
+  loop_is body b continuing s well None w is next = (is, optional_is b continuing next)
+  loop_is body b continuing s well (Some h) w is next = (is, next, value_at_is s well h w.0)
 
   cases_stay : (told : ℕ → Option TypeSpecifier) (k : ℕ) (labels : List tree.Label) (cs : CaseTrees) → IsTrue (some_case_stays cs) → (s : Handles) → IsTrue (has_case (cases_form own told source k labels cs s))
   cases_stay told k labels no_cases stays s = stays
@@ -619,8 +627,14 @@ module _ (m : Module) (info : ModuleInfo) (g : ℕ) (f : ir_function.Function) (
     line_is told told_well k (branch condition accept reject) fit s well room rest is w =
         let behind = given_by_all own.function (statements_shape d.around accept) k in
         let one = all_front W (block_roots bound accept) (block_roots bound reject) w.1 in
-        let other = all_rest W (block_roots bound accept) (block_roots bound reject) w.1 in
-        ((value_at_is s well condition w.0, lines_are told told_well k accept fit.0 s well (room_front k (block_labels f accept) (block_labels f reject) room) one, lines_are told told_well behind reject fit.1 s well (room_beyond k accept (block_labels f reject) room) other), is)
+        let other = all_rest W (block_roots bound accept) (block_roots bound reject) w.1 in (
+          (
+            value_at_is s well condition w.0,
+            lines_are told told_well k accept fit.0 s well (room_front k (block_labels f accept) (block_labels f reject) room) one,
+            optional_is reject _ (lines_are told told_well behind reject fit.1 s well (room_beyond k accept (block_labels f reject) room) other),
+          ),
+          is,
+        )
     line_is told told_well k (switch selector cs) fit s well room rest is w =
         ((value_at_is s well selector w.0, cases_are told told_well k [] tt cs fit.1 s well room w.1, cases_stay told k [] cs fit.0 s), is)
     line_is told told_well k (loop body continuing break_if) fit s well room rest is w =
@@ -633,7 +647,7 @@ module _ (m : Module) (info : ModuleInfo) (g : ℕ) (f : ir_function.Function) (
         let more = all_rest W (block_roots bound body) (block_roots bound continuing ++ option_to_list break_if) w in
         let other = all_front W (block_roots bound continuing) (option_to_list break_if) more in
         let value = all_rest W (block_roots bound continuing) (option_to_list break_if) more in
-        (loop_is _ _ (after_all own behind (statements_shape d.around continuing) inside) (after_all_is behind continuing fit.1 inside inside_well beyond) break_if value (lines_are told told_well k body fit.0 s well front one) (lines_are told told_well behind continuing fit.1 inside inside_well beyond other), is)
+        (loop_is _ continuing _ (after_all own behind (statements_shape d.around continuing) inside) (after_all_is behind continuing fit.1 inside inside_well beyond) break_if value (lines_are told told_well k body fit.0 s well front one) (lines_are told told_well behind continuing fit.1 inside inside_well beyond other), is)
 
     lines_are : (told : ℕ → Option TypeSpecifier) → ((h : ℕ) (t : TypeSpecifier) → told h ≡ Some t → IsType t) → (k : ℕ) (b : BlockTree) → AllFit b → (s : Handles) → NamesAre s → HasRoom k (block_labels f b) → Writes (block_roots bound b) → IsStatements (lines_form own told source k b s)
     lines_are told told_well k no_statements fit s well room w = tt

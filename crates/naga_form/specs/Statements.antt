@@ -18,6 +18,7 @@ use Rattle.wgsl_text.specs.Statements.{LastLabel, MoreLabels, Statement, Let, Ty
 use Rattle.wgsl_text.specs.Statements.{CallStatement, Return, ReturnValue, Discard, Break}
 use Rattle.wgsl_text.specs.Statements.{Continue, If, Loop}
 use Rattle.wgsl_text.specs.Statements.{LoopBreakIf, Switch, Block, Statements, NoStatements, Then}
+use Rattle.wgsl_text.specs.Statements.{OptionalBlock, NoBlock, SomeBlock}
 use Rattle.wgsl_text.specs.Statements.{Cases, NoCases, Case}
 use Rattle.wgsl_text.specs.Types.{Named, TypeSpecifier}
 use Rattle.shader_runs.specs.Program.{binds, from}
@@ -78,10 +79,16 @@ simple_form n told source k continue s rest = Then Continue rest
 simple_form n told source k kill s rest = Then Discard rest
 simple_form n told source k _ s rest = Then (Block NoStatements) rest
 
+-- an `else` or a `continuing` of these lines: it stands where the module's block has a statement, also
+-- where none of them gives a line
+abbrev pub optional_form : BlockTree → Statements → OptionalBlock
+optional_form no_statements lines = NoBlock
+optional_form (statement st b) lines = SomeBlock lines
+
 -- a loop, with its `break if` where it has one
-abbrev pub loop_form : Statements → Statements → Option Expression → Statement
-loop_form body continuing None = Loop body continuing
-loop_form body continuing (Some e) = LoopBreakIf body continuing e
+abbrev pub loop_form : Statements → BlockTree → Statements → Option Expression → Statement
+loop_form body b continuing None = Loop body (optional_form b continuing)
+loop_form body b continuing (Some e) = LoopBreakIf body continuing e
 
 -- the label of a case
 abbrev pub label_form : SwitchValue → Label
@@ -134,7 +141,7 @@ abbrev mutual
       let behind = given_by_all n.function (statements_shape source.declared.around accept) k in
       let accepted = lines_form n told source k accept s in
       let rejected = lines_form n told source behind reject s in
-      Then (If (value_form n source s condition) accepted rejected) rest
+      Then (If (value_form n source s condition) accepted (optional_form reject rejected)) rest
   line_form n told source k (switch selector cases) s rest =
       Then (Switch (value_form n source s selector) (cases_form n told source k [] cases s)) rest
   line_form n told source k (loop body continuing break_if) s rest =
@@ -143,7 +150,7 @@ abbrev mutual
       let last = after_all n behind (statements_shape source.declared.around continuing) inside in
       let turn = lines_form n told source k body s in
       let next = lines_form n told source behind continuing inside in
-      Then (loop_form turn next (option_map (value_form n source last) break_if)) rest
+      Then (loop_form turn continuing next (option_map (value_form n source last) break_if)) rest
 
   pub lines_form :
       Naming → (told : ℕ → Option TypeSpecifier) → Source → ℕ → BlockTree →

@@ -27,7 +27,7 @@ use Rattle.naga_form.specs.Expressions.{unnamed_form}
 use Rattle.wgsl_text.specs.Statements.{Block, Statements, NoStatements, Then, statement_pieces}
 use Rattle.wgsl_text.specs.Statements.{statements_pieces}
 use Rattle.naga_form.specs.Statements.{let_form, then_if, lets_form, return_line, loop_form}
-use Rattle.naga_form.specs.Statements.{line_form, lines_form, cases_form, store_line}
+use Rattle.naga_form.specs.Statements.{line_form, lines_form, cases_form, store_line, optional_form}
 use Rattle.module_meaning.specs.ExpressionOperators.{points_to_atomic}
 use Rattle.module_meaning.specs.OperatorTable.{AtomicStore, run_word}
 use Rattle.wgsl_text.proofs.Expressions.{argument_text, next_argument_text}
@@ -265,13 +265,14 @@ module _ (f : FunctionText) (can : CanWrite f) where
       by (simple _) = one (Block NoStatements)
       by (block b) = one (Block (lines_at k b s))
       by (branch condition accept reject) =
-          one (tree.If (operand_at s condition) (lines_at k accept s) (lines_at (given_by_all (naming f).function (statements_shape (around f) accept) k) reject s))
+          let behind = given_by_all (naming f).function (statements_shape (around f) accept) k in
+          one (tree.If (operand_at s condition) (lines_at k accept s) (optional_form reject (lines_at behind reject s)))
       by (switch selector cases) = one (tree.Switch (operand_at s selector) (cases_form (naming f) (let_annotation f) (source f) k [] cases s))
       by (loop body continuing break_if) =
           let behind = given_by_all (naming f).function (statements_shape (around f) body) k in
           let inside = after_all (naming f) k (statements_shape (around f) body) s in
           let last = after_all (naming f) behind (statements_shape (around f) continuing) inside in
-          one (loop_form (lines_at k body s) (lines_at behind continuing inside) (option_map (operand_at last) break_if))
+          one (loop_form (lines_at k body s) continuing (lines_at behind continuing inside) (option_map (operand_at last) break_if))
 
   -- a block, by its first statement, behind which `next` has what is in scope
   pub block_row : (at next : TextPoint) (level : ℕ) (st : StatementTree) (rest : BlockTree) → handles_in f next.table ≡ after (naming f) at.given (statement_shape (around f) st) (handles_in f at.table) → next.given ≡ at.given + length (labels_in f.function.now st)

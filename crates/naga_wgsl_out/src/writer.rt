@@ -82,50 +82,29 @@ impl<W: TextSink> Writer<W> {
         out
     }
 
-    /// Writes the module behind what the sink holds: a text that is read as one program, which has
-    /// the module's interface and does what the module does. The module is accepted with what is
-    /// known of it.
+    /// Writes an accepted module behind what the sink holds: a text that is read as one program,
+    /// which has the module's interface and does what the module does. The next call starts afresh.
     ///
-    /// The text depends on the module, on what is known of it and on the flags alone, whatever was
-    /// written or refused before. Where the call gives up for want of memory or because the sink
-    /// failed, a beginning of its text stands behind what the sink held. The next call starts
-    /// afresh.
+    /// The text depends on the module, on what is known of it and on the flags alone. A `let` binds
+    /// these of the emitted expressions: one that a front end named, under an identifier made of
+    /// that label; an operation on an image; a `Load`, a derivative or the load of a cooperative
+    /// matrix that is used; any other operator, but no part at an index, that is used twice or
+    /// more. `EXPLICIT_TYPES` has each `let` tell its type.
     ///
-    /// An expression that is used where it is out of scope, and an `Emit` that is not allowed where
-    /// it stands, are refused as `Custom`, `operand out of scope`. An expression without a form is
-    /// refused where it is written, a type without one where it is spelled, and either let be
-    /// elsewhere: a float literal as `Unimplemented`,
-    /// `float literal`; a function of mathematics without a word as `Unsupported`, of the kind `math
-    /// function`, with its debug text; a relation without one as `UnsupportedRelationalFunction`; a
-    /// conversion of what is no scalar, vector or matrix as `Unimplemented`, `conversion of this
-    /// type`, and one to scalars without a word as `Unsupported`, of the kind `scalar type`;
-    /// a sampling without a form as `Unimplemented`, `sampling form`, and one with an offset that
-    /// applies an operator as `Custom`, `operator in a constant`; a load of a texel of both a sample
-    /// and a level as `Custom`, `image load with sample and level`; a part at a known index of what has
-    /// no parts as `Custom`, `cannot index`; the load of a cooperative matrix of
-    /// scalars without a word as `Unsupported`, of the kind `scalar type`; what a ray query found as
-    /// `Unimplemented`, `ray query`. A type is spelled by an argument, the result, a local, a
-    /// written zero value or composition, and, with `EXPLICIT_TYPES`, by a `let`: one with a scalar
-    /// without a word is refused as `Unsupported`, of the kind `scalar type`, with its debug text, and
-    /// any other without a form as `Custom`, `type without a WGSL form`.
-    /// A module of which so many labels are alike that one gets no name is refused as `Custom`, `namer
-    /// is full`. Where several such stand in a module, one is told. Each function is looked at before
-    /// its text, and so are the labels that front ends gave in it, so the functions in front of the
-    /// first that has such a thing then stand behind what the sink held, whole, an empty line behind
-    /// each. Any other refusal, `namer is full` for the module's own items among them, leaves the
-    /// sink's text as it was.
-    /// None of them is a failure of the sink.
+    /// A module is refused for a construct in it without a form, an operand out of scope or a name
+    /// that can't be told, by the errors that `docs/REFUSALS.md` lists, and so far as
+    /// `Unimplemented`, `not yet written`, where it has more than types, constants without names,
+    /// and functions of `Emit`s, `Store`s and `Return`s. Where a function is refused, those in
+    /// front of it stand in the sink, whole, an empty line behind each. Behind want of memory or a
+    /// failure of the sink a beginning of the text stands there, and behind any other refusal what
+    /// stood there before.
     ///
-    /// So far a module is refused as `Unimplemented`, `not yet written`, unless it declares nothing
-    /// but types and functions: types that enable no extension, but structs; constants without names;
-    /// functions whose expressions are any, and whose statements are `Emit`s, `Store`s and `Return`s.
-    ///
-    /// An emitted expression is bound by a `let` where a front end named it, or where it is an
-    /// operation on an image, a `Load`, a derivative or the load of a cooperative matrix that is used
-    /// at all, or another operator, but
-    /// no part at an index, that is used at least twice; `EXPLICIT_TYPES` has each `let` tell its type.
-    /// What a front end named is bound under an identifier made of that label, the next one in the
-    /// order of the text behind those of the module's items.
+    /// ```text
+    /// match writer.write(&shader.module, &shader.info) {
+    ///     Ok(()) => print!(rt; "{}", writer.finish())?,
+    ///     Err(error) => println!(rt; "refused: {error}")?, // as `refused: float literal`
+    /// }
+    /// ```
     pub fn write(&mut self, module: &Module, info: &ModuleInfo) -> Result<(), Error>
         requires accepted { IsTrue (is_accepted «module».now info.now) }
         ensures faithful { FaithfulWriting (tells_types self.old.flags) «module».now info.now

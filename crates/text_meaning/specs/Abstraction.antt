@@ -11,7 +11,8 @@ use Rattle.wgsl_text.specs.Expressions.{Argument, NumberArgument, ZeroArgument, 
 use Rattle.wgsl_text.specs.Expressions.{unary_mark}
 use Rattle.wgsl_text.specs.Statements.{DefaultLabel, SignedLabel, UnsignedLabel, LastLabel}
 use Rattle.wgsl_text.specs.Statements.{MoreLabels, TypedLet, CallStatement, ReturnValue, Discard}
-use Rattle.wgsl_text.specs.Statements.{If, Loop, LoopBreakIf, Switch, NoStatements, Then, NoCases}
+use Rattle.wgsl_text.specs.Statements.{If, Loop, LoopBreakIf, Switch, NoStatements, Then, NoBlock}
+use Rattle.wgsl_text.specs.Statements.{SomeBlock, NoCases}
 use Rattle.wgsl_text.specs.Statements.{Case}
 use Rattle.wgsl_text.specs.Declarations.{NoSpace, SpaceAlone, SpaceAndAccess}
 use Rattle.wgsl_text.specs.Expressions as tree_expressions
@@ -87,8 +88,8 @@ abbrev mutual
   statement_read tree.Break = BreakLine
   statement_read tree.Continue = ContinueLine
   statement_read (If e accept reject) =
-      IfElse (expression_read e) (statements_read accept) (statements_read reject)
-  statement_read (Loop body rest) = LoopOf (statements_read body) (statements_read rest) None
+      IfElse (expression_read e) (statements_read accept) (optional_read reject)
+  statement_read (Loop body rest) = LoopOf (statements_read body) (optional_read rest) None
   statement_read (LoopBreakIf body rest e) =
       LoopOf (statements_read body) (statements_read rest) (Some (expression_read e))
   statement_read (Switch e cases) = SwitchOn (expression_read e) (cases_read cases)
@@ -97,6 +98,11 @@ abbrev mutual
   pub statements_read : tree.Statements → Lines
   statements_read NoStatements = last
   statements_read (Then s rest) = before (statement_read s) (statements_read rest)
+
+  -- a block that is left out does what an empty one does
+  pub optional_read : tree.OptionalBlock → Lines
+  optional_read NoBlock = last
+  optional_read (SomeBlock body) = statements_read body
 
   pub cases_read : tree.Cases → Groups
   cases_read NoCases = no_group

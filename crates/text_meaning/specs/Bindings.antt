@@ -2,7 +2,8 @@
 use Rattle.std.specs.Prelude.{◌≡◌, ℕ, List, [], ◌∷◌, ◌++◌, Option, Some, None}
 use Rattle.wgsl_text.specs.Reading.{type_layout}
 use Rattle.wgsl_text.specs.Statements.{Statement, Let, TypedLet, If, Loop, LoopBreakIf, Switch}
-use Rattle.wgsl_text.specs.Statements.{Block, Statements, NoStatements, Then, Cases, NoCases, Case}
+use Rattle.wgsl_text.specs.Statements.{Block, Statements, NoStatements, Then, OptionalBlock, NoBlock}
+use Rattle.wgsl_text.specs.Statements.{SomeBlock, Cases, NoCases, Case}
 
 -- the types that `let`s tell, by their spellings, in the order of the text: one for each, if it
 -- tells one
@@ -11,9 +12,9 @@ abbrev mutual
   statement_annotations (Let w e) = None ∷ []
   statement_annotations (TypedLet w t e) = Some (type_layout t) ∷ []
   statement_annotations (If e accept reject) =
-      statements_annotations accept ++ statements_annotations reject
+      statements_annotations accept ++ optional_annotations reject
   statement_annotations (Loop body rest) =
-      statements_annotations body ++ statements_annotations rest
+      statements_annotations body ++ optional_annotations rest
   statement_annotations (LoopBreakIf body rest e) =
       statements_annotations body ++ statements_annotations rest
   statement_annotations (Switch e cases) = cases_annotations cases
@@ -23,6 +24,10 @@ abbrev mutual
   pub statements_annotations : Statements → List (Option (List ℕ))
   statements_annotations NoStatements = []
   statements_annotations (Then s more) = statement_annotations s ++ statements_annotations more
+
+  pub optional_annotations : OptionalBlock → List (Option (List ℕ))
+  optional_annotations NoBlock = []
+  optional_annotations (SomeBlock body) = statements_annotations body
 
   pub cases_annotations : Cases → List (Option (List ℕ))
   cases_annotations NoCases = []

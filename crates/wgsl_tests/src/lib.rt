@@ -1,6 +1,7 @@
-//! Tests that need a crate of their own, so that what they test is proved once and its edits wait
-//! for no test: names, spellings of types, whether what modules name is there, which modules are
-//! accepted, and where one is not; beside them a context as a user would write it.
+//! Tests of calls, each under the name by which users find it, in a crate of their own, so that what
+//! they test is proved once and its edits wait for no test: what a call gives, what stands in a
+//! sink, traits of public types, names and spellings; beside them a context as a user would write
+//! it. What becomes of modules is told by the cases of `wgsl_cases`.
 #![tactic(auto)]
 
 pub mod numbered;
@@ -8,12 +9,34 @@ pub mod numbered;
 pub use numbered::NumberedTypes;
 
 #[cfg(test)]
-mod acceptance;
+mod back;
+#[cfg(test)]
+mod builders;
+#[cfg(test)]
+mod diagnostics;
+#[cfg(test)]
+mod initialisers;
+#[cfg(test)]
+mod ir;
+#[cfg(test)]
+mod keywords;
+#[cfg(test)]
+mod labels;
+#[cfg(test)]
+mod namer;
 #[cfg(test)]
 mod names;
 #[cfg(test)]
-mod places;
-#[cfg(test)]
-mod ranges;
+mod sinks;
 #[cfg(test)]
 mod spellings;
+#[cfg(test)]
+mod texts;
+#[cfg(test)]
+mod to_wgsl;
+#[cfg(test)]
+mod traits;
+#[cfg(test)]
+mod types;
+#[cfg(test)]
+mod wgsl;

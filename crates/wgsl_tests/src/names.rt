@@ -1,14 +1,14 @@
 //! Rows of labels and of modules with the names that they are to get. They are constants, and each
 //! kind of item is built by one function through a `&mut Sample`, so that a row costs the prover
 //! little.
-use naga_ir::{
+use naga_wgsl_out::ir::{
     AddressSpace, Constant, EntryPoint, Expression, Function, FunctionArgument, FunctionResult,
     GlobalVariable, Handle, ImageClass, ImageDimension, MemoryDecorations, Module, Override,
     Scalar, ShaderStage, StructMember, Type_, TypeInner, UniqueArena,
 };
-use naga_names::keyword_set::{CaseInsensitiveKeywordSet, KeywordSet};
-use naga_names::keywords::{BUILTIN_IDENTIFIERS, RESERVED};
-use naga_names::namer::{ExternalTextureNameKey, NameKey, Namer, NamerError};
+use naga_wgsl_out::keyword_set::{CaseInsensitiveKeywordSet, KeywordSet};
+use naga_wgsl_out::keywords::{BUILTIN_IDENTIFIERS, RESERVED};
+use naga_wgsl_out::namer::{EntryPointIndex, ExternalTextureNameKey, NameKey, Namer, NamerError};
 use std::alloc::{AllocError, Global};
 use std::collections::HashMap;
 use std::mem;
@@ -47,6 +47,8 @@ const MARKS_AND_FOREIGN: Calls = &[
     ("\u{e9}", "u00e9_"),
     ("x\u{b2}", "x_u00b2_"),
     ("\u{b2}y", "y"),
+    // a character that is numeric in Unicode 18.0.0, and unassigned before
+    ("\u{12550}z", "z"),
     ("_e5", "_e5_"),
     ("_e", "_e"),
     ("_e", "_e_1"),
@@ -281,7 +283,7 @@ struct Sample {
 }
 
 /// A key that the map has before the `reset`.
-const OTHER: NameKey = NameKey::EntryPoint(7);
+const OTHER: NameKey = NameKey::EntryPoint(EntryPointIndex::MAX);
 
 const PARTS: [ExternalTextureNameKey; 4] = [
     ExternalTextureNameKey::Plane(0),

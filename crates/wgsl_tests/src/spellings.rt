@@ -1,17 +1,18 @@
 //! The types that the tests spell, in a module.
 use super::*;
 use crate::NumberedTypes;
-use naga_info::{Conclusion, GlobalCtx, Rule, TypeResolution};
-use naga_ir::{
+use naga_wgsl_out::info::{Conclusion, GlobalCtx, Rule, TypeResolution};
+use naga_wgsl_out::ir::{
     AddressSpace, ArraySize, BuiltIn, CooperativeRole, CooperativeSize, Handle, ImageClass,
     ImageDimension, MathFunction, Module, Override, Place, PredeclaredType, Scalar, ScalarKind,
     StorageAccess, StorageFormat, StructMember, Type_, TypeInner, UniqueArena, VectorSize,
 };
-use naga_names::NameKey;
-use naga_words::types::{type_fits, types_in_order};
-use naga_words::{
-    Limited, PredeclaredName, SinkError, TextSink, TryToWgsl, TypeContext, TypeTextError,
-    WriterTypeContext,
+use naga_wgsl_out::namer::NameKey;
+use naga_wgsl_out::predeclared::PredeclaredName;
+use naga_wgsl_out::sinks::Limited;
+use naga_wgsl_out::to_wgsl::TryToWgsl;
+use naga_wgsl_out::types::{
+    SinkError, TextSink, TypeContext, TypeTextError, WriterTypeContext, type_fits, types_in_order,
 };
 use std::alloc::{AllocError, Global};
 use std::collections::HashMap;

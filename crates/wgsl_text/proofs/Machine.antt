@@ -28,7 +28,8 @@ use Rattle.wgsl_text.specs.Expressions.{NoArguments, Argument, NumberArgument, Z
 use Rattle.wgsl_text.specs.Statements.{Label, DefaultLabel, SignedLabel, UnsignedLabel, Labels}
 use Rattle.wgsl_text.specs.Statements.{LastLabel, MoreLabels, Statement, Let, TypedLet, Assign}
 use Rattle.wgsl_text.specs.Statements.{CallStatement, Return, ReturnValue, Discard, Break, Continue}
-use Rattle.wgsl_text.specs.Statements.{If, Loop, LoopBreakIf, Switch, Block, Statements}
+use Rattle.wgsl_text.specs.Statements.{If, Loop, LoopBreakIf, Switch, Block, NoBlock, SomeBlock}
+use Rattle.wgsl_text.specs.Statements.{Statements}
 use Rattle.wgsl_text.specs.Statements.{NoStatements, Then, Cases, NoCases, Case}
 use Rattle.wgsl_text.specs.Attributes.{PlainAttribute, Invariant, PerPrimitive, Coherent, Volatile}
 use Rattle.wgsl_text.specs.Attributes.{Vertex, Fragment, Compute, Task, RayGeneration, AnyHit}
@@ -250,10 +251,10 @@ close_struct _ = Failed
 -- a block of statements has been read
 abbrev pub close_block : Statements → Stack → State
 close_block body (InBlock s) = add_statement (Block body) s
-close_block body (InAccept e s) = add_statement (If e body NoStatements) s
-close_block body (InReject e accept s) = add_statement (If e accept body) s
-close_block body (InLoop s) = add_statement (Loop body NoStatements) s
-close_block body (InContinuing first s) = CloseOnce (Loop first body) s
+close_block body (InAccept e s) = add_statement (If e body NoBlock) s
+close_block body (InReject e accept s) = add_statement (If e accept (SomeBlock body)) s
+close_block body (InLoop s) = add_statement (Loop body NoBlock) s
+close_block body (InContinuing first s) = CloseOnce (Loop first (SomeBlock body)) s
 close_block body (InCase e done labels s) = AtCase e (Case labels body done) s
 close_block body (InLocals f parameters result locals s) =
     add_function (record { name = f; parameters = parameters; result = result; locals = turned locals []; body = body }) s
@@ -269,7 +270,7 @@ want_semicolon _ = Failed
 
 -- `else` behind an `if` that has been read without one
 abbrev pub else_of : Statements → Stack → State
-else_of (Then (If e accept NoStatements) done) s = WantBrace (InReject e accept (InStatements done s))
+else_of (Then (If e accept NoBlock) done) s = WantBrace (InReject e accept (InStatements done s))
 else_of _ s = Failed
 
 abbrev pub want_else : Stack → State

@@ -10,7 +10,7 @@ use Rattle.wgsl_text.specs.Statements.{Block, Statements, NoStatements, Then, Ca
 use Rattle.wgsl_text.specs.Statements.{label_pieces, labels_pieces, case_pieces, statement_pieces}
 use Rattle.wgsl_text.specs.Statements.{statements_pieces, else_pieces, continuing_pieces}
 use Rattle.wgsl_text.specs.Statements.{cases_pieces, IsLabel, IsLabels, IsStatement, IsStatements}
-use Rattle.wgsl_text.specs.Statements.{IsCases}
+use Rattle.wgsl_text.specs.Statements.{IsCases, OptionalBlock, NoBlock, SomeBlock, IsOptionalBlock}
 use Rattle.wgsl_text.specs.Token.{CloseBrace, KeywordContinuing, NoSuffix, Number, Piece, LineEnd}
 use Rattle.wgsl_text.specs.Token.{mark}
 use Rattle.wgsl_text.specs.Types.{TypeSpecifier}
@@ -69,13 +69,15 @@ case_runs (LastLabel (UnsignedLabel n)) e done s = reads $ over_gap $ labels_run
 case_runs (MoreLabels l more) e done s = reads $ over_gap $ labels_run (MoreLabels l more) e done [] s
 
 -- a loop, up to the brace that closes it
-abbrev loop_state : Statements → Statements → Stack → State
-loop_state body NoStatements s = Want (InStatements (rewind_statements body NoStatements) (InLoop s))
-loop_state body (Then r rest) s = CloseOnce (Loop body (Then r rest)) s
+abbrev loop_state : Statements → OptionalBlock → Stack → State
+loop_state body NoBlock s = Want (InStatements (rewind_statements body NoStatements) (InLoop s))
+loop_state body (SomeBlock rest) s = CloseOnce (Loop body (SomeBlock rest)) s
 
-loop_closes : (body rest : Statements) (done : Statements) (s : Stack) → Runs (mark CloseBrace ∷ LineEnd ∷ []) (loop_state body rest (InStatements done s)) (Want (InStatements (Then (Loop body rest) done) s))
-loop_closes body NoStatements done s = closes body at_end
-loop_closes body (Then r rest) done s = at_end
+loop_closes : (body : Statements) (rest : OptionalBlock) (done : Statements) (s : Stack) →
+    Runs (mark CloseBrace ∷ LineEnd ∷ []) (loop_state body rest (InStatements done s))
+    (Want (InStatements (Then (Loop body rest) done) s))
+loop_closes body NoBlock done s = closes body at_end
+loop_closes body (SomeBlock rest) done s = at_end
 
 continues : (body : Statements) {s : Stack} {qs : List Piece} {s' : State} → Runs qs (WantBrace (InContinuing body s)) s' → Runs (mark KeywordContinuing ∷ qs) (Want (InStatements (rewind_statements body NoStatements) (InLoop s))) s'
 continues body {s} b = reads $ as_state (ap (λ v. WantBrace (InContinuing v s)) (unwind_rewind body NoStatements)) b
@@ -105,15 +107,24 @@ mutual
   statements_run NoStatements is n done s = at_end
   statements_run (Then st more) is n done s = statement_runs st is.0 n done s onward statements_run more is.1 n (Then st done) s
 
-  else_runs : (ss : Statements) → IsStatements ss → (n : ℕ) (e : Expression) (accept done : Statements) (s : Stack) → Runs (else_pieces ss n) (Want (InStatements (Then (If e accept NoStatements) done) s)) (Want (InStatements (Then (If e accept ss) done) s))
-  else_runs NoStatements is n e accept done s = at_end
-  else_runs (Then st more) is n e accept done s =
-      over_gap $ reads $ over_gap $ reads $ over_line $ statement_runs st is.0 (suc n) NoStatements _ onward statements_run more is.1 (suc n) (Then st NoStatements) _ onward over_indent $ closes (Then st more) at_end
+  else_runs : (reject : OptionalBlock) → IsOptionalBlock reject → (n : ℕ) (e : Expression)
+      (accept done : Statements) (s : Stack) →
+      Runs (else_pieces reject n) (Want (InStatements (Then (If e accept NoBlock) done) s))
+      (Want (InStatements (Then (If e accept reject) done) s))
+  else_runs NoBlock is n e accept done s = at_end
+  else_runs (SomeBlock body) is n e accept done s =
+      over_gap $ reads $ over_gap $ reads $ over_line $
+      statements_run body is (suc n) NoStatements _ onward over_indent $ closes body at_end
 
-  continuing_runs : (ss : Statements) → IsStatements ss → (n : ℕ) (body : Statements) (s : Stack) → Runs (continuing_pieces ss n) (Want (InStatements (rewind_statements body NoStatements) (InLoop s))) (loop_state body ss s)
-  continuing_runs NoStatements is n body s = at_end
-  continuing_runs (Then st more) is n body s =
-      over_indent $ continues body $ over_gap $ reads $ over_line $ statement_runs st is.0 (suc n) NoStatements _ onward statements_run more is.1 (suc n) (Then st NoStatements) _ onward over_indent $ closes (Then st more) at_end
+  continuing_runs : (rest : OptionalBlock) → IsOptionalBlock rest → (n : ℕ) (body : Statements)
+      (s : Stack) →
+      Runs (continuing_pieces rest n)
+      (Want (InStatements (rewind_statements body NoStatements) (InLoop s)))
+      (loop_state body rest s)
+  continuing_runs NoBlock is n body s = at_end
+  continuing_runs (SomeBlock rest) is n body s =
+      over_indent $ continues body $ over_gap $ reads $ over_line $
+      statements_run rest is (suc n) NoStatements _ onward over_indent $ closes rest at_end
 
   cases_run : (cs : Cases) → IsCases cs → (n : ℕ) (e : Expression) (done : Cases) (s : Stack) → Runs (cases_pieces cs n) (AtCase e done s) (AtCase e (rewind_cases cs done) s)
   cases_run NoCases is n e done s = at_end
@@ -161,15 +172,19 @@ mutual
   statements_closed NoStatements is n = none
   statements_closed (Then st more) is n = statement_closed st is.0 n then statements_closed more is.1 n
 
-  else_closed : (ss : Statements) → IsStatements ss → (n : ℕ) → Closed (else_pieces ss n)
-  else_closed NoStatements is n = line none
-  else_closed (Then st more) is n =
-      gap $ sign (λ _. refl) $ gap $ sign (λ _. refl) $ line $ statement_closed st is.0 (suc n) then statements_closed more is.1 (suc n) then indent close_line
+  else_closed : (reject : OptionalBlock) → IsOptionalBlock reject → (n : ℕ) →
+      Closed (else_pieces reject n)
+  else_closed NoBlock is n = line none
+  else_closed (SomeBlock body) is n =
+      gap $ sign (λ _. refl) $ gap $ sign (λ _. refl) $ line $
+      statements_closed body is (suc n) then indent close_line
 
-  continuing_closed : (ss : Statements) → IsStatements ss → (n : ℕ) → Closed (continuing_pieces ss n)
-  continuing_closed NoStatements is n = none
-  continuing_closed (Then st more) is n =
-      indent $ sign (λ _. refl) $ gap $ sign (λ _. refl) $ line $ statement_closed st is.0 (suc n) then statements_closed more is.1 (suc n) then indent close_line
+  continuing_closed : (rest : OptionalBlock) → IsOptionalBlock rest → (n : ℕ) →
+      Closed (continuing_pieces rest n)
+  continuing_closed NoBlock is n = none
+  continuing_closed (SomeBlock body) is n =
+      indent $ sign (λ _. refl) $ gap $ sign (λ _. refl) $ line $
+      statements_closed body is (suc n) then indent close_line
 
   cases_closed : (cs : Cases) → IsCases cs → (n : ℕ) → Closed (cases_pieces cs n)
   cases_closed NoCases is n = none
@@ -193,20 +208,25 @@ call_statement_text t args n = simp text-append
 pub return_text : (e : Expression) (n : ℕ) → text (statement_pieces (ReturnValue e) n) ≡ indent_text n ++ (codes "return " ++ (expression_layout e ++ codes ";\n"))
 return_text e n = simp text-append
 
-pub if_text : (e : Expression) (accept reject : Statements) (n : ℕ) → text (statement_pieces (If e accept reject) n) ≡ indent_text n ++ (codes "if " ++ (expression_layout e ++ (codes " {\n" ++ (text (statements_pieces accept (suc n)) ++ (indent_text n ++ (codes "}" ++ text (else_pieces reject n)))))))
+pub if_text : (e : Expression) (accept : Statements) (reject : OptionalBlock) (n : ℕ) → text (statement_pieces (If e accept reject) n) ≡ indent_text n ++ (codes "if " ++ (expression_layout e ++ (codes " {\n" ++ (text (statements_pieces accept (suc n)) ++ (indent_text n ++ (codes "}" ++ text (else_pieces reject n)))))))
 if_text e accept reject n = simp text-append
 
-pub else_text : (s : Statement) (more : Statements) (n : ℕ) → text (else_pieces (Then s more) n) ≡ codes " else {\n" ++ (text (statements_pieces (Then s more) (suc n)) ++ (indent_text n ++ codes "}\n"))
-else_text s more n = simp (text-append, append_assoc)
+pub else_text : (body : Statements) (n : ℕ) →
+    text (else_pieces (SomeBlock body) n)
+    ≡ codes " else {\n" ++ (text (statements_pieces body (suc n)) ++ (indent_text n ++ codes "}\n"))
+else_text body n = simp text-append
 
-pub loop_text : (body rest : Statements) (n : ℕ) → text (statement_pieces (Loop body rest) n) ≡ indent_text n ++ (codes "loop {\n" ++ (text (statements_pieces body (suc n)) ++ (text (continuing_pieces rest (suc n)) ++ (indent_text n ++ codes "}\n"))))
+pub loop_text : (body : Statements) (rest : OptionalBlock) (n : ℕ) → text (statement_pieces (Loop body rest) n) ≡ indent_text n ++ (codes "loop {\n" ++ (text (statements_pieces body (suc n)) ++ (text (continuing_pieces rest (suc n)) ++ (indent_text n ++ codes "}\n"))))
 loop_text body rest n = simp text-append
 
 pub loop_break_if_text : (body rest : Statements) (e : Expression) (n : ℕ) → text (statement_pieces (LoopBreakIf body rest e) n) ≡ indent_text n ++ (codes "loop {\n" ++ (text (statements_pieces body (suc n)) ++ (indent_text (suc n) ++ (codes "continuing {\n" ++ (text (statements_pieces rest (suc (suc n))) ++ (indent_text (suc (suc n)) ++ (codes "break if " ++ (expression_layout e ++ (codes ";\n" ++ (indent_text (suc n) ++ (codes "}\n" ++ (indent_text n ++ codes "}\n"))))))))))))
 loop_break_if_text body rest e n = simp text-append
 
-pub continuing_text : (s : Statement) (more : Statements) (n : ℕ) → text (continuing_pieces (Then s more) n) ≡ indent_text n ++ (codes "continuing {\n" ++ (text (statements_pieces (Then s more) (suc n)) ++ (indent_text n ++ codes "}\n")))
-continuing_text s more n = simp (text-append, append_assoc)
+pub continuing_text : (body : Statements) (n : ℕ) →
+    text (continuing_pieces (SomeBlock body) n)
+    ≡ indent_text n ++ (codes "continuing {\n" ++
+    (text (statements_pieces body (suc n)) ++ (indent_text n ++ codes "}\n")))
+continuing_text body n = simp text-append
 
 pub switch_text : (e : Expression) (cases : Cases) (n : ℕ) → text (statement_pieces (Switch e cases) n) ≡ indent_text n ++ (codes "switch " ++ (expression_layout e ++ (codes " {\n" ++ (text (cases_pieces cases (suc n)) ++ (indent_text n ++ codes "}\n")))))
 switch_text e cases n = simp text-append

@@ -7,7 +7,7 @@ use Rattle.wgsl_text.specs.Expressions.{AddressOf, Dereference, NoArguments, Arg
 use Rattle.wgsl_text.specs.Expressions.{operands}
 use Rattle.wgsl_text.specs.Statements.{DefaultLabel, SignedLabel, LastLabel, MoreLabels, Assign}
 use Rattle.wgsl_text.specs.Statements.{CallStatement, ReturnValue, Continue, If, LoopBreakIf}
-use Rattle.wgsl_text.specs.Statements.{Switch, NoStatements, NoCases, Case}
+use Rattle.wgsl_text.specs.Statements.{Switch, NoStatements, NoBlock, SomeBlock, NoCases, Case}
 use Rattle.wgsl_text.specs.Attributes.{Vertex, Fragment, Compute, Location, Id, Group, Binding}
 use Rattle.wgsl_text.specs.Attributes.{Size, Builtin, Interpolate, Plain, Numbered, WorkgroupSize}
 use Rattle.wgsl_text.specs.Functions.{NoResult, ResultOf}
@@ -297,9 +297,9 @@ siblings = of_functions (
     (gives "i32") [] (
     If (name "c") (statements (
     let_statement "_e2" (Binary (name "x") Add (name "x")) ∷
-    ReturnValue (name "_e2") ∷ [])) (statements (
+    ReturnValue (name "_e2") ∷ [])) (SomeBlock (statements (
     let_statement "_e2" (Binary (name "x") Add (name "x")) ∷
-    ReturnValue (name "_e2") ∷ [])) ∷ []) ∷ [])
+    ReturnValue (name "_e2") ∷ []))) ∷ []) ∷ [])
 
 abbrev pub siblings_text : List ℕ
 siblings_text = lines (
@@ -320,9 +320,9 @@ named_siblings = of_functions (
     (gives "i32") [] (
     If (name "c") (statements (
     let_statement "y" (Binary (name "x") Add (name "x")) ∷
-    ReturnValue (name "y") ∷ [])) (statements (
+    ReturnValue (name "y") ∷ [])) (SomeBlock (statements (
     let_statement "y_1" (Binary (name "x") Add (name "x")) ∷
-    ReturnValue (name "y_1") ∷ [])) ∷ []) ∷ [])
+    ReturnValue (name "y_1") ∷ []))) ∷ []) ∷ [])
 
 abbrev pub named_siblings_text : List ℕ
 named_siblings_text = lines (
@@ -416,7 +416,7 @@ loop_folded = of_functions (
     (local "a" (named_type "i32") None ∷ []) (
     LoopBreakIf (statements (
     If (name "c") (statements (
-    Continue ∷ [])) NoStatements ∷
+    Continue ∷ [])) NoBlock ∷
     let_statement "_e3" (Binary (integer 1) Add (integer 1)) ∷
     Assign (name "a") (name "_e3") ∷ [])) (statements (
     Assign (name "a") (Binary (integer 1) Add (integer 1)) ∷ [])) (name "c") ∷ []) ∷ [])

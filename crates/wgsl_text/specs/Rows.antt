@@ -17,7 +17,7 @@ use Rattle.wgsl_text.specs.Expressions.{operands, IsExpression}
 use Rattle.wgsl_text.specs.Statements.{DefaultLabel, SignedLabel, UnsignedLabel, LastLabel}
 use Rattle.wgsl_text.specs.Statements.{MoreLabels, Assign, CallStatement, Return, ReturnValue}
 use Rattle.wgsl_text.specs.Statements.{Discard, Break, If, Loop, Switch, Block, NoStatements}
-use Rattle.wgsl_text.specs.Statements.{NoCases, Case}
+use Rattle.wgsl_text.specs.Statements.{NoBlock, SomeBlock, NoCases, Case}
 use Rattle.wgsl_text.specs.Attributes.{Invariant, PerPrimitive, Coherent, Volatile, Vertex}
 use Rattle.wgsl_text.specs.Attributes.{Fragment, Task, RayGeneration, AnyHit, ClosestHit, Miss}
 use Rattle.wgsl_text.specs.Attributes.{Location, BlendSource, Id, Group, Binding, Size, Align}
@@ -246,7 +246,8 @@ every_statement = of_functions (
     Assign (member_of (IndexAt (name "m") 0) "x") (member_of (name "_e1") "y") ∷
     Assign (name "u") (unsigned 1) ∷
     If (name "c") (statements (
-    Discard ∷ [])) NoStatements ∷
+    Discard ∷ [])) NoBlock ∷
+    If (name "c") NoStatements (SomeBlock NoStatements) ∷
     Block (statements (
     Block NoStatements ∷ [])) ∷
     CallStatement (named_type "atomicStore") (operands (name "p" ∷ unsigned 5 ∷ [])) ∷
@@ -265,9 +266,10 @@ every_statement = of_functions (
     Switch (name "x") (Case (LastLabel (SignedLabel true 1)) NoStatements
     (Case (LastLabel DefaultLabel) NoStatements NoCases)) ∷
     Loop (statements (
-    Break ∷ [])) (statements (
-    Assign (name "u") (unsigned 2) ∷ [])) ∷
-    Loop NoStatements NoStatements ∷
+    Break ∷ [])) (SomeBlock (statements (
+    Assign (name "u") (unsigned 2) ∷ []))) ∷
+    Loop NoStatements NoBlock ∷
+    Loop NoStatements (SomeBlock NoStatements) ∷
     let_statement "_e5" (call "subgroupBallot" NoArguments) ∷
     let_statement "_e6" (call "subgroupBallot" (names ("c" ∷ []))) ∷
     let_statement "_e7" (call "subgroupExclusiveAdd" (names ("x" ∷ []))) ∷
@@ -293,6 +295,9 @@ every_statement_text = lines (
     "    u = 1u;" ∷
     "    if c {" ∷
     "        discard;" ∷
+    "    }" ∷
+    "    if c {" ∷
+    "    } else {" ∷
     "    }" ∷
     "    {" ∷
     "        {" ∷
@@ -328,6 +333,10 @@ every_statement_text = lines (
     "        }" ∷
     "    }" ∷
     "    loop {" ∷
+    "    }" ∷
+    "    loop {" ∷
+    "        continuing {" ∷
+    "        }" ∷
     "    }" ∷
     "    let _e5 = subgroupBallot();" ∷
     "    let _e6 = subgroupBallot(c);" ∷

@@ -35,9 +35,9 @@ mutual
     Return : Statement
     ReturnValue : Expression → Statement
     Discard Break Continue : Statement
-    If : Expression → Statements → Statements → Statement
+    If : Expression → Statements → OptionalBlock → Statement
     -- the body, and what stands in `continuing`
-    Loop : Statements → Statements → Statement
+    Loop : Statements → OptionalBlock → Statement
     LoopBreakIf : Statements → Statements → Expression → Statement
     Switch : Expression → Cases → Statement
     Block : Statements → Statement
@@ -45,6 +45,11 @@ mutual
   pub data Statements : Type 0 where
     NoStatements : Statements
     Then : Statement → Statements → Statements
+
+  -- the block of an `else` or of a `continuing`, which may be left out, and may be empty
+  pub data OptionalBlock : Type 0 where
+    NoBlock : OptionalBlock
+    SomeBlock : Statements → OptionalBlock
 
   pub data Cases : Type 0 where
     NoCases : Cases
@@ -133,23 +138,19 @@ abbrev mutual
   statements_pieces NoStatements n = []
   statements_pieces (Then s more) n = statement_pieces s n ++ statements_pieces more n
 
-  -- nothing is written of an empty `else`
-  pub else_pieces : Statements → ℕ → List Piece
-  else_pieces NoStatements n = LineEnd ∷ []
-  else_pieces (Then s more) n =
+  pub else_pieces : OptionalBlock → ℕ → List Piece
+  else_pieces NoBlock n = LineEnd ∷ []
+  else_pieces (SomeBlock body) n =
       Blank ∷ mark KeywordElse ∷ Blank ∷ mark OpenBrace ∷ LineEnd ∷
-      (statement_pieces s (suc n) ++
-      (statements_pieces more (suc n) ++
-      (Indent n ∷ mark CloseBrace ∷ LineEnd ∷ [])))
+      (statements_pieces body (suc n) ++
+      (Indent n ∷ mark CloseBrace ∷ LineEnd ∷ []))
 
-  -- nor of an empty `continuing`
-  pub continuing_pieces : Statements → ℕ → List Piece
-  continuing_pieces NoStatements n = []
-  continuing_pieces (Then s more) n =
+  pub continuing_pieces : OptionalBlock → ℕ → List Piece
+  continuing_pieces NoBlock n = []
+  continuing_pieces (SomeBlock body) n =
       Indent n ∷ mark KeywordContinuing ∷ Blank ∷ mark OpenBrace ∷ LineEnd ∷
-      (statement_pieces s (suc n) ++
-      (statements_pieces more (suc n) ++
-      (Indent n ∷ mark CloseBrace ∷ LineEnd ∷ [])))
+      (statements_pieces body (suc n) ++
+      (Indent n ∷ mark CloseBrace ∷ LineEnd ∷ []))
 
   pub cases_pieces : Cases → ℕ → List Piece
   cases_pieces NoCases n = []
@@ -192,8 +193,8 @@ abbrev mutual
   IsStatement (Assign a b) = IsExpression a × IsExpression b × IsTrue (is_reference a)
   IsStatement (CallStatement t args) = IsCallee t × IsArguments args × IsTrue (may_take t args)
   IsStatement (ReturnValue e) = IsExpression e
-  IsStatement (If e accept reject) = IsExpression e × IsStatements accept × IsStatements reject
-  IsStatement (Loop body rest) = IsStatements body × IsStatements rest
+  IsStatement (If e accept reject) = IsExpression e × IsStatements accept × IsOptionalBlock reject
+  IsStatement (Loop body rest) = IsStatements body × IsOptionalBlock rest
   IsStatement (LoopBreakIf body rest e) = IsStatements body × IsStatements rest × IsExpression e
   IsStatement (Switch e cases) = IsExpression e × IsCases cases × IsTrue (has_case cases)
   IsStatement (Block body) = IsStatements body
@@ -202,6 +203,10 @@ abbrev mutual
   pub IsStatements : Statements → Type 0
   IsStatements NoStatements = ⊤
   IsStatements (Then s more) = IsStatement s × IsStatements more
+
+  pub IsOptionalBlock : OptionalBlock → Type 0
+  IsOptionalBlock NoBlock = ⊤
+  IsOptionalBlock (SomeBlock body) = IsStatements body
 
   pub IsCases : Cases → Type 0
   IsCases NoCases = ⊤

@@ -1,7 +1,7 @@
 //! Sets of words, with regard to case and without.
 use super::*;
 use naga_names::by_bytes::{builtin_words, reserved_words};
-use naga_names::keyword_set::AsciiUniCase;
+use naga_wgsl_out::keyword_set::AsciiUniCase;
 use std::hash::{DefaultHasher, Hash, Hasher};
 
 #[test]

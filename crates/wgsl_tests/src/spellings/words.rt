@@ -35,6 +35,11 @@ fn words_in(rt: &impl Abort, alloc: Global) -> Result<(), AllocError> {
         &BuiltIn::PointSize.to_wgsl_for_diagnostics(alloc),
         "{non-WGSL builtin value PointSize}",
     )?;
+    names(
+        rt,
+        &Scalar::ABSTRACT_INT.to_wgsl_for_diagnostics(alloc),
+        "{AbstractInt}",
+    )?;
     let odd = Scalar {
         kind: ScalarKind::Uint,
         width: 16,

@@ -1,0 +1,47 @@
+#!/usr/bin/env python3
+"""Says which edits no longer stand: those of crates/*/must-fail, and those of bench/edits, by their crates' folders.
+
+An edit names files of its crate, and behind each pairs of an old and a new text. Each old one must stand there exactly
+once, as the pairs in front of it left the file. Where all stand it says nothing, and its status is 0. It tries no edit:
+`rt must-fail` and `bench/more_edits.sh` do. Run it from anywhere.
+"""
+
+import sys
+from pathlib import Path
+
+TOP = Path(__file__).resolve().parent.parent
+
+
+def main():
+    faults = [(edit, fault) for edit, crate in edits() for fault in faults_of(edit, TOP / "crates" / crate)]
+    for edit, fault in faults:
+        print(f"{edit.relative_to(TOP)}: {fault}")
+    sys.exit(1 if faults else 0)
+
+
+def edits():
+    """Each edit, with the name of its crate."""
+    own = [(edit, edit.parent.parent.name) for edit in TOP.glob("crates/*/must-fail/*.edit")]
+    return sorted(own + [(edit, edit.parent.name) for edit in TOP.glob("bench/edits/*/*.edit")])
+
+
+def faults_of(edit, crate):
+    """What is wrong with an edit, up to the first pair that does not stand."""
+    sources, path, old = {}, None, None
+    for word, _, text in (line.partition(": ") for line in edit.read_text().splitlines()):
+        if word == "file":
+            path = crate / text
+            if not path.is_file():
+                return [f"no file {text} in {crate.name}"]
+            sources.setdefault(path, path.read_text())
+        elif word == "old" and path is not None:
+            old = text
+            if sources[path].count(old) != 1:
+                return [f"stands {sources[path].count(old)} times: {old.strip()}"]
+        elif word == "new" and old is not None:
+            sources[path], old = sources[path].replace(old, text), None
+    is_changed = any(source != path.read_text() for path, source in sources.items())
+    return [] if is_changed and old is None else ["changes nothing, or an old text has no new one"]
+
+
+main()

@@ -1,0 +1,255 @@
+"""Modules, with the types that are known of their expressions, as naga's `serde` forms have them in JSON."""
+
+import json
+import math
+import struct
+
+from spelling import ATOMIC, F32, F64, LOAD, SCALAR_KINDS, STORE
+from operators import LITERALS
+from words import MATH, words_of
+
+SIZES = {2: "Bi", 3: "Tri", 4: "Quad"}
+SPACES = {
+    "function": "Function", "private": "Private", "workgroup": "WorkGroup", "uniform": "Uniform", "": "Handle",
+    "immediate": "Immediate", "task_payload": "TaskPayload", "ray_payload": "RayPayload",
+    "incoming_ray_payload": "IncomingRayPayload"}
+DIMENSIONS = ["D1", "D2", "D3", "Cube"]
+FORMATS = [
+    *words_of("{R,Rg,Rgba}8{Unorm,Snorm,Uint,Sint} {R,Rg,Rgba}16{Unorm,Snorm,Uint,Sint,Float}"),
+    *words_of("{R,Rg,Rgba}32{Uint,Sint,Float} Bgra8Unorm Rgb10a2Uint Rgb10a2Unorm Rg11b10Ufloat R64Uint")]
+UNARY = ["Negate", "LogicalNot", "BitwiseNot"]
+BINARY = words_of("""
+Add Subtract Multiply Divide Modulo Equal NotEqual Less LessEqual Greater GreaterEqual And ExclusiveOr InclusiveOr
+LogicalAnd LogicalOr ShiftLeft ShiftRight
+""")
+RELATIONAL = ["All", "Any", "IsNan", "IsInf"]
+AXES = ["X", "Y", "Width"]
+CONTROLS = ["None", "Coarse", "Fine"]
+COMPONENTS = "XYZW"
+QUERIES = ["Size", "NumLevels", "NumLayers", "NumSamples"]
+PREDECLARED = {"modf": "ModfResult", "frexp": "FrexpResult", "exchange": "AtomicCompareExchangeWeakResult"}
+EXTERNAL = {"params": "external_texture_params", "transfer": "external_texture_transfer_function"}
+# the operands of an expression, in the order in which they are written
+OPERANDS = {
+    "load": ["pointer"], "unary": ["expr"], "binary": ["left", "right"], "select": ["reject", "accept", "condition"],
+    "math": ["arg", "arg1", "arg2", "arg3"], "relational": ["argument"], "splat": ["value"], "swizzle": ["vector"],
+    "access": ["base", "index"], "access index": ["base"], "conversion": ["expr"], "derivative": ["expr"],
+    "multiply add": ["a", "b", "c"]}
+NAMES = {
+    "load": "Load", "unary": "Unary", "binary": "Binary", "select": "Select", "math": "Math",
+    "relational": "Relational", "splat": "Splat", "swizzle": "Swizzle", "access": "Access",
+    "access index": "AccessIndex", "conversion": "As", "derivative": "Derivative",
+    "multiply add": "CooperativeMultiplyAdd"}
+
+
+def line_of(module, explicit):
+    """The module with what is known of it, in a line, as one whose `let`s are to tell types or not."""
+    return json.dumps({**module.json(), "explicit_types": explicit}, separators=(",", ":"), allow_nan=False) + "\n"
+
+
+class Serde:
+    """The forms of a module, in which types are told by their places."""
+
+    def __init__(self, module):
+        self.module, self.place_of = module, module.types.index
+
+    def known(self):
+        """The module, and what is known of it: the types of its expressions, as lists."""
+        module = self.module
+        special, external = self.special()
+        return {
+            "module": {
+                "types": [{"name": label, "inner": self.inner(ty)} for label, ty in zip(module.labels, module.types)],
+                "special_types": {"predeclared_types": special, **external},
+                "constants": [{"name": None, "ty": self.place_of(ty), "init": init} for ty, init in module.constants],
+                "global_expressions": [self.expression(e) for e in module.own.expressions],
+                "functions": [self.function(f) for f in module.functions]},
+            "info": {
+                "functions": [[self.resolution(e) for e in f.expressions] for f in module.functions],
+                "const_expression_types": [self.resolution(e) for e in module.own.expressions]}}
+
+    def special(self):
+        """The special types of functions by what gives them, and those of external images."""
+        special, external = [], {}
+        for (giver, size, scalar), ty in self.module.special:
+            place = len(self.module.types) if ty is None else self.place_of(ty)
+            if giver in EXTERNAL:
+                external[EXTERNAL[giver]] = place
+                continue
+            content = {"size": SIZES.get(size), "scalar": scalar_form(scalar)}
+            content = scalar_form(scalar) if giver == "exchange" else content
+            special.append([{PREDECLARED[giver]: content}, place])
+        return special, external
+
+    # ---- types
+    def resolution(self, e):
+        return self.place_of(e.type) if e.by_handle else {"Value": self.inner(e.type)}
+
+    def inner(self, ty):
+        kind, *rest = ty
+        if kind == "scalar":
+            return {"Scalar": scalar_form(rest[0])}
+        if kind == "vector":
+            return {"Vector": {"size": SIZES[rest[0]], "scalar": scalar_form(rest[1])}}
+        if kind == "matrix":
+            columns, rows, scalar = rest
+            return {"Matrix": {"columns": SIZES[columns], "rows": SIZES[rows], "scalar": scalar_form(scalar)}}
+        if kind == "array":
+            base, length, stride = rest
+            size = {"Constant": length} if length else "Dynamic"
+            return {"Array": {"base": self.place_of(base), "size": size, "stride": stride}}
+        if kind == "pointer":
+            return {"Pointer": {"base": self.place_of(rest[0]), "space": space_form(rest[1])}}
+        if kind == "value pointer":
+            size, scalar, space = rest
+            form = {"size": SIZES.get(size), "scalar": scalar_form(scalar), "space": space_form(space)}
+            return {"ValuePointer": form}
+        if kind == "image":
+            dimension, arrayed, image_class = rest
+            return {"Image": {"dim": DIMENSIONS[dimension], "arrayed": arrayed, "class": class_form(*image_class)}}
+        if kind == "struct":
+            return {"Struct": {"members": [self.struct_member(*each) for each in rest[0]], "span": rest[1]}}
+        if kind == "atomic":
+            return {"Atomic": scalar_form(rest[0])}
+        return {"Sampler": {"comparison": rest[0]}} if kind == "sampler" else {"RayQuery": {"vertex_return": rest[0]}}
+
+    def struct_member(self, label, ty):
+        """A member; all stand at offset 0."""
+        return {"name": label, "ty": self.place_of(ty), "binding": None, "offset": 0}
+
+    # ---- functions
+    def function(self, f):
+        return {
+            "name": f.label,
+            "arguments": [{"name": label, "ty": self.place_of(ty), "binding": None} for label, ty in f.arguments],
+            "result": None if f.result is None else {"ty": self.place_of(f.result), "binding": None},
+            "local_variables": [
+                {"name": label, "ty": self.place_of(ty), "init": init} for label, ty, init in f.locals],
+            "expressions": [self.expression(e) for e in f.expressions],
+            "named_expressions": {str(h): label for h, label in f.labels.items()},
+            "body": [statement_form(*s) for s in f.body]}
+
+    def expression(self, e):
+        if e.kind == "literal":
+            return {"Literal": literal_form(*e.what)}
+        if e.kind in ("argument", "local", "constant"):
+            name = {"argument": "FunctionArgument", "local": "LocalVariable", "constant": "Constant"}[e.kind]
+            return {name: e.what[0]}
+        if e.kind == "zero":
+            return {"ZeroValue": self.place_of(e.what[0])}
+        if e.kind == "compose":
+            return {"Compose": {"ty": self.place_of(e.what[0]), "components": e.operands}}
+        if e.kind == "array length":
+            return {"ArrayLength": e.operands[0]}
+        if e.kind == "sample":
+            return {"ImageSample": sampling_form(e.what[0], list(e.operands))}
+        if e.kind == "image load":
+            return {"ImageLoad": image_load_form(e.what, list(e.operands))}
+        if e.kind == "image query":
+            return {"ImageQuery": query_form(e.what[0], *e.operands)}
+        return {NAMES[e.kind]: {**what_form(e), **dict(zip(OPERANDS[e.kind], e.operands))}}
+
+
+def scalar_form(scalar):
+    kind, width = scalar
+    return {"kind": kind_form(kind), "width": width}
+
+
+def kind_form(kind):
+    return "AbstractInt" if kind == "abstract" else kind.capitalize()
+
+
+def access_form(access):
+    return " | ".join(word for bit, word in ((LOAD, "LOAD"), (STORE, "STORE"), (ATOMIC, "ATOMIC")) if access & bit)
+
+
+def space_form(space):
+    word, access = space
+    return {"Storage": {"access": access_form(access)}} if word == "storage" else SPACES[word]
+
+
+def class_form(kind, *rest):
+    if kind == "sampled":
+        return {"Sampled": {"kind": kind_form(rest[0]), "multi": rest[1]}}
+    if kind == "depth":
+        return {"Depth": {"multi": rest[0]}}
+    if kind == "storage":
+        return {"Storage": {"format": FORMATS[rest[0]], "access": access_form(rest[1])}}
+    return "External"
+
+
+def literal_form(number, value):
+    scalar = LITERALS[number]
+    name = "Bool" if scalar[0] == "bool" else {"sint": "I", "uint": "U", "float": "F"}[scalar[0]] + str(8 * scalar[1])
+    if scalar in (F32, F64):
+        return {name: float_form(*("<I", "<f") if scalar == F32 else ("<Q", "<d"), value)}
+    return {name: bool(value) if name == "Bool" else value}
+
+
+def float_form(whole, real, bits):
+    """The number of these bits; where JSON has none, the bits."""
+    number = struct.unpack(real, struct.pack(whole, bits))[0]
+    return number if math.isfinite(number) else {"bits": bits}
+
+
+def what_form(e):
+    """What an expression is beside its operands."""
+    what = e.what
+    if e.kind == "unary":
+        return {"op": UNARY[what[0]]}
+    if e.kind == "binary":
+        return {"op": BINARY[what[0]]}
+    if e.kind == "math":
+        word = MATH[what[0]][0]
+        return {"fun": {"smoothstep": "SmoothStep"}.get(word, word[0].upper() + word[1:])}
+    if e.kind == "relational":
+        return {"fun": RELATIONAL[what[0]]}
+    if e.kind == "splat":
+        return {"size": SIZES[what[0]]}
+    if e.kind == "swizzle":
+        return {"size": SIZES[what[0]], "pattern": [COMPONENTS[c] for c in what[1:]]}
+    if e.kind == "access index":
+        return {"index": what[0]}
+    if e.kind == "conversion":
+        return {"kind": kind_form(SCALAR_KINDS[what[0]]), "convert": what[1] or None}
+    if e.kind == "derivative":
+        return {"axis": AXES[what[0]], "ctrl": CONTROLS[what[1]]}
+    return {}
+
+
+def sampling_form(how, operands):
+    """A sampling, whose operands are taken in the order in which they are written."""
+    def next_if(is_there):
+        return operands.pop(0) if is_there else None
+
+    return {
+        "image": operands.pop(0), "sampler": operands.pop(0),
+        "gather": None if how.gather is None else COMPONENTS[how.gather], "coordinate": operands.pop(0),
+        "array_index": next_if(how.layer), "depth_ref": next_if(how.depth), "level": level_form(how.level, operands),
+        "offset": next_if(how.offset), "clamp_to_edge": how.clamp}
+
+
+def level_form(level, operands):
+    if level == "gradient":
+        return {"Gradient": {"x": operands.pop(0), "y": operands.pop(0)}}
+    return {level.capitalize(): operands.pop(0)} if level in ("exact", "bias") else level.capitalize()
+
+
+def image_load_form(what, operands):
+    form = {"image": operands.pop(0), "coordinate": operands.pop(0)}
+    for name, is_there in zip(("array_index", "sample", "level"), what):
+        form[name] = operands.pop(0) if is_there else None
+    return form
+
+
+def query_form(number, image, level=None):
+    name = QUERIES[number]
+    return {"image": image, "query": {name: {"level": level}} if name == "Size" else name}
+
+
+def statement_form(kind, *handles):
+    if kind == "emit":
+        return {"Emit": {"start": handles[0], "end": handles[1] + 1}}
+    if kind == "store":
+        return {"Store": dict(zip(("pointer", "value"), handles))}
+    return {"Return": {"value": handles[0]}}

@@ -1,4 +1,0 @@
-use Rattle.wgsl_calls.proofs.initialisers.text_of.Goals as goal
-
-pub write_global_expression-requires-clause-accepted : goal.write_global_expression-requires-clause-accepted
-write_global_expression-requires-clause-accepted c = (c.args.info.now, c.requires.accepted)

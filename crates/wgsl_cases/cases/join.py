@@ -1,0 +1,319 @@
+#!/usr/bin/env python3
+"""Makes the files stdin and stdout of wgsl_cases of the case files beside this script.
+
+`join.py` writes both, and `join.py --check` says whether they are what it would write. README.md tells
+how a case is written.
+"""
+
+import json
+import re
+import sys
+from pathlib import Path
+
+sys.dont_write_bytecode = True
+from notation import CaseError, Module  # noqa: E402
+
+HERE = Path(__file__).resolve().parent
+CRATE = HERE.parent
+
+EXPECTATION = re.compile(r"(gives nothing|gives with types|gives|refused with types: |refused: |not accepted: |not read: )(.*)")
+ONLY_WITH_TYPES = re.compile(r"\[(: [^\[\]]+)\]")
+
+
+class Line:
+    """A line of a case file, with how far it is indented."""
+
+    def __init__(self, raw, number):
+        self.text = raw.strip()
+        self.indent = len(raw) - len(raw.lstrip(" "))
+        self.raw = raw.rstrip()
+        self.number = number
+
+    def replaced(self, text):
+        return Line(" " * self.indent + text.strip(), self.number)
+
+
+class Case:
+    """A case before its table is filled in: its name and its lines."""
+
+    def __init__(self, file, name, number):
+        self.file = file
+        self.name = name
+        self.number = number
+        self.lines = []
+
+    def error(self, message, line=None):
+        return CaseError(f"{self.file.name}:{(line or self).number}: {message}")
+
+
+def cases_of(file):
+    """The cases that stand in a file."""
+    cases = []
+    for number, raw in enumerate(file.read_text(encoding="utf-8").splitlines(), 1):
+        line = Line(raw, number)
+        if line.indent == 0 and line.text.startswith("case "):
+            cases.append(Case(file, line.text[len("case "):].strip(), number))
+        elif line.indent == 0 and (not line.text or line.text.startswith("#")):
+            if cases and not line.text:
+                cases[-1].lines.append(line)
+        elif not cases:
+            raise CaseError(f"{file.name}:{number}: a line in front of the first case")
+        else:
+            cases[-1].lines.append(line)
+    return cases
+
+
+def sections(case):
+    """The blocks of a case: each line at the least indentation, with the lines below it."""
+    lines = [line for line in case.lines]
+    depth = min((line.indent for line in lines if line.text), default=0)
+    found = []
+    for line in lines:
+        if line.text and line.indent == depth:
+            found.append((line, []))
+        elif found:
+            found[-1][1].append(line)
+        elif line.text:
+            raise case.error("a block without a head", line)
+    return found
+
+
+def block_text(lines):
+    """The text of a block: its lines without the indentation that they share, and an empty line."""
+    while lines and not lines[-1].text:
+        lines = lines[:-1]
+    if not lines:
+        return ""
+    depth = min(line.indent for line in lines if line.text)
+    return "\n".join(line.raw[depth:] for line in lines) + "\n\n"
+
+
+def is_comment(line):
+    return line.text.startswith("# ") or line.text == "#"
+
+
+class Expected:
+    """What a case says of its answers."""
+
+    def __init__(self):
+        self.texts = [None, None]
+        self.refusals = [None, None]
+        self.only = None
+
+    def add(self, case, head, word, rest, lines):
+        if word in ("not accepted: ", "not read: "):
+            self.only = word + rest + "\n"
+        elif word.startswith("refused"):
+            self.refusals["with types" in word] = rest
+        else:
+            self.texts["with types" in word] = block_text(lines) if word != "gives nothing" else ""
+            if word != "gives nothing" and not lines:
+                raise case.error("no text: write `gives nothing`", head)
+
+    def is_empty(self):
+        return self.only is None and self.texts == [None, None] and self.refusals == [None, None]
+
+    def answers(self):
+        """What the program prints without the types of `let`s and with them."""
+        if self.only is not None:
+            return [self.only, self.only]
+        plain = self.texts[0] or ""
+        first = self._told(ONLY_WITH_TYPES.sub("", plain), self.refusals[0])
+        if self.texts[1] is None and self.refusals[1] is None:
+            return [first, self._told(ONLY_WITH_TYPES.sub(r"\1", plain), self.refusals[0])]
+        return [first, self._told(self.texts[1] or "", self.refusals[1])]
+
+    @staticmethod
+    def _told(text, refusal):
+        return text + (f"refused: {refusal}\n" if refusal is not None else "")
+
+
+def with_definitions(case):
+    """The case with what its lines `where $NAME = TEXT` define in the place of these names."""
+    heads = [head for head, _ in sections(case) if head.text.startswith("where ")]
+    values = {}
+    for head in heads:
+        match = re.fullmatch(r"where (\$[a-z_]+) = (.*)", head.text)
+        if not match:
+            raise case.error("a definition is `where $NAME = TEXT`", head)
+        values[match.group(1)] = replaced(match.group(2), values)
+    made = Case(case.file, replaced(case.name, values), case.number)
+    made.lines = [line.replaced(replaced(line.text, values)) for line in case.lines if line not in heads]
+    return made
+
+
+def replaced(text, values):
+    """The text with values in the place of their names, which stand behind `$`."""
+    return re.sub(r"\$[a-z_]+", lambda match: values.get(match.group(0), match.group(0)), text)
+
+
+def rows_of(case):
+    """The cases that a case stands for: itself, or one for each row of its table."""
+    tables = [(head, lines) for head, lines in sections(case) if head.text.startswith("each ")]
+    if not tables:
+        return [case]
+    if len(tables) > 1:
+        raise case.error("two tables")
+    head, rows = tables[0]
+    columns = head.text[len("each "):].split()
+    if any(not re.fullmatch(r"\$[a-z_]+", column) for column in columns):
+        raise case.error("a column is a `$` and a word", head)
+    first, last = head.number, max([head.number] + [row.number for row in rows])
+    others = [line for line in case.lines if not first <= line.number <= last or not line.text]
+    found = []
+    for row in rows:
+        if not row.text or is_comment(row):
+            continue
+        cells = re.split(r" {2,}", row.text)
+        if len(cells) != len(columns):
+            raise case.error(f"{len(cells)} cells for {len(columns)} columns", row)
+        values = {name: "" if cell == "''" else cell for name, cell in zip(columns, cells)}
+        name = case.name if "$" in case.name else f"{case.name}: {columns[0]}"
+        made = Case(case.file, replaced(name, values), row.number)
+        for line in others:
+            text = replaced(line.text, values)
+            if text or not line.text:
+                made.lines.append(line.replaced(text))
+        found.append(made)
+    return found
+
+
+def edited(case, lines, edits):
+    """The lines after the edits, each `OLD => NEW` or `LINE / OLD => NEW`, behind `in PART: ` or not."""
+    for edit in edits:
+        old, new = (part.strip() for part in edit.text.split("=>", 1))
+        start, end = 0, len(lines)
+        inside = re.match(r"in (.*?): (?=\S)(.*)", old)
+        if inside:
+            start, end = part_named(case, lines, inside.group(1), edit)
+            old = inside.group(2)
+        old, slash, words = old.partition(" / ")
+        at = place_of(case, lines, start, end, old, edit)
+        behind = at + 1 if slash or new else end_of(lines, at)
+        if slash:
+            if lines[at].text.count(words) != 1:
+                raise case.error(f"`{words}` does not stand once in `{lines[at].text}`", edit)
+            new = lines[at].text.replace(words, new)
+        parts = [lines[at].replaced(part.strip()) for part in new.split(";;")] if new else []
+        lines = lines[:at] + parts + lines[behind:]
+    return lines
+
+
+def place_of(case, lines, start, end, old, edit):
+    """Where the one line is that is or begins so; each step of `HEAD > LINE` looks below the last."""
+    for step in old.split(" > "):
+        found = [i for i in range(start, end) if lines[i].text == step]
+        if not found:
+            found = [i for i in range(start, end) if lines[i].text.startswith(step)]
+        if len(found) != 1:
+            raise case.error(f"`{step}` begins {len(found)} lines", edit)
+        at = found[0]
+        start, end = at + 1, end_of(lines, at)
+    return at
+
+
+def end_of(lines, at):
+    """Where what stands below a line ends."""
+    behind = at + 1
+    while behind < len(lines) and lines[behind].indent > lines[at].indent:
+        behind += 1
+    return behind
+
+
+def part_named(case, lines, head, edit):
+    """Where a function, an entry point or the part whose first line begins so begins and ends."""
+    depth = min(line.indent for line in lines if line.text)
+    heads = [i for i, line in enumerate(lines) if line.text and line.indent == depth]
+    numbered = re.fullmatch(r"(function|entry point) (\d+)", head)
+    if numbered:
+        begin = "fn " if numbered.group(1) == "function" else "@"
+        alike = [i for i in heads if lines[i].text.startswith(begin)]
+        found = alike[int(numbered.group(2)):][:1]
+    else:
+        found = [i for i in heads if lines[i].text.startswith(head)]
+    if len(found) != 1:
+        raise case.error(f"`{head}` begins {len(found)} parts", edit)
+    later = [i for i in heads if i > found[0]]
+    return found[0], later[0] if later else len(lines)
+
+
+class Joined:
+    """All cases: what the program reads and what it must print."""
+
+    def __init__(self):
+        self.modules = {}
+        self.input = []
+        self.output = []
+
+    def add_file(self, file):
+        for case in cases_of(file):
+            for row in rows_of(with_definitions(case)):
+                self.add(row)
+
+    def add(self, case):
+        module, likes, edits, expected = [], [], [], Expected()
+        for head, lines in sections(case):
+            match = EXPECTATION.fullmatch(head.text)
+            if is_comment(head):
+                continue
+            if match:
+                expected.add(case, head, match.group(1), match.group(2), lines)
+            elif head.text.startswith("like "):
+                likes.append((head, head.text[len("like "):]))
+            elif "=>" in head.text:
+                edits.append(head)
+            else:
+                module += [head] + lines
+        if likes:
+            head, name = likes[0]
+            if name not in self.modules:
+                raise case.error(f"no case `{name}` stands before", head)
+            module = edited(case, self.modules[name], edits) + module
+        elif edits:
+            raise case.error("an edit without `like`", edits[0])
+        if expected.is_empty():
+            raise case.error("nothing is expected")
+        if case.name in self.modules:
+            raise case.error(f"a case `{case.name}` stands before")
+        self.modules[case.name] = module
+        unknown = re.search(r"\$[a-z_]+", case.name + "".join(line.text for line in case.lines))
+        if unknown:
+            raise case.error(f"nothing is told of {unknown.group(0)}")
+        told = Module.of([line for line in module if line.text and not is_comment(line)], case)
+        told = {"name": case.name, **told}
+        self.input.append(json.dumps(told, ensure_ascii=False, separators=(",", ":")) + "\n")
+        plain, typed = expected.answers()
+        self.output.append(f"== {case.name}\n{plain}")
+        if typed != plain:
+            self.output.append(f"== {case.name}, with types\n{typed}")
+
+
+def main(words):
+    joined = Joined()
+    try:
+        for file in sorted(HERE.glob("*.cases")):
+            joined.add_file(file)
+    except CaseError as error:
+        print(error, file=sys.stderr)
+        return 1
+    wanted = {"stdin": "".join(joined.input), "stdout": "".join(joined.output)}
+    if words == ["--check"]:
+        stale = [name for name, text in wanted.items() if read(CRATE / name) != text]
+        for name in stale:
+            print(f"{CRATE / name} is not what the case files say: run {__file__}", file=sys.stderr)
+        return 1 if stale else 0
+    if words:
+        print(f"usage: {sys.argv[0]} [--check]", file=sys.stderr)
+        return 2
+    for name, text in wanted.items():
+        (CRATE / name).write_text(text, encoding="utf-8")
+    print(f"{len(joined.input)} cases")
+    return 0
+
+
+def read(path):
+    return path.read_text(encoding="utf-8") if path.exists() else None
+
+
+if __name__ == "__main__":
+    sys.exit(main(sys.argv[1:]))

@@ -1,0 +1,26 @@
+//! Reads cases, one in each line of the input, and tells of each what becomes of its module.
+//!
+//! A line is a JSON object with the members `name`, `module` and `info`; uses are counted, unless a
+//! member `counted` is `true`. Behind a line `== NAME` comes the text of the module, and behind it, if
+//! the module is refused, a line `refused: WHY`; behind a line `== NAME, with types` the same where
+//! each `let` tells its type, if that differs. A module that is not accepted has the line
+//! `not accepted: WHERE AND WHY` alone.
+//!
+//! The folder `cases` has what `stdin` and `stdout` are made of.
+#![tactic(auto)]
+
+mod answers;
+
+use crate::answers::answer_line;
+use std::io;
+use std::io::{BufRead, BufReader, BufWriter, Write};
+
+fn main(rt: HostRuntime) -> anyhow::Result<()> {
+    let alloc = rt.alloc();
+    let mut out = BufWriter::new(alloc, io::writer(&rt))?;
+    for line in BufReader::new(alloc, rt.reader())?.lines(alloc) {
+        answer_line(alloc, line?.as_str(), &mut out)?;
+    }
+    out.flush()?;
+    Ok(())
+}
