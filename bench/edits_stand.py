@@ -29,19 +29,27 @@ def faults_of(edit, crate):
     """What is wrong with an edit, up to the first pair that does not stand."""
     sources, path, old = {}, None, None
     for word, _, text in (line.partition(": ") for line in edit.read_text().splitlines()):
+        if word in ("file", "old") and old is not None:
+            return [f"no new text for: {old.strip()}"]
         if word == "file":
             path = crate / text
             if not path.is_file():
                 return [f"no file {text} in {crate.name}"]
             sources.setdefault(path, path.read_text())
-        elif word == "old" and path is not None:
+        elif word in ("old", "new") and path is None:
+            return ["a pair in front of the file"]
+        elif word == "old":
             old = text
             if sources[path].count(old) != 1:
                 return [f"stands {sources[path].count(old)} times: {old.strip()}"]
-        elif word == "new" and old is not None:
+        elif word == "new":
+            if old is None:
+                return [f"no old text for: {text.strip()}"]
             sources[path], old = sources[path].replace(old, text), None
+    if old is not None:
+        return [f"no new text for: {old.strip()}"]
     is_changed = any(source != path.read_text() for path, source in sources.items())
-    return [] if is_changed and old is None else ["changes nothing, or an old text has no new one"]
+    return [] if is_changed else ["changes nothing"]
 
 
 main()

@@ -1,6 +1,6 @@
-# Goes to a copy of all crates but the program's, with the proofs that earlier checks kept (some GB), and with the
-# program of this name above them, of the files that are named behind it. It is read by the scripts beside it,
-# which are run at the top of the repository.
+# Goes to a copy of the libraries, with the proofs that earlier checks kept (some GB), and with the program of this name
+# above them, of the files that are named behind it. The crates that nothing stands on, programs and tests, are left out.
+# It is read by the scripts beside it, which are run at the top of the repository.
 set -e
 name=$1
 shift
@@ -9,13 +9,13 @@ copy=$(mktemp -d)
 trap 'rm -rf "$copy"' EXIT
 cp HANDLES "$copy"
 mkdir -p "$copy/crates"
-for crate in "$top"/crates/*; do
-    case $(basename "$crate") in
-        wgsl_rows | wgsl_trials | name_samples | type_samples | scope_samples) ;;
-        *) cp -a "$crate" "$copy/crates/" ;;
-    esac
+# a library is what a line names behind its colon
+libraries=$(sed 's/#.*//; s/^[^:]*://' crates.txt | tr -s ' ' '\n' | sort -u)
+for library in $libraries; do
+    [ -d "crates/$library" ] || continue # it is the kit's
+    cp -a "crates/$library" "$copy/crates/"
+    grep "^$library:" crates.txt >> "$copy/crates.txt"
 done
-grep -vE '^(wgsl_rows|wgsl_trials|name_samples|type_samples|scope_samples):' crates.txt > "$copy/crates.txt"
 echo "$name: bitflags naga_wgsl_out sample_modules" >> "$copy/crates.txt"
 mkdir -p "$copy/crates/$name/src" "$copy/crates/$name/specs" "$copy/crates/$name/proofs"
 for file in "$@"; do

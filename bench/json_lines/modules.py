@@ -1,7 +1,7 @@
 """Prints small modules with what is known of them, as JSON, one a line: modules.py HOW_MANY SEED.
 
-Each has one function of two to four arguments and four to twelve operators over integers, of which one in eight refers to a
-local that is stored and loaded.
+Each has one function of two to four arguments and four to twelve operators over integers. In one of eight modules there is
+a local too, that is stored and loaded.
 """
 
 import json

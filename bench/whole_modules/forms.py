@@ -7,7 +7,9 @@ Both are told apart from the reader and from the printer: a form knows how `serd
 import json
 import random
 import struct
+from bisect import bisect_right
 from collections import Counter
+from fractions import Fraction
 from typing import NamedTuple
 
 
@@ -217,14 +219,62 @@ class Double(Form):
 
 
 class Single(Form):
-    """The bits of a number of four bytes: the nearest one to a number of eight."""
+    """The bits of a number of four bytes: of the shortest text of one, or those that any number is read as."""
 
     def tell(self, r):
+        bits = r.getrandbits(32)
+        if r.often(0.3) and bits & INFINITE != INFINITE:
+            return Told(shortest_text(bits), str(bits))
         text = some_number(r)
-        try:
-            return Told(text, str(struct.unpack("<I", struct.pack("<f", float(text)))[0]))
-        except (OverflowError, TypeError):
+        bits = text and single_of(text)
+        if bits is None or bits & INFINITE == INFINITE:
             return told_by_bits(r.choice([0x7F800000, 0xFF800000, 0x7FC00000, 0x7F800001, r.getrandbits(32)]))
+        return Told(text, str(bits))
+
+
+# the bits of the exponent of a number of four bytes that is not finite, and the bit of a sign
+INFINITE, SIGN = 0x7F800000, 0x80000000
+
+
+def single_of(text):
+    """The bits of the number of four bytes that is nearest to this one, by fractions. Where the number of eight that it is
+    read as is halfway between two, they are those whose shortest text is that number too, or else the even ones."""
+    sign = SIGN if text.startswith("-") else 0
+    number = Fraction(abs(float(text)))
+    below, above = singles_around(number)
+    if value(above) - number == number - value(below):
+        even, odd = sorted((below, above), key=lambda bits: bits % 2)
+        return sign | (odd if is_shortest(odd, number) and not is_shortest(even, number) else even)
+    return sign | nearest(abs(Fraction(text)))
+
+
+def is_shortest(bits, number):
+    """Whether the shortest text of these bits is read as this number of eight bytes."""
+    return bits != INFINITE and Fraction(float(shortest_text(bits))) == number
+
+
+def nearest(number):
+    """The bits of the number of four bytes that is nearest to this positive one; of two the even ones."""
+    below, above = singles_around(number)
+    return min(below, above, key=lambda bits: (abs(value(bits) - number), bits % 2))
+
+
+def singles_around(number):
+    """The bits of the greatest number of four bytes that is not above this positive one, and of the next one."""
+    below = bisect_right(range(INFINITE), number, key=value) - 1
+    return below, below + 1
+
+
+def value(bits):
+    """The value of a number of four bytes without a sign; that of infinity is what would come next."""
+    return Fraction(2) ** 128 if bits == INFINITE else Fraction(struct.unpack("<f", struct.pack("<I", bits))[0])
+
+
+def shortest_text(bits):
+    """The text of fewest digits that is nearest to this number of four bytes."""
+    number = struct.unpack("<f", struct.pack("<I", bits))[0]
+    texts = (f"{number:.{digits}g}" for digits in range(1, 10))
+    return next(text for text in texts if nearest(abs(Fraction(text))) == bits & ~SIGN)
 
 
 class Half(Form):
@@ -244,7 +294,7 @@ NUMBERS = """
 2.2250738585072014e-308 2.225073858507201e-308 1.7976931348623157e308 -1.7976931348623157e308 9007199254740993
 18446744073709551615 18446744073709551616 -9223372036854775808 -9223372036854775809 0.30000000000000004
 0.1000000000000000055511151231257827 123456789012345678901234567890 3.4028234663852886e38 3.4028235677973362e38
-1.401298464324817e-45 7.006492321624085e-46 1.1754943508222875e-38 1.1754942e-38 1.0000000596046448 1.00000017881393432
+1.401298464324817e-45 7.038531e-26 7.006492321624085e-46 1.1754943508222875e-38 1.1754942e-38 1.0000000596046448 1.00000017881393432
 """.split()
 
 

@@ -10,6 +10,8 @@ pub enum Failure<'a> {
     Input(&'a str, io::Error),
     /// The file of this name holds no module or info.
     Json(&'a str, ReadError),
+    /// The module and what is known of it are both asked from the standard input.
+    OneInput,
     /// The output cannot be written.
     Output(io::Error),
     /// Memory was refused.
@@ -21,6 +23,9 @@ impl fmt::Display for Failure<'_> {
         match self {
             Failure::Input(name, error) => write!(f, "{}: {}", title(name), error),
             Failure::Json(name, error) => write!(f, "{}: {}", title(name), error),
+            Failure::OneInput => {
+                f.write_str("standard input: it cannot hold both the module and the info")
+            }
             Failure::Output(error) => write!(f, "standard output: {}", error),
             Failure::Memory => f.write_str("out of memory"),
         }

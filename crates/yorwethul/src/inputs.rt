@@ -34,6 +34,9 @@ fn known_in_two<'a, R: Files + Input + AllocGlobal>(
     module_name: &'a str,
     info_name: &'a str,
 ) -> Result<Known, Failure<'a>> {
+    if info_name == "-" && module_name == "-" {
+        return Err(Failure::OneInput);
+    }
     let info = info_in(rt, info_name)?;
     match module_in(rt, module_name) {
         Ok(module) => Ok(Known { module, info }),

@@ -12,8 +12,9 @@ use std::fmt::Display;
 use std::io;
 use std::io::{BufRead, Write};
 
-/// Answers each line of the input, of the file of this name, by a line of the output: the answer to
-/// one module is written before the next one is read. A line that holds no module is answered too.
+/// Answers each line of the input, of the file of this name, by a line of the output: an answer has
+/// left the output before the next line is read, so that one who waits for it gets it. A line that
+/// holds no module is answered too.
 pub fn answer_lines<'a, B: BufRead + Drop, W: Write>(
     alloc: Global,
     name: &'a str,
@@ -27,10 +28,7 @@ pub fn answer_lines<'a, B: BufRead + Drop, W: Write>(
             Err(error) => return Err(Failure::Input(name, error)),
         }
     }
-    match out.flush() {
-        Ok(()) => Ok(()),
-        Err(error) => Err(Failure::Output(error)),
-    }
+    Ok(())
 }
 
 fn answer_line<'a, W: Write>(
@@ -50,7 +48,8 @@ fn answer_line<'a, W: Write>(
 
 fn write_line<W: Write>(text: &str, out: &mut W) -> io::Result<()> {
     out.write_all(text.as_bytes())?;
-    out.write_all(b"\n")
+    out.write_all(b"\n")?;
+    out.flush()
 }
 
 /// The members of an answer, in the order of their names.

@@ -1,26 +1,29 @@
-//! Where a module is not accepted, as a place in its JSON.
+//! Where a module is not accepted, as the place in its JSON, as far as it has one: statements are
+//! told by number.
 
 use naga_wgsl_out::info::{Item, Part};
 use std::fmt;
 
-/// An item of a module, told as its place in the JSON.
+/// An item of a module, told as its place in the JSON that holds the module as `module`; a
+/// statement is told by its number, behind the place of its function.
 #[derive(Clone, Copy, Debug, PartialEq, Eq)]
 pub struct JsonPlace(pub Item);
 
 impl fmt::Display for JsonPlace {
     fn fmt<W: fmt::Write>(&self, f: &mut fmt::Formatter<W>) -> fmt::Result {
+        f.write_str("module")?;
         match self.0 {
-            Item::Module => f.write_str("module"),
-            Item::Type(handle) => write!(f, "types[{}]", handle.index()),
-            Item::Constant(handle) => write!(f, "constants[{}]", handle.index()),
-            Item::Override(handle) => write!(f, "overrides[{}]", handle.index()),
-            Item::GlobalVariable(handle) => write!(f, "global_variables[{}]", handle.index()),
-            Item::GlobalExpression(handle) => write!(f, "global_expressions[{}]", handle.index()),
+            Item::Module => Ok(()),
+            Item::Type(handle) => write!(f, ".types[{}]", handle.index()),
+            Item::Constant(handle) => write!(f, ".constants[{}]", handle.index()),
+            Item::Override(handle) => write!(f, ".overrides[{}]", handle.index()),
+            Item::GlobalVariable(handle) => write!(f, ".global_variables[{}]", handle.index()),
+            Item::GlobalExpression(handle) => write!(f, ".global_expressions[{}]", handle.index()),
             Item::Function(handle, part) => {
-                write!(f, "functions[{}]{}", handle.index(), PartPlace(part))
+                write!(f, ".functions[{}]{}", handle.index(), PartPlace(part))
             }
             Item::EntryPoint(index, part) => {
-                write!(f, "entry_points[{}].function{}", index, PartPlace(part))
+                write!(f, ".entry_points[{}].function{}", index, PartPlace(part))
             }
         }
     }

@@ -59,10 +59,13 @@ const ABOUT: &str =
 const AFTER_HELP: &str = "\
 The file holds an object with the members module and info, as serde writes naga's Module and
 ModuleInfo. With --lines each line is such an object, which may have the members explicit_types
-and id beside, and is answered by one line, an object with one of the members text, refused,
-not_accepted and error, and with the same id.
+and id beside; explicit_types, true or false, holds in place of --explicit-types. It is answered
+before the next line is read, by one line, an object with the same id and with one of the members
+text, refused, not_accepted and error.
 
-The status is 0; 1 where the module is refused or not accepted; 2 where words or input are wrong.";
+The status is 0; 1 where the module is refused or not accepted; 2 where the words are wrong, the
+input is no module, something cannot be read or written, or memory is refused. With --lines it is
+0 or 2, since each line of the output tells what becomes of its module.";
 
 fn command<'a>(alloc: Global) -> Result<Command<'a>, AllocError> {
     Command::new(alloc, "yorwethul")
@@ -70,11 +73,7 @@ fn command<'a>(alloc: Global) -> Result<Command<'a>, AllocError> {
         .about(ABOUT)
         .after_help(AFTER_HELP)
         .arg(flag(alloc, "explicit-types", "Has each let tell its type"))?
-        .arg(flag(
-            alloc,
-            "check",
-            "Only says whether the module is accepted, and else where it is not and why",
-        ))?
+        .arg(check(alloc)?)?
         .arg(lines(alloc)?)?
         .arg(info(alloc))?
         .arg(module(alloc))
@@ -85,6 +84,11 @@ fn flag<'a>(alloc: Global, name: &'a str, help: &'a str) -> Arg<'a> {
         .long(name)
         .action(ArgAction::SetTrue)
         .help(help)
+}
+
+fn check<'a>(alloc: Global) -> Result<Arg<'a>, AllocError> {
+    let help = "Only says whether the module is accepted, and else where it is not and why";
+    flag(alloc, "check", help).conflicts_with("explicit-types")
 }
 
 fn lines<'a>(alloc: Global) -> Result<Arg<'a>, AllocError> {

@@ -29,6 +29,8 @@ fn words_give(rt: &HostRuntime, words: &[&str], told: Told) -> Result<bool, Allo
     Ok(is_told(told, status, out.as_slice(), err.as_slice()))
 }
 
+const ONE_INPUT: &str = "standard input: it cannot hold both the module and the info\n";
+
 /// Words, with what is told.
 const WORDS: &[(&[&str], Told)] = &[
     (&["--version"], (0, "yorwethul 0.1.0\n", "")),
@@ -80,6 +82,16 @@ const WORDS: &[(&[&str], Told)] = &[
             "error: the argument '--lines' cannot be used with",
         ),
     ),
+    (
+        &["--check", "--explicit-types"],
+        (
+            FAILED,
+            "",
+            "error: the argument '--check' cannot be used with '--explicit-types'",
+        ),
+    ),
+    (&["--info", "-"], (FAILED, "", ONE_INPUT)),
+    (&["--info", "-", "-"], (FAILED, "", ONE_INPUT)),
     (
         &["--lines", "--info", "info.json"],
         (
@@ -144,8 +156,8 @@ const FLOAT_LITERAL: &str = r#"{
     "info": {"functions": [[0]]}
 }"#;
 
-const OPERAND_FAULT: &str =
-    "not accepted: functions[0].expressions[1]: an operand does not stand before the expression\n";
+const OPERAND_FAULT: &str = "not accepted: module.functions[0].expressions[1]: \
+    an operand does not stand before the expression\n";
 
 /// Modules, with what is done and what is told.
 const MODULES: &[(&str, Task, Told)] = &[
