@@ -17,8 +17,8 @@ HERE = Path(__file__).resolve().parent
 CRATE = HERE.parent
 
 EXPECTATION = re.compile(
-    r"(gives nothing|gives with types|gives|refused with types: |refused: |not accepted: |not read: )"
-    r"(.*)"
+    r"(gives nothing|gives with types|gives|refused with types: |refused: |not accepted: "
+    r"|not read: )(.*)"
 )
 ONLY_WITH_TYPES = re.compile(r"\[(: [^\[\]]+)\]")
 
@@ -204,7 +204,7 @@ def edited(case, lines, edits):
 
 
 def place_of(case, lines, start, end, old, edit):
-    """Where the one line is that is or begins so; each step of `HEAD > LINE` looks below the last."""
+    """Where the one line stands that is or begins so; `HEAD > LINE` looks below the line HEAD."""
     for step in old.split(" > "):
         found = [i for i in range(start, end) if lines[i].text == step]
         if not found:

@@ -705,7 +705,7 @@ class Module:
             function["body"] = self.block(statements)
 
     def expression(self, reader, line, expressions, known, names):
-        """`3: TYPE = EXPRESSION`, `3 LABEL: TYPE used 2 = EXPRESSION`; of type `?` none is known."""
+        """`3: TYPE = EXPRESSION`, `3 LABEL: TYPE used 2 = EXPRESSION`; `?` is no known type."""
         number = reader.number()
         if number != len(expressions):
             reader.fail(f"the expression {len(expressions)} comes next")
