@@ -1,8 +1,8 @@
 #!/usr/bin/env python3
 """Makes the files stdin and stdout of wgsl_cases of the case files beside this script.
 
-`join.py` writes both, and `join.py --check` says whether they are what it would write. README.md tells
-how a case is written.
+`join.py` writes both, and `join.py --check` says whether they are what it would write. README.md
+tells how a case is written.
 """
 
 import json
@@ -11,12 +11,15 @@ import sys
 from pathlib import Path
 
 sys.dont_write_bytecode = True
-from notation import CaseError, Module  # noqa: E402
+from notation import EXPRESSIONS, STATEMENTS, CaseError, Module  # noqa: E402
 
 HERE = Path(__file__).resolve().parent
 CRATE = HERE.parent
 
-EXPECTATION = re.compile(r"(gives nothing|gives with types|gives|refused with types: |refused: |not accepted: |not read: )(.*)")
+EXPECTATION = re.compile(
+    r"(gives nothing|gives with types|gives|refused with types: |refused: |not accepted: "
+    r"|not read: )(.*)"
+)
 ONLY_WITH_TYPES = re.compile(r"\[(: [^\[\]]+)\]")
 
 
@@ -138,7 +141,8 @@ def with_definitions(case):
             raise case.error("a definition is `where $NAME = TEXT`", head)
         values[match.group(1)] = replaced(match.group(2), values)
     made = Case(case.file, replaced(case.name, values), case.number)
-    made.lines = [line.replaced(replaced(line.text, values)) for line in case.lines if line not in heads]
+    others = [line for line in case.lines if line not in heads]
+    made.lines = [line.replaced(replaced(line.text, values)) for line in others]
     return made
 
 
@@ -179,7 +183,7 @@ def rows_of(case):
 
 
 def edited(case, lines, edits):
-    """The lines after the edits, each `OLD => NEW` or `LINE / OLD => NEW`, behind `in PART: ` or not."""
+    """The lines after the edits: `OLD => NEW` or `LINE / OLD => NEW`, behind `in PART: ` or not."""
     for edit in edits:
         old, new = (part.strip() for part in edit.text.split("=>", 1))
         start, end = 0, len(lines)
@@ -200,7 +204,7 @@ def edited(case, lines, edits):
 
 
 def place_of(case, lines, start, end, old, edit):
-    """Where the one line is that is or begins so; each step of `HEAD > LINE` looks below the last."""
+    """Where the one line stands that is or begins so; `HEAD > LINE` looks below the line HEAD."""
     for step in old.split(" > "):
         found = [i for i in range(start, end) if lines[i].text == step]
         if not found:
@@ -242,6 +246,7 @@ class Joined:
 
     def __init__(self):
         self.modules = {}
+        self.accepted_kinds = set()
         self.input = []
         self.output = []
 
@@ -279,7 +284,10 @@ class Joined:
         unknown = re.search(r"\$[a-z_]+", case.name + "".join(line.text for line in case.lines))
         if unknown:
             raise case.error(f"nothing is told of {unknown.group(0)}")
-        told = Module.of([line for line in module if line.text and not is_comment(line)], case)
+        lines = [line for line in module if line.text and not is_comment(line)]
+        told, kinds = Module.of(lines, case)
+        if expected.only is None:
+            self.accepted_kinds |= kinds
         told = {"name": case.name, **told}
         self.input.append(json.dumps(told, ensure_ascii=False, separators=(",", ":")) + "\n")
         plain, typed = expected.answers()
@@ -293,6 +301,8 @@ def main(words):
     try:
         for file in sorted(HERE.glob("*.cases")):
             joined.add_file(file)
+        for kind in sorted((EXPRESSIONS | STATEMENTS) - joined.accepted_kinds):
+            raise CaseError(f"no case that is accepted has a {kind}")
     except CaseError as error:
         print(error, file=sys.stderr)
         return 1

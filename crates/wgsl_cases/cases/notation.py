@@ -32,6 +32,18 @@ ACCESSES = {
     "read": "LOAD", "write": "STORE", "read_write": "LOAD | STORE",
     "atomic": "LOAD | STORE | ATOMIC",
 }
+EXPRESSIONS = set("""
+    Literal Constant Override ZeroValue Compose Access AccessIndex Splat Swizzle FunctionArgument
+    GlobalVariable LocalVariable Load ImageSample ImageLoad ImageQuery Unary Binary Select
+    Derivative Relational Math As CallResult AtomicResult WorkGroupUniformLoadResult ArrayLength
+    RayQueryProceedResult RayQueryGetIntersection RayQueryVertexPositions SubgroupBallotResult
+    SubgroupOperationResult CooperativeLoad CooperativeMultiplyAdd
+""".split())
+STATEMENTS = set("""
+    Emit Block If Switch Loop Break Continue Return Kill ControlBarrier MemoryBarrier Store
+    ImageStore Atomic ImageAtomic WorkGroupUniformLoad Call RayQuery SubgroupBallot SubgroupGather
+    SubgroupCollectiveOperation CooperativeStore RayPipelineFunction
+""".split())
 # What stands for a word and not for an absent value: the control of a derivative.
 WORD_NONE = {"ctrl"}
 # The fields and variants that hold a type.
@@ -404,6 +416,11 @@ INNERS = [
 ]
 
 
+def labelled(label, inner):
+    """A type with its label, if it has one."""
+    return {"name": label, "inner": inner} if label is not None else {"inner": inner}
+
+
 class Types:
     """The types of a module, in the order in which they are declared or first named."""
 
@@ -413,7 +430,7 @@ class Types:
 
     def place(self, label, inner):
         """Where a type stands, which is added if it is absent."""
-        item = {"name": label, "inner": inner} if label is not None else {"inner": inner}
+        item = labelled(label, inner)
         if item in self.items:
             return self.items.index(item)
         return self.append(item)
@@ -430,7 +447,8 @@ class Types:
         if "Scalar" in inner or "Atomic" in inner:
             return (inner.get("Scalar") or inner.get("Atomic"))["width"]
         if "Vector" in inner:
-            return {"Bi": 2, "Tri": 4, "Quad": 4}[inner["Vector"]["size"]] * inner["Vector"]["scalar"]["width"]
+            places = {"Bi": 2, "Tri": 4, "Quad": 4}[inner["Vector"]["size"]]
+            return places * inner["Vector"]["scalar"]["width"]
         return None
 
 
@@ -444,10 +462,12 @@ class Module:
         self.info = {}
         self.settings = []
         self.is_counted = False
+        self.kinds = set()
 
     @classmethod
     def of(cls, lines, case):
-        """The module of these lines, and what is known of it, as members of an object."""
+        """The module of these lines, and what is known of it, as members of an object; and which
+        kinds of expressions and statements it has."""
         made = cls(case)
         for line, children in tree(lines):
             made.add(line, children)
@@ -458,7 +478,7 @@ class Module:
             told = {"counted": True, **told}
         for line, path, value in made.settings:
             made.set(told, line, path, value)
-        return told
+        return told, made.kinds
 
     def fails_at(self, line):
         def fail(message):
@@ -501,7 +521,7 @@ class Module:
             label = reader.label()
             reader.want("=")
         inner = reader.inner()
-        self.types.append({"name": label, "inner": inner} if label is not None else {"inner": inner})
+        self.types.append(labelled(label, inner))
 
     def add_struct(self, line, children):
         """`struct LABEL span 8`, and below it the members, as `a: i32 at 0`."""
@@ -513,7 +533,7 @@ class Module:
         reader.end()
         members = [self.member(child) for child, _ in children]
         inner = {"Struct": {"members": members, "span": span}}
-        self.types.append({"name": label, "inner": inner} if label is not None else {"inner": inner})
+        self.types.append(labelled(label, inner))
 
     def member(self, line):
         reader = self.reader(line)
@@ -685,7 +705,7 @@ class Module:
             function["body"] = self.block(statements)
 
     def expression(self, reader, line, expressions, known, names):
-        """`3: TYPE = EXPRESSION`, `3 LABEL: TYPE used 2 = EXPRESSION`; nothing is known of type `?`."""
+        """`3: TYPE = EXPRESSION`, `3 LABEL: TYPE used 2 = EXPRESSION`; `?` is no known type."""
         number = reader.number()
         if number != len(expressions):
             reader.fail(f"the expression {len(expressions)} comes next")
@@ -700,8 +720,15 @@ class Module:
             known[-1] = {"ref_count": reader.number(), "ty": known[-1]}
             self.is_counted = True
         reader.want("=")
+        self.has_kind(reader.peek(), EXPRESSIONS, line)
         expressions.append(reader.value())
         reader.end()
+
+    def has_kind(self, word, words, line):
+        """The line has an expression or a statement of this kind, which is one of the words."""
+        if word not in words:
+            raise self.case.error(f"`{word}` is none of the kinds that there are", line)
+        self.kinds.add(word)
 
     # ---- statements
 
@@ -715,6 +742,7 @@ class Module:
         """Adds the statement at `at`, and tells where the next one stands."""
         line, below = lines[at]
         word, _, rest = line.text.partition(" ")
+        self.has_kind(re.match(r"\w*", word).group(0), STATEMENTS, line)
         if word == "If":
             accept, reject = self.block(below), []
             if self.follows(lines, at + 1, "else"):
