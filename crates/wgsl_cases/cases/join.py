@@ -322,7 +322,6 @@ class Joined:
             module = edited(case, self.modules[name], edits) + module
         elif edits:
             raise case.error("an edit without `like`", edits[0])
-        expected.check(case)
         if case.name in self.modules:
             raise case.error(f"a case `{case.name}` stands before")
         self.modules[case.name] = module
@@ -330,6 +329,7 @@ class Joined:
         if unknown:
             raise case.error(f"nothing is told of {unknown.group(0)}")
         told, kinds = Module.of(module, case)
+        expected.check(case)
         if expected.only is None:
             self.accepted_kinds |= kinds
         told = {"name": case.name, **told}

@@ -505,16 +505,16 @@ class Module:
             return self.add_function(line, children)
         if word == "struct":
             return self.add_struct(line, children)
-        self.has_nothing_below(children)
         methods = {
             "type": self.add_type, "const": self.add_constant, "override": self.add_override,
             "var": self.add_global, "global": self.add_global_expression,
             "predeclared": self.add_predeclared, "special": self.add_special,
         }
+        if word != "set" and word not in methods:
+            raise self.case.error(f"`{word}` begins no line of a module", line)
+        self.has_nothing_below(children)
         if word == "set":
             return self.add_setting(line)
-        if word not in methods:
-            raise self.case.error(f"`{word}` begins no line of a module", line)
         reader = self.reader(line)
         reader.next()
         methods[word](reader, line)

@@ -29,6 +29,9 @@ TOLD = Struct("Told", ("counted", Truth()), ("module", MODULE), ("info", INFO))
 class ShapeError(Exception):
     """What is wrong with a value, and where in it."""
 
+    def __init__(self, place, message):
+        super().__init__(f"{place}: {message}" if place else message)
+
 
 def check(form, value, place=""):
     """Raises `ShapeError` unless the value has the form."""
@@ -50,7 +53,7 @@ def check(form, value, place=""):
             check(form.key, pair[0], f"{place}[{index}][0]")
             check(form.form, pair[1], f"{place}[{index}][1]")
     elif isinstance(form, Fixed) and len(of_type(list, value, place)) != form.count:
-        raise ShapeError(f"{place}: {form.count} items are wanted")
+        raise ShapeError(place, f"{form.count} items are wanted")
     elif isinstance(form, (Listed, Fixed)):
         check_items(form.form, value, place)
     else:
@@ -79,11 +82,11 @@ def check_struct(form, value, place):
         if name in members:
             check(members[name], content, joined(place, name))
         elif name not in form.others:
-            raise ShapeError(f"{joined(place, name)}: {form.name} has no such member")
+            raise ShapeError(joined(place, name), f"{form.name} has no such member")
     for name, inner in members.items():
         has_to = inner.absent is None or name in ALWAYS_TOLD.get(form.name, ())
         if has_to and name not in value and form is not TOLD:
-            raise ShapeError(f"{joined(place, name)}: missing")
+            raise ShapeError(joined(place, name), "missing")
 
 
 def check_variant(form, value, place):
@@ -92,14 +95,14 @@ def check_variant(form, value, place):
     name, content = next(iter(value.items())) if is_object else (value, None)
     found = [variant for variant in form.variants if name_of(variant) == name]
     if not found:
-        raise ShapeError(f"{place}: {form.name} has no {name}")
+        raise ShapeError(place, f"{form.name} has no {name}")
     if not is_object:
         if not any(isinstance(variant, (str, Bare)) for variant in found):
-            raise ShapeError(f"{place}: {name} without what it has")
+            raise ShapeError(place, f"{name} without what it has")
         return
     with_content = [variant for variant in found if not isinstance(variant, (str, Bare))]
     if not with_content:
-        raise ShapeError(f"{place}: {name} has nothing")
+        raise ShapeError(place, f"{name} has nothing")
     variant = with_content[0]
     check(variant if isinstance(variant, Struct) else variant[1], content, joined(place, name))
 
@@ -123,18 +126,18 @@ def check_plain(form, value, place):
         number = of_type(int, value, place)
         low, high = getattr(form, "low", 0), getattr(form, "high", 2**32 - 1)
         if not low <= number <= high:
-            raise ShapeError(f"{place}: {number} is none of {low} to {high}")
+            raise ShapeError(place, f"{number} is none of {low} to {high}")
     elif isinstance(value, dict):
         if list(value) != ["bits"]:
-            raise ShapeError(f"{place}: no number")
+            raise ShapeError(place, "no number")
     elif isinstance(value, bool) or not isinstance(value, (int, float)):
-        raise ShapeError(f"{place}: no number")
+        raise ShapeError(place, "no number")
 
 
 def of_type(kind, value, place):
     names = {dict: "object", list: "list", str: "text", int: "whole number", bool: "truth"}
     if not isinstance(value, kind) or kind is int and isinstance(value, bool):
-        raise ShapeError(f"{place}: no {names[kind]}")
+        raise ShapeError(place, f"no {names[kind]}")
     return value
 
 
