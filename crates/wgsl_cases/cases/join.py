@@ -1,8 +1,8 @@
 #!/usr/bin/env python3
 """Makes the files stdin and stdout of wgsl_cases of the case files beside this script.
 
-`join.py` writes both, and `join.py --check` says whether they are what it would write. README.md tells
-how a case is written.
+`join.py` writes both, and `join.py --check` says whether they are what it would write. README.md
+tells how a case is written.
 """
 
 import json
@@ -11,12 +11,14 @@ import sys
 from pathlib import Path
 
 sys.dont_write_bytecode = True
-from notation import CaseError, Module  # noqa: E402
+from notation import EXPRESSIONS, STATEMENTS, CaseError, Module  # noqa: E402
 
 HERE = Path(__file__).resolve().parent
 CRATE = HERE.parent
 
-EXPECTATION = re.compile(r"(gives nothing|gives with types|gives|refused with types: |refused: |not accepted: |not read: )(.*)")
+EXPECTATION = re.compile(
+    r"(gives nothing|gives with types|gives)|(refused with types|refused|not accepted): (.+)"
+)
 ONLY_WITH_TYPES = re.compile(r"\[(: [^\[\]]+)\]")
 
 
@@ -60,15 +62,30 @@ def cases_of(file):
             raise CaseError(f"{file.name}:{number}: a line in front of the first case")
         else:
             cases[-1].lines.append(line)
+    for case in cases:
+        case.lines = without_comments(case.lines)
     return cases
+
+
+def without_comments(lines):
+    """The lines without comments and empty ones, but for those of a text that is wanted."""
+    kept, text = [], None
+    for line in lines:
+        if text is not None and line.text and line.indent <= text.indent:
+            text = None
+        if text is None and (not line.text or line.text.startswith("# ") or line.text == "#"):
+            continue
+        if text is None and line.text in ("gives", "gives with types"):
+            text = line
+        kept.append(line)
+    return kept
 
 
 def sections(case):
     """The blocks of a case: each line at the least indentation, with the lines below it."""
-    lines = [line for line in case.lines]
-    depth = min((line.indent for line in lines if line.text), default=0)
+    depth = min((line.indent for line in case.lines if line.text), default=0)
     found = []
-    for line in lines:
+    for line in case.lines:
         if line.text and line.indent == depth:
             found.append((line, []))
         elif found:
@@ -88,8 +105,9 @@ def block_text(lines):
     return "\n".join(line.raw[depth:] for line in lines) + "\n\n"
 
 
-def is_comment(line):
-    return line.text.startswith("# ") or line.text == "#"
+def has_nothing_below(case, lines):
+    if lines:
+        raise case.error("nothing stands below the line before", lines[0])
 
 
 class Expected:
@@ -100,18 +118,40 @@ class Expected:
         self.refusals = [None, None]
         self.only = None
 
-    def add(self, case, head, word, rest, lines):
-        if word in ("not accepted: ", "not read: "):
-            self.only = word + rest + "\n"
-        elif word.startswith("refused"):
-            self.refusals["with types" in word] = rest
-        else:
-            self.texts["with types" in word] = block_text(lines) if word != "gives nothing" else ""
-            if word != "gives nothing" and not lines:
+    def add(self, case, head, match, lines):
+        """Adds what a line says, with the text below it."""
+        gives, word, rest = match.groups()
+        typed = (gives or word).endswith("with types")
+        if gives in ("gives", "gives with types"):
+            told = block_text(lines)
+            if not told:
                 raise case.error("no text: write `gives nothing`", head)
+        else:
+            has_nothing_below(case, lines)
+            told = rest or ""
+        if word == "not accepted":
+            self.only = self.first_time(case, head, self.only, f"{word}: {rest}\n")
+        elif word:
+            self.refusals[typed] = self.first_time(case, head, self.refusals[typed], told)
+        else:
+            self.texts[typed] = self.first_time(case, head, self.texts[typed], told)
 
-    def is_empty(self):
-        return self.only is None and self.texts == [None, None] and self.refusals == [None, None]
+    @staticmethod
+    def first_time(case, head, before, told):
+        if before is not None:
+            raise case.error("this is told before", head)
+        return told
+
+    def check(self, case):
+        """The case tells one thing at least, and no two that exclude each other."""
+        plain, typed = zip(self.texts, self.refusals)
+        of_texts = any(told is not None for told in (*plain, *typed))
+        if self.only is None and not of_texts:
+            raise case.error("nothing is expected")
+        if self.only is not None and of_texts:
+            raise case.error("a module that is not accepted has no text and no refusal")
+        if plain == (None, None) and typed != (None, None):
+            raise case.error("with types alone: what is written without them is not told")
 
     def answers(self):
         """What the program prints without the types of `let`s and with them."""
@@ -130,15 +170,19 @@ class Expected:
 
 def with_definitions(case):
     """The case with what its lines `where $NAME = TEXT` define in the place of these names."""
-    heads = [head for head, _ in sections(case) if head.text.startswith("where ")]
-    values = {}
-    for head in heads:
+    heads, values = [], {}
+    for head, lines in sections(case):
+        if not head.text.startswith("where "):
+            continue
+        has_nothing_below(case, lines)
+        heads.append(head)
         match = re.fullmatch(r"where (\$[a-z_]+) = (.*)", head.text)
         if not match:
             raise case.error("a definition is `where $NAME = TEXT`", head)
         values[match.group(1)] = replaced(match.group(2), values)
     made = Case(case.file, replaced(case.name, values), case.number)
-    made.lines = [line.replaced(replaced(line.text, values)) for line in case.lines if line not in heads]
+    others = [line for line in case.lines if line not in heads]
+    made.lines = [line.replaced(replaced(line.text, values)) for line in others]
     return made
 
 
@@ -159,11 +203,9 @@ def rows_of(case):
     if any(not re.fullmatch(r"\$[a-z_]+", column) for column in columns):
         raise case.error("a column is a `$` and a word", head)
     first, last = head.number, max([head.number] + [row.number for row in rows])
-    others = [line for line in case.lines if not first <= line.number <= last or not line.text]
+    others = [line for line in case.lines if not first <= line.number <= last]
     found = []
     for row in rows:
-        if not row.text or is_comment(row):
-            continue
         cells = re.split(r" {2,}", row.text)
         if len(cells) != len(columns):
             raise case.error(f"{len(cells)} cells for {len(columns)} columns", row)
@@ -179,7 +221,7 @@ def rows_of(case):
 
 
 def edited(case, lines, edits):
-    """The lines after the edits, each `OLD => NEW` or `LINE / OLD => NEW`, behind `in PART: ` or not."""
+    """The lines after the edits: `OLD => NEW` or `LINE / OLD => NEW`, behind `in PART: ` or not."""
     for edit in edits:
         old, new = (part.strip() for part in edit.text.split("=>", 1))
         start, end = 0, len(lines)
@@ -194,13 +236,19 @@ def edited(case, lines, edits):
             if lines[at].text.count(words) != 1:
                 raise case.error(f"`{words}` does not stand once in `{lines[at].text}`", edit)
             new = lines[at].text.replace(words, new)
-        parts = [lines[at].replaced(part.strip()) for part in new.split(";;")] if new else []
+        parts = [written(lines[at], part.strip()) for part in new.split(";;")] if new else []
         lines = lines[:at] + parts + lines[behind:]
     return lines
 
 
+def written(line, text):
+    """The text in the place of the line; behind `>` it stands below it."""
+    below = text.startswith("> ")
+    return Line(" " * (line.indent + 2 * below) + text[2 * below:].strip(), line.number)
+
+
 def place_of(case, lines, start, end, old, edit):
-    """Where the one line is that is or begins so; each step of `HEAD > LINE` looks below the last."""
+    """Where the one line stands that is or begins so; `HEAD > LINE` looks below the line HEAD."""
     for step in old.split(" > "):
         found = [i for i in range(start, end) if lines[i].text == step]
         if not found:
@@ -242,6 +290,7 @@ class Joined:
 
     def __init__(self):
         self.modules = {}
+        self.accepted_kinds = set()
         self.input = []
         self.output = []
 
@@ -254,32 +303,35 @@ class Joined:
         module, likes, edits, expected = [], [], [], Expected()
         for head, lines in sections(case):
             match = EXPECTATION.fullmatch(head.text)
-            if is_comment(head):
-                continue
             if match:
-                expected.add(case, head, match.group(1), match.group(2), lines)
+                expected.add(case, head, match, lines)
             elif head.text.startswith("like "):
+                has_nothing_below(case, lines)
                 likes.append((head, head.text[len("like "):]))
             elif "=>" in head.text:
+                has_nothing_below(case, lines)
                 edits.append(head)
             else:
                 module += [head] + lines
         if likes:
-            head, name = likes[0]
+            head, name = likes[-1]
+            if len(likes) > 1:
+                raise case.error("a second `like`", head)
             if name not in self.modules:
                 raise case.error(f"no case `{name}` stands before", head)
             module = edited(case, self.modules[name], edits) + module
         elif edits:
             raise case.error("an edit without `like`", edits[0])
-        if expected.is_empty():
-            raise case.error("nothing is expected")
         if case.name in self.modules:
             raise case.error(f"a case `{case.name}` stands before")
         self.modules[case.name] = module
         unknown = re.search(r"\$[a-z_]+", case.name + "".join(line.text for line in case.lines))
         if unknown:
             raise case.error(f"nothing is told of {unknown.group(0)}")
-        told = Module.of([line for line in module if line.text and not is_comment(line)], case)
+        told, kinds = Module.of(module, case)
+        expected.check(case)
+        if expected.only is None:
+            self.accepted_kinds |= kinds
         told = {"name": case.name, **told}
         self.input.append(json.dumps(told, ensure_ascii=False, separators=(",", ":")) + "\n")
         plain, typed = expected.answers()
@@ -293,6 +345,8 @@ def main(words):
     try:
         for file in sorted(HERE.glob("*.cases")):
             joined.add_file(file)
+        for kind in sorted((EXPRESSIONS | STATEMENTS) - joined.accepted_kinds):
+            raise CaseError(f"no case that is accepted has a {kind}")
     except CaseError as error:
         print(error, file=sys.stderr)
         return 1

@@ -3,6 +3,8 @@
 import json
 import re
 
+from shape import EXPRESSION, STATEMENT, TOLD, TYPE_INNER, ShapeError, check, name_of
+
 
 class CaseError(Exception):
     """What is wrong with a case file, and where."""
@@ -27,11 +29,17 @@ STAGES = {
     "compute": "Compute", "ray_generation": "RayGeneration", "miss": "Miss", "any_hit": "AnyHit",
     "closest_hit": "ClosestHit",
 }
+# What tells the variable of a stage, and the member that it stands in.
+VARIABLES = {
+    "output": "mesh_info", "payload": "task_payload", "incoming": "incoming_ray_payload",
+}
 DIMENSIONS = {"1d": "D1", "2d": "D2", "3d": "D3", "cube": "Cube"}
 ACCESSES = {
     "read": "LOAD", "write": "STORE", "read_write": "LOAD | STORE",
     "atomic": "LOAD | STORE | ATOMIC",
 }
+EXPRESSIONS = {name_of(variant) for variant in EXPRESSION.variants}
+STATEMENTS = {name_of(variant) for variant in STATEMENT.variants}
 # What stands for a word and not for an absent value: the control of a derivative.
 WORD_NONE = {"ctrl"}
 # The fields and variants that hold a type.
@@ -149,6 +157,8 @@ class Reader:
         found = {}
         while not self.takes("}"):
             name = self.label()
+            if name in found:
+                self.fail(f"`{name}` is told twice")
             self.want(":")
             found[name] = self.value(name)
             if not self.takes(","):
@@ -404,6 +414,11 @@ INNERS = [
 ]
 
 
+def labelled(label, inner):
+    """A type with its label, if it has one."""
+    return {"name": label, "inner": inner} if label is not None else {"inner": inner}
+
+
 class Types:
     """The types of a module, in the order in which they are declared or first named."""
 
@@ -413,7 +428,7 @@ class Types:
 
     def place(self, label, inner):
         """Where a type stands, which is added if it is absent."""
-        item = {"name": label, "inner": inner} if label is not None else {"inner": inner}
+        item = labelled(label, inner)
         if item in self.items:
             return self.items.index(item)
         return self.append(item)
@@ -430,7 +445,8 @@ class Types:
         if "Scalar" in inner or "Atomic" in inner:
             return (inner.get("Scalar") or inner.get("Atomic"))["width"]
         if "Vector" in inner:
-            return {"Bi": 2, "Tri": 4, "Quad": 4}[inner["Vector"]["size"]] * inner["Vector"]["scalar"]["width"]
+            places = {"Bi": 2, "Tri": 4, "Quad": 4}[inner["Vector"]["size"]]
+            return places * inner["Vector"]["scalar"]["width"]
         return None
 
 
@@ -444,21 +460,32 @@ class Module:
         self.info = {}
         self.settings = []
         self.is_counted = False
+        self.kinds = set()
 
     @classmethod
     def of(cls, lines, case):
-        """The module of these lines, and what is known of it, as members of an object."""
+        """The module of these lines, and what is known of it, as members of an object; and which
+        kinds of expressions and statements it has."""
         made = cls(case)
-        for line, children in tree(lines):
+        for line, children in tree(lines, case):
             made.add(line, children)
         if made.types.items:
             made.module = {"types": made.types.items, **made.module}
         told = {"module": made.module, "info": made.info}
         if made.is_counted:
             told = {"counted": True, **told}
+        made.check(TOLD, told)
         for line, path, value in made.settings:
             made.set(told, line, path, value)
-        return told
+            made.check(TOLD, told, line)
+        return told, made.kinds
+
+    def check(self, form, value, line=None):
+        """The value has this form of the IR."""
+        try:
+            check(form, value)
+        except ShapeError as error:
+            raise self.case.error(error, line) from None
 
     def fails_at(self, line):
         def fail(message):
@@ -478,17 +505,16 @@ class Module:
             return self.add_function(line, children)
         if word == "struct":
             return self.add_struct(line, children)
-        if children:
-            raise self.case.error("nothing stands below this", children[0][0])
         methods = {
             "type": self.add_type, "const": self.add_constant, "override": self.add_override,
             "var": self.add_global, "global": self.add_global_expression,
             "predeclared": self.add_predeclared, "special": self.add_special,
         }
+        if word != "set" and word not in methods:
+            raise self.case.error(f"`{word}` begins no line of a module", line)
+        self.has_nothing_below(children)
         if word == "set":
             return self.add_setting(line)
-        if word not in methods:
-            raise self.case.error(f"`{word}` begins no line of a module", line)
         reader = self.reader(line)
         reader.next()
         methods[word](reader, line)
@@ -501,7 +527,8 @@ class Module:
             label = reader.label()
             reader.want("=")
         inner = reader.inner()
-        self.types.append({"name": label, "inner": inner} if label is not None else {"inner": inner})
+        self.check(TYPE_INNER, inner, line)
+        self.types.append(labelled(label, inner))
 
     def add_struct(self, line, children):
         """`struct LABEL span 8`, and below it the members, as `a: i32 at 0`."""
@@ -511,11 +538,12 @@ class Module:
         reader.want("span")
         span = reader.number()
         reader.end()
-        members = [self.member(child) for child, _ in children]
+        members = [self.member(child, below) for child, below in children]
         inner = {"Struct": {"members": members, "span": span}}
-        self.types.append({"name": label, "inner": inner} if label is not None else {"inner": inner})
+        self.types.append(labelled(label, inner))
 
-    def member(self, line):
+    def member(self, line, below):
+        self.has_nothing_below(below)
         reader = self.reader(line)
         item = self.typed(reader)
         reader.want("at")
@@ -572,7 +600,7 @@ class Module:
         """`global 0: TYPE = EXPRESSION`."""
         expressions = self.module.setdefault("global_expressions", [])
         known = self.info.setdefault("const_expression_types", [])
-        self.expression(reader, line, expressions, known, {})
+        self.expression(reader, line, expressions, known, None)
 
     def add_predeclared(self, reader, line):
         """`predeclared KEY = TYPE`."""
@@ -589,19 +617,22 @@ class Module:
 
     def add_setting(self, line):
         """`set PATH = VALUE`, at last."""
-        path, value = line.text[len("set "):].split("=", 1)
+        path, equals, value = line.text[len("set "):].partition("=")
+        if not equals:
+            raise self.case.error("a setting is `set PATH = VALUE`", line)
         reader = self.reader(line, value)
         self.settings.append((line, path.strip(), reader.value()))
         reader.end()
 
     def set(self, told, line, path, value):
-        steps = [int(step) if step.isdigit() else step for step in re.findall(r"\w+", path)]
+        """Sets what stands at the path: all of it but the last member is there."""
+        *steps, last = path.split(".")
         at = told
         try:
-            for step in steps[:-1]:
-                at = at.setdefault(step, {}) if isinstance(at, dict) else at[step]
-            at[steps[-1]] = value
-        except (IndexError, KeyError, TypeError):
+            for step in steps:
+                at = at[step] if isinstance(at, dict) else at[int(step)]
+            at[last if isinstance(at, dict) else int(last)] = value
+        except (IndexError, KeyError, TypeError, ValueError):
             raise self.case.error(f"there is no {path}", line) from None
 
     # ---- functions
@@ -634,16 +665,22 @@ class Module:
         while reader.takes("@"):
             word = reader.next()
             numbers = reader.list_of("(", ")") if reader.peek() == "(" else []
-            if word in STAGES:
+            if word in STAGES and point is not None:
+                reader.fail("two stages")
+            elif word in STAGES:
                 point = {"stage": STAGES[word], "workgroup_size": numbers or [0, 0, 0]}
-            elif word == "output":
-                point["mesh_info"] = {"output_variable": numbers[0]}
-            elif word == "payload":
-                point["task_payload"] = numbers[0]
-            elif word == "incoming":
-                point["incoming_ray_payload"] = numbers[0]
-            else:
+            elif word not in VARIABLES:
                 reader.fail(f"`@{word}` is no attribute of an entry point")
+            elif point is None:
+                reader.fail(f"the stage stands in front of `@{word}`")
+            elif VARIABLES[word] in point:
+                reader.fail(f"`@{word}` is told twice")
+            elif len(numbers) != 1:
+                reader.fail(f"`@{word}` has the number of a variable")
+            else:
+                point[VARIABLES[word]] = numbers[0]
+        if point is not None and "mesh_info" in point:
+            point["mesh_info"] = {"output_variable": point["mesh_info"]}
         return point
 
     def signature(self, reader, function):
@@ -667,8 +704,10 @@ class Module:
         statements, expressions, names = [], [], {}
         for line, below in children:
             if re.match(r"\d+( |:)", line.text):
+                self.has_nothing_below(below)
                 self.expression(self.reader(line), line, expressions, known, names)
             elif line.text.startswith("var "):
+                self.has_nothing_below(below)
                 reader = self.reader(line)
                 reader.want("var")
                 item = self.typed(reader)
@@ -685,23 +724,45 @@ class Module:
             function["body"] = self.block(statements)
 
     def expression(self, reader, line, expressions, known, names):
-        """`3: TYPE = EXPRESSION`, `3 LABEL: TYPE used 2 = EXPRESSION`; nothing is known of type `?`."""
+        """`3: TYPE = EXPRESSION`, `3 LABEL: TYPE used 2 = EXPRESSION`; `?` is no known type. The
+        module's own expressions have no names, which are None, and aren't counted."""
         number = reader.number()
         if number != len(expressions):
             reader.fail(f"the expression {len(expressions)} comes next")
         if reader.peek() != ":":
-            names[str(number)] = reader.label()
+            self.add_label(reader, str(number), names)
         reader.want(":")
-        if not reader.takes("?"):
+        is_known = not reader.takes("?")
+        if is_known:
             if len(known) < len(expressions):
                 reader.fail("nothing is known of the expression before")
             known.append(reader.resolution())
         if reader.takes("used"):
+            if names is None or not is_known:
+                reader.fail("the uses are told of an expression of a function, with its type")
             known[-1] = {"ref_count": reader.number(), "ty": known[-1]}
             self.is_counted = True
         reader.want("=")
-        expressions.append(reader.value())
+        self.has_kind(reader.peek(), EXPRESSIONS, line)
+        expression = reader.value()
         reader.end()
+        self.check(EXPRESSION, expression, line)
+        expressions.append(expression)
+
+    def add_label(self, reader, number, names):
+        """The label of an expression, which stands behind its number."""
+        if names is None:
+            reader.fail("an expression of the module has no label")
+        label = reader.label()
+        if label is None:
+            reader.fail("an expression without a label has no `_`")
+        names[number] = label
+
+    def has_kind(self, word, words, line):
+        """The line has an expression or a statement of this kind, which is one of the words."""
+        if word not in words:
+            raise self.case.error(f"`{word}` is none of the kinds that there are", line)
+        self.kinds.add(word)
 
     # ---- statements
 
@@ -715,6 +776,7 @@ class Module:
         """Adds the statement at `at`, and tells where the next one stands."""
         line, below = lines[at]
         word, _, rest = line.text.partition(" ")
+        self.has_kind(re.match(r"\w*", word).group(0), STATEMENTS, line)
         if word == "If":
             accept, reject = self.block(below), []
             if self.follows(lines, at + 1, "else"):
@@ -723,7 +785,9 @@ class Module:
             condition = self.handle_in(line, rest)
             statements.append({"If": {"condition": condition, "accept": accept, "reject": reject}})
             return at + 1
-        if word == "Loop" and not rest:
+        if word in ("Loop", "Block") and rest:
+            raise self.case.error(f"what {word} has stands below it", line)
+        if word == "Loop":
             return self.loop(statements, lines, at)
         if word == "Switch":
             cases = [self.switch_case(child, below_child) for child, below_child in below]
@@ -732,10 +796,15 @@ class Module:
         if word == "Block":
             statements.append({"Block": self.block(below)})
             return at + 1
-        if below:
-            raise self.case.error("nothing stands below this", below[0][0])
-        statements.append(self.plain_statement(line, word, rest))
+        self.has_nothing_below(below)
+        statement = self.plain_statement(line, word, rest)
+        self.check(STATEMENT, statement, line)
+        statements.append(statement)
         return at + 1
+
+    def has_nothing_below(self, below):
+        if below:
+            raise self.case.error("nothing stands below the line before", below[0][0])
 
     def follows(self, lines, at, text):
         return at < len(lines) and lines[at][0].text == text
@@ -753,6 +822,7 @@ class Module:
             loop["continuing"] = self.block(lines[at][1])
         if at + 1 < len(lines) and lines[at + 1][0].text.startswith("break if "):
             at += 1
+            self.has_nothing_below(lines[at][1])
             loop["break_if"] = self.handle_in(lines[at][0], lines[at][0].text[len("break if "):])
         statements.append({"Loop": loop})
         return at + 1
@@ -777,17 +847,21 @@ class Module:
         reader = self.reader(line)
         value = reader.value()
         reader.end()
+        if isinstance(value, dict) and "Call" in value:
+            value["Call"].setdefault("arguments", [])
         return value
 
 
-def tree(lines):
-    """The lines with those below each, by their indentation."""
+def tree(lines, case):
+    """The lines with those below each, by their indentation, which the lines of a block share."""
     root = []
     open_blocks = [(-1, root)]
     for line in lines:
         while line.indent <= open_blocks[-1][0]:
             open_blocks.pop()
-        below = []
-        open_blocks[-1][1].append((line, below))
+        siblings, below = open_blocks[-1][1], []
+        if siblings and siblings[0][0].indent != line.indent:
+            raise case.error("the lines of a block are indented alike", line)
+        siblings.append((line, below))
         open_blocks.append((line.indent, below))
     return root

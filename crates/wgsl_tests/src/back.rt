@@ -1,14 +1,14 @@
 //! Helpers of the writer.
 use bitflags::Flags;
+use naga_json::{read_known, read_module};
 use naga_wgsl_out::back::{
     BakeRefCount, Baked, COMPONENTS, FunctionCtx, FunctionType, INDENT, IsHandle, IsTerminator,
     Level, NeedBakeExpressions, RayFlag, RayIntersectionType, binary_operation_str,
 };
 use naga_wgsl_out::info::{ExpressionInfo, FunctionInfo, TypeResolution};
 use naga_wgsl_out::ir::{
-    BinaryOperator, Binding, BuiltIn, EntryPoint, Expression, Function, FunctionArgument, Handle,
-    Literal, Module, Place, Scalar, ShaderStage, Statement, StructMember, Type_, TypeInner,
-    VectorSize,
+    BinaryOperator, BuiltIn, Expression, Function, Literal, Module, Place, Scalar, ShaderStage,
+    Statement, TypeInner,
 };
 use naga_wgsl_out::namer::{ExternalTextureNameKey, NameKey};
 use std::alloc::{AllocError, Global};
@@ -98,108 +98,29 @@ fn what_rays_meet_has_numbers(rt: HostRuntime) {
     assert_eq!(rt; RayIntersectionType::BoundingBox as u32, 4);
 }
 
-/// A vector of four numbers.
-fn vector() -> TypeInner {
-    TypeInner::Vector {
-        size: VectorSize::Quad,
-        scalar: Scalar::F32,
-    }
-}
-
-/// A member with this binding, of the module's first type.
-fn member(binding: Binding, offset: u32) -> StructMember {
-    StructMember {
-        name: None,
-        ty: Place::from_index(0),
-        binding: Some(binding),
-        offset,
-    }
-}
-
-/// The position, and a value that the vertices give.
-fn members(alloc: Global) -> Result<Vec<StructMember>, AllocError> {
-    let position = Binding::BuiltIn(BuiltIn::Position { invariant: false });
-    let given = Binding::Location {
-        location: 0,
-        interpolation: None,
-        sampling: None,
-        blend_src: None,
-        per_primitive: false,
-    };
-    Ok(vec![in alloc; member(position, 0), member(given, 16)]?)
-}
-
-/// The type of the expression, by its handle.
-fn known(alloc: Global) -> Result<FunctionInfo, AllocError> {
-    let mut expressions = Vec::new(alloc);
-    for ty in [1, 0, 0] {
-        expressions.push(ExpressionInfo {
-            ref_count: 0,
-            ty: TypeResolution::Handle(Place::from_index(ty)),
-        })?;
-    }
-    expressions.push(ExpressionInfo {
-        ref_count: 0,
-        ty: TypeResolution::Value(TypeInner::Scalar(Scalar::F32)),
-    })?;
-    Ok(FunctionInfo { expressions })
-}
-
-/// An argument that is such a struct, its two members, and the first component of the first.
-fn fragment(alloc: Global) -> Result<Function, AllocError> {
-    let mut function = Function::new(alloc);
-    function.arguments.push(FunctionArgument {
-        name: None,
-        ty: Place::from_index(1),
-        binding: None,
-    })?;
-    let argument = function
-        .expressions
-        .append(Expression::FunctionArgument(0))?;
-    let position = function.expressions.append(Expression::AccessIndex {
-        base: argument,
-        index: 0,
-    })?;
-    function.expressions.append(Expression::AccessIndex {
-        base: argument,
-        index: 1,
-    })?;
-    function.expressions.append(Expression::AccessIndex {
-        base: position,
-        index: 0,
-    })?;
-    Ok(function)
-}
-
-/// An entry point of this stage with this function.
-fn entry_point(alloc: Global, stage: ShaderStage, function: Function) -> EntryPoint {
-    EntryPoint {
-        name: String::new(alloc),
-        stage,
-        workgroup_size: [1, 1, 1],
-        function,
-        mesh_info: None,
-        task_payload: None,
-        incoming_ray_payload: None,
-    }
-}
-
-/// Adds a type.
-fn add_type(module: &mut Module, inner: TypeInner) -> Result<Handle<Type_>, AllocError> {
-    module.types.insert(Type_ { name: None, inner })
-}
-
-/// The module of one fragment entry point with such an argument.
-fn fill(alloc: Global, module: &mut Module) -> Result<(), AllocError> {
-    add_type(module, vector())?;
-    let members = members(alloc)?;
-    add_type(module, TypeInner::Struct { members, span: 32 })?;
-    let function = fragment(alloc)?;
-    module
-        .entry_points
-        .push(entry_point(alloc, ShaderStage::Fragment, function))?;
-    Ok(())
-}
+/// A fragment entry point whose argument is a struct of the position and a value that the vertices
+/// give, with its two members, and the first component of the first.
+const FRAGMENT: &str = r#"{
+    "module": {
+        "types": [
+            {"inner": {"Vector": {"size": "Quad", "scalar": {"kind": "Float", "width": 4}}}},
+            {"inner": {"Struct": {"members": [
+                {"ty": 0, "binding": {"BuiltIn": {"Position": {"invariant": false}}}, "offset": 0},
+                {"ty": 0, "binding": {"Location": {"location": 0}}, "offset": 16}
+            ], "span": 32}}}
+        ],
+        "entry_points": [{
+            "name": "", "stage": "Fragment", "workgroup_size": [1, 1, 1],
+            "function": {"arguments": [{"ty": 1}], "expressions": [
+                {"FunctionArgument": 0},
+                {"AccessIndex": {"base": 0, "index": 0}},
+                {"AccessIndex": {"base": 0, "index": 1}},
+                {"AccessIndex": {"base": 1, "index": 0}}
+            ]}
+        }]
+    },
+    "info": {"entry_points": [[1, 0, 0, {"Value": {"Scalar": {"kind": "Float", "width": 4}}}]]}
+}"#;
 
 /// The inputs that the expressions are, in the entry point and in a function.
 fn inputs_hold(rt: &impl Abort, module: &Module, info: &FunctionInfo) {
@@ -237,19 +158,12 @@ fn inputs_hold(rt: &impl Abort, module: &Module, info: &FunctionInfo) {
     }
 }
 
-fn inputs_in(rt: &impl Abort, alloc: Global, module: &mut Module) -> Result<(), AllocError> {
-    fill(alloc, module)?;
-    let info = known(alloc)?;
-    inputs_hold(rt, module, &info);
-    Ok(())
-}
-
 #[test]
 fn inputs_of_an_entry_point(rt: HostRuntime) -> Result<(), Fail> {
-    let mut module = Module::new(rt.alloc());
-    let held = inputs_in(&rt, rt.alloc(), &mut module);
-    drop(module);
-    held?;
+    let known = read_known(rt.alloc(), FRAGMENT)?;
+    assert!(rt; known.info.entry_points.len() == 1);
+    inputs_hold(&rt, &known.module, &known.info.entry_points[0]);
+    drop(known);
     Ok(())
 }
 
@@ -329,37 +243,31 @@ const STAGES: &[(ShaderStage, bool)] = &[
 /// Whether the module's first entry point is one of workgroups.
 fn forms_workgroups(rt: &impl Abort, module: &Module) -> bool {
     assert!(rt; module.entry_points.len() == 1);
+    assert!(rt; !FunctionType::Function(Place::from_index(0)).is_compute_like_entry_point(module));
     FunctionType::EntryPoint(0).is_compute_like_entry_point(module)
 }
 
-fn stage_holds(
+/// The same of an entry point of this stage.
+fn stage_forms_workgroups(
     rt: &impl Abort,
     alloc: Global,
-    module: &mut Module,
     stage: ShaderStage,
-    want: bool,
-) -> Result<(), AllocError> {
-    let own = entry_point(alloc, stage, Function::new(alloc));
-    module.entry_points.push(own)?;
-    assert_eq!(rt; forms_workgroups(rt, module), want, "{stage:?}");
-    let function = FunctionType::Function(Place::from_index(0));
-    assert!(rt; !function.is_compute_like_entry_point(module));
-    module.entry_points.clear();
-    Ok(())
-}
-
-fn stages_in(rt: &impl Abort, alloc: Global, module: &mut Module) -> Result<(), AllocError> {
-    for (stage, want) in STAGES {
-        stage_holds(rt, alloc, module, *stage, *want)?;
-    }
-    Ok(())
+) -> Result<bool, Fail> {
+    let text = format!(in alloc;
+        r#"{{"entry_points": [{{"name": "", "stage": "{stage:?}", "workgroup_size": [1, 1, 1],
+            "function": {{}}}}]}}"#
+    )?;
+    let module = read_module(alloc, text.as_str())?;
+    let forms = forms_workgroups(rt, &module);
+    drop(module);
+    Ok(forms)
 }
 
 #[test]
 fn stages_with_workgroups(rt: HostRuntime) -> Result<(), Fail> {
-    let mut module = Module::new(rt.alloc());
-    let held = stages_in(&rt, rt.alloc(), &mut module);
-    drop(module);
-    held?;
+    for (stage, want) in STAGES {
+        let forms = stage_forms_workgroups(&rt, rt.alloc(), *stage)?;
+        assert_eq!(rt; forms, *want, "{stage:?}");
+    }
     Ok(())
 }

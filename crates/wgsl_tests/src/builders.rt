@@ -1,7 +1,7 @@
 //! Builders of modules, functions and blocks.
-use naga_builder::{BlockBuilder, FunctionBuilder, ModuleBuilder, StageParts};
-use naga_info::TypeResolution;
-use naga_ir::{
+use naga_wgsl_out::builder::{BlockBuilder, FunctionBuilder, ModuleBuilder, StageParts};
+use naga_wgsl_out::info::TypeResolution;
+use naga_wgsl_out::ir::{
     AddressSpace, BinaryOperator, Binding, BuiltIn, Constant, Expression, FunctionArgument,
     GlobalVariable, Handle, Literal, MemoryDecorations, MeshStageInfo, Override, PredeclaredType,
     Scalar, ShaderStage, Statement, StructMember, Type_, TypeInner, UnaryOperator, VectorSize,

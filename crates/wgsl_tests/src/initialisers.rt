@@ -5,12 +5,12 @@ ghost use Rattle.module_meaning.specs.Names.{HasNamesOf};
 ghost use Rattle.naga_names.specs.Keys.{names_in};
 
 use crate::texts::reads;
-use naga_wgsl_out::builder::ModuleBuilder;
+use naga_json::{Known, read_known};
 use naga_wgsl_out::info::{ModuleInfo, accepts};
-use naga_wgsl_out::ir::{Constant, Expression, Handle, Literal, Module, Scalar, VectorSize};
+use naga_wgsl_out::ir::{Expression, Handle, Module, Place};
 use naga_wgsl_out::namer::NameKey;
 use naga_wgsl_out::wgsl::{Error, names_of, write_global_expression};
-use std::alloc::{AllocError, Global};
+use std::alloc::Global;
 use std::collections::HashMap;
 use std::process::Abort;
 use std::test::Fail;
@@ -34,43 +34,37 @@ fn text_of(
 }
 
 /// A constant without a name, and a vector of it.
-fn add_vector(alloc: Global, shader: &mut ModuleBuilder) -> Result<Handle<Expression>, AllocError> {
-    let i32_type = shader.scalar(Scalar::I32)?;
-    let vector = shader.vector(VectorSize::Bi, Scalar::I32)?;
-    let seven = shader.global_expression(Expression::Literal(Literal::I32(-7)), i32_type)?;
-    let constant = shader.add_constant(Constant {
-        name: None,
-        ty: i32_type,
-        init: seven,
-    })?;
-    let named = shader.global_expression(Expression::Constant(constant), i32_type)?;
-    let mut components = Vec::new(alloc);
-    components.push(named)?;
-    components.push(seven)?;
-    shader.global_expression(
-        Expression::Compose {
-            ty: vector,
-            components,
-        },
-        vector,
-    )
-}
+const VECTOR: &str = r#"{
+    "module": {
+        "types": [
+            {"inner": {"Scalar": {"kind": "Sint", "width": 4}}},
+            {"inner": {"Vector": {"size": "Bi", "scalar": {"kind": "Sint", "width": 4}}}}
+        ],
+        "constants": [{"ty": 0, "init": 0}],
+        "global_expressions": [
+            {"Literal": {"I32": -7}},
+            {"Constant": 0},
+            {"Compose": {"ty": 1, "components": [1, 0]}}
+        ]
+    },
+    "info": {"const_expression_types": [0, 0, 1]}
+}"#;
 
-fn writes(rt: &impl Abort, alloc: Global, shader: &mut ModuleBuilder) -> Result<(), Error> {
-    let vector = add_vector(alloc, shader)?;
-    assert!(rt; vector.index() < shader.module.global_expressions.len());
-    assert!(rt; accepts(&shader.module, &shader.info));
-    let (names, _namer) = names_of(alloc, &shader.module)?;
-    let text = text_of(alloc, &shader.module, &shader.info, &names, vector)?;
+fn writes(rt: &impl Abort, alloc: Global, known: &Known) -> Result<(), Error> {
+    let vector = Place::from_index(2);
+    assert!(rt; vector.index() < known.module.global_expressions.len());
+    assert!(rt; accepts(&known.module, &known.info));
+    let (names, _namer) = names_of(alloc, &known.module)?;
+    let text = text_of(alloc, &known.module, &known.info, &names, vector)?;
     reads(rt, text.as_str(), "vec2<i32>(-7i, -7i)");
     Ok(())
 }
 
 #[test]
 fn an_initialiser_is_written(rt: HostRuntime) -> Result<(), Fail> {
-    let mut shader = ModuleBuilder::new(rt.alloc());
-    let written = writes(&rt, rt.alloc(), &mut shader);
-    drop(shader);
+    let known = read_known(rt.alloc(), VECTOR)?;
+    let written = writes(&rt, rt.alloc(), &known);
+    drop(known);
     written?;
     Ok(())
 }

@@ -1,5 +1,6 @@
 //! Sinks.
-use naga_words::{IoSink, Limited, SinkError, TextSink};
+use naga_wgsl_out::sinks::{IoSink, Limited};
+use naga_wgsl_out::types::{SinkError, TextSink};
 use std::io::Cursor;
 use std::process::Abort;
 use std::test::Fail;

@@ -1,10 +1,11 @@
 //! The types that the tests spell, in a module.
 use super::*;
 use crate::NumberedTypes;
+use naga_json::read_module;
 use naga_wgsl_out::info::{Conclusion, GlobalCtx, Rule, TypeResolution};
 use naga_wgsl_out::ir::{
     AddressSpace, ArraySize, BuiltIn, CooperativeRole, CooperativeSize, Handle, ImageClass,
-    ImageDimension, MathFunction, Module, Override, Place, PredeclaredType, Scalar, ScalarKind,
+    ImageDimension, MathFunction, Module, Place, PredeclaredType, Scalar, ScalarKind,
     StorageAccess, StorageFormat, StructMember, Type_, TypeInner, UniqueArena, VectorSize,
 };
 use naga_wgsl_out::namer::NameKey;
@@ -29,10 +30,6 @@ mod words;
 const UNLABELLED: usize = 0;
 /// The type `i32`.
 const SIGNED: usize = 2;
-/// The second struct without a label.
-const LATER: usize = 10;
-/// The type `u32`.
-const UNSIGNED: usize = 14;
 /// The sampler.
 const SAMPLER: usize = 15;
 /// The array of `u32`.
@@ -44,94 +41,30 @@ const NUMBER: usize = 0;
 /// The override without a label.
 const UNNAMED_NUMBER: usize = 1;
 
-/// A struct without members.
-fn empty_struct(alloc: Global, span: u32) -> TypeInner {
-    TypeInner::Struct {
-        members: Vec::new(alloc),
-        span,
-    }
-}
-
-/// An array with elements of four bytes.
-fn array_of(base: usize, size: ArraySize) -> TypeInner {
-    TypeInner::Array {
-        base: Place::from_index(base),
-        size,
-        stride: 4,
-    }
-}
-
-/// The type at the index, if it has no label.
-fn sample_type(alloc: Global, four: NonZeroU32, index: usize) -> TypeInner {
-    match index {
-        0 => empty_struct(alloc, 0),
-        1 => array_of(UNLABELLED, ArraySize::Pending(Place::from_index(NUMBER))),
-        2 => TypeInner::Scalar(Scalar::I32),
-        3 => array_of(UNLABELLED, ArraySize::Constant(four)),
-        4 => TypeInner::Pointer {
-            base: Place::from_index(UNLABELLED),
-            space: AddressSpace::Private,
-        },
-        5 => array_of(SIGNED, ArraySize::Pending(Place::from_index(NUMBER))),
-        6 => array_of(
-            SIGNED,
-            ArraySize::Pending(Place::from_index(UNNAMED_NUMBER)),
-        ),
-        7 => TypeInner::ValuePointer {
-            size: None,
-            scalar: Scalar::I32,
-            space: AddressSpace::Handle,
-        },
-        8 => TypeInner::Scalar(Scalar {
-            kind: ScalarKind::Sint,
-            width: 3,
-        }),
-        9 => TypeInner::Atomic(Scalar {
-            kind: ScalarKind::AbstractFloat,
-            width: 8,
-        }),
-        10 => empty_struct(alloc, 4),
-        11 => TypeInner::Pointer {
-            base: Place::from_index(LATER),
-            space: AddressSpace::Function,
-        },
-        12 => empty_struct(alloc, 8),
-        13 => empty_struct(alloc, 12),
-        14 => TypeInner::Scalar(Scalar::U32),
-        15 => TypeInner::Sampler { comparison: false },
-        _ => array_of(UNSIGNED, ArraySize::Dynamic),
-    }
-}
-
-/// Adds a type.
-fn add(module: &mut Module, name: Option<String>, inner: TypeInner) -> Result<(), AllocError> {
-    module.types.insert(Type_ { name, inner })?;
-    Ok(())
-}
-
-/// Adds an override of type `u32`.
-fn add_override(module: &mut Module, name: Option<String>) -> Result<(), AllocError> {
-    module.overrides.append(Override {
-        name,
-        id: None,
-        ty: Place::from_index(UNSIGNED),
-        init: None,
-    })?;
-    Ok(())
-}
-
-/// Adds the types and the overrides.
-fn fill(rt: &impl Abort, alloc: Global, module: &mut Module) -> Result<(), AllocError> {
-    let four = NonZeroU32::new(4).expect(rt, "four");
-    for index in 0..LABELLED {
-        add(module, None, sample_type(alloc, four, index))?;
-    }
-    let label = String::from_str(alloc, "S")?;
-    add(module, Some(label), empty_struct(alloc, 0))?;
-    let name = String::from_str(alloc, "N")?;
-    add_override(module, Some(name))?;
-    add_override(module, None)
-}
+/// The types, and the overrides.
+const TYPES: &str = r#"{
+    "types": [
+        {"inner": {"Struct": {"members": [], "span": 0}}},
+        {"inner": {"Array": {"base": 0, "size": {"Pending": 0}, "stride": 4}}},
+        {"inner": {"Scalar": {"kind": "Sint", "width": 4}}},
+        {"inner": {"Array": {"base": 0, "size": {"Constant": 4}, "stride": 4}}},
+        {"inner": {"Pointer": {"base": 0, "space": "Private"}}},
+        {"inner": {"Array": {"base": 2, "size": {"Pending": 0}, "stride": 4}}},
+        {"inner": {"Array": {"base": 2, "size": {"Pending": 1}, "stride": 4}}},
+        {"inner": {"ValuePointer": {"scalar": {"kind": "Sint", "width": 4}, "space": "Handle"}}},
+        {"inner": {"Scalar": {"kind": "Sint", "width": 3}}},
+        {"inner": {"Atomic": {"kind": "AbstractFloat", "width": 8}}},
+        {"inner": {"Struct": {"members": [], "span": 4}}},
+        {"inner": {"Pointer": {"base": 10, "space": "Function"}}},
+        {"inner": {"Struct": {"members": [], "span": 8}}},
+        {"inner": {"Struct": {"members": [], "span": 12}}},
+        {"inner": {"Scalar": {"kind": "Uint", "width": 4}}},
+        {"inner": {"Sampler": {"comparison": false}}},
+        {"inner": {"Array": {"base": 14, "size": "Dynamic", "stride": 4}}},
+        {"name": "S", "inner": {"Struct": {"members": [], "span": 0}}}
+    ],
+    "overrides": [{"name": "N", "ty": 14}, {"ty": 14}]
+}"#;
 
 /// The answer is this text.
 fn reads(
@@ -164,19 +97,30 @@ fn found_no_memory(answer: &Result<String, TypeTextError>) -> bool {
     }
 }
 
-/// The module without types and then with them, in each context.
-fn spells(rt: &impl Abort, alloc: Global, module: &mut Module) -> Result<(), Fail> {
-    handles::structs_without_a_handle(rt, alloc, &module.types)?;
-    rules::rules_without_types(rt, alloc, &module.types)?;
-    fill(rt, alloc, module)?;
+/// The types in each context.
+fn spells(rt: &impl Abort, alloc: Global, module: &Module) -> Result<(), Fail> {
     labels::values_hold(rt, alloc, module)?;
     handles::types_hold(rt, alloc, &module.types)?;
     handles::writer_holds(rt, alloc, module)?;
     Ok(())
 }
 
+/// What names no type, where there are none.
+fn spells_without_types(rt: &impl Abort, alloc: Global, module: &Module) -> Result<(), Fail> {
+    handles::structs_without_a_handle(rt, alloc, &module.types)?;
+    rules::rules_without_types(rt, alloc, &module.types)?;
+    Ok(())
+}
+
 #[test]
 fn types_of_a_module(rt: HostRuntime) -> Result<(), Fail> {
-    let alloc = rt.alloc();
-    spells(&rt, alloc, &mut Module::new(alloc))
+    let module = read_module(rt.alloc(), TYPES)?;
+    let held = spells(&rt, rt.alloc(), &module);
+    drop(module);
+    held
+}
+
+#[test]
+fn no_types(rt: HostRuntime) -> Result<(), Fail> {
+    spells_without_types(&rt, rt.alloc(), &Module::new(rt.alloc()))
 }

@@ -3,10 +3,11 @@ ghost use Rattle.std.specs.Prelude.{◌<◌, IfOk, IsTrue, length};
 ghost use Rattle.naga_words.specs.Rules.{AllFit, FitsConclusion};
 ghost use Rattle.naga_words.specs.Spelling.{Context, Fits, IsInOrder, is_formless_pointer};
 
+use naga_json::read_module;
 use naga_wgsl_out::info::{Conclusion, GlobalCtx, Rule, TypeResolution};
 use naga_wgsl_out::ir::{
-    AddressSpace, CooperativeRole, CooperativeSize, Module, Override, Place, PredeclaredType,
-    Scalar, ScalarKind, Type_, TypeInner, UniqueArena,
+    AddressSpace, CooperativeRole, CooperativeSize, Module, Place, PredeclaredType, Scalar,
+    ScalarKind, Type_, TypeInner, UniqueArena,
 };
 use naga_wgsl_out::namer::NameKey;
 use naga_wgsl_out::types::{
@@ -200,23 +201,11 @@ fn writer_holds(
     rules_hold(rt, alloc, context, text)
 }
 
-/// Adds the struct `S` and the override `N`.
-fn fill(alloc: Global, module: &mut Module) -> Result<(), AllocError> {
-    let name = Some(String::from_str(alloc, "S")?);
-    let inner = TypeInner::Struct {
-        members: Vec::new(alloc),
-        span: 0,
-    };
-    let ty = module.types.insert(Type_ { name, inner })?;
-    let name = Some(String::from_str(alloc, "N")?);
-    module.overrides.append(Override {
-        name,
-        id: None,
-        ty,
-        init: None,
-    })?;
-    Ok(())
-}
+/// The struct `S` and the override `N`.
+const TYPES: &str = r#"{
+    "types": [{"name": "S", "inner": {"Struct": {"members": [], "span": 0}}}],
+    "overrides": [{"name": "N", "ty": 0}]
+}"#;
 
 /// The struct's name.
 fn name_struct(alloc: Global, names: &mut HashMap<NameKey, String>) -> Result<(), AllocError> {
@@ -246,10 +235,9 @@ fn contexts_hold(
 fn contexts_in(
     rt: &impl Abort,
     alloc: Global,
-    module: &mut Module,
+    module: &Module,
     names: &mut HashMap<NameKey, String>,
 ) -> Result<(), TypeTextError> {
-    fill(alloc, module)?;
     name_struct(alloc, names)?;
     contexts_hold(rt, alloc, module, names)
 }
@@ -257,8 +245,8 @@ fn contexts_in(
 #[test]
 fn types_are_spelled(rt: HostRuntime) -> Result<(), Fail> {
     let alloc = rt.alloc();
-    let mut module = Module::new(alloc);
-    let held = contexts_in(&rt, alloc, &mut module, &mut HashMap::new(alloc));
+    let module = read_module(alloc, TYPES)?;
+    let held = contexts_in(&rt, alloc, &module, &mut HashMap::new(alloc));
     drop(module);
     held?;
     Ok(())

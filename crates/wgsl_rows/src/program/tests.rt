@@ -1,4 +1,8 @@
-use super::run;
+use super::{answer, run};
+use bitflags::Flags;
+use naga_wgsl_out::builder::ModuleBuilder;
+use naga_wgsl_out::wgsl::WriterFlags;
+use sample_modules::Row;
 use std::alloc::{AllocError, Global};
 use std::io;
 use std::io::Write;
@@ -272,5 +276,27 @@ fn broken_outputs_are_told(rt: HostRuntime) -> Result<(), Fail> {
     let statuses = broken_statuses(rt.alloc(), &mut written)?;
     assert_eq!(rt; statuses, [1, 1, 2]);
     assert_eq!(rt; written.as_slice(), b"refused: output\n".as_slice());
+    Ok(())
+}
+
+#[test]
+fn module_that_is_not_accepted_is_told(rt: HostRuntime) -> Result<(), Fail> {
+    let mut shader = ModuleBuilder::new(rt.alloc());
+    Row::Identity.build(rt.alloc(), &mut shader)?;
+    // nothing is known of its function any more
+    shader.info.functions.clear();
+    let mut out = Vec::new(rt.alloc());
+    let mut err = Vec::new(rt.alloc());
+    let status = answer(
+        rt.alloc(),
+        &mut shader,
+        WriterFlags::empty(),
+        &mut out,
+        &mut err,
+    );
+    drop(shader);
+    assert_eq!(rt; status, 1);
+    assert_eq!(rt; out.as_slice(), b"".as_slice());
+    assert_eq!(rt; err.as_slice(), b"refused: invalid module\n".as_slice());
     Ok(())
 }

@@ -1,0 +1,145 @@
+"""Whether a module is one that naga could write: each name known, each member told that has to be.
+
+What the IR has is told once, by bench/whole_modules/ir.py. The reader lets unknown members be, so
+that a misspelt one would test nothing.
+"""
+
+import sys
+from pathlib import Path
+
+sys.path.insert(0, str(Path(__file__).resolve().parents[3] / "bench" / "whole_modules"))
+from forms import (  # noqa: E402
+    Bare, Enum, Fixed, Flags, Listed, Maybe, Number, Numbered, Paired, Place, Short, Shown, Struct,
+    Text, Truth)
+from ir import BLOCK, EXPRESSION, MODULE, SHORT_RESOLUTION, STATEMENT, TYPE_INNER  # noqa: E402
+
+# The lists that have to be told even where they are empty, by the struct that has them.
+ALWAYS_TOLD = {
+    "If": {"accept"}, "Switch": {"cases"}, "SwitchCase": {"body"}, "Loop": {"body"},
+    "Compose": {"components"}, "Call": {"arguments"}, "Storage": {"access"},
+}
+COUNTED = Struct("Counted", ("ref_count", Number(0, 2**64 - 1)), ("ty", SHORT_RESOLUTION))
+KNOWN = Listed(Short(COUNTED, SHORT_RESOLUTION))
+INFO = Struct(
+    "ModuleInfo", ("functions", Listed(KNOWN)), ("entry_points", Listed(KNOWN)),
+    ("const_expression_types", Listed(SHORT_RESOLUTION)))
+TOLD = Struct("Told", ("counted", Truth()), ("module", MODULE), ("info", INFO))
+
+
+class ShapeError(Exception):
+    """What is wrong with a value, and where in it."""
+
+    def __init__(self, place, message):
+        super().__init__(f"{place}: {message}" if place else message)
+
+
+def check(form, value, place=""):
+    """Raises `ShapeError` unless the value has the form."""
+    if isinstance(form, Short):
+        check_one_of(form.forms, value, place)
+    elif form is BLOCK:
+        check_items(STATEMENT, value, place)
+    elif isinstance(form, Shown):
+        check(form.form, value, place)
+    elif isinstance(form, Maybe):
+        if value is not None:
+            check(form.form, value, place)
+    elif isinstance(form, Struct):
+        check_struct(form, value, place)
+    elif isinstance(form, Enum):
+        check_variant(form, value, place)
+    elif isinstance(form, Paired):
+        for index, pair in enumerate(of_type(list, value, place)):
+            check(form.key, pair[0], f"{place}[{index}][0]")
+            check(form.form, pair[1], f"{place}[{index}][1]")
+    elif isinstance(form, Fixed) and len(of_type(list, value, place)) != form.count:
+        raise ShapeError(place, f"{form.count} items are wanted")
+    elif isinstance(form, (Listed, Fixed)):
+        check_items(form.form, value, place)
+    else:
+        check_plain(form, value, place)
+
+
+def check_one_of(forms, value, place):
+    """The value has one of the forms; if none, the first one's fault is told."""
+    first = None
+    for form in forms:
+        try:
+            return check(form, value, place)
+        except ShapeError as error:
+            first = first or error
+    raise first
+
+
+def check_items(form, value, place):
+    for index, item in enumerate(of_type(list, value, place)):
+        check(form, item, f"{place}[{index}]")
+
+
+def check_struct(form, value, place):
+    members = {member.name: member.form for member in form.members}
+    for name, content in of_type(dict, value, place).items():
+        if name in members:
+            check(members[name], content, joined(place, name))
+        elif name not in form.others:
+            raise ShapeError(joined(place, name), f"{form.name} has no such member")
+    for name, inner in members.items():
+        has_to = inner.absent is None or name in ALWAYS_TOLD.get(form.name, ())
+        if has_to and name not in value and form is not TOLD:
+            raise ShapeError(joined(place, name), "missing")
+
+
+def check_variant(form, value, place):
+    """A name alone, or an object of one member."""
+    is_object = isinstance(value, dict) and len(value) == 1
+    name, content = next(iter(value.items())) if is_object else (value, None)
+    found = [variant for variant in form.variants if name_of(variant) == name]
+    if not found:
+        raise ShapeError(place, f"{form.name} has no {name}")
+    if not is_object:
+        if not any(isinstance(variant, (str, Bare)) for variant in found):
+            raise ShapeError(place, f"{name} without what it has")
+        return
+    with_content = [variant for variant in found if not isinstance(variant, (str, Bare))]
+    if not with_content:
+        raise ShapeError(place, f"{name} has nothing")
+    variant = with_content[0]
+    check(variant if isinstance(variant, Struct) else variant[1], content, joined(place, name))
+
+
+def name_of(variant):
+    if isinstance(variant, str):
+        return variant
+    return variant.name if isinstance(variant, (Struct, Bare)) else variant[0]
+
+
+def check_plain(form, value, place):
+    """Numbers, texts, flags and the map of names."""
+    if isinstance(form, Truth):
+        of_type(bool, value, place)
+    elif isinstance(form, (Text, Flags)):
+        of_type(str, value, place)
+    elif isinstance(form, Numbered):
+        for name in of_type(dict, value, place).values():
+            of_type(str, name, place)
+    elif isinstance(form, (Number, Place)):
+        number = of_type(int, value, place)
+        low, high = getattr(form, "low", 0), getattr(form, "high", 2**32 - 1)
+        if not low <= number <= high:
+            raise ShapeError(place, f"{number} is none of {low} to {high}")
+    elif isinstance(value, dict):
+        if list(value) != ["bits"]:
+            raise ShapeError(place, "no number")
+    elif isinstance(value, bool) or not isinstance(value, (int, float)):
+        raise ShapeError(place, "no number")
+
+
+def of_type(kind, value, place):
+    names = {dict: "object", list: "list", str: "text", int: "whole number", bool: "truth"}
+    if not isinstance(value, kind) or kind is int and isinstance(value, bool):
+        raise ShapeError(place, f"no {names[kind]}")
+    return value
+
+
+def joined(place, name):
+    return f"{place}.{name}" if place else name
