@@ -9,15 +9,10 @@ from pathlib import Path
 
 sys.path.insert(0, str(Path(__file__).resolve().parents[3] / "bench" / "whole_modules"))
 from forms import (  # noqa: E402
-    Bare, Enum, Fixed, Flags, Listed, Maybe, Number, Numbered, Paired, Place, Short, Shown, Struct,
-    Text, Truth)
+    Bare, Enum, Fixed, Flags, Listed, Maybe, Needed, Number, Numbered, Paired, Place, Short, Shown,
+    Struct, Text, Truth)
 from ir import BLOCK, EXPRESSION, MODULE, SHORT_RESOLUTION, STATEMENT, TYPE_INNER  # noqa: E402
 
-# The lists that have to be told even where they are empty, by the struct that has them.
-ALWAYS_TOLD = {
-    "If": {"accept"}, "Switch": {"cases"}, "SwitchCase": {"body"}, "Loop": {"body"},
-    "Compose": {"components"}, "Call": {"arguments"}, "Storage": {"access"},
-}
 COUNTED = Struct("Counted", ("ref_count", Number(0, 2**64 - 1)), ("ty", SHORT_RESOLUTION))
 KNOWN = Listed(Short(COUNTED, SHORT_RESOLUTION))
 INFO = Struct(
@@ -39,7 +34,7 @@ def check(form, value, place=""):
         check_one_of(form.forms, value, place)
     elif form is BLOCK:
         check_items(STATEMENT, value, place)
-    elif isinstance(form, Shown):
+    elif isinstance(form, (Needed, Shown)):
         check(form.form, value, place)
     elif isinstance(form, Maybe):
         if value is not None:
@@ -84,8 +79,7 @@ def check_struct(form, value, place):
         elif name not in form.others:
             raise ShapeError(joined(place, name), f"{form.name} has no such member")
     for name, inner in members.items():
-        has_to = inner.absent is None or name in ALWAYS_TOLD.get(form.name, ())
-        if has_to and name not in value and form is not TOLD:
+        if inner.absent is None and name not in value and form is not TOLD:
             raise ShapeError(joined(place, name), "missing")
 
 
