@@ -36,8 +36,6 @@ mod modules;
 mod operators;
 mod shape;
 mod statements;
-#[cfg(test)]
-mod tests;
 mod types;
 
 pub use error::{Problem, ReadError, Wanted};

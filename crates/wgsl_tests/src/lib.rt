@@ -27,6 +27,8 @@ mod namer;
 #[cfg(test)]
 mod names;
 #[cfg(test)]
+mod reading;
+#[cfg(test)]
 mod sinks;
 #[cfg(test)]
 mod spellings;

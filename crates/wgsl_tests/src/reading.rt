@@ -1,6 +1,6 @@
-//! What is read, and what is told where nothing is. A row has the texts of a module and of an info.
+//! What is read from JSON, and what is told where nothing is. A row has the texts of a module and of an info.
 
-use crate::{read_info, read_known, read_module};
+use naga_json::{read_info, read_known, read_module};
 use std::alloc::{AllocError, Global};
 use std::test::Fail;
 
