@@ -1,5 +1,5 @@
 #!/usr/bin/env bash
-# Renames the project's own words in one go, breaks long lines of proofs, and adds docs/WORDS.md: six commits on a clean
+# Renames the project's own words in one go, breaks long lines of proofs, and adds docs/WORDS.md: commits on a clean
 # checkout, of which the first takes this folder away. Run it at the top of the repository, and prove all crates then.
 # README.md beside it says what was checked.
 set -e
@@ -18,7 +18,9 @@ lay_out() {
 
 git rm -rq bench/renaming
 git commit -qm "The renaming is applied"
-git am -q -3 "$kit"/000*.patch
+git am -q -3 --exclude='docs/*' "$kit"/000*.patch
+sed -i 's/\bpoints_to_atomic\b/is_atomic_pointer/g' docs/*.md
+git commit -qam "Pages: is_atomic_pointer" || true
 python3 "$kit/rename.py" .
 git add -A
 lay_out
