@@ -75,11 +75,12 @@ def main():
 
 # ---- what is spoiled
 def parts(known):
-    """The module in parts, each of one member: the others may all be absent, and short texts are soon read."""
+    """The module in parts, each of one member: the others may all be absent, and short texts are soon read. Beside it
+    stands an empty one that is known, since the reader asks for such a member."""
     for name, value in known["module"].items():
-        yield {"module": {name: value}, "info": {}}
+        yield {"module": {"types": [], name: value}, "info": {}}
     for name, value in known["info"].items():
-        yield {"module": {}, "info": {name: value}}
+        yield {"module": {}, "info": {"functions": [], name: value}}
 
 
 def spoiled(known):
@@ -125,7 +126,7 @@ def parent_of(place):
 
 def nested():
     """Texts that nest deep. Of JSON lists and objects may be refused that nest more than 127 deep."""
-    known, body = '{"module":{"unknown":%s},"info":{}}', '{"module":{"functions":[{"body":%s}]},"info":{}}'
+    known, body = '{"module":{"types":[],"unknown":%s},"info":{}}', '{"module":{"functions":[{"body":%s}]},"info":{}}'
     wraps = {
         "lists": (known, "[", "", "]"), "objects": (known, '{"a":', "0", "}"),
         "blocks": (body, '[{"Block":', "[]", "}]"),
