@@ -89,6 +89,7 @@ PartFits WrittenSoFarFits  form_of_spellable spelled_of_spellable
 for c in RUNS:
     say(c, None, 'of_part is_supported')
 say('module_meaning', None, 'Part WrittenSoFar')
+say('naga_wgsl_out', 'info', 'Part FunctionPlace')
 # segments of spellings
 say('wgsl_text', None, '''
 TypeParts TemplateArguments  TypePart TypeArgument  SizePart SizeArgument  NoParts NoTemplateArguments
@@ -163,6 +164,7 @@ BEFORE = {
     'naga_wgsl_out/specs/Writing.antt': NAMEABLE, 'naga_wgsl_out/specs/ModuleRefusals.antt': NAMEABLE,
     'naga_wgsl_out/proofs/Names.antt': NAMEABLE, 'naga_wgsl_out/proofs/Faithful.antt': NAMEABLE,
     'naga_wgsl_out/proofs/ModuleScopes.antt': NAMEABLE, 'naga_wgsl_out/proofs/Functions.antt': NAMEABLE,
+    'naga_acceptance/src/part.rt': [(r'unfolding\(module_meaning::specs::Part::', 'unfolding(module_meaning::specs::WrittenSoFar::')],
     'naga_acceptance/src/lib.rt': [(r'\bmod part;', 'mod written_so_far;'), (r'\bpart::', 'written_so_far::')],
 }
 # modules whose files get another name than what they define
@@ -265,12 +267,13 @@ class File:
         if path.endswith('.edit'):
             self.text = re.sub(r'(?m)^file: (.*)$', lambda m: 'file: ' + new_path('crates/%s/%s' % (self.crate, m.group(1)))[len('crates/%s/' % self.crate):], self.text)
         self.imported = {}
+        self.origin = {}
         self.alias = {}
         target = path.endswith('.edit') and re.search(r'(?m)^file: (\S+)', self.first)
         if target and os.path.exists('crates/%s/%s' % (self.crate, target.group(1))):
             # an edit speaks as the file that it edits
             of = File('crates/%s/%s' % (self.crate, target.group(1)))
-            self.stem, self.imported, self.alias = of.stem, of.imported, of.alias
+            self.stem, self.imported, self.origin, self.alias = of.stem, of.imported, of.origin, of.alias
         self.find_imports()
 
     def find_imports(self):
@@ -281,11 +284,13 @@ class File:
                 crate = m.group(2)
                 if crate == 'crate' or crate == 'super' or crate == 'self':
                     crate = self.crate
+                stem = stem_of(m.group(3))
+                if self.has_module(m):
+                    crate, stem = self.crate, stem or crate
                 if crate not in CRATES:
                     for tok in re.findall(IDENT, m.group(4) or ''):
                         self.imported[tok] = tok
                     continue
-                stem = stem_of(m.group(3))
                 for item in (m.group(4) or '').split(','):
                     names = re.findall(IDENT, item.split(' as ')[0])
                     if not names:
@@ -294,6 +299,7 @@ class File:
                     if ' as ' in item:
                         continue
                     self.imported[name] = mapped(crate, stem, name)
+                    self.origin[name] = (crate, stem)
                 if m.group(5):
                     self.alias[m.group(5)] = (crate, stem)
                 elif m.group(4) is None and m.group(3):
@@ -301,14 +307,21 @@ class File:
                     if m.group(1) is None:
                         self.imported[last] = mapped(crate, stem, last)
 
+    def has_module(self, m):
+        """Whether a `use` begins with a module of this crate's own, as those of `lib.rt` do."""
+        return self.is_rust and m.group(1) is None and os.path.exists('crates/%s/src/%s.rt' % (self.crate, m.group(2)))
+
     def use_text(self, m):
         crate = m.group(2)
         own = self.crate if crate in ('crate', 'super', 'self') else crate
-        if own not in CRATES:
-            return m.group()
         stem = stem_of(m.group(3))
         whole = m.group()
         head = whole[:m.start(3) - m.start()]
+        if self.has_module(m):
+            own, stem = self.crate, stem or crate
+            head = head[:m.start(2) - m.start()] + module_name(own, crate) + head[m.end(2) - m.start():]
+        if own not in CRATES:
+            return whole
         path = re.sub(IDENT, lambda w: protected(w.group(), m.group(5)) or module_name(own, w.group(), stem), m.group(3)) if m.group(3) else ''
         tail = whole[m.end(3) - m.start():]
 
@@ -339,6 +352,9 @@ class File:
                 if q in self.alias:
                     c, s = self.alias[q]
                     return self.one(q) + before[len(q):] + mapped(c, s, name)
+                if before.endswith('::') and q in self.origin:
+                    # a variant or an associated function of what is imported
+                    return self.one(q) + '::' + mapped(*self.origin[q], name)
                 if before.endswith('::'):
                     return self.one(q) + '::' + self.one(name)
                 return self.one(q) + '.' + mapped(self.crate, self.stem, name)

@@ -69,9 +69,10 @@ class Serde:
                 "const_expression_types": [self.resolution(e) for e in module.own.expressions]}}
 
     def special(self):
-        """The special types of functions by what gives them, and those of external images."""
+        """The special types of functions by what gives them, and those of external images: of those for the same the
+        last, in the place of the first, as a map leaves them."""
         special, external = [], {}
-        for (giver, size, scalar), ty in self.module.special:
+        for (giver, size, scalar), ty in dict(self.module.special).items():
             place = len(self.module.types) if ty is None else self.place_of(ty)
             if giver in EXTERNAL:
                 external[EXTERNAL[giver]] = place
