@@ -164,6 +164,8 @@ BEFORE = {
     'naga_wgsl_out/specs/Writing.antt': NAMEABLE, 'naga_wgsl_out/specs/ModuleRefusals.antt': NAMEABLE,
     'naga_wgsl_out/proofs/Names.antt': NAMEABLE, 'naga_wgsl_out/proofs/Faithful.antt': NAMEABLE,
     'naga_wgsl_out/proofs/ModuleScopes.antt': NAMEABLE, 'naga_wgsl_out/proofs/Functions.antt': NAMEABLE,
+    # a word of a type, and not a standing
+    'naga_form/proofs/Abstraction.antt': [(r'unwrap_or o \(Named \[\]\)', 'unwrap_or o (TypeSpecifier.Named [])')],
     'naga_acceptance/src/part.rt': [(r'unfolding\(module_meaning::specs::Part::', 'unfolding(module_meaning::specs::WrittenSoFar::')],
     'naga_acceptance/src/lib.rt': [(r'\bmod part;', 'mod written_so_far;'), (r'\bpart::', 'written_so_far::')],
 }
