@@ -166,6 +166,7 @@ BEFORE = {
     'naga_wgsl_out/proofs/ModuleScopes.antt': NAMEABLE, 'naga_wgsl_out/proofs/Functions.antt': NAMEABLE,
     # a word of a type, and not a standing
     'naga_form/proofs/Abstraction.antt': [(r'unwrap_or o \(Named \[\]\)', 'unwrap_or o (TypeSpecifier.Named [])')],
+    'FunctionText/is_signed/Answers.antt': [(r'\b(in|not)-Named\b', r'\1-Bound')],
     'naga_acceptance/src/part.rt': [(r'unfolding\(module_meaning::specs::Part::', 'unfolding(module_meaning::specs::WrittenSoFar::')],
     'naga_acceptance/src/lib.rt': [(r'\bmod part;', 'mod written_so_far;'), (r'\bpart::', 'written_so_far::')],
 }
