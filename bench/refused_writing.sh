@@ -23,7 +23,8 @@ refused() {
 }
 
 # how many allocations, at least, are made in one run, and what is written
-for words in '1000 pointer' '1000 modf' '1000 modf explicit' '1000 sample' '1000 sample explicit' '4000 mixed' '4000 mixed explicit'; do
+for words in '1000 pointer' '1000 modf' '1000 modf explicit' '1000 sample' '1000 sample explicit' '4000 mixed' '4000 mixed explicit' \
+    '1000 tail' '1000 tail explicit' '1000 call' '1000 call explicit' '1000 switch' '1000 switch explicit' '1000 deep' '1000 deep explicit'; do
     last=${words%% *}
     words=${words#* }
     # first in steps, then each one around those that were refused

@@ -2,8 +2,8 @@
 
 The model was written from the rules, apart from the writer: which modules are accepted, the names of labels, the count
 of uses, what a `let` binds, what is in scope, the text, and for which constructs a module is refused. It runs each
-module and reads and runs each text, over terms in which each operator stands for any function, and compares the events
-and the results.
+module and reads and runs each text, over terms in which each operator stands for any function, in worlds that tell of
+each condition whether it holds, and compares the events, the endings and the results.
 
 Where several constructs stand for which a module is refused, any one of them may be told, behind the functions in
 front of the refused one.
@@ -11,6 +11,8 @@ front of the refused one.
 The program answers a line of JSON for each line of JSON, as `yorwethul --lines` does.
 
 Usage: model PROGRAM MODULES SEED
+
+Where PROGRAM is `-`, no program is asked: the texts are the model's own, which are run all the same.
 """
 
 import json
@@ -20,13 +22,15 @@ import sys
 
 from acceptance import is_accepted
 from generator import generate
-from modules import EVENTS, PARTS
+from modules import EVENTS, PARTS, statements_in
 from rows import check_rows
-from runs import ModuleRun, TextRun
+from runs import module_runs, text_runs
 from serde import line_of
 from spelling import points, whole_of
+from statement_rows import check_statement_rows
 from words import MATH
-from writer import answers_of, refusal, written_of
+from worlds import Term
+from writer import answers_of, emitted_by, refusal, written_of
 
 BATCH = 5000
 NOT_ACCEPTED = "not accepted"
@@ -34,6 +38,7 @@ NOT_ACCEPTED = "not accepted"
 
 def main():
     check_rows()
+    check_statement_rows()
     program, modules, seed = sys.argv[1], int(sys.argv[2]), int(sys.argv[3])
     r = random.Random(seed)
     tally = Tally()
@@ -48,11 +53,20 @@ def main():
 
 def texts_of(program, samples):
     """What the program says of each module, without and with types told, one behind another."""
+    if program == "-":
+        return [own_text(module, explicit) for module in samples for explicit in (False, True)]
     lines = [line_of(module, explicit) for module in samples for explicit in (False, True)]
     answer = subprocess.run([program, "--lines"], input="".join(lines).encode(), stdout=subprocess.PIPE, check=True)
     answers = answer.stdout.decode().split("\n")[:-1]
     assert len(answers) == len(lines), (len(answers), len(lines))
     return [text_in(json.loads(answer)) for answer in answers]
+
+
+def own_text(module, explicit):
+    """What the model says of a module."""
+    # naga's form of each module can be made
+    line_of(module, explicit)
+    return min(answers_of(module, explicit)[1]) if is_accepted(module) else NOT_ACCEPTED
 
 
 def text_in(answer):
@@ -110,19 +124,29 @@ class Tally:
 
     def run(self, number, module, text):
         """Whether each function's text does what the function does."""
-        for f, own in zip(module.functions, functions_in(text)):
-            meant = ModuleRun(f).run()
+        texts = functions_in(text)
+        for at, (f, own) in enumerate(zip(module.functions, texts)):
+            meant = module_runs(f)
             try:
-                told = TextRun(own).run()
-            except (AssertionError, IndexError, KeyError, ValueError) as error:
+                told = text_runs(texts, at)
+            except (AssertionError, IndexError, KeyError, TypeError, ValueError) as error:
                 told = f"no reading: {error!r}"
             if told != meant:
                 self.tell(number, module, "runs otherwise than its text", own, f"{told}\n", f"{meant}\n")
             self.add("texts of functions run")
+            for _, ending in meant:
+                self.add(f"runs: {ending if isinstance(ending, str) else 'returned'}")
+        Term.made.clear()
 
     def add_written(self, module):
         self.add("written")
         self.add("written, of several functions", len(module.functions) > 1)
+        statements = [s for f in module.functions for s in statements_in(f.body)]
+        for kind in {s.kind for s in statements}:
+            self.add(f"written, with {kind} statements")
+        self.add("written, with results", any(s.result is not None for s in statements))
+        labels = [label for s in statements if s.kind == "switch" for label in s.what]
+        self.add("written, with joined labels", any(falls for _, falls in labels))
         emitted = [(f, h) for f in module.functions for h in emitted_in(f)]
         expressions = [e for f in module.functions for e in f.expressions]
         self.add("written, with labels of front ends that are bound", any(h in f.labels for f, h in emitted))
@@ -153,7 +177,7 @@ class Tally:
 
 
 def emitted_in(f):
-    return [h for s in f.body if s[0] == "emit" for h in range(s[1], s[2] + 1)]
+    return [h for s in statements_in(f.body) for h in emitted_by(s)]
 
 
 def functions_in(text):

@@ -1,10 +1,10 @@
 """Which modules are accepted."""
 
-from modules import EVENTS, PARTS
+from modules import EVENTS, PARTS, RESULTS, statements_in
 from operators import LITERALS, word_of
 from spelling import (
-    BOOL, FUNCTION, INTEGERS, alike, count_of_parts, has_parts, has_pointer_to_handle, held, identity, part_of,
-    pointed_at, pointer_to, points, scalar_of)
+    BOOL, FUNCTION, I32, U32, alike, count_of_parts, has_parts, has_pointer_to_handle, held, identity, is_integer,
+    part_of, pointed_at, pointer_to, points, scalar_of)
 
 
 def is_accepted(module):
@@ -41,16 +41,28 @@ def ranges_fit(f):
         all(operand < h for h, e in enumerate(f.expressions) for operand in e.operands)
         and all(e.what[0] < len(f.arguments) for e in f.expressions if e.kind == "argument")
         and all(e.what[0] < len(f.module.constants) for e in f.expressions if e.kind == "constant")
-        and all(h is None or h < count for _, *handles in f.body for h in handles)
+        and all(e.what[0] < len(f.module.functions) for e in f.expressions if e.kind == "call result")
+        and all(statement_range_fits(f, s, count) for s in statements_in(f.body)))
+
+
+def callable_by(f):
+    """How many functions there are in front of this one; the module's own expressions have none."""
+    return 0 if f is f.module.own else f.module.number_of(f)
+
+
+def statement_range_fits(f, s, count):
+    if s.kind == "emit":
         # a range may be empty, and begins no further than behind its end
-        and all(s[1] <= s[2] + 1 for s in f.body if s[0] == "emit"))
+        return s.what[0] <= s.what[1] + 1 <= count
+    handles = s.operands + [s.result] * (s.result is not None)
+    return all(h < count for h in handles) and (s.kind != "call" or s.what[0] < callable_by(f))
 
 
 def function_is_sound(f):
     return (
         all(expression_is_sound(f, e) for e in f.expressions)
         and all(init is None or alike(f.type_of(init), ty) for _, ty, init in f.locals)
-        and all(statement_is_sound(f, s) for s in f.body))
+        and block_is_sound(f, f.body, False, False))
 
 
 def expression_is_sound(f, e):
@@ -67,16 +79,20 @@ def expression_is_sound(f, e):
         wanted = pointer_to(f.locals[e.what[0]][1], FUNCTION)
     elif e.kind == "constant":
         wanted = f.module.constants[e.what[0]][0]
-    elif e.kind in ("zero", "compose"):
+    elif e.kind in ("zero", "compose", "atomic result", "uniform result", "subgroup result"):
         wanted = e.what[0]
+    elif e.kind == "call result":
+        wanted = f.module.functions[e.what[0]].result
+        if wanted is None:
+            return False
     elif e.kind == "load":
         if not points(of[0]):
             return False
         wanted = held(pointed_at(of[0]))
     elif e.kind == "splat":
-        if of[0][0] != "scalar":
+        if of[0][0] not in ("scalar", "vector"):
             return False
-        wanted = ("vector", e.what[0], of[0][1])
+        wanted = ("vector", e.what[0], scalar_of(of[0]))
     elif e.kind == "swizzle":
         size, *letters = e.what
         if of[0][0] != "vector" or any(c >= of[0][1] for c in letters[:size]):
@@ -91,7 +107,7 @@ def part_is_sound(e, of):
     """A computed index is an integer and of what has parts that are no members; a known one is below their number."""
     if e.kind == "access":
         part = part_of(of[0])
-        return part is not None and of[1] in INTEGERS and alike(e.type, part)
+        return part is not None and is_integer(of[1]) and alike(e.type, part)
     if not has_parts(of[0]):
         # a known part of what has none is accepted, of any type
         return True
@@ -99,15 +115,63 @@ def part_is_sound(e, of):
     return (count is None or e.what[0] < count) and alike(e.type, part_of(of[0], e.what[0]))
 
 
-def statement_is_sound(f, s):
-    if s[0] == "store":
-        pointer = f.type_of(s[1])
-        return points(pointer) and alike(held(pointed_at(pointer)), f.type_of(s[2]))
-    if s[0] == "return":
-        if s[1] is None or f.result is None:
-            return s[1] is None and f.result is None
-        return alike(f.result, f.type_of(s[1]))
-    return True
+def block_is_sound(f, body, breaks, continues):
+    return all(statement_is_sound(f, s, breaks, continues) for s in body)
+
+
+def statement_is_sound(f, s, breaks, continues):
+    """It gets what it wants; `breaks` and `continues` tell whether there is something to leave and to go on with."""
+    of = [f.type_of(h) for h in s.operands]
+    if s.kind in ("break", "continue"):
+        return breaks if s.kind == "break" else continues
+    if s.kind == "store":
+        return points(of[0]) and alike(held(pointed_at(of[0])), of[1])
+    if s.kind == "return":
+        return alike(f.result, of[0]) if of and f.result is not None else not of and f.result is None
+    if s.kind == "if":
+        is_sound = of[0] == ("scalar", BOOL)
+    elif s.kind == "switch":
+        is_sound, breaks = labels_fit(of[0], s.what), True
+    elif s.kind == "loop":
+        body, continuing = s.blocks
+        is_sound = block_is_sound(f, body, True, True) and block_is_sound(f, continuing, False, False)
+        return is_sound and of in ([], [("scalar", BOOL)])
+    else:
+        is_sound = act_is_sound(f, s, of)
+    return is_sound and all(block_is_sound(f, block, breaks, continues) for block in s.blocks)
+
+
+def labels_fit(selector, cases):
+    """Labels of the selector's type, each once, one of them the default; the last case does not fall through."""
+    labels = [label for label, _ in cases]
+    return (
+        selector in (("scalar", I32), ("scalar", U32))
+        and all(label is None or label[0] == selector[1][0] for label in labels)
+        and len(set(labels)) == len(labels) and None in labels
+        and not cases[-1][1])
+
+
+def act_is_sound(f, s, of):
+    if s.kind == "atomic" and not (of[0][0] == "pointer" and pointed_at(of[0])[0] == "atomic"):
+        return False
+    if s.kind == "cooperative store" and not (points(of[1]) and pointed_at(of[1])[0] in ("scalar", "vector")):
+        return False
+    if s.kind == "call" and not is_called_with(f.module.functions[s.what[0]], of):
+        return False
+    if s.result is None:
+        return True
+    e = f.expressions[s.result]
+    if s.kind == "call":
+        callee = f.module.functions[s.what[0]]
+        return callee.result is not None and e.kind == "call result" and e.what[0] == s.what[0]
+    return e.kind == {
+        "atomic": "atomic result", "uniform load": "uniform result", "ballot": "ballot result"
+    }.get(s.kind, "subgroup result")
+
+
+def is_called_with(callee, of):
+    wanted = [ty for _, ty in callee.arguments]
+    return len(of) == len(wanted) and all(map(alike, of, wanted))
 
 
 def operators_agree(module):
@@ -116,7 +180,7 @@ def operators_agree(module):
     for f in module.groups():
         for e in f.expressions:
             # what the world answers need not agree
-            if e.kind in (*EVENTS, "literal", "argument", "local", "constant"):
+            if e.kind in (*EVENTS, *RESULTS, "literal", "argument", "local", "constant"):
                 continue
             use = (operator_of(f, e), tuple(identity(f.type_of(h)) for h in e.operands))
             if seen.setdefault(use, identity(e.type)) != identity(e.type):

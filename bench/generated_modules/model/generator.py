@@ -1,7 +1,8 @@
 """Modules by chance."""
 
+from bodies import BodyMaker, spoil
 from chance import some_label, some_member_label, some_number, some_scalar, some_type
-from modules import LEAVES, Expression, Function, Module, Sampling
+from modules import LEAVES, RESULTS, Expression, Function, Module, Sampling, emit, returns, store
 from operators import LITERALS, conversion_word, wanted_scalar
 from spelling import (
     BOOL, F32, F64, FUNCTION, HALVES, I16, I32, I64, INTEGERS, SCALAR_KINDS, U16, U32, U64, alike, bases_of,
@@ -185,8 +186,11 @@ class FunctionMaker:
         self.make_locals()
         for _ in range(r.randint(0, 14)):
             self.make_expression()
+        if self.chance(0.65):
+            BodyMaker(self).make()
+        else:
+            self.make_body()
         self.give_labels()
-        self.make_body()
         if self.chance(0.04):
             self.make_fault()
         return f
@@ -381,6 +385,10 @@ class FunctionMaker:
         """Those that are given for something, the first ones first."""
         return [ty for _, ty in self.module.special if ty is not None and ty[0] == "struct"]
 
+    def exchanged(self, giver):
+        """The struct that is given for what an exchange gives, which is made if there is none."""
+        return StructMaker(self.r, self.module).given_for(giver)
+
     def make_split(self):
         """What `modf` or `frexp` gives, or another value of a struct or over one; and some of its members."""
         floats = self.handles(lambda e: e.type[0] in ("scalar", "vector") and scalar_of(e.type) == F32)
@@ -525,7 +533,7 @@ class FunctionMaker:
     # ---- statements
     def make_body(self):
         r, f = self.r, self.f
-        emitted = self.handles(lambda e: e.kind not in LEAVES or self.chance(0.001))
+        emitted = self.handles(lambda e: e.kind not in (*LEAVES, *RESULTS) or self.chance(0.001))
         at = 0
         while at < len(emitted):
             # a run of handles that follow one another
@@ -533,10 +541,10 @@ class FunctionMaker:
             while end < len(emitted) and emitted[end] == emitted[end - 1] + 1 and self.chance(0.7):
                 end += 1
             if self.chance(0.95):
-                f.body.append(("emit", emitted[at], emitted[end - 1]))
+                f.body.append(emit(emitted[at], emitted[end - 1]))
             if self.chance(0.01) and emitted[at] > 0:
                 # an `Emit` of nothing
-                f.body.append(("emit", emitted[at], emitted[at] - 1))
+                f.body.append(emit(emitted[at], emitted[at] - 1))
             at = end
             if self.chance(0.5):
                 self.make_store(emitted[end - 1])
@@ -544,7 +552,7 @@ class FunctionMaker:
             self.make_store(len(f.expressions))
         if self.chance(0.02) and emitted:
             h = r.choice(emitted)
-            f.body.append(("emit", h, h))
+            f.body.append(emit(h, h))
         self.make_return()
 
     def make_store(self, last):
@@ -557,7 +565,7 @@ class FunctionMaker:
         wanted = held(pointed_at(self.f.type_of(p)))
         values = [h for h in given if alike(self.f.type_of(h), wanted) or self.chance(0.0005)]
         if values:
-            self.f.body.append(("store", p, self.r.choice(values)))
+            self.f.body.append(store(p, self.r.choice(values)))
 
     def make_return(self):
         f = self.f
@@ -568,14 +576,14 @@ class FunctionMaker:
             h = self.r.choice(values[-4:])
             f.result = self.told(f.type_of(h))
             self.module.handle_of(f.result)
-            f.body.append(("return", h))
+            f.body.append(returns(h))
             if self.chance(0.02):
                 # what stands behind a return is written all the same
                 self.make_store(len(f.expressions))
         elif self.chance(0.3):
-            f.body.append(("return", None))
+            f.body.append(returns())
         if self.chance(0.002):
-            f.body.append(("return", self.some_of(values)))
+            f.body.append(returns(self.some_of(values)))
 
     def make_fault(self):
         """Another operand of an expression or a statement, which may stand behind it, or nowhere."""
@@ -586,9 +594,7 @@ class FunctionMaker:
             e = f.expressions[self.r.choice(with_operands)]
             e.operands[self.r.randrange(len(e.operands))] = other
         elif f.body:
-            at = self.r.randrange(len(f.body))
-            kind, *handles = f.body[at]
-            f.body[at] = (kind, *handles[:-1], other)
+            spoil(self.r, f)
 
 
 class OwnMaker(FunctionMaker):

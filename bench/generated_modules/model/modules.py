@@ -5,6 +5,8 @@ from spelling import bases_of
 
 # these are not emitted
 LEAVES = ("literal", "argument", "local", "zero", "constant")
+# what statements give; none of these is emitted either
+RESULTS = ("call result", "atomic result", "uniform result", "ballot result", "subgroup result", "proceed result")
 PARTS = ("access", "access index")
 IMAGES = ("sample", "image load", "image query")
 # these are events where they are used at all, and the images' anyhow
@@ -32,10 +34,69 @@ class Sampling:
         self.offset, self.clamp = offset, clamp
 
 
+class Statement:
+    """A statement: its kind, what it is beside its operands, these in the order in which they are written, the handle
+    of its result, if it gives one, and the blocks in it.
+
+        emit FIRST LAST; store POINTER VALUE; return [VALUE]; break; continue; kill; barrier KIND BITS; block
+        if CONDITION, with two blocks; switch SELECTOR, with a label and whether it falls through for each block
+        loop [BREAK IF], with a body and a `continuing`; call FUNCTION ARGUMENTS..; atomic FUN POINTER [COMPARE] VALUE
+        image store LAYERED IMAGE COORDINATE [LAYER] VALUE; image atomic FUN LAYERED .. [COMPARE] VALUE
+        uniform load POINTER; ray query QUERY; ballot [PREDICATE]; gather MODE ARGUMENT [INDEX]
+        collective COLLECTIVE OP ARGUMENT; cooperative store ROW_MAJOR TARGET POINTER STRIDE
+        trace STRUCTURE DESCRIPTOR PAYLOAD
+
+    A label is the kind of its scalar and its number, or none for the default."""
+
+    def __init__(self, kind, what=(), operands=(), result=None, blocks=()):
+        self.kind, self.what, self.operands, self.result = kind, tuple(what), list(operands), result
+        self.blocks = [list(block) for block in blocks]
+
+
+def emit(first, last):
+    return Statement("emit", [first, last])
+
+
+def store(pointer, value):
+    return Statement("store", (), [pointer, value])
+
+
+def returns(value=None):
+    return Statement("return", (), [] if value is None else [value])
+
+
+def branch(condition, accept, reject=()):
+    return Statement("if", (), [condition], None, [accept, reject])
+
+
+def switch(selector, *cases):
+    """Each case is its label, whether it falls through, and its body."""
+    labels = [(label, falls) for label, falls, _ in cases]
+    return Statement("switch", labels, [selector], None, [body for _, _, body in cases])
+
+
+def loop(body, continuing=(), break_if=None):
+    return Statement("loop", (), [] if break_if is None else [break_if], None, [body, continuing])
+
+
+def statements_in(body):
+    """The statements of a block and of the blocks in it, in the order of the text."""
+    for s in body:
+        yield s
+        for block in s.blocks:
+            yield from statements_in(block)
+
+
+def holds_continue(s):
+    """Whether a `continue` of the loop around it stands in the statement."""
+    if s.kind == "loop":
+        return False
+    return s.kind == "continue" or any(map(holds_continue, (each for block in s.blocks for each in block)))
+
+
 class Function:
-    """Arguments and locals by label and type, and locals by a first value or none; labels of expressions by handle;
-    statements: `emit` with the first and the last handle, `store` with pointer and value, `return` with a value or
-    none."""
+    """Arguments and locals by label and type, and locals by a first value or none; labels of expressions by handle; and
+    statements."""
 
     def __init__(self, label, module=None):
         self.label, self.module = label, module
@@ -63,6 +124,10 @@ class Module:
     def groups(self):
         """What expressions stand together in: the module's own, and each function."""
         return [self.own, *self.functions]
+
+    def number_of(self, f):
+        """How many functions stand in front of this one."""
+        return next(number for number, each in enumerate(self.functions) if each is f)
 
     def handle_of(self, ty, label=None):
         """The type's handle; the type is put behind those that it is made of, if it is not there."""

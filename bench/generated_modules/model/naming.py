@@ -50,8 +50,10 @@ class Namer:
 
 
 class FunctionNames:
-    def __init__(self, namer, function):
-        self.function = namer.name_or(function.label, "function")
+    """The names of a function and of what it declares, and those of the functions in front of it."""
+
+    def __init__(self, namer, function, earlier):
+        self.function, self.functions = namer.name_or(function.label, "function"), [own.function for own in earlier]
         self.arguments = []
         for label, ty in function.arguments:
             self.arguments.append(namer.name_or(label, "param"))
@@ -72,4 +74,7 @@ def names_of(module):
     namer = Namer()
     for label in module.labels:
         namer.name_or(label, "type")
-    return [FunctionNames(namer, function) for function in module.functions], namer
+    names = []
+    for function in module.functions:
+        names.append(FunctionNames(namer, function, names))
+    return names, namer

@@ -4,7 +4,9 @@ from naming import member_names
 from spelling import (
     BOOL, F32, F64, I16, I32, I64, SCALAR_KINDS, SCALARS, U16, U32, U64, scalar_of, spelled, whole_of,
     with_scalar)
-from words import AXES, BINARY, CONTROLS, MATH, QUERIES, RELATIONAL, UNARY
+from words import (
+    ATOMICS, AXES, BARRIERS, BINARY, COLLECTIVES, COMPARING, CONTROLS, GATHERS, MATH, OPERATIONS, QUERIES, RELATIONAL,
+    SCANNED, UNARY)
 
 # the scalars of literals, by their numbers
 LITERALS = [BOOL, I32, U32, I64, U64, F32, F64, I16, U16]
@@ -96,6 +98,27 @@ def word_of(f, e):
         return QUERIES[e.what[0]]
     return {"select": "select", "image load": "textureLoad", "array length": "arrayLength",
             "multiply add": "coopMultiplyAdd"}.get(e.kind)
+
+
+def act_word(s):
+    """The word of a statement that asks the world; none where it has no form."""
+    if s.kind == "atomic":
+        return "atomic" + ATOMICS[s.what[0]]
+    if s.kind == "image atomic":
+        return "textureAtomic" + ATOMICS[s.what[0]] if s.what[0] != COMPARING else None
+    if s.kind == "gather":
+        return GATHERS[s.what[0]][0]
+    if s.kind == "collective":
+        collective, op = COLLECTIVES[s.what[0]], OPERATIONS[s.what[1]]
+        return f"subgroup{collective}{op}" if collective == "" or op in SCANNED else None
+    if s.kind == "cooperative store":
+        return "coopStoreT" if s.what[0] else "coopStore"
+    return {"image store": "textureStore", "uniform load": "workgroupUniformLoad", "ballot": "subgroupBallot",
+            "trace": "traceRay"}.get(s.kind)
+
+
+def barrier_words(s):
+    return [word for bit, word in enumerate(BARRIERS) if s.what[1] >> bit & 1]
 
 
 def numbers_around(f, e):

@@ -1,11 +1,12 @@
 """Modules with texts that were made by hand, which the model must give before it judges others."""
 
 from acceptance import is_accepted
-from modules import Expression, Function, Module, Sampling
+from modules import Expression, Function, Module, Sampling, emit, returns, store
 from naming import Namer, member_names
-from runs import ModuleRun, TextRun
+from runs import module_runs, text_runs
 from spelling import BOOL, F32, FUNCTION, I32, SCALAR_KINDS, pointer_to
 from words import MATH
+from worlds import term
 from writer import NOT_YET_WRITTEN, UNDECLARED, answers_of, refusal
 
 INT, TRUTH, FLOAT = ("scalar", I32), ("scalar", BOOL), ("scalar", F32)
@@ -70,7 +71,7 @@ def stored(value):
     f.add(literal(1))
     held = load(f, local(f, INT, 0))
     two = f.add(literal(2))
-    f.body = [("emit", held, held), ("store", 1, two), ("return", value)]
+    f.body = [emit(held, held), store(1, two), returns(value)]
     return f
 
 
@@ -80,7 +81,7 @@ def late():
     held = load(f, local(f, INT, 0))
     total = binary(f, ADD, held, 0)
     two = f.add(literal(2))
-    f.body = [("emit", held, total), ("store", 1, two), ("return", total)]
+    f.body = [emit(held, total), store(1, two), returns(total)]
     return f
 
 
@@ -90,7 +91,7 @@ def twofold():
     total = binary(f, ADD, 0, 0)
     held = load(f, a)
     product = binary(f, MULTIPLY, total, held)
-    f.body = [("emit", total, total), ("store", a, total), ("emit", held, product), ("return", product)]
+    f.body = [emit(total, total), store(a, total), emit(held, product), returns(product)]
     return f
 
 
@@ -101,7 +102,7 @@ def element(label):
     p = f.add(Expression("access index", pointer_to(INT, FUNCTION), [0], [arr]))
     two = f.add(literal(2))
     f.labels = {p: label} if label else {}
-    f.body = [("emit", p, p), ("store", p, two)]
+    f.body = [emit(p, p), store(p, two)]
     return f
 
 
@@ -110,7 +111,7 @@ def increment():
     one = f.add(literal(1))
     held = load(f, 0)
     total = binary(f, ADD, held, one)
-    f.body = [("emit", held, total), ("store", 0, total)]
+    f.body = [emit(held, total), store(0, total)]
     return f
 
 
@@ -119,14 +120,14 @@ def negated(is_swizzled):
     f.add(Expression("unary", TRIPLE, [0], [0]))
     part = Expression("access index", INT, [0], [1])
     last = f.add(Expression("swizzle", TRIPLE, [3, 2, 1, 0, 0], [1]) if is_swizzled else part)
-    f.body = [("emit", 1, last), ("return", last)]
+    f.body = [emit(1, last), returns(last)]
     return f
 
 
 def chosen():
     f = function("sel", INT, ("c", TRUTH), ("a", INT), ("b", INT))
     last = f.add(Expression("select", INT, [], [2, 1, 0]))
-    f.body = [("emit", last, last), ("return", last)]
+    f.body = [emit(last, last), returns(last)]
     return f
 
 
@@ -134,14 +135,14 @@ def named(name, label, argument="x", is_emitted=True):
     f = function(name, INT, (argument, INT))
     total = binary(f, ADD, 0, 0)
     f.labels = {total: label, 0: label}
-    f.body = [("emit", total, total), ("return", total)] if is_emitted else [("return", 0)]
+    f.body = [emit(total, total), returns(total)] if is_emitted else [returns(0)]
     return f
 
 
 def idle():
     f = function("u", INT)
     f.add(Expression("literal", FLOAT, [5, 0]))
-    f.body = [("return", f.add(literal(1)))]
+    f.body = [returns(f.add(literal(1)))]
     return f
 
 
@@ -152,14 +153,14 @@ def sampled(gather=None, level="zero", offset=False):
         f.add(Expression("splat", ("vector", 2, I32), [2], [f.add(literal(1))]))
     how = Sampling(gather, level, False, False, offset, False)
     last = f.add(Expression("sample", COLOUR, [how], [0, 1, 2] + ([4] if offset else [])))
-    f.body = [("emit", last, last), ("return", last)]
+    f.body = [emit(last, last), returns(last)]
     return f
 
 
 def converted(width):
     f = function("c", ("scalar", ("uint", 4)), ("x", INT))
     last = f.add(Expression("conversion", f.result, [SCALAR_KINDS.index("uint"), width], [0]))
-    f.body = [("emit", last, last), ("return", last)]
+    f.body = [emit(last, last), returns(last)]
     return f
 
 
@@ -182,7 +183,7 @@ def split(struct, index, word=MODF, label=None):
     base = f.add(of_module("math", struct, [word], [0]))
     part = member(f, base, index)
     f.labels = {base: label} if label else {}
-    f.body = [("emit", base, part), ("return", part)]
+    f.body = [emit(base, part), returns(part)]
     return f
 
 
@@ -190,7 +191,7 @@ def both():
     f = function("b", FLOAT, ("x", FLOAT))
     base = f.add(of_module("math", PARTS, [MODF], [0]))
     total = f.add(Expression("binary", FLOAT, [ADD], [member(f, base, 0), member(f, base, 1)]))
-    f.body = [("emit", base, total), ("return", total)]
+    f.body = [emit(base, total), returns(total)]
     return f
 
 
@@ -199,7 +200,7 @@ def through_pointer(label=None):
     base = f.add(Expression("derivative", pointer_to(PARTS, FUNCTION), [0, 0], [0]))
     part = f.add(Expression("access index", pointer_to(FLOAT, FUNCTION), [1], [base]))
     f.labels = {base: label} if label else {}
-    f.body = [("emit", base, part), ("store", part, 0)]
+    f.body = [emit(base, part), store(part, 0)]
     return f
 
 
@@ -211,7 +212,7 @@ def made(kind, ty, is_used):
     if ty[0] == "array":
         whole = f.add(of_module("access index", PARTS, [0], [base]))
     part = member(f, whole, 0)
-    f.body = [("emit", base + (kind == "zero"), part), ("return", part if is_used else 0)]
+    f.body = [emit(base + (kind == "zero"), part), returns(part if is_used else 0)]
     return f
 
 
@@ -224,7 +225,7 @@ def declared(ty, what):
     else:
         f.result = ty
         h = f.add(of_module("math", ty, [MODF], [0]))
-        f.body = [("emit", h, h), ("return", h)]
+        f.body = [emit(h, h), returns(h)]
     return f
 
 
@@ -307,8 +308,16 @@ def check_rows():
         module = module_of(functions)
         assert is_accepted(module) and answers_of(module, False) == (True, {text}), (answers_of(module, False), text)
     check_structs()
-    told, meant = TextRun(TEXTS[2][1].removesuffix("}\n\n")).run(), ModuleRun(late()).run()
-    answer = ("answer", 1)
-    assert told == meant == (
-        [("first", ("local", 0), ("literal", "1i")), ("load", ("local", 0)),
-         ("store", ("local", 0), ("literal", "2i"))], ("+", answer, ("literal", "1i"))), (told, meant)
+    check_run_of_late()
+
+
+def check_run_of_late():
+    """What is loaded is what the world answers in front of the store."""
+    f = late()
+    module_of([f])
+    answer, one = term("answer", 2), term("literal", "1i")
+    place = term("local", 0, 0)
+    events = [
+        ("entry", 0), ("first", place, one), ("load", place), ("store", place, term("literal", "2i"))]
+    for runs in (module_runs(f), text_runs([TEXTS[2][1]], 0)):
+        assert all(run == (events, term("+", answer, one)) for run in runs), runs

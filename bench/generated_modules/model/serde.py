@@ -6,7 +6,7 @@ import struct
 
 from spelling import ATOMIC, F32, F64, LOAD, SCALAR_KINDS, STORE
 from operators import LITERALS
-from words import MATH, words_of
+from words import COMPARING, MATH, OPERATIONS, words_of
 
 SIZES = {2: "Bi", 3: "Tri", 4: "Quad"}
 SPACES = {
@@ -29,6 +29,14 @@ COMPONENTS = "XYZW"
 QUERIES = ["Size", "NumLevels", "NumLayers", "NumSamples"]
 PREDECLARED = {"modf": "ModfResult", "frexp": "FrexpResult", "exchange": "AtomicCompareExchangeWeakResult"}
 EXTERNAL = {"params": "external_texture_params", "transfer": "external_texture_transfer_function"}
+RESULTS = {
+    "atomic result": "AtomicResult", "uniform result": "WorkGroupUniformLoadResult",
+    "subgroup result": "SubgroupOperationResult", "ballot result": "SubgroupBallotResult",
+    "proceed result": "RayQueryProceedResult"}
+ATOMICS = words_of("Add Subtract And ExclusiveOr InclusiveOr Min Max")
+GATHERS = words_of("BroadcastFirst Broadcast Shuffle ShuffleDown ShuffleUp ShuffleXor QuadBroadcast X Y Diagonal")
+COLLECTIVES = ["Reduce", "ExclusiveScan", "InclusiveScan"]
+BARRIERS = ["STORAGE", "WORK_GROUP", "SUB_GROUP", "TEXTURE"]
 # the operands of an expression, in the order in which they are written
 OPERANDS = {
     "load": ["pointer"], "unary": ["expr"], "binary": ["left", "right"], "select": ["reject", "accept", "condition"],
@@ -128,7 +136,7 @@ class Serde:
                 {"name": label, "ty": self.place_of(ty), "init": init} for label, ty, init in f.locals],
             "expressions": [self.expression(e) for e in f.expressions],
             "named_expressions": {str(h): label for h, label in f.labels.items()},
-            "body": [statement_form(*s) for s in f.body]}
+            "body": block_form(f.body)}
 
     def expression(self, e):
         if e.kind == "literal":
@@ -138,6 +146,13 @@ class Serde:
             return {name: e.what[0]}
         if e.kind == "zero":
             return {"ZeroValue": self.place_of(e.what[0])}
+        if e.kind == "call result":
+            return {"CallResult": e.what[0]}
+        if e.kind in ("ballot result", "proceed result"):
+            return RESULTS[e.kind]
+        if e.kind in RESULTS:
+            comparison = {"comparison": e.what[1]} if e.kind == "atomic result" else {}
+            return {RESULTS[e.kind]: {"ty": self.place_of(e.what[0]), **comparison}}
         if e.kind == "compose":
             return {"Compose": {"ty": self.place_of(e.what[0]), "components": e.operands}}
         if e.kind == "array length":
@@ -248,9 +263,88 @@ def query_form(number, image, level=None):
     return {"image": image, "query": {name: {"level": level}} if name == "Size" else name}
 
 
-def statement_form(kind, *handles):
-    if kind == "emit":
-        return {"Emit": {"start": handles[0], "end": handles[1] + 1}}
-    if kind == "store":
-        return {"Store": dict(zip(("pointer", "value"), handles))}
-    return {"Return": {"value": handles[0]}}
+def block_form(body):
+    return [statement_form(s) for s in body]
+
+
+def statement_form(s):
+    """A statement, whose operands are taken in the order in which they are written."""
+    operands = list(s.operands)
+    if s.kind in ("break", "continue", "kill"):
+        return s.kind.capitalize()
+    if s.kind == "emit":
+        return {"Emit": {"start": s.what[0], "end": s.what[1] + 1}}
+    if s.kind == "return":
+        return {"Return": {"value": operands.pop() if operands else None}}
+    if s.kind == "barrier":
+        kind, bits = s.what
+        return {kind: " | ".join(word for bit, word in enumerate(BARRIERS) if bits >> bit & 1)}
+    if s.kind in ("block", "if", "switch", "loop"):
+        return with_blocks_form(s, operands)
+    return act_form(s, operands)
+
+
+def with_blocks_form(s, operands):
+    blocks = list(map(block_form, s.blocks))
+    if s.kind == "block":
+        return {"Block": blocks[0]}
+    if s.kind == "if":
+        return {"If": {"condition": operands[0], "accept": blocks[0], "reject": blocks[1]}}
+    if s.kind == "loop":
+        break_if = operands[0] if operands else None
+        return {"Loop": {"body": blocks[0], "continuing": blocks[1], "break_if": break_if}}
+    cases = [
+        {"value": label_form(label), "body": body, "fall_through": falls}
+        for (label, falls), body in zip(s.what, blocks)]
+    return {"Switch": {"selector": operands[0], "cases": cases}}
+
+
+def label_form(label):
+    return "Default" if label is None else {{"sint": "I32", "uint": "U32"}[label[0]]: label[1]}
+
+
+def act_form(s, operands):
+    if s.kind == "store":
+        return {"Store": dict(zip(("pointer", "value"), operands))}
+    if s.kind == "call":
+        return {"Call": {"function": s.what[0], "arguments": operands, "result": s.result}}
+    if s.kind == "atomic":
+        form = {"pointer": operands.pop(0), "fun": atomic_form(s.what[0], operands), "value": operands.pop(0)}
+        return {"Atomic": {**form, "result": s.result}}
+    if s.kind in ("image store", "image atomic"):
+        return texel_form(s, operands)
+    if s.kind == "uniform load":
+        return {"WorkGroupUniformLoad": {"pointer": operands[0], "result": s.result}}
+    if s.kind == "ray query":
+        return {"RayQuery": {"query": operands[0]}}
+    if s.kind == "ballot":
+        return {"SubgroupBallot": {"result": s.result, "predicate": operands[0] if operands else None}}
+    if s.kind == "gather":
+        argument, *index = operands
+        mode = GATHERS[s.what[0]]
+        mode = {mode: index[0]} if index else mode if mode == "BroadcastFirst" else {"QuadSwap": mode}
+        return {"SubgroupGather": {"mode": mode, "argument": argument, "result": s.result}}
+    if s.kind == "collective":
+        form = {"op": OPERATIONS[s.what[1]], "collective_op": COLLECTIVES[s.what[0]], "argument": operands[0]}
+        return {"SubgroupCollectiveOperation": {**form, "result": s.result}}
+    if s.kind == "cooperative store":
+        target, pointer, stride = operands
+        return {"CooperativeStore": {"target": target, "data": {
+            "pointer": pointer, "stride": stride, "row_major": s.what[0]}}}
+    names = ("acceleration_structure", "descriptor", "payload")
+    return {"RayPipelineFunction": {"TraceRay": dict(zip(names, operands))}}
+
+
+def atomic_form(number, operands):
+    """What an atomic does; the value that it compares with stands next."""
+    if number < len(ATOMICS):
+        return ATOMICS[number]
+    return {"Exchange": {"compare": operands.pop(0) if number == COMPARING else None}}
+
+
+def texel_form(s, operands):
+    form = {"image": operands.pop(0), "coordinate": operands.pop(0)}
+    form["array_index"] = operands.pop(0) if s.what[-1] else None
+    if s.kind == "image store":
+        return {"ImageStore": {**form, "value": operands[0]}}
+    return {"ImageAtomic": {**form, "fun": atomic_form(s.what[0], operands), "value": operands[0]}}

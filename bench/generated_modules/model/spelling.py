@@ -125,6 +125,11 @@ def scalar_of(ty):
     return ty[-1] if ty[0] in ("scalar", "vector", "matrix") else None
 
 
+def is_integer(ty):
+    """Whether a type is an integer, of whatever width."""
+    return ty[0] == "scalar" and ty[1][0] in ("sint", "uint")
+
+
 def waits(ty):
     """Whether a type needs an extension."""
     return scalar_of(ty) in HALVES

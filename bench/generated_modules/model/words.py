@@ -82,10 +82,28 @@ CONTROLS = ["", "Coarse", "Fine"]
 # the members of the structs that WGSL's own functions give
 MEMBERS = ["fract", "whole", "exp", "old_value", "exchanged"]
 
+# what atomics do, by their numbers; the last one is an exchange that compares
+ATOMICS = ["Add", "Sub", "And", "Xor", "Or", "Min", "Max", "Exchange", "CompareExchangeWeak"]
+COMPARING = ATOMICS.index("CompareExchangeWeak")
+# the memories of barriers, by their bits
+BARRIERS = ["storageBarrier", "workgroupBarrier", "subgroupBarrier", "textureBarrier"]
+# gathers in a subgroup, and how many indexes each takes
+GATHERS = [
+    ("subgroupBroadcastFirst", 0), ("subgroupBroadcast", 1), ("subgroupShuffle", 1), ("subgroupShuffleDown", 1),
+    ("subgroupShuffleUp", 1), ("subgroupShuffleXor", 1), ("quadBroadcast", 1), ("quadSwapX", 0), ("quadSwapY", 0),
+    ("quadSwapDiagonal", 0)]
+# collectives, by what is collected and the operation
+COLLECTIVES = ["", "Exclusive", "Inclusive"]
+OPERATIONS = ["All", "Any", "Add", "Mul", "Max", "Min", "And", "Or", "Xor"]
+SCANNED = ["Add", "Mul"]
+
 # questions to images, by their numbers
 QUERIES = ["textureDimensions", "textureNumLevels", "textureNumLayers", "textureNumSamples"]
 # the calls that ask the world for a value
 ASKING = {
     *DERIVATIVES, *QUERIES,
     *words_of("textureLoad texture{Sample,Gather}{,Compare} textureSample{,Compare}{Level,Bias,Grad}"),
-    "textureSampleBaseClampToEdge", "atomicLoad", "atomicStore"}
+    "textureSampleBaseClampToEdge", "atomicLoad", "atomicStore", *(f"atomic{word}" for word in ATOMICS),
+    *(f"textureAtomic{word}" for word in ATOMICS[:COMPARING]), *(word for word, _ in GATHERS), *BARRIERS,
+    *words_of("subgroup{All,Any,Add,Mul,Max,Min,And,Or,Xor} subgroup{Exclusive,Inclusive}{Add,Mul} subgroupBallot"),
+    *words_of("textureStore workgroupUniformLoad coopStore coopStoreT traceRay")}

@@ -1,9 +1,9 @@
 """Scope, texts, and the constructs for which a module is refused."""
 
-from modules import EVENTS, IMAGES, LEAVES, PARTS, READS
+from modules import EVENTS, IMAGES, LEAVES, PARTS, READS, RESULTS, holds_continue, statements_in
 from naming import names_of
 from operators import (
-    conversion_word, literal_text, numbers_around, offset_of, wanted_scalar, word_of)
+    act_word, barrier_words, conversion_word, literal_text, numbers_around, offset_of, wanted_scalar, word_of)
 from spelling import (
     has_parts, lacking_scalar, points, points_to_atomic, scalar_of, spelled, waits, whole_of)
 from words import MATH, MEMBERS, RELATIONAL
@@ -26,11 +26,15 @@ def uses_of(f):
     for e in f.expressions:
         for h in e.operands:
             uses[h] += 1
-    for s in f.body:
-        for h in s[1:] if s[0] != "emit" else []:
-            if h is not None:
-                uses[h] += 1
+    for s in statements_in(f.body):
+        for h in s.operands:
+            uses[h] += 1
     return uses
+
+
+def emitted_by(s):
+    """The handles that an `Emit` gives."""
+    return range(s.what[0], s.what[1] + 1) if s.kind == "emit" else range(0)
 
 
 def binds(f, h, uses):
@@ -39,7 +43,7 @@ def binds(f, h, uses):
     if h in f.labels or e.kind in IMAGES:
         return True
     # a part is written wherever it is used
-    return (e.kind not in PARTS or is_partless(f, e)) and uses[h] >= (1 if e.kind in READS else 2)
+    return e.kind not in PARTS and uses[h] >= (1 if e.kind in READS else 2)
 
 
 def is_partless(f, e):
@@ -60,7 +64,7 @@ def constants_of(f):
     """Whether each expression is a tree of operators over literals, zero values and constants."""
     constants = []
     for e in f.expressions:
-        is_operator = e.kind not in (*LEAVES, *EVENTS)
+        is_operator = e.kind not in (*LEAVES, *EVENTS, *RESULTS)
         is_leaf = e.kind in ("literal", "zero", "constant")
         constants.append(is_leaf or (is_operator and all(constants[h] for h in e.operands)))
     return constants
@@ -82,6 +86,7 @@ def answers_of(module, explicit):
     for f, own in zip(module.functions, names):
         standing = {formless(f, h) for h in written_of(f)}
         standing |= {formless_type(module, ty) for ty in spelled_by(f, explicit)}
+        standing |= set(map(formless_statement, statements_in(f.body)))
         standing.discard(None)
         try:
             own_text = Writer(f, own, namer, explicit).write()
@@ -103,11 +108,9 @@ def written_of(f):
     """The operands of statements, what is bound, first values, and the operands of all these."""
     uses = uses_of(f)
     written = {init for _, _, init in f.locals if init is not None}
-    for s in f.body:
-        if s[0] == "emit":
-            written |= {h for h in range(s[1], s[2] + 1) if binds(f, h, uses)}
-        else:
-            written |= {h for h in s[1:] if h is not None}
+    for s in statements_in(f.body):
+        written |= {h for h in emitted_by(s) if binds(f, h, uses)}
+        written.update(s.operands)
     for h in reversed(range(len(f.expressions))):
         if h in written:
             written.update(f.expressions[h].operands)
@@ -117,11 +120,25 @@ def written_of(f):
 def spelled_by(f, explicit):
     """The types of arguments, the result and locals, and those that `let`s tell, if a text can."""
     uses = uses_of(f)
-    emitted = [h for s in f.body if s[0] == "emit" for h in range(s[1], s[2] + 1)]
-    told = [f.type_of(h) for h in emitted if explicit and binds(f, h, uses)]
+    statements = list(statements_in(f.body)) if explicit else []
+    told = [f.type_of(h) for s in statements for h in emitted_by(s) if binds(f, h, uses)]
+    told += [f.type_of(s.result) for s in statements if s.result is not None]
     told = [ty for ty in told if not f.module.names_undeclared(ty)]
     declared = [ty for _, ty in f.arguments] + [ty for _, ty, _ in f.locals]
     return declared + [f.result] * (f.result is not None) + told
+
+
+def formless_statement(s):
+    """How a statement without a form is named."""
+    if s.kind == "ray query":
+        return "ray query"
+    if s.kind == "collective" and act_word(s) is None:
+        return "subgroup operation"
+    if s.kind == "image atomic" and act_word(s) is None:
+        return "image compare exchange"
+    if s.kind == "switch" and any(falls and body for (_, falls), body in zip(s.what, s.blocks)):
+        return "fall-through switch case block"
+    return None
 
 
 def formless_type(module, ty):
@@ -216,29 +233,42 @@ class Writer:
         self.f, self.names, self.namer, self.explicit = f, names, namer, explicit
         self.uses = uses_of(f)
         self.constants = constants_of(f)
-        # where an emitted expression stands: a `let`'s name, written where it is used, or never, as an operand was
-        # out of scope
+        # where what was given stands, in this block and those around it: a `let`'s name, written where it is used, or
+        # never, as an operand was out of scope
         self.bound, self.inline, self.never = {}, set(), set()
+        # the constant trees that were emitted here, or in a block around; a loop's body is around its `continuing`
+        self.trees = set()
+        self.lines, self.level = [], 0
 
+    # ---- scope
     def is_usable(self, h):
         if self.f.expressions[h].kind in LEAVES or self.constants[h]:
             return True
         return h in self.bound or h in self.inline
 
-    def emit(self, h, lines):
+    def was_given(self, h):
+        return h in self.bound or h in self.inline or h in self.never or h in self.trees
+
+    def scope(self):
+        return dict(self.bound), set(self.inline), set(self.never), set(self.trees)
+
+    def back_to(self, scope):
+        bound, inline, never, trees = scope
+        self.bound, self.inline, self.never, self.trees = dict(bound), set(inline), set(never), set(trees)
+
+    def emit(self, h):
         e = self.f.expressions[h]
-        if e.kind in LEAVES or h in self.bound or h in self.inline or h in self.never:
+        if e.kind in (*LEAVES, *RESULTS) or self.was_given(h):
             raise Refused
         is_ready = all(map(self.is_usable, e.operands))
+        if self.constants[h]:
+            self.trees.add(h)
         if binds(self.f, h, self.uses):
             if not is_ready:
                 raise Refused
             text = self.value(h)
             name = self.namer.name(self.f.labels[h]) if h in self.f.labels else f"_e{h}"
-            is_told = self.explicit and not self.f.module.names_undeclared(e.type)
-            told = f": {spelled(e.type)}" if is_told else ""
-            lines.append(f"    let {name}{told} = {text};")
-            self.bound[h] = name
+            self.let(h, name, text)
         elif e.kind in READS:
             # it stays as it was, so that it may be emitted again
             pass
@@ -246,6 +276,16 @@ class Writer:
             self.inline.add(h)
         else:
             self.never.add(h)
+
+    def let(self, h, name, text):
+        ty = self.f.type_of(h)
+        is_told = self.explicit and not self.f.module.names_undeclared(ty)
+        told = f": {spelled(ty)}" if is_told else ""
+        self.line(f"let {name}{told} = {text};")
+        self.bound[h] = name
+
+    def line(self, text):
+        self.lines.append("    " * self.level + text)
 
     def use(self, h):
         if not self.is_usable(h):
@@ -335,15 +375,15 @@ class Writer:
         f = self.f
         head = ", ".join(f"{x}: {spelled(ty)}" for x, (_, ty) in zip(self.names.arguments, f.arguments))
         arrow = f" -> {spelled(f.result)}" if f.result is not None else ""
-        lines = [f"fn {self.names.function}({head}){arrow} {{"]
+        self.line(f"fn {self.names.function}({head}){arrow} {{")
+        self.level += 1
         for number, (_, ty, init) in enumerate(f.locals):
             first = f" = {self.first_value(number, init)}" if init is not None else ""
-            lines.append(f"    var {self.names.locals[number]}: {spelled(ty)}{first};")
+            self.line(f"var {self.names.locals[number]}: {spelled(ty)}{first};")
         if f.locals:
-            lines.append("")
-        for s in f.body:
-            self.statement(s, lines)
-        return "\n".join(lines) + "\n}\n\n"
+            self.lines.append("")
+        self.block(f.body)
+        return "\n".join(self.lines) + "\n}\n\n"
 
     def first_value(self, number, h):
         """A first value of the local of this number, which names no local but those before it."""
@@ -352,14 +392,114 @@ class Writer:
             raise Refused
         return self.operand(h)
 
-    def statement(self, s, lines):
-        if s[0] == "emit":
-            for h in range(s[1], s[2] + 1):
-                self.emit(h, lines)
-        elif s[0] == "store" and points_to_atomic(self.f.type_of(s[1])):
-            lines.append(f"    atomicStore({self.operand(s[1])}, {self.operand(s[2])});")
-        elif s[0] == "store":
-            place = self.reference(self.use(s[1]))
-            lines.append(f"    {place} = {self.operand(s[2])};")
+    # ---- statements
+    def block(self, body):
+        for s in body:
+            self.statement(s)
+
+    def inner(self, body):
+        """A block one level deeper, behind which all that it gave is forgotten."""
+        scope = self.scope()
+        self.level += 1
+        self.block(body)
+        self.level -= 1
+        self.back_to(scope)
+
+    def statement(self, s):
+        if s.kind == "emit":
+            for h in emitted_by(s):
+                self.emit(h)
+        elif s.kind == "barrier":
+            for word in barrier_words(s):
+                self.line(f"{word}();")
+        elif s.kind == "block":
+            self.line("{")
+            self.inner(s.blocks[0])
+            self.line("}")
+        elif s.kind in ("if", "switch", "loop"):
+            {"if": self.branch, "switch": self.switch, "loop": self.loop}[s.kind](s)
         else:
-            lines.append("    return;" if s[1] is None else f"    return {self.operand(s[1])};")
+            self.plain_statement(s)
+
+    def plain_statement(self, s):
+        if s.kind in ("break", "continue", "kill"):
+            self.line({"kill": "discard"}.get(s.kind, s.kind) + ";")
+        elif s.kind == "return":
+            self.line(f"return {self.operand(s.operands[0])};" if s.operands else "return;")
+        elif s.kind == "store" and not points_to_atomic(self.f.type_of(s.operands[0])):
+            place = self.reference(self.use(s.operands[0]))
+            self.line(f"{place} = {self.operand(s.operands[1])};")
+        else:
+            self.act(s)
+
+    def act(self, s):
+        """A call of a function or of a word of WGSL; one that has none is told elsewhere."""
+        word = "atomicStore" if s.kind == "store" else act_word(s)
+        if s.kind == "call":
+            word = self.names.functions[s.what[0]]
+        text = f"{word}({', '.join(map(self.operand, s.operands))})"
+        if s.result is None:
+            self.line(text + ";")
+        elif self.was_given(s.result):
+            raise Refused
+        else:
+            self.let(s.result, f"_e{s.result}", text)
+
+    def branch(self, s):
+        accept, reject = s.blocks
+        self.line(f"if {self.operand(s.operands[0])} {{")
+        self.inner(accept)
+        # it stands where the block has a statement, whether that has a line or not
+        if reject:
+            self.line("} else {")
+            self.inner(reject)
+        self.line("}")
+
+    def switch(self, s):
+        self.line(f"switch {self.operand(s.operands[0])} {{")
+        self.level += 1
+        labels = []
+        for (label, falls), body in zip(s.what, s.blocks):
+            labels.append(label_text(label))
+            if falls:
+                # one with statements has no form
+                self.inner(body)
+                continue
+            self.line(("" if labels == ["default"] else "case ") + ", ".join(labels) + ": {")
+            self.inner(body)
+            self.line("}")
+            labels = []
+        self.level -= 1
+        self.line("}")
+
+    def loop(self, s):
+        body, continuing = s.blocks
+        self.line("loop {")
+        self.level += 1
+        outside, unskipped = self.scope(), None
+        for each in body:
+            if unskipped is None and holds_continue(each):
+                unskipped = self.scope()
+            self.statement(each)
+        if unskipped is not None:
+            trees = self.trees
+            self.back_to(unskipped)
+            self.trees = trees
+        if continuing or s.operands:
+            self.line("continuing {")
+            self.level += 1
+            self.block(continuing)
+            for h in s.operands:
+                self.line(f"break if {self.operand(h)};")
+            self.level -= 1
+            self.line("}")
+        self.level -= 1
+        self.back_to(outside)
+        self.line("}")
+
+
+def label_text(label):
+    if label is None:
+        return "default"
+    kind, number = label
+    return f"{number}u" if kind == "uint" else str(number)

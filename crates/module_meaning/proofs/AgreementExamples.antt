@@ -17,7 +17,7 @@ use Rattle.naga_ir.specs.declared.types.VectorSize.TheVariants as vector
 use Rattle.naga_info.specs.declared.info.TypeResolution.{TypeResolution}
 use Rattle.naga_info.specs.declared.info.TypeResolution.TheVariants.{Handle, Value}
 use Rattle.module_meaning.specs.AgreeingOperators.{operator_key, uses_of}
-use Rattle.module_meaning.specs.AlikeTypes.{handle_form}
+use Rattle.module_meaning.specs.AlikeTypes.{handle_key}
 use Rattle.module_meaning.specs.Operations.{all_agree}
 
 abbrev signed : Scalar
@@ -68,25 +68,25 @@ operands_do_not_tell = refl
 
 -- a conversion is the constructor of its type, and a bit cast is not
 conversion_constructs : (components : Vec ℕ Global) → is_same (converted 1 4) (expression.Compose 0 components) ≡ true
-unfolding handle_form
+unfolding handle_key
 conversion_constructs components = refl
 
 bits_apart : is_same (converted 1 4) (cast 1) ≡ false
-unfolding handle_form
+unfolding handle_key
 bits_apart = refl
 
 -- the components of a matrix are converted one by one in any case
 matrix_is_converted : is_same (expression.As 2 kind.Float (Some 4)) (expression.As 2 kind.Float None) ≡ true
-unfolding handle_form
+unfolding handle_key
 matrix_is_converted = refl
 
 -- a conversion without a form is told by its fields
 formless_by_fields : is_same (converted 1 3) (converted 0 3) ≡ true
-unfolding handle_form
+unfolding handle_key
 formless_by_fields = refl
 
 formless_widths_apart : is_same (converted 1 3) (converted 1 5) ≡ false
-unfolding handle_form
+unfolding handle_key
 formless_widths_apart = refl
 
 -- letters count as many as are written
@@ -111,17 +111,17 @@ abbrev sum : (left : ℕ) → Expression
 sum left = expression.Binary binary.Add left 0
 
 same_types : agree (sum 0) (sum 0) 1 1 ≡ true
-unfolding handle_form
+unfolding handle_key
 same_types = refl
 
 other_answer : agree (sum 0) (sum 0) 0 1 ≡ false
-unfolding handle_form
+unfolding handle_key
 other_answer = refl
 
 other_operands : agree (sum 0) (sum 1) 0 1 ≡ true
-unfolding handle_form
+unfolding handle_key
 other_operands = refl
 
 other_operator : agree (sum 0) (expression.Binary binary.Subtract 0 0) 0 1 ≡ true
-unfolding handle_form
+unfolding handle_key
 other_operator = refl

@@ -14,7 +14,7 @@ use Rattle.naga_ir.specs.declared.types.VectorSize.TheVariants.{Quad}
 use Rattle.naga_info.specs.declared.info.TypeResolution.{TypeResolution}
 use Rattle.naga_info.specs.declared.info.TypeResolution.TheVariants.{Handle, Value}
 use Rattle.naga_words.specs.Spelling.{is_struct}
-use Rattle.module_meaning.specs.AlikeTypes.{are_alike, handle_form}
+use Rattle.module_meaning.specs.AlikeTypes.{are_alike, handle_key}
 
 abbrev float : Scalar
 float = record { kind = kind.Float; width = 4 }
@@ -47,42 +47,42 @@ image bits = Value (inner.Image D2 false (class.Storage format.R32Uint (record {
 
 -- a type of the module, and the same by itself
 by_itself : are_alike types (Handle 1) (Value (inner.Vector Quad float)) ≡ true
-unfolding handle_form
+unfolding handle_key
 by_itself = refl
 
 -- strides are not spelled, lengths are
 strides_alike : are_alike types (array_of 0 16) (array_of 0 32) ≡ true
-unfolding handle_form
+unfolding handle_key
 strides_alike = refl
 
 lengths_apart : are_alike types (long_as 1) (long_as 2) ≡ false
-unfolding handle_form
+unfolding handle_key
 lengths_apart = refl
 
 elements_apart : are_alike types (array_of 0 16) (array_of 1 16) ≡ false
-unfolding handle_form
+unfolding handle_key
 elements_apart = refl
 
 -- what a pointer points to may be of the module or by itself
 value_pointer_alike : are_alike types (pointer_to 1 space.Function) (Value (inner.ValuePointer (Some Quad) float space.Function)) ≡ true
-unfolding handle_form
+unfolding handle_key
 value_pointer_alike = refl
 
 component_pointer_apart : are_alike types (pointer_to 1 space.Function) (Value (inner.ValuePointer None float space.Function)) ≡ false
-unfolding handle_form
+unfolding handle_key
 component_pointer_apart = refl
 
 spaces_apart : are_alike types (pointer_to 0 space.Function) (pointer_to 0 space.Private) ≡ false
-unfolding handle_form
+unfolding handle_key
 spaces_apart = refl
 
 -- reading a buffer has no word, writing has one
 reading_alike : are_alike types (pointer_to 0 (storage 0)) (pointer_to 0 (storage 1)) ≡ true
-unfolding handle_form
+unfolding handle_key
 reading_alike = refl
 
 writing_apart : are_alike types (pointer_to 0 (storage 1)) (pointer_to 0 (storage 3)) ≡ false
-unfolding handle_form
+unfolding handle_key
 writing_apart = refl
 
 -- of an image each has one
@@ -91,18 +91,18 @@ image_reading_apart = refl
 
 -- a type without a form is alike to itself, and to no other: its stride counts
 formless_alike : are_alike types (Handle 2) (Value (inner.Scalar wide_truth)) ≡ true
-unfolding handle_form
+unfolding handle_key
 formless_alike = refl
 
 formless_strides_apart : are_alike types (array_of 2 16) (array_of 2 32) ≡ false
-unfolding handle_form
+unfolding handle_key
 formless_strides_apart = refl
 
 formless_handle_space_apart : are_alike types (Value (inner.ValuePointer None float space.Handle)) (Handle 0) ≡ false
-unfolding handle_form
+unfolding handle_key
 formless_handle_space_apart = refl
 
 -- two structs of one form
 structs_apart : (t : Type_) → is_struct t.inner ≡ true → are_alike (t ∷ t ∷ []) (Handle 0) (Handle 1) ≡ false
-unfolding handle_form
+unfolding handle_key
 structs_apart t e = rw e refl

@@ -18,9 +18,9 @@ use Rattle.naga_words.specs.Spelling.{is_struct}
 use Rattle.wgsl_words.specs.Words.{scalar_word, space_word}
 use Rattle.module_meaning.specs.TypeIdentity.{level, kind_number, truth_number, dimension_number}
 use Rattle.module_meaning.specs.TypeIdentity.{identity, identity_code}
-use Rattle.module_meaning.specs.AlikeTypes.{over_scalar, value_form, pointer_form}
-use Rattle.module_meaning.specs.AlikeTypes.{image_form, inner_form_by, found_form_by}
-use Rattle.module_meaning.specs.AlikeTypes.{form_within, handle_form, type_form, type_identity}
+use Rattle.module_meaning.specs.AlikeTypes.{over_scalar, value_key, pointer_key}
+use Rattle.module_meaning.specs.AlikeTypes.{image_key, inner_key_by, found_key_by}
+use Rattle.module_meaning.specs.AlikeTypes.{key_within, handle_key, type_key, type_identity}
 
 -- there are numbers, and they begin with no blank
 abbrev pub is_plain : List ℕ → Bool
@@ -39,7 +39,7 @@ behind_plain : (tag first second : ℕ) (o : Option (List ℕ)) → not (nat_eq 
 behind_plain tag first second None p = refl
 behind_plain tag first second (Some it) p = p
 
-image_plain : (dim : ImageDimension) (arrayed : Bool) (c : ImageClass) → begins_plain (image_form dim arrayed c) ≡ true
+image_plain : (dim : ImageDimension) (arrayed : Bool) (c : ImageClass) → begins_plain (image_key dim arrayed c) ≡ true
 image_plain dim arrayed (class.Sampled kind multi) =
     if_either begins_plain (is_some (scalar_word (record { kind = kind; width = 4 })))
     (Some (level 9 (dimension_number dim) (truth_number arrayed) 0 (kind_number kind) (truth_number multi))) None refl refl
@@ -49,14 +49,14 @@ module _ (f : ℕ → Option (List ℕ)) where
   scalar_plain : (tag : ℕ) (s : Scalar) (third fourth fifth : ℕ) → not (nat_eq tag 32) ≡ true → begins_plain (over_scalar tag s third fourth fifth) ≡ true
   scalar_plain tag s third fourth fifth p = if_either begins_plain (is_some (scalar_word s)) (Some (level tag (kind_number s.kind) s.width third fourth fifth)) None p refl
 
-  inner_plain : (it : TypeInner) → begins_plain (inner_form_by f it) ≡ true
+  inner_plain : (it : TypeInner) → begins_plain (inner_key_by f it) ≡ true
   inner_plain (inner.Scalar s) = scalar_plain _ s _ _ _ refl
   inner_plain (inner.Vector n s) = scalar_plain _ s _ _ _ refl
   inner_plain (inner.Matrix columns rows s) = scalar_plain _ s _ _ _ refl
   inner_plain (inner.CooperativeMatrix columns rows s role) = scalar_plain _ s _ _ _ refl
   inner_plain (inner.Atomic s) = scalar_plain _ s _ _ _ refl
   inner_plain (inner.Pointer base space) = behind_plain _ _ _ (f base) refl
-  inner_plain (inner.ValuePointer n s space) = if_either begins_plain (is_none (space_word space)) None (pointer_form space (value_form n s)) refl (behind_plain _ _ _ (value_form n s) refl)
+  inner_plain (inner.ValuePointer n s space) = if_either begins_plain (is_none (space_word space)) None (pointer_key space (value_key n s)) refl (behind_plain _ _ _ (value_key n s) refl)
   inner_plain (inner.Array base n stride) = behind_plain _ _ _ (f base) refl
   inner_plain (inner.BindingArray base n) = behind_plain _ _ _ (f base) refl
   inner_plain (inner.Struct members span) = refl
@@ -65,22 +65,22 @@ module _ (f : ℕ → Option (List ℕ)) where
   inner_plain (inner.AccelerationStructure vertex_return) = refl
   inner_plain (inner.RayQuery vertex_return) = refl
 
-  found_plain : (h : ℕ) (o : Option Type_) → begins_plain (found_form_by f h o) ≡ true
+  found_plain : (h : ℕ) (o : Option Type_) → begins_plain (found_key_by f h o) ≡ true
   found_plain h None = refl
-  found_plain h (Some t) = if_either begins_plain (is_struct t.inner) (Some (level 8 h 0 0 0 0)) (inner_form_by f t.inner) refl (inner_plain t.inner)
+  found_plain h (Some t) = if_either begins_plain (is_struct t.inner) (Some (level 8 h 0 0 0 0)) (inner_key_by f t.inner) refl (inner_plain t.inner)
 
-handle_plain : (types : List Type_) (h : ℕ) → begins_plain (handle_form types h) ≡ true
-unfolding handle_form
-handle_plain types h = found_plain (form_within h types) h (slice_get types h)
+handle_plain : (types : List Type_) (h : ℕ) → begins_plain (handle_key types h) ≡ true
+unfolding handle_key
+handle_plain types h = found_plain (key_within h types) h (slice_get types h)
 
-pub form_plain : (types : List Type_) (r : TypeResolution) → begins_plain (type_form types r) ≡ true
-form_plain types (Handle h) = handle_plain types h
-form_plain types (Value it) = inner_plain (handle_form types) it
+pub key_plain : (types : List Type_) (r : TypeResolution) → begins_plain (type_key types r) ≡ true
+key_plain types (Handle h) = handle_plain types h
+key_plain types (Value it) = inner_plain (handle_key types) it
 
 -- a struct at a handle has a form
-pub formless_at : (types : List Type_) (h : ℕ) (t : Type_) → slice_get types h ≡ Some t → handle_form types h ≡ None → is_struct t.inner ≡ false
-unfolding handle_form
-formless_at types h t is none = by _ (is_struct t.inner) (sym (ap (found_form_by (form_within h types) h) is) ∙ none)
+pub formless_at : (types : List Type_) (h : ℕ) (t : Type_) → slice_get types h ≡ Some t → handle_key types h ≡ None → is_struct t.inner ≡ false
+unfolding handle_key
+formless_at types h t is none = by _ (is_struct t.inner) (sym (ap (found_key_by (key_within h types) h) is) ∙ none)
   where
     by : (rest : Option (List ℕ)) (b : Bool) → (if b then Some (level 8 h 0 0 0 0) else rest) ≡ None → b ≡ false
     by rest true e = absurd (cc)
@@ -93,4 +93,4 @@ by_form (Some []) code plain = absurd (true≢false (sym plain))
 by_form (Some (n ∷ w)) code plain = (refl, refl)
 
 pub identity_some : (types : List Type_) (r : TypeResolution) → (bytes_eq [] (type_identity types r) ≡ false) × (bytes_eq (type_identity types r) [] ≡ false)
-identity_some types r = by_form (type_form types r) (identity_code (identity types r)) (form_plain types r)
+identity_some types r = by_form (type_key types r) (identity_code (identity types r)) (key_plain types r)

@@ -1,7 +1,7 @@
 -- The shapes of all expressions: their kinds and operands are those of the expressions, but where an
 -- atomic is loaded or an offset is a constant.
 --
--- Throughout, a is what stands around expressions, d what the module declares too, es are the
+-- Throughout, a is the context of expressions, d what the module declares too, es are the
 -- expressions of a function, e is one and h its handle, and op is an operator over operands xs.
 use Rattle.std.proofs.Common.{◌≡◌, ℕ, Bool, true, false, List, [], ◌∷◌, Option, Some, None, refl}
 use Rattle.std.proofs.Common.{ap, ◌∙◌}
@@ -20,8 +20,8 @@ use Rattle.naga_ir.specs.declared.types.CooperativeRole.{CooperativeRole}
 use Rattle.naga_ir.specs.declared.types.CooperativeSize.{CooperativeSize}
 use Rattle.naga_ir.specs.declared.types.ScalarKind.{ScalarKind}
 use Rattle.naga_info.specs.declared.info.TypeResolution.{TypeResolution}
-use Rattle.module_meaning.specs.ExpressionOperators.{Surroundings, cast, cast_to, constructor}
-use Rattle.module_meaning.specs.ExpressionOperators.{matrix_load, points_to_atomic, query_operator}
+use Rattle.module_meaning.specs.ExpressionOperators.{ExpressionContext, cast, cast_to, constructor}
+use Rattle.module_meaning.specs.ExpressionOperators.{matrix_load, is_atomic_pointer, query_operator}
 use Rattle.module_meaning.specs.ExpressionShapes.{Declared, shape_of, applied_shape, applied_or}
 use Rattle.module_meaning.specs.ExpressionShapes.{asking, part_shape, part_selector, own_selector}
 use Rattle.module_meaning.specs.ExpressionShapes.{selector}
@@ -43,7 +43,7 @@ use Rattle.shader_runs.specs.Program.{Load, Request, operands_of, no_constant}
 use Rattle.shader_runs.specs.Value.{Selector}
 
 -- ---- which operators ask
-pub constructor_asks : (a : Surroundings) (r : TypeResolution) (n : ℕ) →
+pub constructor_asks : (a : ExpressionContext) (r : TypeResolution) (n : ℕ) →
     asks (constructor a r n) ≡ false
 constructor_asks a r n = by (a.spelled r)
   where
@@ -58,7 +58,7 @@ cast_among converts k width None = refl
 cast_among true k width (Some w) = refl
 cast_among false k width (Some w) = refl
 
-pub cast_asks : (a : Surroundings) (k : ScalarKind) (width : Option ℕ) (operand : Option TypeInner) →
+pub cast_asks : (a : ExpressionContext) (k : ScalarKind) (width : Option ℕ) (operand : Option TypeInner) →
     asks (cast a k width operand) ≡ false
 cast_asks a k width operand = cast_among _ k width _
 
@@ -71,7 +71,7 @@ load_among : (columns rows : CooperativeSize) (role : CooperativeRole) (row_majo
 load_among columns rows role row_major None = refl
 load_among columns rows role row_major (Some w) = refl
 
-pub load_asks : (a : Surroundings) (columns rows : CooperativeSize) (role : CooperativeRole)
+pub load_asks : (a : ExpressionContext) (columns rows : CooperativeSize) (role : CooperativeRole)
     (place : CooperativeData) → asks (matrix_load a columns rows role place) ≡ true
 load_asks a columns rows role place = load_among columns rows role place.row_major _
 
@@ -96,26 +96,26 @@ request_kind op xs it =
     else operator_shape op xs))) it
 
 -- a load of an atomic asks for an event of its own
-abbrev pub kind_shaped : Surroundings → ir.Expression → ExpressionKind
+abbrev pub kind_shaped : ExpressionContext → ir.Expression → ExpressionKind
 kind_shaped a (expression.Load pointer) =
-    if points_to_atomic a pointer then kind.Request else kind.Load
+    if is_atomic_pointer a pointer then kind.Request else kind.Load
 kind_shaped a e = kind_of e
 
 -- the kind of what an expression evaluates is its own
 pub shape_kinds : (d : Declared) (es : List ir.Expression) (h : ℕ) (e : ir.Expression) →
-    shape_kind (Some (shape_of d es h e)) ≡ kind_shaped d.around e
+    shape_kind (Some (shape_of d es h e)) ≡ kind_shaped d.context e
 shape_kinds d es h (expression.Literal value) = refl
 shape_kinds d es h (expression.Constant handle) = refl
 shape_kinds d es h (expression.Override handle) = refl
 shape_kinds d es h (expression.ZeroValue ty) = refl
 shape_kinds d es h (expression.Compose ty components) =
-    pure_kind _ _ (constructor_asks d.around _ _)
+    pure_kind _ _ (constructor_asks d.context _ _)
 shape_kinds d es h (expression.AccessIndex base index) = by (part_selector d base index)
   where
     by : (s : Option Selector) → shape_kind (Some (part_shape base index s)) ≡ kind.Pure
     by None = refl
     by (Some s) = refl
-shape_kinds d es h (expression.Load pointer) = by (points_to_atomic d.around pointer)
+shape_kinds d es h (expression.Load pointer) = by (is_atomic_pointer d.context pointer)
   where
     by : (b : Bool) →
         shape_kind
@@ -126,9 +126,9 @@ shape_kinds d es h (expression.Load pointer) = by (points_to_atomic d.around poi
 shape_kinds d es h (expression.ImageQuery image query) = request_kind _ _ (query_asks query)
 shape_kinds d es h (expression.Binary op left right) =
     pure_kind (BinarySign op) (left ∷ right ∷ []) refl
-shape_kinds d es h (expression.As expr k convert) = pure_kind _ _ (cast_asks d.around k convert _)
+shape_kinds d es h (expression.As expr k convert) = pure_kind _ _ (cast_asks d.context k convert _)
 shape_kinds d es h (expression.CooperativeLoad columns rows role place) =
-    request_kind _ _ (load_asks d.around columns rows role place)
+    request_kind _ _ (load_asks d.context columns rows role place)
 shape_kinds d es h _ = refl
 
 -- ---- operands
@@ -161,7 +161,7 @@ shape_operands d es h (expression.AccessIndex base index) none = by (part_select
     by : (s : Option Selector) → operands_of (Some (part_shape base index s)) ≡ base ∷ []
     by None = refl
     by (Some s) = refl
-shape_operands d es h (expression.Load pointer) none = by (points_to_atomic d.around pointer)
+shape_operands d es h (expression.Load pointer) none = by (is_atomic_pointer d.context pointer)
   where
     by : (b : Bool) →
         operands_of
@@ -192,8 +192,8 @@ own_there d w (inner.Vector size s) index = refl
 own_there d w _ index = refl
 
 there : (d : Declared) (w : Option ℕ) (it : TypeInner) (index : ℕ) →
-    is_some (selector d w it index) ≡ has_parts d.around.types it
-there d w (inner.Pointer base space) index = by (type_with d.around.types base)
+    is_some (selector d w it index) ≡ has_parts d.context.types it
+there d w (inner.Pointer base space) index = by (type_with d.context.types base)
   where
     by : (o : Option TypeInner) →
         is_some (option_and_then (λ it. own_selector d (Some base) it index) o) ≡
@@ -208,26 +208,26 @@ there d w _ index = refl
 -- a type that is known has a part where it has parts
 pub there_if : (d : Declared) (w : Option ℕ) (index : ℕ) (o : Option TypeInner) →
     is_some (option_and_then (λ it. selector d w it index) o) ≡
-    option_map_or (has_parts d.around.types) o false
+    option_map_or (has_parts d.context.types) o false
 there_if d w index None = refl
 there_if d w index (Some it) = there d w it index
 
 -- there is a part just where no operator stands for it
 pub parts_agree : (d : Declared) (base index : ℕ) →
-    is_some (part_selector d base index) ≡ is_none (part_operator d.around base index)
+    is_some (part_selector d base index) ≡ is_none (part_operator d.context base index)
 parts_agree d base index =
-    by (d.around.known base)
-    ∙ turned (option_map_or (has_parts d.around.types) (type_known d.around base) false)
+    by (d.context.known base)
+    ∙ turned (option_map_or (has_parts d.context.types) (type_known d.context base) false)
   where
     by : (o : Option TypeResolution) →
         is_some
         (option_and_then
         (λ r. option_and_then (λ it. selector d (handle_of r) it index)
-        (inner_of r d.around.types)) o) ≡
-        option_map_or (has_parts d.around.types)
-        (option_and_then (λ r. inner_of r d.around.types) o) false
+        (inner_of r d.context.types)) o) ≡
+        option_map_or (has_parts d.context.types)
+        (option_and_then (λ r. inner_of r d.context.types) o) false
     by None = refl
-    by (Some r) = there_if d (handle_of r) index (inner_of r d.around.types)
+    by (Some r) = there_if d (handle_of r) index (inner_of r d.context.types)
 
     turned : (b : Bool) → b ≡ is_none (if b then None else Some (WithoutForm (PartAt index)))
     turned true = refl

@@ -2,6 +2,7 @@ mod StatementExamples
 pub mod AgreementExamples
 pub mod AlikeExamples
 pub mod AlikeTypes
+pub mod BindingCounts
 pub mod ExpressionShapes
 pub mod Fitting
 pub mod Lists
@@ -9,7 +10,7 @@ pub mod ModuleShapeExamples
 pub mod ModuleShapes
 pub mod NumberExamples
 pub mod Operations
-pub mod Part
+pub mod WrittenSoFar
 pub mod ShapeExamples
 pub mod ShapeKinds
 pub mod Shapes

@@ -3,7 +3,7 @@ use Rattle.std.proofs.Common.{◌≡◌, ℕ, zero, suc, ◌+◌, Bool, true, Li
 use Rattle.std.proofs.Common.{Option, Some, None, slice_get, arith}
 use Rattle.std.specs.List.{list_all, enumerate_from}
 use Rattle.std.specs.Option.{is_some}
-use Rattle.std.proofs.lemmas.Bool.{and_parts}
+use Rattle.std.proofs.lemmas.Bool.{and_from, and_parts}
 
 -- the item at an index passes
 pub list_all_at : {X : Type 0} (test : X → Bool) (xs : List X) (i : ℕ) (x : X) → list_all test xs ≡ true → slice_get xs i ≡ Some x → test x ≡ true
@@ -12,6 +12,14 @@ list_all_at test (y ∷ ys) zero x all here =
     let same : y ≡ x = cc
     in ap test (sym same) ∙ (and_parts (test y) (list_all test ys) all).0
 list_all_at test (y ∷ ys) (suc i) x all here = list_all_at test ys i x (and_parts (test y) (list_all test ys) all).1 here
+
+-- all pass where each does
+pub all_pass : {X : Type 0} (test : X → Bool) (xs : List X) →
+    ((i : ℕ) (x : X) → slice_get xs i ≡ Some x → test x ≡ true) → list_all test xs ≡ true
+all_pass test [] at = refl
+all_pass test (x ∷ xs) at =
+    and_from (test x) (list_all test xs) (at 0 x refl)
+    (all_pass test xs (λ i y is. at (suc i) y is))
 
 -- the item at a handle passes, where each passes with its handle
 pub placed_at : {X : Type 0} (test : ℕ → X → Bool) (n : ℕ) (xs : List X) (h : ℕ) (x : X) → list_all (λ p. test p.0 p.1) (enumerate_from n xs) ≡ true → slice_get xs h ≡ Some x → test (n + h) x ≡ true

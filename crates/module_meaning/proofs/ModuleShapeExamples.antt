@@ -26,12 +26,14 @@ use Rattle.naga_info.specs.declared.info.ModuleInfo.{ModuleInfo}
 use Rattle.naga_info.specs.declared.info.TypeResolution.{TypeResolution}
 use Rattle.naga_info.specs.declared.info.TypeResolution.TheVariants.{Handle, Value}
 use Rattle.naga_names.specs.declared.key.NameKey.TheVariants as key
-use Rattle.naga_words.specs.Spelling.{type_parts}
-use Rattle.module_meaning.specs.ExpressionShapes.{Declared}
+use Rattle.naga_words.specs.Spelling.{type_segments}
+use Rattle.module_meaning.specs.ExpressionContexts as contexts
+use Rattle.module_meaning.specs.ExpressionShapes.{Declared, shape_of}
 use Rattle.module_meaning.specs.FunctionShapes.{function_shape}
 use Rattle.module_meaning.specs.ModuleShapes.{module_shape, takes_part}
 use Rattle.module_meaning.specs.Namings.{numbered_key}
-use Rattle.shader_runs.specs.Program.{Fixed, NamedConstant, function_numbered}
+use Rattle.shader_runs.specs.Program as shapes
+use Rattle.shader_runs.specs.Program.{Fixed, NamedConstant, Held, AtPlace, function_numbered}
 use Rattle.shader_runs.specs.Value.{IntegerType, PointerType, OtherType, Whole, Step, At, Field}
 
 -- a vector of one item
@@ -52,7 +54,7 @@ module _ (other : ir_module.Module) (info : ModuleInfo) (label : String Global)
     types = map (λ it. record { name = None; inner = it }) (
         inner.Scalar (record { kind = kind.Sint; width = 4 }) ∷
         inner.Vector vector.Tri (record { kind = kind.Float; width = 4 }) ∷
-        inner.Array 1 size.Dynamic 16 ∷ inner.Sampler false ∷ [])
+        inner.Array 1 size.Dynamic 16 ∷ inner.Sampler false ∷ inner.Pointer 0 space.Private ∷ [])
 
     -- the first constant has no name; the others are numbered 0 and 1, and the override 2
     abbrev constants : List Constant
@@ -76,7 +78,9 @@ module _ (other : ir_module.Module) (info : ModuleInfo) (label : String Global)
           types = types;
           constants = constants;
           overrides = record o { ty = 0 } ∷ [];
-          global_variables = variable_in space.Private 2 ∷ variable_in space.Handle 3 ∷ [];
+          global_variables =
+              variable_in space.Private 2 ∷ variable_in space.Handle 3 ∷
+              variable_in space.Handle 4 ∷ [];
           global_expressions =
               expression.Literal (literal.I32 (pos 7)) ∷ expression.Constant 0 ∷
               expression.Constant 1 ∷ [];
@@ -85,7 +89,7 @@ module _ (other : ir_module.Module) (info : ModuleInfo) (label : String Global)
         }
 
     constant_types : (module_shape m info).constant_types ≡ IntegerType (codes "i32") ∷ OtherType (codes "vec3<f32>") ∷ IntegerType (codes "i32") ∷ []
-    unfolding type_parts
+    unfolding type_segments
     constant_types = refl
 
     -- a constant without a name is written by its value, one with a name by its number
@@ -96,9 +100,16 @@ module _ (other : ir_module.Module) (info : ModuleInfo) (label : String Global)
     numbered : map (numbered_key m) (0 ∷ 1 ∷ 2 ∷ []) ≡ key.Constant 1 ∷ key.Constant 2 ∷ key.Override 0 ∷ []
     numbered = refl
 
-    global_types : (module_shape m info).global_types ≡ PointerType (codes "ptr<private, array<vec3<f32>>>") ∷ OtherType (codes "sampler") ∷ []
-    unfolding type_parts
-    global_types = refl
+    -- the space says what is held, also where the type is a pointer of another space
+    globals : (module_shape m info).globals ≡ AtPlace (codes "ptr<private, array<vec3<f32>>>") ∷ Held (OtherType (codes "sampler")) ∷ Held (PointerType (codes "ptr<private, i32>")) ∷ []
+    unfolding type_segments
+    globals = refl
+
+    placed_shape : shape_of (contexts.declared m info (λ h. None)) [] 0 (expression.GlobalVariable 0) ≡ shapes.Global false 0
+    placed_shape = refl
+
+    held_shape : shape_of (contexts.declared m info (λ h. None)) [] 0 (expression.GlobalVariable 2) ≡ shapes.Global true 2
+    held_shape = refl
 
     -- the function takes an element of an array by an index that is computed, and the entry point a
     -- component of a vector
@@ -148,16 +159,16 @@ module _ (other : ir_module.Module) (info : ModuleInfo) (label : String Global)
         }
 
     element : (module_shape taking known).parts (codes "ptr<workgroup, array<vec3<f32>>>") (At (pos 5)) ≡ codes "ptr<workgroup, vec3<f32>>"
-    unfolding type_parts
+    unfolding type_segments
     element = refl
 
     component : (module_shape taking known).parts (codes "ptr<function, vec3<f32>>") (At (pos 1)) ≡ codes "ptr<function, f32>"
-    unfolding type_parts
+    unfolding type_segments
     component = refl
 
     -- no expression takes the third component
     untaken : (module_shape taking known).parts (codes "ptr<function, vec3<f32>>") (At (pos 2)) ≡ []
-    unfolding type_parts
+    unfolding type_segments
     untaken = refl
 
     first_function : function_numbered (module_shape taking known).functions 0 ≡ Some (function_shape taking known element_taken to_array)
@@ -182,7 +193,7 @@ module _ (other : Vec StructMember Global) (member : StructMember) (declared : D
   abbrev d : Declared
   d =
       record declared {
-        around = record declared.around {
+        context = record declared.context {
           types = map (λ it. record { name = None; inner = it }) (
               inner.Scalar (record { kind = kind.Sint; width = 4 }) ∷
               inner.Vector vector.Tri (record { kind = kind.Float; width = 4 }) ∷

@@ -1,4 +1,4 @@
--- The program of shapes of a module of the part that is written so far: its functions alone.
+-- The program of shapes of a module that is written so far: its functions alone.
 --
 -- Throughout, m is a module, info what is known of it, fs are functions, and ess is what is known of
 -- their expressions.
@@ -14,12 +14,12 @@ use Rattle.naga_ir.specs.declared.module.Function as ir_function
 use Rattle.naga_ir.specs.declared.module.Module as ir_module
 use Rattle.naga_info.specs.declared.info.ExpressionInfo.{ExpressionInfo}
 use Rattle.naga_info.specs.declared.info.ModuleInfo.{ModuleInfo}
-use Rattle.module_meaning.specs.ExpressionTypes.{variable_type}
 use Rattle.module_meaning.specs.FunctionShapes.{function_shape, function_shapes}
 use Rattle.module_meaning.specs.ModuleShapes.{module_shape, initialiser, part_words}
-use Rattle.module_meaning.specs.Part.{is_written_so_far}
-use Rattle.module_meaning.specs.Types.{declared_type, type_of_values}
-use Rattle.module_meaning.proofs.Part.{written_so_far_parts}
+use Rattle.module_meaning.specs.ModuleShapes.{variable_shape}
+use Rattle.module_meaning.specs.WrittenSoFar.{is_written_so_far}
+use Rattle.module_meaning.specs.Types.{declared_type}
+use Rattle.module_meaning.proofs.WrittenSoFar.{written_so_far_parts}
 use Rattle.shader_runs.specs.Program.{Module}
 
 -- ---- modules
@@ -55,12 +55,12 @@ functions_alone m info =
     record {
       constant_types = [];
       initialisers = [];
-      global_types = [];
+      globals = [];
       parts = part_words m info;
       functions = reverse (function_shapes m info m.functions info.functions.items);
     }
 
--- as a module of the part does
+-- as a module that is written so far does
 pub declares_functions_alone : (m : ir_module.Module) (info : ModuleInfo) →
     IsTrue (is_written_so_far m) → module_shape m info ≡ functions_alone m info
 declares_functions_alone m info written =
@@ -82,9 +82,7 @@ declares_functions_alone m info written =
           map (λ o. declared_type m o.ty) (nothing_there m.overrides overrides.0 i);
       initialisers =
           map (initialiser m info) (named i);
-      global_types =
-          map (λ g. type_of_values m (variable_type g.space g.ty))
-          (nothing_there m.global_variables globals.0 i);
+      globals = map (variable_shape m) (nothing_there m.global_variables globals.0 i);
       parts = part_words m info;
       functions = reverse (functions i);
     }

@@ -27,16 +27,16 @@ use Rattle.module_meaning.specs.Ranges.{override_in_range, resolution_in_range, 
 
 -- ---- expressions
 module _ (m : Module) where
-  index : names_in_range m 0 0 0 (expression.AccessIndex 0 (2 ^ 32 - 1)) ≡ true
+  index : names_in_range m 0 0 (expression.AccessIndex 0 (2 ^ 32 - 1)) ≡ true
   index = refl
 
-  index-of_33_bits : names_in_range m 0 0 0 (expression.AccessIndex 0 (2 ^ 32)) ≡ false
+  index-of_33_bits : names_in_range m 0 0 (expression.AccessIndex 0 (2 ^ 32)) ≡ false
   index-of_33_bits = refl
 
-  pattern : names_in_range m 0 0 0 (expression.Swizzle vector.Bi 0 (component.Y ∷ component.X ∷ component.X ∷ component.X ∷ [])) ≡ true
+  pattern : names_in_range m 0 0 (expression.Swizzle vector.Bi 0 (component.Y ∷ component.X ∷ component.X ∷ component.X ∷ [])) ≡ true
   pattern = refl
 
-  pattern-of_three_letters : names_in_range m 0 0 0 (expression.Swizzle vector.Bi 0 (component.Y ∷ component.X ∷ component.X ∷ [])) ≡ false
+  pattern-of_three_letters : names_in_range m 0 0 (expression.Swizzle vector.Bi 0 (component.Y ∷ component.X ∷ component.X ∷ [])) ≡ false
   pattern-of_three_letters = refl
 
 -- ---- statements

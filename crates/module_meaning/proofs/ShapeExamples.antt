@@ -29,9 +29,10 @@ use Rattle.naga_ir.specs.declared.types.Type_.{Type_}
 use Rattle.naga_ir.specs.declared.types.VectorSize.TheVariants as vector
 use Rattle.naga_info.specs.declared.info.TypeResolution.TheVariants.{Handle}
 use Rattle.naga_words.specs.Contexts.{writer_context}
-use Rattle.naga_words.specs.Parts.{known_text}
-use Rattle.naga_words.specs.Spelling.{resolution_parts, type_parts}
-use Rattle.module_meaning.specs.ExpressionOperators.{Surroundings, applied_operator, constructor}
+use Rattle.naga_words.specs.Segments.{known_text}
+use Rattle.naga_words.specs.Spelling.{resolution_segments, type_segments}
+use Rattle.module_meaning.specs.ExpressionOperators.{ExpressionContext, applied_operator}
+use Rattle.module_meaning.specs.ExpressionOperators.{constructor}
 use Rattle.module_meaning.specs.ExpressionShapes.{Declared, shape_of}
 use Rattle.module_meaning.specs.OperatorTable.{run_word}
 use Rattle.module_meaning.specs.StatementShapes.{simple_shape}
@@ -56,11 +57,11 @@ module _ (members : Vec StructMember Global) where
       inner.Scalar (record { kind = kind.Float; width = 3 }) ∷ [])
 
   -- the expression with this handle has the type with it
-  abbrev around : Surroundings
-  around =
+  abbrev context : ExpressionContext
+  context =
       record {
         types = types;
-        spelled = λ r. known_text (resolution_parts (writer_context (record {
+        spelled = λ r. known_text (resolution_segments (writer_context (record {
           types = types;
           struct_name = λ h. codes "S";
           override_name = λ h. codes "O";
@@ -72,24 +73,25 @@ module _ (members : Vec StructMember Global) where
   abbrev declared : Declared
   declared =
       record {
-        around = around;
+        context = context;
         value_type = λ r. OtherType (codes "T");
         constant_tree = λ h. Some (NamedConstant h);
         override_tree = λ h. NamedConstant (h);
+        is_held = λ h. false;
         member = λ h index. codes "member";
       }
 
   -- what the runs call the operator of an expression
   abbrev word : ir.Expression → List ℕ
-  word e = option_map_or run_word (applied_operator around e) []
+  word e = option_map_or run_word (applied_operator context e) []
 
   -- ---- values and conversions
-  composed : run_word (constructor around (Handle 1) 3) ≡ codes "vec3<f32>"
-  unfolding type_parts
+  composed : run_word (constructor context (Handle 1) 3) ≡ codes "vec3<f32>"
+  unfolding type_segments
   composed = refl
 
-  formless : run_word (constructor around (Handle 11) 1) ≡ 32 ∷ 2 ∷ 2 ∷ 0 ∷ 2 ∷ 3 ∷ 0 ∷ 0 ∷ 0 ∷ []
-  unfolding type_parts
+  formless : run_word (constructor context (Handle 11) 1) ≡ 32 ∷ 2 ∷ 2 ∷ 0 ∷ 2 ∷ 3 ∷ 0 ∷ 0 ∷ 0 ∷ []
+  unfolding type_segments
   formless = refl
 
   converted : word (expression.As 0 kind.Float (Some 2)) ≡ codes "f16"
@@ -141,11 +143,18 @@ module _ (members : Vec StructMember Global) where
   abbrev offsets : List ir.Expression
   offsets = expression.Literal (literal.I32 (pos 1)) ∷ expression.Splat vector.Bi 0 ∷ []
 
-  sampled_at_zero : shape_of declared offsets 20 (expression.ImageSample 7 8 None 1 None (Some 1) level.Zero None false) ≡ Request Always (codes "textureSampleLevel") (7 ∷ 8 ∷ 1 ∷ []) (constant (Fixed (Opaque (codes "f32") 0)) (constant (Constructed (codes "vec2") (OtherType (codes "T")) (constant (Fixed (Whole (codes "i32") (pos 1))) no_constant)) no_constant))
+  sampled_at_zero : shape_of declared offsets 20
+      (expression.ImageSample 7 8 None 1 None (Some 1) level.Zero None false) ≡ Request Always
+      (codes "textureSampleLevel") (7 ∷ 8 ∷ 1 ∷ [])
+      (constant (Fixed (Opaque (codes "f32") 0))
+      (constant (Constructed (codes "vec2") (OtherType (codes "T"))
+      (constant (Fixed (Whole (codes "i32") (pos 1))) no_constant)) no_constant))
   sampled_at_zero = refl
 
   -- compared, level zero is told by the word alone, and an offset that is no constant is an operand
-  compared_at_zero : shape_of declared [] 20 (expression.ImageSample 6 8 None 1 None (Some 3) level.Zero (Some 0) false) ≡ Request Always (codes "textureSampleCompareLevel") (6 ∷ 8 ∷ 1 ∷ 0 ∷ 3 ∷ []) no_constant
+  compared_at_zero : shape_of declared [] 20
+      (expression.ImageSample 6 8 None 1 None (Some 3) level.Zero (Some 0) false) ≡ Request Always
+      (codes "textureSampleCompareLevel") (6 ∷ 8 ∷ 1 ∷ 0 ∷ 3 ∷ []) no_constant
   compared_at_zero = refl
 
   gathered : word (expression.ImageSample 7 8 (Some component.Y) 1 None None level.Zero None false) ≡ codes "textureGather 1"
@@ -158,20 +167,20 @@ module _ (members : Vec StructMember Global) where
   layers = refl
 
   -- ---- statements
-  exchanged : simple_shape around (atomic 4 (function.Exchange (Some 0)) 1 (Some 12)) ≡ Act (Asked (codes "atomicCompareExchangeWeak")) (4 ∷ 0 ∷ 1 ∷ []) (Some 12)
+  exchanged : simple_shape context (atomic 4 (function.Exchange (Some 0)) 1 (Some 12)) ≡ Act (Asked (codes "atomicCompareExchangeWeak")) (4 ∷ 0 ∷ 1 ∷ []) (Some 12)
   exchanged = refl
 
-  atomic_stored : simple_shape around (store 4 0) ≡ Act (Asked (codes "atomicStore")) (4 ∷ 0 ∷ []) None
+  atomic_stored : simple_shape context (store 4 0) ≡ Act (Asked (codes "atomicStore")) (4 ∷ 0 ∷ []) None
   atomic_stored = refl
 
-  texel_changed : simple_shape around (image_atomic 7 1 (Some 0) function.ExclusiveOr 2) ≡ Act (Asked (codes "textureAtomicXor")) (7 ∷ 1 ∷ 0 ∷ 2 ∷ []) None
+  texel_changed : simple_shape context (image_atomic 7 1 (Some 0) function.ExclusiveOr 2) ≡ Act (Asked (codes "textureAtomicXor")) (7 ∷ 1 ∷ 0 ∷ 2 ∷ []) None
   texel_changed = refl
 
-  shuffled : simple_shape around (subgroup_gather (mode.ShuffleUp 3) 1 12) ≡ Act (Asked (codes "subgroupShuffleUp")) (1 ∷ 3 ∷ []) (Some 12)
+  shuffled : simple_shape context (subgroup_gather (mode.ShuffleUp 3) 1 12) ≡ Act (Asked (codes "subgroupShuffleUp")) (1 ∷ 3 ∷ []) (Some 12)
   shuffled = refl
 
-  called : simple_shape around (call 5 (1 ∷ 2 ∷ []) None) ≡ Act (Called 5) (1 ∷ 2 ∷ []) None
+  called : simple_shape context (call 5 (1 ∷ 2 ∷ []) None) ≡ Act (Called 5) (1 ∷ 2 ∷ []) None
   called = refl
 
-  kept : simple_shape around (control_barrier (record { 0 = 10 })) ≡ Barrier (record { storage = false; work_group = true; sub_group = false; texture = true })
+  kept : simple_shape context (control_barrier (record { 0 = 10 })) ≡ Barrier (record { storage = false; work_group = true; sub_group = false; texture = true })
   kept = refl

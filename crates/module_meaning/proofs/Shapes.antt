@@ -6,7 +6,7 @@ use Rattle.module_meaning.specs.Shapes.{operator_shape}
 use Rattle.shader_runs.specs.Value.{ShortCircuit}
 use Rattle.shader_runs.specs.Program.{Expression, Operator, Logical, Function, operands_of}
 use Rattle.shader_runs.specs.Program.{is_counted, binds_as}
-use Rattle.shader_runs.specs.Scope.{Standing, is_present, usable_as, is_pure, is_constant_leaf}
+use Rattle.shader_runs.specs.Scope.{Availability, is_present, usable_as, is_pure, is_constant_leaf}
 use Rattle.shader_runs.specs.Scope.{is_emittable}
 use Rattle.shader_runs.specs.Value.{ShortCircuitAnd, ShortCircuitOr}
 
@@ -44,7 +44,7 @@ pub operator_bound : (f : Function) (h : ℕ) (op : TableOperator) (xs : List �
 operator_bound f h op xs =
     operator_any (λ e. binds_as f h (Some e) ≡ is_counted f 2 h) op xs (λ j l r. refl) refl
 
-pub operator_usable : (f : Function) (op : TableOperator) (xs : List ℕ) (s : Standing) →
+pub operator_usable : (f : Function) (op : TableOperator) (xs : List ℕ) (s : Availability) →
     usable_as f (Some (operator_shape op xs)) s ≡ is_present s
 operator_usable f op xs s =
     operator_any (λ e. usable_as f (Some e) s ≡ is_present s) op xs (λ j l r. refl) refl

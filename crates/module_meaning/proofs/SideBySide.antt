@@ -26,7 +26,9 @@ zip_parts (x ∷ xs) (y ∷ ys) zero p e = (ap (option_map (λ q. q.0)) e, ap (o
 zip_parts (x ∷ xs) (y ∷ ys) (suc h) p e = zip_parts xs ys h p e
 
 -- what is tested of all pairs holds of two items at one place
-pub paired_at : {X Y : Type 0} (test : X → Y → Bool) (xs : List X) (ys : List Y) → all_paired test xs ys ≡ true → (i : ℕ) (x : X) (y : Y) → slice_get xs i ≡ Some x → slice_get ys i ≡ Some y → test x y ≡ true
+pub paired_at : {X Y : Type 0} (test : X → Y → Bool) (xs : List X) (ys : List Y) →
+    all_paired test xs ys ≡ true → (i : ℕ) (x : X) (y : Y) → slice_get xs i ≡ Some x →
+    slice_get ys i ≡ Some y → test x y ≡ true
 paired_at test xs ys all i x y here there =
     list_all_at (λ p. test p.0 p.1) (zip xs ys) i (x, y) (and_parts (length xs == length ys) (list_all (λ p. test p.0 p.1) (zip xs ys)) all).1 (zip_at xs ys i x y here there)
 
@@ -38,7 +40,9 @@ item_beside (x ∷ xs) (z ∷ ys) zero y same e = (x, refl)
 item_beside (x ∷ xs) (z ∷ ys) (suc h) y same e = item_beside xs ys h y (omega (arith, same)) e
 
 -- the expressions of a function with what is known of them
-pub in_groups : (fs : List Function) (ess : List (List ExpressionInfo)) (i : ℕ) (f : Function) (es : List ExpressionInfo) → slice_get fs i ≡ Some f → slice_get ess i ≡ Some es → slice_get (function_groups fs ess) i ≡ Some (function_group f es)
+pub in_groups : (fs : List Function) (ess : List (List ExpressionInfo)) (i : ℕ) (f : Function)
+    (es : List ExpressionInfo) → slice_get fs i ≡ Some f → slice_get ess i ≡ Some es →
+    slice_get (function_groups fs ess) i ≡ Some (function_group f es)
 in_groups [] ess i f es here there = absurd cc
 in_groups (g ∷ fs) [] i f es here there = absurd cc
 in_groups (g ∷ fs) (ks ∷ ess) zero f es here there = λ i. Some (function_group (same_Some g f here i) (same_Some ks es there i))

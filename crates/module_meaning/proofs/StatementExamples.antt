@@ -22,15 +22,16 @@ use Rattle.naga_ir.specs.declared.types.TypeInner.TheVariants as inner
 use Rattle.naga_ir.specs.declared.types.VectorSize.TheVariants as vector
 use Rattle.naga_info.specs.declared.info.TypeResolution.{TypeResolution}
 use Rattle.naga_info.specs.declared.info.TypeResolution.TheVariants.{Handle, Value}
-use Rattle.module_meaning.specs.AlikeTypes.{handle_form}
+use Rattle.module_meaning.specs.AlikeTypes.{handle_key}
 use Rattle.module_meaning.specs.Initialisers.{initialiser_fits}
 use Rattle.module_meaning.specs.OperandDemands.{operand_is, points_to_components}
 use Rattle.module_meaning.specs.StatementsFit.{is_condition, is_selection, is_stored, is_returned}
-use Rattle.module_meaning.specs.StatementsFit.{points_to_atomic, is_result, is_result_of, is_call}
+use Rattle.module_meaning.specs.StatementsFit.{is_result, is_result_of, is_call}
 use Rattle.module_meaning.specs.StatementsFit.{are_passed, is_answered}
 use Rattle.module_meaning.specs.StatementsFit.{is_atomic_result, is_uniform_load_result}
 use Rattle.module_meaning.specs.StatementsFit.{is_ballot_result, is_subgroup_result}
 use Rattle.module_meaning.specs.StatementsFit.{statement_is_sound}
+use Rattle.module_meaning.specs.TypeParts.{points_to_atomic}
 
 abbrev signed : Scalar
 signed = record { kind = kind.Sint; width = 4 }
@@ -101,33 +102,33 @@ selection-last_falls_through : is_selection types known 0 (one (case label.Defau
 selection-last_falls_through = refl
 
 stored : is_stored types known 3 0 ≡ true
-unfolding handle_form
+unfolding handle_key
 stored = refl
 
 stored-of_another_type : is_stored types known 3 1 ≡ false
-unfolding handle_form
+unfolding handle_key
 stored-of_another_type = refl
 
 stored-through_a_value : is_stored types known 0 0 ≡ false
 stored-through_a_value = refl
 
 stored-in_an_atomic : is_stored types known 4 0 ≡ true
-unfolding handle_form
+unfolding handle_key
 stored-in_an_atomic = refl
 
 stored-in_a_component : is_stored types known 7 0 ≡ true
-unfolding handle_form
+unfolding handle_key
 stored-in_a_component = refl
 
 abbrev answer : Option FunctionResult
 answer = Some (record { ty = 0; binding = None })
 
 returned : is_returned types known answer (Some 0) ≡ true
-unfolding handle_form
+unfolding handle_key
 returned = refl
 
 returned-of_another_type : is_returned types known answer (Some 1) ≡ false
-unfolding handle_form
+unfolding handle_key
 returned-of_another_type = refl
 
 returned-nothing : is_returned types known answer None ≡ false
@@ -152,37 +153,42 @@ components-pointer_to_an_array : operand_is types known (points_to_components ty
 components-pointer_to_an_array = refl
 
 initialiser : initialiser_fits types known 0 (Some 0) ≡ true
-unfolding handle_form
+unfolding handle_key
 initialiser = refl
 
 initialiser-absent : initialiser_fits types known 0 None ≡ true
 initialiser-absent = refl
 
 initialiser-of_another_type : initialiser_fits types known 1 (Some 0) ≡ false
-unfolding handle_form
+unfolding handle_key
 initialiser-of_another_type = refl
 
 abbrev wanted : List FunctionArgument
 wanted = record { name = None; ty = 0; binding = None } ∷ []
 
 passed : are_passed types known wanted (0 ∷ []) ≡ true
-unfolding handle_form
+unfolding handle_key
 passed = refl
 
 passed-of_another_type : are_passed types known wanted (1 ∷ []) ≡ false
-unfolding handle_form
+unfolding handle_key
 passed-of_another_type = refl
 
 passed-too_few : are_passed types known wanted [] ≡ false
 passed-too_few = refl
 
 passed-too_many : are_passed types known wanted (0 ∷ 0 ∷ []) ≡ false
-unfolding handle_form
+unfolding handle_key
 passed-too_many = refl
 
 module _ (m : Module) (g : Function) where
   abbrev results : Function
-  results = record g { expressions = expression.CallResult 0 ∷ expression.CallResult 1 ∷ expression.SubgroupBallotResult ∷ expression.WorkGroupUniformLoadResult 0 ∷ expression.AtomicResult 0 false ∷ expression.SubgroupOperationResult 0 ∷ [] }
+  results = record g {
+    expressions =
+        expression.CallResult 0 ∷ expression.CallResult 1 ∷ expression.SubgroupBallotResult ∷
+        expression.WorkGroupUniformLoadResult 0 ∷ expression.AtomicResult 0 false ∷
+        expression.SubgroupOperationResult 0 ∷ [];
+  }
 
   call-result : is_result (is_result_of 0) results 0 ≡ true
   call-result = refl

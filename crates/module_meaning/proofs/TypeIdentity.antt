@@ -45,9 +45,9 @@ use Rattle.module_meaning.specs.TypeIdentity.{word_of_unspelled_type}
 abbrev pub truth_of : ℕ → Bool
 truth_of n = get_or (false ∷ true ∷ []) n false
 
-pub truth_told : (b : Bool) → truth_of (truth_number b) ≡ b
-truth_told true = refl
-truth_told false = refl
+pub truth_distinguished : (b : Bool) → truth_of (truth_number b) ≡ b
+truth_distinguished true = refl
+truth_distinguished false = refl
 
 abbrev pub kind_of : ℕ → ScalarKind
 kind_of n = get_or (kind.Sint ∷ kind.Uint ∷ kind.Float ∷ kind.Bool ∷ kind.AbstractInt ∷ kind.AbstractFloat ∷ []) n kind.Sint
@@ -55,58 +55,59 @@ kind_of n = get_or (kind.Sint ∷ kind.Uint ∷ kind.Float ∷ kind.Bool ∷ kin
 abbrev scalar_of : List ℕ → Scalar
 scalar_of code = record { kind = kind_of (get_or code 1 0); width = get_or code 2 0 }
 
-pub kind_told : (k : ScalarKind) → kind_of (kind_number k) ≡ k
-kind_told kind.Sint = refl
-kind_told _ = refl
+pub kind_distinguished : (k : ScalarKind) → kind_of (kind_number k) ≡ k
+kind_distinguished kind.Sint = refl
+kind_distinguished _ = refl
 
-scalar_told : (s : Scalar) → record { kind = kind_of (kind_number s.kind); width = s.width } ≡ s
-scalar_told s = λ i. record { kind = kind_told s.kind i; width = s.width }
+scalar_distinguished : (s : Scalar) →
+    record { kind = kind_of (kind_number s.kind); width = s.width } ≡ s
+scalar_distinguished s = λ i. record { kind = kind_distinguished s.kind i; width = s.width }
 
 abbrev pub vector_of : ℕ → VectorSize
 vector_of n = get_or (vector.Bi ∷ vector.Bi ∷ vector.Bi ∷ vector.Tri ∷ vector.Quad ∷ []) n vector.Bi
 
-pub vector_told : (n : VectorSize) → vector_of (vector_number n) ≡ n
-vector_told vector.Bi = refl
-vector_told _ = refl
+pub vector_distinguished : (n : VectorSize) → vector_of (vector_number n) ≡ n
+vector_distinguished vector.Bi = refl
+vector_distinguished _ = refl
 
 abbrev components_of : ℕ → Option VectorSize
 components_of n = get_or (None ∷ None ∷ Some vector.Bi ∷ Some vector.Tri ∷ Some vector.Quad ∷ []) n None
 
-components_told : (n : Option VectorSize) → components_of (components_number n) ≡ n
-components_told None = refl
-components_told (Some vector.Bi) = refl
-components_told (Some vector.Tri) = refl
-components_told (Some vector.Quad) = refl
+components_distinguished : (n : Option VectorSize) → components_of (components_number n) ≡ n
+components_distinguished None = refl
+components_distinguished (Some vector.Bi) = refl
+components_distinguished (Some vector.Tri) = refl
+components_distinguished (Some vector.Quad) = refl
 
 abbrev pub cooperative_of : ℕ → CooperativeSize
 cooperative_of n = if n == 8 then cooperative.Eight else cooperative.Sixteen
 
-pub cooperative_told : (n : CooperativeSize) → cooperative_of (cooperative_number n) ≡ n
-cooperative_told cooperative.Eight = refl
-cooperative_told _ = refl
+pub cooperative_distinguished : (n : CooperativeSize) → cooperative_of (cooperative_number n) ≡ n
+cooperative_distinguished cooperative.Eight = refl
+cooperative_distinguished _ = refl
 
 abbrev pub role_of : ℕ → CooperativeRole
 role_of n = get_or (role.A ∷ role.B ∷ role.C ∷ []) n role.A
 
-pub role_told : (r : CooperativeRole) → role_of (role_number r) ≡ r
-role_told role.A = refl
-role_told _ = refl
+pub role_distinguished : (r : CooperativeRole) → role_of (role_number r) ≡ r
+role_distinguished role.A = refl
+role_distinguished _ = refl
 
 abbrev space_of : (number bits : ℕ) → AddressSpace
 space_of n bits =
     get_or (space.Function ∷ space.Private ∷ space.WorkGroup ∷ space.Uniform ∷ space.Storage (record { 0 = bits }) ∷ space.Handle ∷
     space.Immediate ∷ space.TaskPayload ∷ space.RayPayload ∷ space.IncomingRayPayload ∷ []) n space.Function
 
-space_told : (s : AddressSpace) → space_of (space_number s) (space_bits s) ≡ s
-space_told space.Function = refl
-space_told _ = refl
+space_distinguished : (s : AddressSpace) → space_of (space_number s) (space_bits s) ≡ s
+space_distinguished space.Function = refl
+space_distinguished _ = refl
 
 abbrev pub dimension_of : ℕ → ImageDimension
 dimension_of n = get_or (dimension.D1 ∷ dimension.D1 ∷ dimension.D2 ∷ dimension.D3 ∷ dimension.Cube ∷ []) n dimension.D1
 
-pub dimension_told : (d : ImageDimension) → dimension_of (dimension_number d) ≡ d
-dimension_told dimension.D1 = refl
-dimension_told _ = refl
+pub dimension_distinguished : (d : ImageDimension) → dimension_of (dimension_number d) ≡ d
+dimension_distinguished dimension.D1 = refl
+dimension_distinguished _ = refl
 
 abbrev constant_of : ℕ → ArraySize
 constant_of zero = size.Dynamic
@@ -115,16 +116,17 @@ constant_of (suc n) = size.Constant (record { value = suc n; ok = omega arith })
 one_way : {n : ℕ} (p q : 1 ≤ n) → p ≡ q
 one_way p q = le_prop p q
 
-constant_told : (v : ℕ) (ok : 1 ≤ v) → constant_of v ≡ size.Constant (record { value = v; ok = ok })
-constant_told zero ok = absurd (omega (arith, ok))
-constant_told (suc n) ok = λ i. size.Constant (record { value = suc n; ok = one_way (omega arith) ok i })
+constant_distinguished : (v : ℕ) (ok : 1 ≤ v) →
+    constant_of v ≡ size.Constant (record { value = v; ok = ok })
+constant_distinguished zero ok = absurd (omega (arith, ok))
+constant_distinguished (suc n) ok = λ i. size.Constant (record { value = suc n; ok = one_way (omega arith) ok i })
 
 abbrev length_of : (kind number : ℕ) → ArraySize
 length_of kind number = get_or (constant_of number ∷ size.Pending number ∷ []) kind size.Dynamic
 
-length_told : (n : ArraySize) → length_of (length_kind n) (length_number n) ≡ n
-length_told (size.Constant n) = constant_told n.value n.ok
-length_told _ = refl
+length_distinguished : (n : ArraySize) → length_of (length_kind n) (length_number n) ≡ n
+length_distinguished (size.Constant n) = constant_distinguished n.value n.ok
+length_distinguished _ = refl
 
 abbrev pub formats : List StorageFormat
 formats =
@@ -135,9 +137,10 @@ formats =
     format.Rg32Float ∷ format.Rgba32Uint ∷ format.Rgba32Sint ∷ format.Rgba32Float ∷ format.Bgra8Unorm ∷ format.Rgb10a2Uint ∷ format.Rgb10a2Unorm ∷ format.Rg11b10Ufloat ∷
     format.R64Uint ∷ []
 
-pub format_told : (f : StorageFormat) → get_or formats (tag_of the_formats f) format.R8Unorm ≡ f
-format_told format.R8Unorm = refl
-format_told _ = refl
+pub format_distinguished : (f : StorageFormat) →
+    get_or formats (tag_of the_formats f) format.R8Unorm ≡ f
+format_distinguished format.R8Unorm = refl
+format_distinguished _ = refl
 
 abbrev class_of : (kind first second : ℕ) → ImageClass
 class_of kind first second =
@@ -164,24 +167,32 @@ inner_of code =
     []
     ) (at 0 0) (inner.RayQuery (truth_of (at 1 0)))
 
-pub inner_told : (it : TypeInner) → is_struct it ≡ false → inner_of (inner_code it) ≡ it
-inner_told (inner.Scalar s) e = ap inner.Scalar (scalar_told s)
-inner_told (inner.Vector n s) e = λ i. inner.Vector (vector_told n i) (scalar_told s i)
-inner_told (inner.Matrix c r s) e = λ i. inner.Matrix (vector_told c i) (vector_told r i) (scalar_told s i)
-inner_told (inner.CooperativeMatrix c r s role) e = λ i. inner.CooperativeMatrix (cooperative_told c i) (cooperative_told r i) (scalar_told s i) (role_told role i)
-inner_told (inner.Atomic s) e = ap inner.Atomic (scalar_told s)
-inner_told (inner.Pointer base s) e = ap (inner.Pointer base) (space_told s)
-inner_told (inner.ValuePointer n s p) e = λ i. inner.ValuePointer (components_told n i) (scalar_told s i) (space_told p i)
-inner_told (inner.Array base n stride) e = λ i. inner.Array base (length_told n i) stride
-inner_told (inner.BindingArray base n) e = ap (inner.BindingArray base) (length_told n)
-inner_told (inner.Image d a (class.Sampled k multi)) e = λ i. inner.Image (dimension_told d i) (truth_told a i) (class.Sampled (kind_told k i) (truth_told multi i))
-inner_told (inner.Image d a (class.Depth multi)) e = λ i. inner.Image (dimension_told d i) (truth_told a i) (class.Depth (truth_told multi i))
-inner_told (inner.Image d a (class.Storage f access)) e = λ i. inner.Image (dimension_told d i) (truth_told a i) (class.Storage (format_told f i) access)
-inner_told (inner.Image d a class.External) e = λ i. inner.Image (dimension_told d i) (truth_told a i) class.External
-inner_told (inner.Sampler c) e = ap inner.Sampler (truth_told c)
-inner_told (inner.AccelerationStructure v) e = ap inner.AccelerationStructure (truth_told v)
-inner_told (inner.RayQuery v) e = ap inner.RayQuery (truth_told v)
-inner_told (inner.Struct members span) e = absurd (true≢false e)
+pub inner_distinguished : (it : TypeInner) → is_struct it ≡ false → inner_of (inner_code it) ≡ it
+inner_distinguished (inner.Scalar s) e = ap inner.Scalar (scalar_distinguished s)
+inner_distinguished (inner.Vector n s) e =
+    λ i. inner.Vector (vector_distinguished n i) (scalar_distinguished s i)
+inner_distinguished (inner.Matrix c r s) e = λ i. inner.Matrix (vector_distinguished c i) (vector_distinguished r i) (scalar_distinguished s i)
+inner_distinguished (inner.CooperativeMatrix c r s role) e =
+    λ i. inner.CooperativeMatrix (cooperative_distinguished c i) (cooperative_distinguished r i)
+    (scalar_distinguished s i) (role_distinguished role i)
+inner_distinguished (inner.Atomic s) e = ap inner.Atomic (scalar_distinguished s)
+inner_distinguished (inner.Pointer base s) e = ap (inner.Pointer base) (space_distinguished s)
+inner_distinguished (inner.ValuePointer n s p) e = λ i. inner.ValuePointer (components_distinguished n i) (scalar_distinguished s i) (space_distinguished p i)
+inner_distinguished (inner.Array base n stride) e =
+    λ i. inner.Array base (length_distinguished n i) stride
+inner_distinguished (inner.BindingArray base n) e =
+    ap (inner.BindingArray base) (length_distinguished n)
+inner_distinguished (inner.Image d a (class.Sampled k multi)) e =
+    λ i. inner.Image (dimension_distinguished d i) (truth_distinguished a i)
+    (class.Sampled (kind_distinguished k i) (truth_distinguished multi i))
+inner_distinguished (inner.Image d a (class.Depth multi)) e = λ i. inner.Image (dimension_distinguished d i) (truth_distinguished a i) (class.Depth (truth_distinguished multi i))
+inner_distinguished (inner.Image d a (class.Storage f access)) e = λ i. inner.Image (dimension_distinguished d i) (truth_distinguished a i) (class.Storage (format_distinguished f i) access)
+inner_distinguished (inner.Image d a class.External) e = λ i. inner.Image (dimension_distinguished d i) (truth_distinguished a i) class.External
+inner_distinguished (inner.Sampler c) e = ap inner.Sampler (truth_distinguished c)
+inner_distinguished (inner.AccelerationStructure v) e =
+    ap inner.AccelerationStructure (truth_distinguished v)
+inner_distinguished (inner.RayQuery v) e = ap inner.RayQuery (truth_distinguished v)
+inner_distinguished (inner.Struct members span) e = absurd (true≢false e)
 
 -- ---- what a type is told by
 -- it is no struct by itself
@@ -205,11 +216,11 @@ identity_plain types (Value it) = by_itself it Nothing tt (is_struct it) refl
 abbrev pub identity_of : List ℕ → Identity
 identity_of code = get_or (Nothing ∷ StructAt (get_or code 1 0) ∷ []) (get_or code 0 0) (Itself (inner_of (drop 1 code)))
 
-pub identity_told : (i : Identity) → IsPlain i → identity_of (identity_code i) ≡ i
-identity_told Nothing p = refl
-identity_told (StructAt h) p = refl
-identity_told (Itself it) p = ap Itself (inner_told it p)
+pub identity_distinguished : (i : Identity) → IsPlain i → identity_of (identity_code i) ≡ i
+identity_distinguished Nothing p = refl
+identity_distinguished (StructAt h) p = refl
+identity_distinguished (Itself it) p = ap Itself (inner_distinguished it p)
 
 pub word_tells : (types : List Type_) (a b : TypeResolution) → word_of_unspelled_type (identity types a) ≡ word_of_unspelled_type (identity types b) → identity types a ≡ identity types b
 word_tells types a b e =
-    sym (identity_told (identity types a) (identity_plain types a)) ∙ (ap (λ w. identity_of (drop 1 w)) e ∙ identity_told (identity types b) (identity_plain types b))
+    sym (identity_distinguished (identity types a) (identity_plain types a)) ∙ (ap (λ w. identity_of (drop 1 w)) e ∙ identity_distinguished (identity types b) (identity_plain types b))

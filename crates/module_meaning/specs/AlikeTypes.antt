@@ -46,16 +46,16 @@ over_scalar tag s third fourth fifth =
     then Some (level tag (kind_number s.kind) s.width third fourth fifth)
     else None
 
-abbrev pub scalar_form : Scalar → Option (List ℕ)
-scalar_form s = over_scalar 0 s 0 0 0
+abbrev pub scalar_key : Scalar → Option (List ℕ)
+scalar_key s = over_scalar 0 s 0 0 0
 
-abbrev pub vector_form : VectorSize → Scalar → Option (List ℕ)
-vector_form n s = over_scalar 1 s (vector_number n) 0 0
+abbrev pub vector_key : VectorSize → Scalar → Option (List ℕ)
+vector_key n s = over_scalar 1 s (vector_number n) 0 0
 
 -- a vector, or a scalar by itself
-abbrev pub value_form : Option VectorSize → Scalar → Option (List ℕ)
-value_form None s = scalar_form s
-value_form (Some n) s = vector_form n s
+abbrev pub value_key : Option VectorSize → Scalar → Option (List ℕ)
+value_key None s = scalar_key s
+value_key (Some n) s = vector_key n s
 
 -- what may be done with a storage buffer, as its word tells: change in one step, write, or read
 abbrev pub buffer_access_number : StorageAccess → ℕ
@@ -67,18 +67,18 @@ access_number (space.Storage access) = buffer_access_number access
 access_number _ = 0
 
 -- a pointer
-abbrev pub pointer_form : AddressSpace → (pointee : Option (List ℕ)) → Option (List ℕ)
-pointer_form space pointee =
+abbrev pub pointer_key : AddressSpace → (pointee : Option (List ℕ)) → Option (List ℕ)
+pointer_key space pointee =
     option_map (λ it. level 5 (space_number space) (access_number space) 0 0 0 ++ it) pointee
 
 -- a pointer to a value without a type in the module: it has a form in a space that has a word
-abbrev pub value_pointer_form : AddressSpace → (pointee : Option (List ℕ)) → Option (List ℕ)
-value_pointer_form space pointee =
-    if is_none (space_word space) then None else pointer_form space pointee
+abbrev pub value_pointer_key : AddressSpace → (pointee : Option (List ℕ)) → Option (List ℕ)
+value_pointer_key space pointee =
+    if is_none (space_word space) then None else pointer_key space pointee
 
 -- an array, or a binding array: its length, an override by its handle, and its elements
-abbrev pub array_form : (tag : ℕ) → ArraySize → (element : Option (List ℕ)) → Option (List ℕ)
-array_form tag n element =
+abbrev pub array_key : (tag : ℕ) → ArraySize → (element : Option (List ℕ)) → Option (List ℕ)
+array_key tag n element =
     option_map (λ it. level tag (length_kind n) (length_number n) 0 0 0 ++ it) element
 
 -- what may be done with a storage image, as its word tells
@@ -89,73 +89,73 @@ image_access_number access =
     else 0)
 
 -- an image of this class; a sampled one has scalars of four bytes
-abbrev pub image_form : ImageDimension → (arrayed : Bool) → ImageClass → Option (List ℕ)
-image_form dim arrayed (class.Sampled kind multi) =
+abbrev pub image_key : ImageDimension → (arrayed : Bool) → ImageClass → Option (List ℕ)
+image_key dim arrayed (class.Sampled kind multi) =
     if is_some (scalar_word (record { kind = kind; width = 4 }))
     then Some (level 9 (dimension_number dim) (truth_number arrayed) 0 (kind_number kind)
     (truth_number multi))
     else None
-image_form dim arrayed (class.Depth multi) =
+image_key dim arrayed (class.Depth multi) =
     Some (level 9 (dimension_number dim) (truth_number arrayed) 1 (truth_number multi) 0)
-image_form dim arrayed (class.Storage format access) =
+image_key dim arrayed (class.Storage format access) =
     Some (level 9 (dimension_number dim) (truth_number arrayed) 2 (tag_of formats format)
     (image_access_number access))
-image_form dim arrayed class.External = Some (level 9 0 0 3 0 0)
+image_key dim arrayed class.External = Some (level 9 0 0 3 0 0)
 
 -- a type by itself, with the forms of the types that it is over; none where it has no form
-abbrev pub inner_form_by : (ℕ → Option (List ℕ)) → TypeInner → Option (List ℕ)
-inner_form_by f (inner.Scalar s) = scalar_form s
-inner_form_by f (inner.Vector n s) = vector_form n s
-inner_form_by f (inner.Matrix columns rows s) =
+abbrev pub inner_key_by : (ℕ → Option (List ℕ)) → TypeInner → Option (List ℕ)
+inner_key_by f (inner.Scalar s) = scalar_key s
+inner_key_by f (inner.Vector n s) = vector_key n s
+inner_key_by f (inner.Matrix columns rows s) =
     over_scalar 2 s (vector_number columns) (vector_number rows) 0
-inner_form_by f (inner.CooperativeMatrix columns rows s role) =
+inner_key_by f (inner.CooperativeMatrix columns rows s role) =
     over_scalar 3 s (cooperative_number columns) (cooperative_number rows) (role_number role)
-inner_form_by f (inner.Atomic s) = over_scalar 4 s 0 0 0
-inner_form_by f (inner.Pointer base space) = pointer_form space (f base)
-inner_form_by f (inner.ValuePointer n s space) = value_pointer_form space (value_form n s)
-inner_form_by f (inner.Array base n stride) = array_form 6 n (f base)
-inner_form_by f (inner.BindingArray base n) = array_form 7 n (f base)
-inner_form_by f (inner.Struct members span) = None
-inner_form_by f (inner.Image dim arrayed class) = image_form dim arrayed class
-inner_form_by f (inner.Sampler comparison) = Some (level 10 (truth_number comparison) 0 0 0 0)
-inner_form_by f (inner.AccelerationStructure vertex_return) =
+inner_key_by f (inner.Atomic s) = over_scalar 4 s 0 0 0
+inner_key_by f (inner.Pointer base space) = pointer_key space (f base)
+inner_key_by f (inner.ValuePointer n s space) = value_pointer_key space (value_key n s)
+inner_key_by f (inner.Array base n stride) = array_key 6 n (f base)
+inner_key_by f (inner.BindingArray base n) = array_key 7 n (f base)
+inner_key_by f (inner.Struct members span) = None
+inner_key_by f (inner.Image dim arrayed class) = image_key dim arrayed class
+inner_key_by f (inner.Sampler comparison) = Some (level 10 (truth_number comparison) 0 0 0 0)
+inner_key_by f (inner.AccelerationStructure vertex_return) =
     Some (level 11 (truth_number vertex_return) 0 0 0 0)
-inner_form_by f (inner.RayQuery vertex_return) = Some (level 12 (truth_number vertex_return) 0 0 0 0)
+inner_key_by f (inner.RayQuery vertex_return) = Some (level 12 (truth_number vertex_return) 0 0 0 0)
 
 -- the type at a handle: a struct by the handle
-abbrev pub named_form_by : (ℕ → Option (List ℕ)) → (handle : ℕ) → TypeInner → Option (List ℕ)
-named_form_by f h it = if is_struct it then Some (level 8 h 0 0 0 0) else inner_form_by f it
+abbrev pub named_key_by : (ℕ → Option (List ℕ)) → (handle : ℕ) → TypeInner → Option (List ℕ)
+named_key_by f h it = if is_struct it then Some (level 8 h 0 0 0 0) else inner_key_by f it
 
-abbrev pub found_form_by : (ℕ → Option (List ℕ)) → (handle : ℕ) → Option Type_ → Option (List ℕ)
-found_form_by f h None = None
-found_form_by f h (Some t) = named_form_by f h t.inner
+abbrev pub found_key_by : (ℕ → Option (List ℕ)) → (handle : ℕ) → Option Type_ → Option (List ℕ)
+found_key_by f h None = None
+found_key_by f h (Some t) = named_key_by f h t.inner
 
 -- the type at a handle, at most so many levels deep
-abbrev pub form_within : ℕ → List Type_ → (handle : ℕ) → Option (List ℕ)
-form_within zero types h = None
-form_within (suc levels) types h =
-    found_form_by (form_within levels types) h (slice_get types h)
+abbrev pub key_within : ℕ → List Type_ → (handle : ℕ) → Option (List ℕ)
+key_within zero types h = None
+key_within (suc levels) types h =
+    found_key_by (key_within levels types) h (slice_get types h)
 
 -- the form of the type at a handle, which is over types that stand before it
-unfoldable pub handle_form : List Type_ → (handle : ℕ) → Option (List ℕ)
-handle_form types h = form_within (suc h) types h
+unfoldable pub handle_key : List Type_ → (handle : ℕ) → Option (List ℕ)
+handle_key types h = key_within (suc h) types h
 
 -- the form of a type by itself
-abbrev pub inner_form : List Type_ → TypeInner → Option (List ℕ)
-inner_form types it = inner_form_by (handle_form types) it
+abbrev pub inner_key : List Type_ → TypeInner → Option (List ℕ)
+inner_key types it = inner_key_by (handle_key types) it
 
 -- the form of an expression's type
-abbrev pub type_form : List Type_ → TypeResolution → Option (List ℕ)
-type_form types (Handle h) = handle_form types h
-type_form types (Value it) = inner_form types it
+abbrev pub type_key : List Type_ → TypeResolution → Option (List ℕ)
+type_key types (Handle h) = handle_key types h
+type_key types (Value it) = inner_key types it
 
 -- Does WGSL spell the type?
-abbrev pub has_form : List Type_ → TypeResolution → Bool
-has_form types r = is_some (type_form types r)
+abbrev pub is_spelled : List Type_ → TypeResolution → Bool
+is_spelled types r = is_some (type_key types r)
 
 -- what tells a type from those that are not alike to it
 abbrev pub type_identity : List Type_ → TypeResolution → List ℕ
-type_identity types r = unwrap_or (type_form types r) (word_of_unspelled_type (identity types r))
+type_identity types r = unwrap_or (type_key types r) (word_of_unspelled_type (identity types r))
 
 abbrev pub are_alike : List Type_ → (a b : TypeResolution) → Bool
 are_alike types a b = bytes_eq (type_identity types a) (type_identity types b)

@@ -9,7 +9,7 @@ use Rattle.shader_runs.specs.Bindings.{text_lets, function_bindings, bound_names
 use Rattle.wgsl_text.specs.Functions.{Function}
 use Rattle.wgsl_text.specs.Declarations.{Program}
 use Rattle.module_meaning.specs.Names.{module_names}
-use Rattle.module_meaning.specs.Types.{told_spelling, type_names}
+use Rattle.module_meaning.specs.Types.{annotated_spelling, type_names}
 use Rattle.module_meaning.specs.FunctionShapes.{function_shapes}
 use Rattle.module_meaning.specs.Namings.{namings_from, namings}
 use Rattle.text_meaning.specs.Abstraction.{program_read}
@@ -20,7 +20,7 @@ abbrev pub module_annotations :
     (explicit : Bool) → Module → TypeNames → List Naming → List (List ExpressionInfo) →
     List (List (Option (List ℕ)))
 module_annotations explicit m t (f ∷ fs) (es ∷ ess) =
-    map (λ b. told_spelling explicit m t es b.handle) (function_bindings f)
+    map (λ b. annotated_spelling explicit m t es b.handle) (function_bindings f)
     ∷ module_annotations explicit m t fs ess
 module_annotations explicit m t _ _ = []
 

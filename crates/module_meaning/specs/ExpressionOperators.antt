@@ -1,8 +1,8 @@
--- Which operator each expression applies, of all expressions: by itself, or by what stands around
--- it, as the types of its operands are. What applies none is a constant, a leaf, a plain load, a
+-- Which operator each expression applies, of all expressions: by itself, or by its context,
+-- as the types of its operands are. What applies none is a constant, a leaf, a plain load, a
 -- part of what has parts, components of a vector, or the result of a statement.
 --
--- Throughout, a is what stands around an expression, h the handle of an operand, r what is known of
+-- Throughout, a is the context of an expression, h the handle of an operand, r what is known of
 -- the type of an expression, t a type of the module, and s a scalar.
 use Rattle.std.specs.Prelude.{ℕ, Bool, true, false, List, length, slice_get, Option, Some}
 use Rattle.std.specs.Prelude.{None, if◌then◌else◌}
@@ -28,8 +28,8 @@ use Rattle.naga_info.specs.Resolution.{inner_of}
 use Rattle.naga_info.specs.declared.info.TypeResolution.{TypeResolution}
 use Rattle.naga_info.specs.declared.info.TypeResolution.TheVariants.{Handle, Value}
 use Rattle.module_meaning.specs.Conversions.{conversion_target, keeps_bits}
-use Rattle.module_meaning.specs.OperatorTable.{Operator, BinarySign, UnarySign, Choice}
-use Rattle.module_meaning.specs.OperatorTable.{Mathematical, Relation, Derivative, ArrayLength}
+use Rattle.module_meaning.specs.OperatorTable.{Operator, BinarySign, UnarySign, Select}
+use Rattle.module_meaning.specs.OperatorTable.{Math, Relational, Derivative, ArrayLength}
 use Rattle.module_meaning.specs.OperatorTable.{Sample, Gather, Texel, ImageSize, CountOf}
 use Rattle.module_meaning.specs.OperatorTable.{AtomicLoad, CooperativeLoad, CooperativeMultiplyAdd}
 use Rattle.module_meaning.specs.OperatorTable.{RayIntersection, RayCorners, Construct, Splat}
@@ -37,9 +37,10 @@ use Rattle.module_meaning.specs.OperatorTable.{Convert, Reinterpret, WithoutForm
 use Rattle.module_meaning.specs.OperatorTable.{ValueOf, MatrixLoad, Level, Automatic, Zero, Exact}
 use Rattle.module_meaning.specs.OperatorTable.{Biased, Graded, TexelOf, OnlyTexel, SampleTexel}
 use Rattle.module_meaning.specs.OperatorTable.{LevelTexel, BothTexel, Levels, Layers, Samples}
+use Rattle.module_meaning.specs.TypeParts.{points_to_atomic}
 
--- what stands around an expression
-pub record Surroundings : Type 0 where
+-- the context of an expression
+pub record ExpressionContext : Type 0 where
   -- the module's types
   pub types : List Type_
   -- how a type is spelled, where it has a form
@@ -50,7 +51,7 @@ pub record Surroundings : Type 0 where
   pub known : ℕ → Option TypeResolution
 
 -- the type of the expression with this handle
-abbrev pub type_known : Surroundings → ℕ → Option TypeInner
+abbrev pub type_known : ExpressionContext → ℕ → Option TypeInner
 type_known a h = option_and_then (λ r. inner_of r a.types) (a.known h)
 
 -- the module's type with this handle
@@ -59,7 +60,7 @@ type_with types h = option_map (λ t. t.inner) (slice_get types h)
 
 -- ---- values of a type
 -- a value of this type from so many components
-abbrev pub constructor : Surroundings → TypeResolution → (components : ℕ) → Operator
+abbrev pub constructor : ExpressionContext → TypeResolution → (components : ℕ) → Operator
 constructor a r components =
     option_map_or (λ spelling. Construct spelling components) (a.spelled r)
     (WithoutForm (ValueOf (a.numbers r) components))
@@ -72,7 +73,8 @@ cast_to true spelling = Reinterpret spelling
 
 -- What takes a value of a type to other scalars. Where the type or the new one has no form, it is
 -- an operator by itself.
-abbrev pub cast : Surroundings → ScalarKind → (convert : Option ℕ) → Option TypeInner → Operator
+abbrev pub cast : ExpressionContext → ScalarKind → (convert : Option ℕ) → Option TypeInner →
+    Operator
 cast a kind convert operand =
     let new = option_and_then (λ it. conversion_target it kind convert) operand in
     option_map_or (cast_to (option_map_or (λ it. keeps_bits it convert) operand false))
@@ -95,29 +97,19 @@ has_parts types (inner.ValuePointer size s space) = is_some size
 has_parts types it = is_composite it
 
 -- the part at an index, where there are no parts, is an operator by itself
-abbrev pub part_operator : Surroundings → (base index : ℕ) → Option Operator
+abbrev pub part_operator : ExpressionContext → (base index : ℕ) → Option Operator
 part_operator a base index =
     if option_map_or (has_parts a.types) (type_known a base) false then None
     else Some (WithoutForm (PartAt index))
 
 -- ---- memory
--- what a pointer of this type points to, where that is a type of the module
-abbrev pub type_behind : List Type_ → TypeInner → Option TypeInner
-type_behind types (inner.Pointer base space) = type_with types base
-type_behind types _ = None
-
-abbrev pub is_atomic : TypeInner → Bool
-is_atomic (inner.Atomic s) = true
-is_atomic _ = false
-
 -- the expression with this handle is a pointer to an atomic
-abbrev pub points_to_atomic : Surroundings → ℕ → Bool
-points_to_atomic a h =
-    option_map_or is_atomic (option_and_then (type_behind a.types) (type_known a h)) false
+abbrev pub is_atomic_pointer : ExpressionContext → ℕ → Bool
+is_atomic_pointer a h = option_map_or (points_to_atomic a.types) (type_known a h) false
 
 -- a load of an atomic is called, any other one is plain
-abbrev pub load_operator : Surroundings → (pointer : ℕ) → Option Operator
-load_operator a pointer = if points_to_atomic a pointer then Some AtomicLoad else None
+abbrev pub load_operator : ExpressionContext → (pointer : ℕ) → Option Operator
+load_operator a pointer = if is_atomic_pointer a pointer then Some AtomicLoad else None
 
 -- a scalar or a vector has such scalars
 abbrev pub scalar_in : TypeInner → Option Scalar
@@ -132,7 +124,7 @@ scalar_behind types (inner.ValuePointer size s space) = Some s
 scalar_behind types _ = None
 
 -- a load of a cooperative matrix of the scalars that are pointed to
-abbrev pub matrix_load : Surroundings → (columns rows : CooperativeSize) → CooperativeRole →
+abbrev pub matrix_load : ExpressionContext → (columns rows : CooperativeSize) → CooperativeRole →
     CooperativeData → Operator
 matrix_load a columns rows role place =
     let s = option_and_then (scalar_behind a.types) (type_known a place.pointer) in
@@ -178,7 +170,7 @@ query_operator query.NumLayers = CountOf Layers
 query_operator query.NumSamples = CountOf Samples
 
 -- ---- expressions
-abbrev pub applied_operator : Surroundings → Expression → Option Operator
+abbrev pub applied_operator : ExpressionContext → Expression → Option Operator
 applied_operator a (expression.Literal value) = None
 applied_operator a (expression.Constant handle) = None
 applied_operator a (expression.Override handle) = None
@@ -204,10 +196,10 @@ applied_operator a (expression.ImageLoad image coordinate array_index sample lev
 applied_operator a (expression.ImageQuery image query) = Some (query_operator query)
 applied_operator a (expression.Unary op expr) = Some (UnarySign op)
 applied_operator a (expression.Binary op left right) = Some (BinarySign op)
-applied_operator a (expression.Select condition accept reject) = Some Choice
+applied_operator a (expression.Select condition accept reject) = Some Select
 applied_operator a (expression.Derivative axis ctrl expr) = Some (Derivative axis ctrl)
-applied_operator a (expression.Relational fun argument) = Some (Relation fun)
-applied_operator a (expression.Math fun arg arg1 arg2 arg3) = Some (Mathematical fun)
+applied_operator a (expression.Relational fun argument) = Some (Relational fun)
+applied_operator a (expression.Math fun arg arg1 arg2 arg3) = Some (Math fun)
 applied_operator a (expression.As expr kind convert) =
     Some (cast a kind convert (type_known a expr))
 applied_operator a (expression.CallResult function) = None

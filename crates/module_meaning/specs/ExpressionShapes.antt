@@ -1,6 +1,6 @@
 -- What each expression evaluates, of all expressions.
 --
--- Throughout, d is what stands around a function's expressions es, h a handle, e an expression, r
+-- Throughout, d is the context of a function's expressions es, h a handle, e an expression, r
 -- what is known of its type, and t a tree of constants (ts are several).
 use Rattle.std.specs.Prelude.{ℕ, zero, suc, Bool, true, false, ◌||◌, List, [], ◌∷◌, ◌++◌, take}
 use Rattle.std.specs.Prelude.{length, slice_get, Option, Some, None, if◌then◌else◌, codes}
@@ -20,7 +20,8 @@ use Rattle.naga_ir.specs.declared.types.TypeInner.TheVariants as inner
 use Rattle.naga_info.specs.declared.info.TypeResolution.{TypeResolution}
 use Rattle.naga_info.specs.declared.info.TypeResolution.TheVariants.{Handle}
 use Rattle.naga_info.specs.Resolution.{inner_of, handle_of}
-use Rattle.module_meaning.specs.ExpressionOperators.{Surroundings, applied_operator, constructor}
+use Rattle.module_meaning.specs.ExpressionOperators.{ExpressionContext, applied_operator}
+use Rattle.module_meaning.specs.ExpressionOperators.{constructor}
 use Rattle.module_meaning.specs.ExpressionOperators.{type_with, load_operator}
 use Rattle.module_meaning.specs.Literals.{literal_value}
 use Rattle.module_meaning.specs.OperatorTable.{Operator as TableOperator, Splat, Sample, Gather}
@@ -37,13 +38,15 @@ use Rattle.shader_runs.specs.Program.{AskingRule, WhenCounted, Always, Result}
 
 -- what the shapes of a function's expressions ask of the module
 pub record Declared : Type 0 where
-  -- what stands around them
-  pub around : Surroundings
+  -- their context
+  pub context : ExpressionContext
   -- the type of the values of a type
   pub value_type : TypeResolution → ValueType
   -- a constant and an override as they are written: by name, or a constant without one by its value
   pub constant_tree : ℕ → Option ConstantTree
   pub override_tree : ℕ → ConstantTree
+  -- whether a variable is held, as one in the handle space is
+  pub is_held : ℕ → Bool
   -- the name of a struct's member
   pub member : (struct_handle index : ℕ) → List ℕ
 
@@ -66,7 +69,8 @@ trees_of tree_of (h ∷ hs) = tree_then (tree_of h) (trees_of tree_of hs)
 -- a value of a type from parts; the type is that known of the expression with this handle
 abbrev pub built : Declared → ℕ → TableOperator → List ConstantTree → Option ConstantTree
 built d h operator ts =
-    option_map (λ r. Constructed (run_word operator) (d.value_type r) (trees ts)) (d.around.known h)
+    option_map (λ r. Constructed (run_word operator) (d.value_type r) (trees ts))
+    (d.context.known h)
 
 -- An expression that is written out as a constant, over the trees of its operands: a literal, a
 -- constant, an override, a zero value, a composition or a splat. All others have no such tree.
@@ -75,9 +79,9 @@ abbrev pub tree_over :
 tree_over d tree_of h (expression.Literal value) = Some (Fixed (literal_value value))
 tree_over d tree_of h (expression.Constant handle) = d.constant_tree handle
 tree_over d tree_of h (expression.Override handle) = Some (d.override_tree handle)
-tree_over d tree_of h (expression.ZeroValue ty) = built d h (constructor d.around (Handle ty) 0) []
+tree_over d tree_of h (expression.ZeroValue ty) = built d h (constructor d.context (Handle ty) 0) []
 tree_over d tree_of h (expression.Compose ty components) =
-    option_and_then (built d h (constructor d.around (Handle ty) (length components.items)))
+    option_and_then (built d h (constructor d.context (Handle ty) (length components.items)))
     (trees_of tree_of components.items)
 tree_over d tree_of h (expression.Splat size value) =
     option_and_then (λ t. built d h (Splat size) (t ∷ [])) (tree_of value)
@@ -155,7 +159,7 @@ own_selector d whole _ index = None
 -- the same, of a value or of what is behind a pointer
 abbrev pub selector : Declared → (whole : Option ℕ) → TypeInner → (index : ℕ) → Option Selector
 selector d whole (inner.Pointer base space) index =
-    option_and_then (λ it. own_selector d (Some base) it index) (type_with d.around.types base)
+    option_and_then (λ it. own_selector d (Some base) it index) (type_with d.context.types base)
 selector d whole (inner.ValuePointer (Some size) s space) index = Some (ElementAt index)
 selector d whole it index = own_selector d whole it index
 
@@ -163,8 +167,8 @@ selector d whole it index = own_selector d whole it index
 abbrev pub part_selector : Declared → (base index : ℕ) → Option Selector
 part_selector d base index =
     option_and_then
-    (λ r. option_and_then (λ it. selector d (handle_of r) it index) (inner_of r d.around.types))
-    (d.around.known base)
+    (λ r. option_and_then (λ it. selector d (handle_of r) it index) (inner_of r d.context.types))
+    (d.context.known base)
 
 -- a part; what has no parts has an operator of its own for them
 abbrev pub part_shape : (base index : ℕ) → Option Selector → Expression
@@ -201,9 +205,9 @@ shape_of d es h (expression.Literal value) = Constant (Fixed (literal_value valu
 shape_of d es h (expression.Constant handle) = constant_shape (d.constant_tree handle)
 shape_of d es h (expression.Override handle) = Constant (d.override_tree handle)
 shape_of d es h (expression.ZeroValue ty) =
-    constant_shape (built d h (constructor d.around (Handle ty) 0) [])
+    constant_shape (built d h (constructor d.context (Handle ty) 0) [])
 shape_of d es h (expression.FunctionArgument number) = Argument number
-shape_of d es h (expression.GlobalVariable handle) = Global handle
+shape_of d es h (expression.GlobalVariable handle) = Global (d.is_held handle) handle
 shape_of d es h (expression.LocalVariable handle) = Local handle
 shape_of d es h (expression.Access base index) = Access base index
 shape_of d es h (expression.AccessIndex base index) =
@@ -211,7 +215,7 @@ shape_of d es h (expression.AccessIndex base index) =
 shape_of d es h (expression.Swizzle size vector pattern) =
     Swizzle (swizzle_letters size pattern) vector
 shape_of d es h (expression.Load pointer) =
-    applied_or (Load pointer) (pointer ∷ []) (load_operator d.around pointer)
+    applied_or (Load pointer) (pointer ∷ []) (load_operator d.context pointer)
 shape_of d es h
     (expression.ImageSample
     image sampler gather coordinate array_index offset level depth_ref clamp) =
@@ -223,7 +227,7 @@ shape_of d es h
     (expression.ImageSample
     image sampler gather coordinate array_index left level depth_ref clamp))
     (written_zero level unwritten) written
-    (applied_operator d.around
+    (applied_operator d.context
     (expression.ImageSample
     image sampler gather coordinate array_index offset level depth_ref clamp))
-shape_of d es h e = applied_or Result (expression_operands e) (applied_operator d.around e)
+shape_of d es h e = applied_or Result (expression_operands e) (applied_operator d.context e)

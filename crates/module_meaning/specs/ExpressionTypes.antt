@@ -27,7 +27,7 @@ use Rattle.naga_ir.specs.declared.types.VectorSize.{VectorSize}
 use Rattle.naga_info.specs.declared.info.TypeResolution.{TypeResolution}
 use Rattle.naga_info.specs.declared.info.TypeResolution.TheVariants.{Handle, Value}
 use Rattle.module_meaning.specs.AlikeTypes.{are_alike}
-use Rattle.module_meaning.specs.TypeParts.{known_inner, own_scalar, vector_scalar}
+use Rattle.module_meaning.specs.TypeParts.{known_inner, component_scalar, vector_scalar}
 use Rattle.module_meaning.specs.TypeParts.{known_pointee, part_type}
 
 -- what an expression's type may be: one like this; any; or none, as what it stands for gives none
@@ -80,9 +80,9 @@ local_type (Some f) handle =
 abbrev pub vector_of : VectorSize → Scalar → TypeResolution
 vector_of n s = Value (inner.Vector n s)
 
--- a vector over the scalar that the operand is
+-- a vector over the scalar of the scalar or the vector that the operand is
 abbrev pub splat_type : VectorSize → Option TypeInner → Option TypeResolution
-splat_type n value = option_map (vector_of n) (option_and_then own_scalar value)
+splat_type n value = option_map (vector_of n) (option_and_then component_scalar value)
 
 -- a vector over the scalar of the vector that the operand is
 abbrev pub swizzle_type : VectorSize → Option TypeInner → Option TypeResolution

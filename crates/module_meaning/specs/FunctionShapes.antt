@@ -1,7 +1,7 @@
 -- Functions as shapes, of all modules, with every expression and statement.
 --
 -- Throughout, m is a module, info what is known of it, f a function (fs are several), es is what is
--- known of its expressions (ess are those of several functions), a what stands around them, d what
+-- known of its expressions (ess are those of several functions), a their context, d what
 -- the module declares too, h a handle and e an expression (xs are several).
 use Rattle.std.specs.Prelude.{ℕ, ◌+◌, List, [], ◌∷◌, map}
 use Rattle.std.specs.Option.{option_map}
@@ -14,18 +14,19 @@ use Rattle.naga_ir.specs.declared.module.Function as ir_function
 use Rattle.naga_ir.specs.declared.module.Module as ir_module
 use Rattle.naga_info.specs.declared.info.ExpressionInfo.{ExpressionInfo}
 use Rattle.naga_info.specs.declared.info.ModuleInfo.{ModuleInfo}
-use Rattle.module_meaning.specs.ExpressionOperators.{Surroundings}
+use Rattle.module_meaning.specs.BindingCounts.{binding_counts}
+use Rattle.module_meaning.specs.ExpressionOperators.{ExpressionContext}
 use Rattle.module_meaning.specs.ExpressionShapes.{Declared, shape_of}
-use Rattle.module_meaning.specs.Shapes.{label_shape, given_from}
+use Rattle.module_meaning.specs.Shapes.{label_shape, named_from}
 use Rattle.module_meaning.specs.StatementShapes.{simple_shape}
-use Rattle.module_meaning.specs.Surroundings.{declared, types_known}
+use Rattle.module_meaning.specs.ExpressionContexts.{declared, types_known}
 use Rattle.module_meaning.specs.Types.{declared_type, local_pointer, type_of_values}
 use Rattle.shader_runs.specs.Program.{Expression, Statement, Block, If, Switch, Loop, Statements}
 use Rattle.shader_runs.specs.Program.{end, then, Cases, no_case, case, Function}
 
 abbrev mutual
   -- what a statement does
-  pub statement_shape : Surroundings → StatementTree → Statement
+  pub statement_shape : ExpressionContext → StatementTree → Statement
   statement_shape a (simple s) = simple_shape a s
   statement_shape a (block b) = Block (statements_shape a b)
   statement_shape a (branch condition accept reject) =
@@ -34,11 +35,11 @@ abbrev mutual
   statement_shape a (loop body continuing break_if) =
       Loop (statements_shape a body) (statements_shape a continuing) break_if
 
-  pub statements_shape : Surroundings → BlockTree → Statements
+  pub statements_shape : ExpressionContext → BlockTree → Statements
   statements_shape a no_statements = end
   statements_shape a (statement s b) = then (statement_shape a s) (statements_shape a b)
 
-  pub cases_shape : Surroundings → CaseTrees → Cases
+  pub cases_shape : ExpressionContext → CaseTrees → Cases
   cases_shape a no_cases = no_case
   cases_shape a (case_tree value body falls cases) =
       case (label_shape value) (statements_shape a body) falls (cases_shape a cases)
@@ -62,9 +63,9 @@ function_shape m info f es =
       local_pointers = map (λ l. local_pointer m l.ty) f.local_variables;
       expressions = shapes_from d f.expressions 0 f.expressions;
       types = map (λ e. type_of_values m e.ty) es;
-      counts = map (λ e. e.ref_count) es;
-      given_names = given_from (keys f.named_expressions) 0 f.expressions;
-      body = statements_shape d.around f.body;
+      counts = binding_counts d f.expressions es;
+      named_expressions = named_from (keys f.named_expressions) 0 f.expressions;
+      body = statements_shape d.context f.body;
     }
 
 -- the functions, each with what is known of it

@@ -1,6 +1,8 @@
+pub mod BindingCounts
 pub mod Accepted
 pub mod AgreeingOperators
 pub mod AlikeTypes
+pub mod BindingExtensions
 pub mod Bindings
 pub mod Conversions
 pub mod ExpressionOperators
@@ -8,7 +10,7 @@ pub mod ExpressionShapes
 pub mod ExpressionTypes
 pub mod Faithful
 pub mod FunctionShapes
-pub mod GivenLabels
+pub mod ExpressionLabels
 pub mod InfoSizes
 pub mod Initialisers
 pub mod Interface
@@ -22,7 +24,7 @@ pub mod Numbers
 pub mod OperandDemands
 pub mod Operations
 pub mod OperatorTable
-pub mod Part
+pub mod WrittenSoFar
 pub mod Premises
 pub mod Ranges
 pub mod Resolution
@@ -30,9 +32,10 @@ pub mod Sampling
 pub mod ShapeKinds
 pub mod Shapes
 pub mod Soundness
+pub mod StatementForms
 pub mod StatementShapes
 pub mod StatementsFit
-pub mod Surroundings
+pub mod ExpressionContexts
 pub mod TypeIdentity
 pub mod TypeParts
 pub mod Types

@@ -11,6 +11,7 @@ use Rattle.std.specs.Option.{option_map_or, is_some}
 use Rattle.naga_ir.specs.declared.expression.Expression as ir
 use Rattle.naga_ir.specs.declared.expression.Expression.TheVariants as expression
 use Rattle.naga_ir.specs.declared.module.Constant as ir_constant
+use Rattle.naga_ir.specs.declared.module.GlobalVariable.{GlobalVariable}
 use Rattle.naga_ir.specs.declared.module.Module as ir_module
 use Rattle.naga_info.specs.declared.info.ModuleInfo.{ModuleInfo}
 use Rattle.naga_info.specs.declared.info.TypeResolution.{TypeResolution}
@@ -18,9 +19,10 @@ use Rattle.module_meaning.specs.AgreeingOperators.{Group, groups_of}
 use Rattle.module_meaning.specs.ExpressionShapes.{Declared, part_selector}
 use Rattle.module_meaning.specs.ExpressionTypes.{variable_type}
 use Rattle.module_meaning.specs.FunctionShapes.{function_shape}
-use Rattle.module_meaning.specs.Surroundings.{declared, global_tree}
-use Rattle.module_meaning.specs.Types.{declared_type, type_of_values, word_of_values}
-use Rattle.shader_runs.specs.Program.{ConstantTree, Fixed, Module}
+use Rattle.module_meaning.specs.ExpressionContexts.{declared, global_tree}
+use Rattle.module_meaning.specs.InfoSizes.{is_handle_space}
+use Rattle.module_meaning.specs.Types.{declared_type, word_of_values}
+use Rattle.shader_runs.specs.Program.{ConstantTree, Fixed, VariableShape, Held, AtPlace, Module}
 use Rattle.shader_runs.specs.Value.{PartTypes, PointerType, Truth, Step, At, Field, step_of}
 use Rattle.shader_runs.specs.Value.{same_bytes, same_integer, same_type}
 
@@ -49,7 +51,7 @@ is_numbered (Field w) = false
 -- Is the value of the expression with this handle a pointer spelled so?
 abbrev pub points_so : Declared → (whole : List ℕ) → (base : ℕ) → Bool
 points_so d whole base =
-    option_map_or (λ r. same_type (d.value_type r) (PointerType whole)) (d.around.known base) false
+    option_map_or (λ r. same_type (d.value_type r) (PointerType whole)) (d.context.known base) false
 
 -- Does the expression take the part to which the step leads, of a pointer spelled so? An index that
 -- is computed may be any number, a known one selects a part.
@@ -81,6 +83,14 @@ part_words m info whole step =
     option_map_or (word_of_values m)
     (slice_get (flat_map (parts_taken m info whole step) (groups_of m info)) 0) []
 
+-- ---- variables
+-- A variable by its space: in the handle space it holds a value of its type, which may be a pointer
+-- to something else; in any other it is at a place.
+abbrev pub variable_shape : ir_module.Module → GlobalVariable → VariableShape
+variable_shape m g =
+    if is_handle_space g.space then Held (declared_type m g.ty)
+    else AtPlace (word_of_values m (variable_type g.space g.ty))
+
 -- ---- modules
 -- The constants and overrides stand in it as they are numbered, its functions and then its entry
 -- points with the last one first.
@@ -92,7 +102,7 @@ module_shape m info =
       constant_types = map (λ c. declared_type m c.ty) (named_constants m) ++
           map (λ o. declared_type m o.ty) m.overrides;
       initialisers = map (initialiser m info) (named_constants m);
-      global_types = map (λ g. type_of_values m (variable_type g.space g.ty)) m.global_variables;
+      globals = map (variable_shape m) m.global_variables;
       parts = part_words m info;
       functions = reverse (map (λ p. function_shape m info p.0 p.1) (functions ++ entry_points));
     }

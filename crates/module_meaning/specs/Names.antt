@@ -15,7 +15,8 @@ use Rattle.naga_names.specs.Reset.{labelled_items, labels_of, members_of, named_
 use Rattle.naga_names.specs.declared.key.NameKey.{NameKey}
 use Rattle.naga_names.specs.declared.key.NameKey.TheVariants as key
 use Rattle.naga_words.specs.Spelling.{is_struct}
-use Rattle.module_meaning.specs.GivenLabels.{all_given_labels, given_labels, name_of_label}
+use Rattle.module_meaning.specs.ExpressionLabels.{all_expression_labels, expression_labels}
+use Rattle.module_meaning.specs.ExpressionLabels.{name_of_label}
 use Rattle.wgsl_text.specs.Keywords.{reserved_words, builtin_words}
 
 -- what no name begins with
@@ -76,24 +77,24 @@ item_labels m = labels_of (labelled_items wgsl_names m)
 -- Behind them come those that front ends gave to expressions, function by function. These stand in
 -- front of the ones given in this function.
 abbrev pub labels_before : Module → (function : ℕ) → List (List ℕ)
-labels_before m g = item_labels m ++ all_given_labels (take g m.functions)
+labels_before m g = item_labels m ++ all_expression_labels (take g m.functions)
 
 -- these are given in this function, if there is such a one
-abbrev pub labels_given : Module → (function : ℕ) → List (List ℕ)
-labels_given m g = option_map_or given_labels (slice_get m.functions g) []
+abbrev pub labels_named_in : Module → (function : ℕ) → List (List ℕ)
+labels_named_in m g = option_map_or expression_labels (slice_get m.functions g) []
 
 -- and these are all labels of the module
 abbrev pub module_labels : Module → List (List ℕ)
-module_labels m = item_labels m ++ all_given_labels m.functions
+module_labels m = item_labels m ++ all_expression_labels m.functions
 
 -- The names that front ends gave in a function, in the order of its text: each the name of its
 -- label behind all labels in front of it.
-unfoldable pub given_name : Module → (function : ℕ) → (number : ℕ) → List ℕ
-given_name m g = name_of_label wgsl_names (labels_before m g) (labels_given m g)
+unfoldable pub expression_name : Module → (function : ℕ) → (number : ℕ) → List ℕ
+expression_name m g = name_of_label wgsl_names (labels_before m g) (labels_named_in m g)
 
 -- ---- names that tell what they name
 -- Structs and overrides have names of their own, so that the spelling of a type tells them apart.
-pub record TypesAreTold (m : Module) : Type 0 where
+pub record TypesAreDistinguished (m : Module) : Type 0 where
   pub structs : (h k : ℕ) (t u : Type_) → slice_get m.types h ≡ Some t →
       slice_get m.types k ≡ Some u → IsTrue (is_struct t.inner) → IsTrue (is_struct u.inner) →
       name_in (module_names m) (key.Type_ h) ≡ name_in (module_names m) (key.Type_ k) → h ≡ k
@@ -104,8 +105,8 @@ pub record TypesAreTold (m : Module) : Type 0 where
       name_in (module_names m) (key.Type_ h) ≡ name_in (module_names m) (key.Override o) → ⊥
 
 -- The members of a struct have names of their own too.
-pub record ItemsAreTold (m : Module) : Type 0 where
-  pub types : TypesAreTold m
+pub record ItemsAreDistinguished (m : Module) : Type 0 where
+  pub types : TypesAreDistinguished m
   pub members : (h : ℕ) (t : Type_) → slice_get m.types h ≡ Some t →
       (i j : ℕ) (a b : StructMember) → slice_get (members_of t.inner) i ≡ Some a →
       slice_get (members_of t.inner) j ≡ Some b →

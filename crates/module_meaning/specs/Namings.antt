@@ -14,9 +14,9 @@ use Rattle.naga_names.specs.Keys.{NameMap}
 use Rattle.naga_names.specs.declared.key.NameKey.{NameKey}
 use Rattle.naga_names.specs.declared.key.NameKey.TheVariants as key
 use Rattle.module_meaning.specs.FunctionShapes.{function_shape, function_shapes}
-use Rattle.module_meaning.specs.Names.{function_name, argument_name, given_name, global_name}
+use Rattle.module_meaning.specs.Names.{function_name, argument_name, expression_name, global_name}
 use Rattle.module_meaning.specs.Names.{local_name, name_in, numbered_name}
-use Rattle.module_meaning.specs.Surroundings.{named_count}
+use Rattle.module_meaning.specs.ExpressionContexts.{named_count}
 use Rattle.shader_runs.specs.Program.{Function}
 use Rattle.shader_runs.specs.Scope.{ModuleNames, Names, Naming}
 use Rattle.wgsl_text.specs.Requests.{is_request}
@@ -45,29 +45,29 @@ outer_names names m =
     }
 
 -- the names that the text of the function with this handle uses
-abbrev pub inner_names : NameMap → ir_module.Module → (given : ℕ → List ℕ) → ℕ → Names
-inner_names names m given g =
+abbrev pub inner_names : NameMap → ir_module.Module → (named : ℕ → List ℕ) → ℕ → Names
+inner_names names m named g =
     record {
       outer = outer_names names m;
       argument = argument_name names g;
       local_ = local_name names g;
-      given = given;
+      named = named;
       numbered = numbered_name;
       earlier = g;
     }
 
 -- the function with this handle, under its names
 abbrev pub function_naming :
-    NameMap → (given : ℕ → List ℕ) → ir_module.Module → ModuleInfo → ℕ → ir_function.Function →
+    NameMap → (named : ℕ → List ℕ) → ir_module.Module → ModuleInfo → ℕ → ir_function.Function →
     List ExpressionInfo → Naming
-function_naming names given m info g f es =
-    record { function = function_shape m info f es; names = inner_names names m given g }
+function_naming names named m info g f es =
+    record { function = function_shape m info f es; names = inner_names names m named g }
 
 -- the functions with their names, from this handle on, in a text of the whole module
 abbrev pub namings_from : NameMap → ir_module.Module → ℕ → List Function → List Naming
 namings_from names m g [] = []
 namings_from names m g (f ∷ fs) =
-    record { function = f; names = inner_names names m (given_name m g) g }
+    record { function = f; names = inner_names names m (expression_name m g) g }
     ∷ namings_from names m (g + 1) fs
 
 -- the functions with their names, the last one first; so far a module has no entry points

@@ -3,7 +3,7 @@
 -- Throughout, types are a module's types, known are the types of the expressions of one function,
 -- of an entry point or of the module itself, by handle, it is a type by itself, s a scalar, n how
 -- many components a vector has, and letters are what a swizzle chooses.
-use Rattle.std.specs.Prelude.{ℕ, Bool, true, false, List, ◌&&◌, ◌||◌, ◌==◌, nat_lt, take}
+use Rattle.std.specs.Prelude.{ℕ, Bool, true, false, List, ◌&&◌, nat_lt, take}
 use Rattle.std.specs.List.{list_all}
 use Rattle.std.specs.Option.{option_map_or, is_some}
 use denote.Enum.Declared.{tag_of}
@@ -19,20 +19,17 @@ use Rattle.naga_ir.specs.declared.types.TypeInner.TheVariants as inner
 use Rattle.naga_ir.specs.declared.types.VectorSize.{VectorSize}
 use Rattle.naga_info.specs.declared.info.TypeResolution.{TypeResolution}
 use Rattle.module_meaning.specs.TypeIdentity.{vector_number}
-use Rattle.module_meaning.specs.TypeParts.{inner_at, known_inner, own_scalar, pointee_type}
+use Rattle.module_meaning.specs.TypeParts.{inner_at, known_inner, pointee_type}
 use Rattle.module_meaning.specs.TypeParts.{has_computed_parts, is_part_number}
 
--- Is it the width of an integer in bytes, as of `i16`, `u32` or `i64`?
-abbrev pub is_integer_width : ℕ → Bool
-is_integer_width width = width == 2 || (width == 4 || width == 8)
-
-abbrev pub is_integer_of : ScalarKind → (width : ℕ) → Bool
-is_integer_of kind.Sint width = is_integer_width width
-is_integer_of kind.Uint width = is_integer_width width
-is_integer_of _ width = false
+-- Is it an integer, of whatever width?
+abbrev pub is_integer_kind : ScalarKind → Bool
+is_integer_kind kind.Sint = true
+is_integer_kind kind.Uint = true
+is_integer_kind _ = false
 
 abbrev pub is_integer : TypeInner → Bool
-is_integer (inner.Scalar s) = is_integer_of s.kind s.width
+is_integer (inner.Scalar s) = is_integer_kind s.kind
 is_integer _ = false
 
 -- Does a type give something to load?
@@ -82,7 +79,7 @@ operands_fit types known (expression.Access base index) =
 operands_fit types known (expression.AccessIndex base index) =
     operand_is types known (λ it. is_part_number types it index) base
 operands_fit types known (expression.Splat n value) =
-    operand_is types known (λ it. is_some (own_scalar it)) value
+    operand_is types known is_components value
 operands_fit types known (expression.Swizzle n vector pattern) =
     operand_is types known (is_swizzled n pattern) vector
 operands_fit types known (expression.FunctionArgument number) = true

@@ -78,9 +78,9 @@ pub data Formless : Type 0 where
 pub data Operator : Type 0 where
   BinarySign : BinaryOperator → Operator
   UnarySign : UnaryOperator → Operator
-  Choice : Operator
-  Mathematical : MathFunction → Operator
-  Relation : RelationalFunction → Operator
+  Select : Operator
+  Math : MathFunction → Operator
+  Relational : RelationalFunction → Operator
   Derivative : DerivativeAxis → DerivativeControl → Operator
   ArrayLength : Operator
   -- clamped: the coordinate is kept off the edges
@@ -234,9 +234,9 @@ with_type word spelling = word ++ (codes "<" ++ (spelling ++ codes ">"))
 abbrev pub operator_word : Operator → Option (List ℕ)
 operator_word (BinarySign op) = Some (operator_text op)
 operator_word (UnarySign op) = Some (unary_text op)
-operator_word Choice = Some (codes "select")
-operator_word (Mathematical fun) = math_word fun
-operator_word (Relation fun) = relational_word fun
+operator_word Select = Some (codes "select")
+operator_word (Math fun) = math_word fun
+operator_word (Relational fun) = relational_word fun
 operator_word (Derivative axis control) = Some (axis_word axis ++ control_word control)
 operator_word ArrayLength = Some (codes "arrayLength")
 operator_word (Sample level compares clamped arrayed offset) = sample_word level compares clamped
@@ -323,8 +323,8 @@ formless_word what = formless_head what ++ (32 ∷ formless_code what)
 -- an image or loads a matrix, the word of such an operation with a blank and what is no number of a
 -- text behind it.
 abbrev pub own_word : Operator → List ℕ
-own_word (Mathematical fun) = own_math_word fun
-own_word (Relation fun) = own_relational_word fun
+own_word (Math fun) = own_math_word fun
+own_word (Relational fun) = own_relational_word fun
 own_word (Sample level compares clamped arrayed offset) =
     codes "textureSample " ++ own_form_word level compares clamped
 own_word (Gather component level compares clamped arrayed offset) =
@@ -398,9 +398,9 @@ formless_count (MatrixLoad columns rows role row_major) = 2
 abbrev pub operand_count : Operator → ℕ
 operand_count (BinarySign op) = 2
 operand_count (UnarySign op) = 1
-operand_count Choice = 3
-operand_count (Mathematical fun) = math_count fun
-operand_count (Relation fun) = 1
+operand_count Select = 3
+operand_count (Math fun) = math_count fun
+operand_count (Relational fun) = 1
 operand_count (Derivative axis control) = 1
 operand_count ArrayLength = 1
 operand_count (Sample level compares clamped arrayed offset) =
@@ -485,13 +485,13 @@ one_word (WithoutForm what) = WithoutForm (one_formless what)
 one_word operator = operator
 
 -- what is told from all others by its word and its number of operands
-abbrev pub is_told : Operator → Bool
-is_told (Sample level compares clamped arrayed offset) = false
-is_told (Gather component level compares clamped arrayed offset) = false
-is_told (Texel arrayed of_) = false
-is_told (Barrier control kept) = false
-is_told (Convert spelling) = false
-is_told _ = true
+abbrev pub is_distinguished : Operator → Bool
+is_distinguished (Sample level compares clamped arrayed offset) = false
+is_distinguished (Gather component level compares clamped arrayed offset) = false
+is_distinguished (Texel arrayed of_) = false
+is_distinguished (Barrier control kept) = false
+is_distinguished (Convert spelling) = false
+is_distinguished _ = true
 
 abbrev pub formless_asks : Formless → Bool
 formless_asks (MatrixLoad columns rows role row_major) = true
@@ -501,9 +501,9 @@ formless_asks _ = false
 abbrev pub asks : Operator → Bool
 asks (BinarySign op) = false
 asks (UnarySign op) = false
-asks Choice = false
-asks (Mathematical fun) = false
-asks (Relation fun) = false
+asks Select = false
+asks (Math fun) = false
+asks (Relational fun) = false
 asks ArrayLength = false
 asks CooperativeMultiplyAdd = false
 asks (RayIntersection committed) = false

@@ -142,62 +142,62 @@ local_in_range types expressions l = nat_lt l.ty types && is_below expressions l
 
 -- what an expression names beside its operands is there; a literal has a value of its type, an
 -- index that is known has 32 bits, and a pattern four letters
-abbrev pub names_in_range : Module → (callees arguments locals : ℕ) → Expression → Bool
-names_in_range m callees arguments locals (expression.Literal value) = literal_is_within value
-names_in_range m callees arguments locals (expression.Constant h) = nat_lt h (length m.constants)
-names_in_range m callees arguments locals (expression.Override h) = nat_lt h (length m.overrides)
-names_in_range m callees arguments locals (expression.ZeroValue ty) = nat_lt ty (length m.types)
-names_in_range m callees arguments locals (expression.Compose ty components) =
+abbrev pub names_in_range : Module → (arguments locals : ℕ) → Expression → Bool
+names_in_range m arguments locals (expression.Literal value) = literal_is_within value
+names_in_range m arguments locals (expression.Constant h) = nat_lt h (length m.constants)
+names_in_range m arguments locals (expression.Override h) = nat_lt h (length m.overrides)
+names_in_range m arguments locals (expression.ZeroValue ty) = nat_lt ty (length m.types)
+names_in_range m arguments locals (expression.Compose ty components) =
     nat_lt ty (length m.types)
-names_in_range m callees arguments locals (expression.Access base index) = true
-names_in_range m callees arguments locals (expression.AccessIndex base index) = fits_32_bits index
-names_in_range m callees arguments locals (expression.Splat size value) = true
-names_in_range m callees arguments locals (expression.Swizzle size vector pattern) =
+names_in_range m arguments locals (expression.Access base index) = true
+names_in_range m arguments locals (expression.AccessIndex base index) = fits_32_bits index
+names_in_range m arguments locals (expression.Splat size value) = true
+names_in_range m arguments locals (expression.Swizzle size vector pattern) =
     pattern_is_whole pattern
-names_in_range m callees arguments locals (expression.FunctionArgument number) =
+names_in_range m arguments locals (expression.FunctionArgument number) =
     nat_lt number arguments
-names_in_range m callees arguments locals (expression.GlobalVariable h) =
+names_in_range m arguments locals (expression.GlobalVariable h) =
     nat_lt h (length m.global_variables)
-names_in_range m callees arguments locals (expression.LocalVariable h) = nat_lt h locals
-names_in_range m callees arguments locals (expression.Load pointer) = true
-names_in_range m callees arguments locals
+names_in_range m arguments locals (expression.LocalVariable h) = nat_lt h locals
+names_in_range m arguments locals (expression.Load pointer) = true
+names_in_range m arguments locals
     (expression.ImageSample
     image sampler gather coordinate array_index offset level depth_ref clamp) =
     true
-names_in_range m callees arguments locals
+names_in_range m arguments locals
     (expression.ImageLoad image coordinate array_index sample level) =
     true
-names_in_range m callees arguments locals (expression.ImageQuery image query) = true
-names_in_range m callees arguments locals (expression.Unary op expr) = true
-names_in_range m callees arguments locals (expression.Binary op left right) = true
-names_in_range m callees arguments locals (expression.Select condition accept reject) = true
-names_in_range m callees arguments locals (expression.Derivative axis ctrl expr) = true
-names_in_range m callees arguments locals (expression.Relational fun argument) = true
-names_in_range m callees arguments locals (expression.Math fun arg arg1 arg2 arg3) = true
-names_in_range m callees arguments locals (expression.As expr kind convert) = true
-names_in_range m callees arguments locals (expression.CallResult function) = nat_lt function callees
-names_in_range m callees arguments locals (expression.AtomicResult ty comparison) =
+names_in_range m arguments locals (expression.ImageQuery image query) = true
+names_in_range m arguments locals (expression.Unary op expr) = true
+names_in_range m arguments locals (expression.Binary op left right) = true
+names_in_range m arguments locals (expression.Select condition accept reject) = true
+names_in_range m arguments locals (expression.Derivative axis ctrl expr) = true
+names_in_range m arguments locals (expression.Relational fun argument) = true
+names_in_range m arguments locals (expression.Math fun arg arg1 arg2 arg3) = true
+names_in_range m arguments locals (expression.As expr kind convert) = true
+names_in_range m arguments locals (expression.CallResult function) =
+    nat_lt function (length m.functions)
+names_in_range m arguments locals (expression.AtomicResult ty comparison) =
     nat_lt ty (length m.types)
-names_in_range m callees arguments locals (expression.WorkGroupUniformLoadResult ty) =
+names_in_range m arguments locals (expression.WorkGroupUniformLoadResult ty) =
     nat_lt ty (length m.types)
-names_in_range m callees arguments locals (expression.ArrayLength array) = true
-names_in_range m callees arguments locals expression.RayQueryProceedResult = true
-names_in_range m callees arguments locals (expression.RayQueryGetIntersection query committed) =
+names_in_range m arguments locals (expression.ArrayLength array) = true
+names_in_range m arguments locals expression.RayQueryProceedResult = true
+names_in_range m arguments locals (expression.RayQueryGetIntersection query committed) =
     true
-names_in_range m callees arguments locals (expression.RayQueryVertexPositions query committed) =
+names_in_range m arguments locals (expression.RayQueryVertexPositions query committed) =
     true
-names_in_range m callees arguments locals expression.SubgroupBallotResult = true
-names_in_range m callees arguments locals (expression.SubgroupOperationResult ty) =
+names_in_range m arguments locals expression.SubgroupBallotResult = true
+names_in_range m arguments locals (expression.SubgroupOperationResult ty) =
     nat_lt ty (length m.types)
-names_in_range m callees arguments locals (expression.CooperativeLoad columns rows role place) =
+names_in_range m arguments locals (expression.CooperativeLoad columns rows role place) =
     true
-names_in_range m callees arguments locals (expression.CooperativeMultiplyAdd a b c) = true
+names_in_range m arguments locals (expression.CooperativeMultiplyAdd a b c) = true
 
 -- the operands of the expression with this handle stand before it, and what it names is there
-abbrev pub expression_in_range :
-    Module → (callees arguments locals : ℕ) → (here : ℕ) → Expression → Bool
-expression_in_range m callees arguments locals here e =
-    all_below here (expression_operands e) && names_in_range m callees arguments locals e
+abbrev pub expression_in_range : Module → (arguments locals : ℕ) → (here : ℕ) → Expression → Bool
+expression_in_range m arguments locals here e =
+    all_below here (expression_operands e) && names_in_range m arguments locals e
 
 -- the initialiser of the constant or the override that an expression names, if it names one and
 -- that has one, stands before it
@@ -211,7 +211,7 @@ initialiser_before m here _ = true
 -- a global expression names no argument and no local, since there are none for it
 abbrev pub global_expression_in_range : Module → (here : ℕ) → Expression → Bool
 global_expression_in_range m here e =
-    expression_in_range m (length m.functions) 0 0 here e && initialiser_before m here e
+    expression_in_range m 0 0 here e && initialiser_before m here e
 
 -- ---- statements
 
@@ -317,11 +317,11 @@ signature_fits count f = signature_types_fit count f && signature_fits_32_bits f
 abbrev pub names_fit : Function → Bool
 names_fit f = list_all (λ h. nat_lt h (length f.expressions)) (keys f.named_expressions)
 
--- all expressions of a function that may call so many
-abbrev pub expressions_in_range : Module → (callees : ℕ) → Function → Bool
-expressions_in_range m callees f =
+-- all expressions of a function
+abbrev pub expressions_in_range : Module → Function → Bool
+expressions_in_range m f =
     all_placed
-    (expression_in_range m callees (length f.arguments.items) (length f.local_variables))
+    (expression_in_range m (length f.arguments.items) (length f.local_variables))
     f.expressions
 
 -- all that a function names is there, if it may call so many
@@ -329,7 +329,7 @@ abbrev pub function_in_range : Module → (callees : ℕ) → Function → Bool
 function_in_range m callees f =
     signature_fits (length m.types) f && (names_fit f &&
     (list_all (local_in_range (length m.types) (length f.expressions)) f.local_variables &&
-    (expressions_in_range m callees f && block_in_range callees (length f.expressions) f.body)))
+    (expressions_in_range m f && block_in_range callees (length f.expressions) f.body)))
 
 -- an entry point may call each function; the variables that it names beside lie in the globals, and
 -- its workgroup's sizes have 32 bits

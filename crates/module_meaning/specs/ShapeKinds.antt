@@ -11,7 +11,7 @@ abbrev pub shape_kind : Option Expression → ExpressionKind
 shape_kind (Some (Constant tree)) = kind.Constant
 shape_kind (Some (Argument number)) = kind.Leaf
 shape_kind (Some (Local number)) = kind.Leaf
-shape_kind (Some (Global number)) = kind.Leaf
+shape_kind (Some (Global held number)) = kind.Leaf
 shape_kind (Some (Load pointer)) = kind.Load
 shape_kind (Some (Operator word operands)) = kind.Pure
 shape_kind (Some (Access base index)) = kind.Pure

@@ -24,6 +24,6 @@ label_shape (label.U32 n) = Numbered (pos n)
 label_shape label.Default = Default
 
 -- which of the handles from this one on a front end named
-abbrev pub given_from : List ℕ → ℕ → List ir.Expression → List Bool
-given_from named h [] = []
-given_from named h (e ∷ es) = list_any (nat_eq h) named ∷ given_from named (h + 1) es
+abbrev pub named_from : List ℕ → ℕ → List ir.Expression → List Bool
+named_from named h [] = []
+named_from named h (e ∷ es) = list_any (nat_eq h) named ∷ named_from named (h + 1) es

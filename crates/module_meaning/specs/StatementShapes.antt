@@ -1,7 +1,7 @@
 -- What each statement without blocks does, of all such statements: those that ask for an event name
 -- the operator by its word, its operands in the order in which they are written, and their result.
 --
--- Throughout, a is what stands around a function's expressions.
+-- Throughout, a is the context of a function's expressions.
 use Rattle.std.specs.Prelude.{ℕ, Bool, ◌-◌, ◌==◌, Option, Some, None, if◌then◌else◌}
 use Rattle.std.specs.Int.Bits.{bit_and}
 use Rattle.std.specs.Option.{is_some}
@@ -17,7 +17,7 @@ use Rattle.naga_ir.specs.declared.operators.AtomicFunction.{AtomicFunction}
 use Rattle.naga_ir.specs.declared.operators.AtomicFunction.TheVariants as function
 use Rattle.naga_ir.specs.declared.operators.GatherMode.{GatherMode}
 use Rattle.naga_ir.specs.declared.operators.GatherMode.TheVariants as mode
-use Rattle.module_meaning.specs.ExpressionOperators.{Surroundings, points_to_atomic}
+use Rattle.module_meaning.specs.ExpressionOperators.{ExpressionContext, is_atomic_pointer}
 use Rattle.module_meaning.specs.OperatorTable.{Operator, run_word, TexelStore, TexelChange}
 use Rattle.module_meaning.specs.OperatorTable.{AtomicStore, AtomicChange, UniformLoad, RayStep}
 use Rattle.module_meaning.specs.OperatorTable.{Ballot, Collective, FromSubgroup, CooperativeStore}
@@ -75,7 +75,7 @@ abbrev pub store_shape : (to_atomic : Bool) → (pointer value : ℕ) → Statem
 store_shape to_atomic pointer value =
     if to_atomic then asked AtomicStore (store pointer value) None else Store pointer value
 
-abbrev pub simple_shape : Surroundings → SimpleStatement → Statement
+abbrev pub simple_shape : ExpressionContext → SimpleStatement → Statement
 simple_shape a (emit first last) = Emit first (last - first)
 simple_shape a break = Break
 simple_shape a continue = Continue
@@ -83,7 +83,7 @@ simple_shape a (return value) = Return value
 simple_shape a kill = Kill
 simple_shape a (control_barrier flags) = Barrier (barrier_bits flags)
 simple_shape a (memory_barrier flags) = Barrier (barrier_bits flags)
-simple_shape a (store pointer value) = store_shape (points_to_atomic a pointer) pointer value
+simple_shape a (store pointer value) = store_shape (is_atomic_pointer a pointer) pointer value
 simple_shape a (image_store image coordinate array_index value) =
     asked (TexelStore (is_some array_index)) (image_store image coordinate array_index value) None
 simple_shape a (atomic pointer fun value outcome) =

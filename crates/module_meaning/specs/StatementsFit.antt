@@ -40,7 +40,7 @@ use Rattle.naga_info.specs.declared.info.TypeResolution.TheVariants.{Handle}
 use Rattle.module_meaning.specs.AlikeTypes.{are_alike}
 use Rattle.module_meaning.specs.ExpressionTypes.{is_bool}
 use Rattle.module_meaning.specs.OperandDemands.{operand_is, points_to_components}
-use Rattle.module_meaning.specs.TypeParts.{inner_at, known_pointee}
+use Rattle.module_meaning.specs.TypeParts.{known_pointee, points_to_atomic}
 
 -- ---- what is known of values
 
@@ -151,18 +151,6 @@ are_passed types known [] [] = true
 are_passed types known (a ∷ further) (x ∷ xs) =
     value_has_type types known x (Handle a.ty) && are_passed types known further xs
 are_passed types known _ _ = false
-
--- ---- pointers
-
-abbrev pub is_atomic : TypeInner → Bool
-is_atomic (inner.Atomic s) = true
-is_atomic _ = false
-
--- Is it a pointer to an atomic?
-abbrev pub points_to_atomic : List Type_ → TypeInner → Bool
-points_to_atomic types (inner.Pointer base space) =
-    option_map_or is_atomic (inner_at types base) false
-points_to_atomic types _ = false
 
 -- ---- results
 

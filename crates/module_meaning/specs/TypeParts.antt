@@ -7,7 +7,8 @@
 -- of an entry point or of the module itself, by handle, it is a type by itself, t a type of the
 -- module, s a scalar, n how many components a vector has (none for a scalar by itself), and index
 -- names a part.
-use Rattle.std.specs.Prelude.{ℕ, Bool, true, List, length, Option, Some, None, slice_get, nat_lt}
+use Rattle.std.specs.Prelude.{ℕ, Bool, true, false, List, length, Option, Some, None, slice_get}
+use Rattle.std.specs.Prelude.{nat_lt}
 use Rattle.std.specs.Option.{option_map, option_map_or, option_and_then, is_some}
 use Rattle.std.specs.Int.NonZero.{non_zero_u32_get}
 use Rattle.naga_ir.specs.declared.types.AddressSpace.{AddressSpace}
@@ -126,10 +127,22 @@ abbrev pub known_pointee :
 known_pointee types known pointer =
     option_and_then (pointee_type types) (known_inner types known pointer)
 
--- the scalar that a type is
-abbrev pub own_scalar : TypeInner → Option Scalar
-own_scalar (inner.Scalar s) = Some s
-own_scalar _ = None
+-- Is it an atomic?
+abbrev pub is_atomic : TypeInner → Bool
+is_atomic (inner.Atomic s) = true
+is_atomic _ = false
+
+-- Is it a pointer to an atomic?
+abbrev pub points_to_atomic : List Type_ → TypeInner → Bool
+points_to_atomic types (inner.Pointer base space) =
+    option_map_or is_atomic (inner_at types base) false
+points_to_atomic types _ = false
+
+-- the scalar that a type is, or of which it is a vector
+abbrev pub component_scalar : TypeInner → Option Scalar
+component_scalar (inner.Scalar s) = Some s
+component_scalar (inner.Vector n s) = Some s
+component_scalar _ = None
 
 -- the scalar of which a vector has several
 abbrev pub vector_scalar : TypeInner → Option Scalar

@@ -3,12 +3,14 @@
 --
 -- Throughout, m is a module, t its types with their names, ty a handle of one, r a type of an
 -- expression, es is what is known of a function's expressions, h a handle, and w a spelling.
-use Rattle.std.specs.Prelude.{ℕ, Bool, true, false, slice_get, List, [], ◌∷◌, Option, None}
+use Rattle.std.specs.Prelude.{ℕ, Bool, true, false, slice_get, List, [], Option, None}
 use Rattle.std.specs.Prelude.{if◌then◌else◌, codes, unwrap_or}
 use Rattle.std.specs.Option.{option_and_then, option_map_or}
 use Rattle.std.specs.Str.{bytes_eq}
 use Rattle.naga_ir.specs.declared.module.Module.{Module}
 use Rattle.naga_ir.specs.declared.types.AddressSpace.TheVariants as space
+use Rattle.naga_ir.specs.declared.types.ScalarKind.{ScalarKind}
+use Rattle.naga_ir.specs.declared.types.ScalarKind.TheVariants as kind
 use Rattle.naga_ir.specs.declared.types.TypeInner.{TypeInner}
 use Rattle.naga_ir.specs.declared.types.TypeInner.TheVariants as inner
 use Rattle.naga_info.specs.Resolution.{inner_of}
@@ -16,12 +18,11 @@ use Rattle.naga_info.specs.declared.info.ExpressionInfo.{ExpressionInfo}
 use Rattle.naga_info.specs.declared.info.TypeResolution.{TypeResolution}
 use Rattle.naga_info.specs.declared.info.TypeResolution.TheVariants.{Handle, Value}
 use Rattle.naga_words.specs.Contexts.{names_of, Names as TypeNames, writer_context}
-use Rattle.naga_words.specs.Parts.{known_text}
-use Rattle.naga_words.specs.Spelling.{Context, type_parts, resolution_parts}
+use Rattle.naga_words.specs.Segments.{known_text}
+use Rattle.naga_words.specs.Spelling.{Context, type_segments, resolution_segments}
 use Rattle.module_meaning.specs.TypeIdentity.{identity, word_of_unspelled_type}
 use Rattle.module_meaning.specs.Names.{module_names}
 use Rattle.module_meaning.specs.Undeclared.{names_undeclared}
-use Rattle.wgsl_text.specs.Words.{stands_in}
 use Rattle.shader_runs.specs.Value.{ValueType, BooleanType, IntegerType, PointerType, OtherType}
 
 -- a module's types, with the names of its structs and overrides
@@ -34,35 +35,33 @@ spelling_context t = writer_context t (λ handle. true)
 
 -- the spelling of a type of the module, and nothing where it has none
 abbrev pub spelled_type : TypeNames → ℕ → List ℕ
-spelled_type t ty = unwrap_or (known_text (type_parts (spelling_context t) ty)) []
+spelled_type t ty = unwrap_or (known_text (type_segments (spelling_context t) ty)) []
 
 -- the spelling of an expression's type
 abbrev pub spelled_resolution : TypeNames → TypeResolution → Option (List ℕ)
-spelled_resolution t r = known_text (resolution_parts (spelling_context t) r)
+spelled_resolution t r = known_text (resolution_segments (spelling_context t) r)
 
 -- The type that the `let` of a handle tells, if it is to tell one, by its spelling. A type whose
 -- spelling would name a struct that no text declares is not told.
-abbrev pub told_spelling :
+abbrev pub annotated_spelling :
     (explicit : Bool) → Module → TypeNames → List ExpressionInfo → ℕ → Option (List ℕ)
-told_spelling true m t es h =
+annotated_spelling true m t es h =
     option_and_then (λ e. if names_undeclared m e.ty then None else spelled_resolution t e.ty)
     (slice_get es h)
-told_spelling false m t es h = None
-
-abbrev pub integer_words : List (List ℕ)
-integer_words =
-    codes "i16" ∷ codes "u16" ∷ codes "i32" ∷ codes "u32" ∷ codes "i64" ∷ codes "u64" ∷ []
+annotated_spelling false m t es h = None
 
 -- ---- types of values
--- a scalar's values are truth values, integers or others
-abbrev pub scalar_values : (spelling : List ℕ) → ValueType
-scalar_values w =
-    if bytes_eq w (codes "bool") then BooleanType else (
-    if stands_in integer_words w then IntegerType w else OtherType w)
+-- A scalar's values are truth values, integers of whatever width, or others. A truth value is of
+-- the one width that has a form.
+abbrev pub scalar_values : ScalarKind → (spelling : List ℕ) → ValueType
+scalar_values kind.Bool w = if bytes_eq w (codes "bool") then BooleanType else OtherType w
+scalar_values kind.Sint w = IntegerType w
+scalar_values kind.Uint w = IntegerType w
+scalar_values _ w = OtherType w
 
 -- the values of a type with this spelling are those of a scalar, places or others
 abbrev pub values_of : TypeInner → (spelling : List ℕ) → ValueType
-values_of (inner.Scalar s) w = scalar_values w
+values_of (inner.Scalar s) w = scalar_values s.kind w
 values_of (inner.Pointer base space) w = PointerType w
 values_of (inner.ValuePointer size s space) w = PointerType w
 values_of _ w = OtherType w

@@ -5,7 +5,7 @@
 -- type by itself, r a type of an expression, es is what is known of a function's expressions, base is
 -- the handle of one, and index the number of a part.
 use Rattle.std.specs.Prelude.{ℕ, zero, suc, Bool, true, false, not, ◌&&◌, ◌||◌, List, [], ◌∷◌, codes}
-use Rattle.std.specs.Prelude.{Option, Some, None, nat_eq, nat_lt, length, slice_get, if◌then◌else◌}
+use Rattle.std.specs.Prelude.{Option, Some, nat_eq, nat_lt, length, slice_get, if◌then◌else◌}
 use Rattle.std.specs.List.{list_any}
 use Rattle.std.specs.Option.{option_and_then, option_map_or}
 use Rattle.indexmap.specs.IndexMap.{values}
@@ -23,7 +23,7 @@ use Rattle.naga_names.specs.Reset.{members_of}
 use Rattle.naga_names.specs.declared.key.NameKey.TheVariants as key
 use Rattle.naga_words.specs.Spelling.{is_struct}
 use Rattle.wgsl_text.specs.Words.{stands_in}
-use Rattle.module_meaning.specs.AlikeTypes.{has_form}
+use Rattle.module_meaning.specs.AlikeTypes.{is_spelled}
 use Rattle.module_meaning.specs.LackingScalars.{over}
 use Rattle.module_meaning.specs.Names.{module_names, name_in}
 
@@ -59,7 +59,7 @@ names_undeclared m (Value it) = option_map_or (handle_names_undeclared m) (over 
 
 -- a text can spell the type
 abbrev pub is_spellable : Module → TypeResolution → Bool
-is_spellable m r = has_form m.types r && not (names_undeclared m r)
+is_spellable m r = is_spelled m.types r && not (names_undeclared m r)
 
 -- ---- members
 -- the members of the structs that WGSL's own functions give

@@ -10,6 +10,7 @@ use Rattle.std.specs.List.{list_all}
 use Rattle.std.specs.Option.{is_none, option_map_or}
 use Rattle.naga_ir.specs.StatementTree.{BlockTree, no_statements, statement, CaseTrees, no_cases}
 use Rattle.naga_ir.specs.StatementTree.{case, StatementTree, simple, block, branch, switch, loop}
+use Rattle.naga_ir.specs.StatementTree.{has_no_statements}
 use Rattle.naga_ir.specs.declared.expression.Expression.{Expression}
 use Rattle.naga_ir.specs.declared.expression.Expression.TheVariants as expression
 use Rattle.naga_ir.specs.declared.module.Module.{Module}
@@ -42,10 +43,6 @@ AreWrittenOut m =
     list_all (λ c. is_none c.name || is_written_out m.global_expressions c.init) m.constants ≡ true
 
 -- ---- cases
-abbrev pub is_empty : BlockTree → Bool
-is_empty no_statements = true
-is_empty (statement s b) = false
-
 -- only empty cases fall through, in a statement, in a block and among cases
 abbrev mutual
   pub only_empty_fall_in : StatementTree → Bool
@@ -64,7 +61,7 @@ abbrev mutual
   pub only_empty_cases_fall : CaseTrees → Bool
   only_empty_cases_fall no_cases = true
   only_empty_cases_fall (case v b falls cs) =
-      (not falls || is_empty b) && (only_empty_fall b && only_empty_cases_fall cs)
+      (not falls || has_no_statements b) && (only_empty_fall b && only_empty_cases_fall cs)
 
 -- in each function and entry point
 pub record OnlyEmptyFall (m : Module) : Type 0 where

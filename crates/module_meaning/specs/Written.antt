@@ -11,13 +11,14 @@ use Rattle.std.specs.Prelude.{IsFalse, IsTrue}
 use Rattle.std.specs.List.{IsAmong, filter, flat_map}
 use Rattle.std.specs.Option.{option_to_list}
 use Rattle.module_meaning.specs.FunctionShapes.{function_shape}
-use Rattle.module_meaning.specs.Part.{expression_has_form}
+use Rattle.module_meaning.specs.StatementForms.{block_has_forms}
+use Rattle.module_meaning.specs.WrittenSoFar.{expression_has_form}
 use Rattle.module_meaning.specs.Undeclared.{is_spellable, names_undeclared}
 use Rattle.naga_info.specs.declared.info.ExpressionInfo.{ExpressionInfo}
 use Rattle.naga_info.specs.declared.info.ModuleInfo.{ModuleInfo}
 use Rattle.naga_info.specs.declared.info.TypeResolution.{TypeResolution}
 use Rattle.naga_info.specs.declared.info.TypeResolution.TheVariants.{Handle}
-use Rattle.naga_ir.specs.Operands.{expression_operands, simple_operands}
+use Rattle.naga_ir.specs.Operands.{expression_operands, simple_operands, simple_result}
 use Rattle.naga_ir.specs.StatementTree.{SimpleStatement, emit, StatementTree, simple, block, branch}
 use Rattle.naga_ir.specs.StatementTree.{switch, loop, BlockTree, no_statements, statement}
 use Rattle.naga_ir.specs.StatementTree.{CaseTrees, no_cases, case}
@@ -71,27 +72,35 @@ IsWrittenIn m info f known h =
     IsWritten f.expressions (function_roots (binds (function_shape m info f known)) f) h
 
 -- ---- types
--- the handles that the `Emit`s of a statement, of a block and of cases give
+-- the handles that the `let`s of a statement without blocks name: of an `Emit` those that are bound,
+-- else its result
+abbrev pub simple_lets : (binds : ℕ → Bool) → SimpleStatement → List ℕ
+simple_lets binds (emit first end) = filter binds (from first (end - first))
+simple_lets binds st = option_to_list (simple_result st)
+
+-- so those of a statement, of a block and of cases, in the order of the text
 abbrev mutual
-  pub statement_emits : StatementTree → List ℕ
-  statement_emits (simple (emit first end)) = from first (end - first)
-  statement_emits (simple st) = []
-  statement_emits (block b) = block_emits b
-  statement_emits (branch condition accept reject) = block_emits accept ++ block_emits reject
-  statement_emits (switch selector cases) = cases_emits cases
-  statement_emits (loop body continuing break_if) = block_emits body ++ block_emits continuing
+  pub statement_lets : (binds : ℕ → Bool) → StatementTree → List ℕ
+  statement_lets binds (simple st) = simple_lets binds st
+  statement_lets binds (block b) = block_lets binds b
+  statement_lets binds (branch condition accept reject) =
+      block_lets binds accept ++ block_lets binds reject
+  statement_lets binds (switch selector cases) = cases_lets binds cases
+  statement_lets binds (loop body continuing break_if) =
+      block_lets binds body ++ block_lets binds continuing
 
-  pub block_emits : BlockTree → List ℕ
-  block_emits no_statements = []
-  block_emits (statement st b) = statement_emits st ++ block_emits b
+  pub block_lets : (binds : ℕ → Bool) → BlockTree → List ℕ
+  block_lets binds no_statements = []
+  block_lets binds (statement st b) = statement_lets binds st ++ block_lets binds b
 
-  pub cases_emits : CaseTrees → List ℕ
-  cases_emits no_cases = []
-  cases_emits (case value body falls cases) = block_emits body ++ cases_emits cases
+  pub cases_lets : (binds : ℕ → Bool) → CaseTrees → List ℕ
+  cases_lets binds no_cases = []
+  cases_lets binds (case value body falls cases) =
+      block_lets binds body ++ cases_lets binds cases
 
 -- The types that the text of a function spells, beside those that its expressions spell: of its
--- arguments, its result and its locals, and where its `let`s tell types, of the handles that one
--- binds, but for those that name a struct that no text declares.
+-- arguments, its result and its locals, and where its `let`s tell types, of the handles that these
+-- name, but for those that name a struct that no text declares.
 pub data IsSpelledIn (explicit : Bool) (m : Module) (info : ModuleInfo) (f : Function)
     (known : List ExpressionInfo) : TypeResolution → Type 0 where
   OfArgument : (n : ℕ) (a : FunctionArgument) → slice_get f.arguments.items n ≡ Some a →
@@ -100,9 +109,9 @@ pub data IsSpelledIn (explicit : Bool) (m : Module) (info : ModuleInfo) (f : Fun
       IsSpelledIn explicit m info f known (Handle r.ty)
   OfLocal : (l : ℕ) (v : LocalVariable) → slice_get f.local_variables l ≡ Some v →
       IsSpelledIn explicit m info f known (Handle v.ty)
-  OfLet : (h : ℕ) (k : ExpressionInfo) → explicit ≡ true → IsAmong (block_emits f.body) h →
-      binds (function_shape m info f known) h ≡ true → slice_get known h ≡ Some k →
-      IsFalse (names_undeclared m k.ty) → IsSpelledIn explicit m info f known k.ty
+  OfLet : (h : ℕ) (k : ExpressionInfo) → explicit ≡ true →
+      IsAmong (block_lets (binds (function_shape m info f known)) f.body) h →
+      slice_get known h ≡ Some k → IsFalse (names_undeclared m k.ty) → IsSpelledIn explicit m info f known k.ty
 
 -- ---- what has a form
 -- Each expression that is written has a form,
@@ -111,10 +120,12 @@ ExpressionsHaveForms m info f known =
     (h : ℕ) (e : Expression) → slice_get f.expressions h ≡ Some e → IsWrittenIn m info f known h →
     IsTrue (expression_has_form m known f.expressions e)
 
--- and so has each type that is spelled beside them, which names no struct that no text declares.
+-- and so has each statement, and each type that is spelled beside them, which names no struct that no
+-- text declares.
 pub record WrittenHaveForms (explicit : Bool) (m : Module) (info : ModuleInfo) (f : Function)
     (known : List ExpressionInfo) : Type 0 where
   pub expressions : ExpressionsHaveForms m info f known
+  pub statements : IsTrue (block_has_forms f.body)
   pub types : (r : TypeResolution) → IsSpelledIn explicit m info f known r →
       IsTrue (is_spellable m r)
 

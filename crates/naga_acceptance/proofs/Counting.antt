@@ -126,13 +126,17 @@ length-all_with_counts [] ess = refl
 length-all_with_counts (f ∷ fs) [] = refl
 length-all_with_counts (f ∷ fs) (es ∷ ess) = ap suc (length-all_with_counts fs ess)
 
-pub get_or-all_with_counts : (fs : List Function) (ess : List (List ExpressionInfo)) (i : ℕ) (f : Function) (d y : List ExpressionInfo) → slice_get fs i ≡ Some f → i < length ess → with_counts f (slice_index_or ess i d) ≡ slice_index_or (all_with_counts fs ess) i y
+pub get_or-all_with_counts : (fs : List Function) (ess : List (List ExpressionInfo)) (i : ℕ)
+    (f : Function) (d y : List ExpressionInfo) → slice_get fs i ≡ Some f → i < length ess →
+    with_counts f (slice_index_or ess i d) ≡ slice_index_or (all_with_counts fs ess) i y
 get_or-all_with_counts [] ess i f d y here h = absurd cc
 get_or-all_with_counts (g ∷ fs) [] i f d y here h = absurd (omega (arith, h))
 get_or-all_with_counts (g ∷ fs) (es ∷ ess) zero f d y here h = ap (λ o. with_counts (unwrap_or o f) es) (sym here)
 get_or-all_with_counts (g ∷ fs) (es ∷ ess) (suc i) f d y here h = get_or-all_with_counts fs ess i f d y here (omega (arith, h))
 
-pub get_or-all_with_counts_past : (fs : List Function) (ess : List (List ExpressionInfo)) (i : ℕ) (d : List ExpressionInfo) → length fs ≤ i → slice_index_or ess i d ≡ slice_index_or (all_with_counts fs ess) i d
+pub get_or-all_with_counts_past : (fs : List Function) (ess : List (List ExpressionInfo)) (i : ℕ)
+    (d : List ExpressionInfo) → length fs ≤ i →
+    slice_index_or ess i d ≡ slice_index_or (all_with_counts fs ess) i d
 get_or-all_with_counts_past [] ess i d h = refl
 get_or-all_with_counts_past (g ∷ fs) [] i d h = refl
 get_or-all_with_counts_past (g ∷ fs) (es ∷ ess) zero d h = absurd (omega (arith, h))

@@ -10,13 +10,13 @@ use Rattle.std.specs.Option.{IfSome, is_none, is_some, option_map, option_or}
 use Rattle.std.specs.List.{list_all, enumerate_from}
 use Rattle.std.specs.Hash.DefaultHasher.{wrapping_add}
 use Rattle.naga_acceptance.specs.Faults.{Unfit}
-use Rattle.naga_acceptance.specs.Searching.{first_faulty, first_unfit, told, unless}
+use Rattle.naga_acceptance.specs.Searching.{first_faulty, first_unfit, or_further, unless}
 use Rattle.naga_acceptance.specs.TextOrder.{numbered}
 
 -- what a call of `is_none` tells
-pub none_told : {F : Type 0} (found : Option F) (none : Bool) → is_some found ≡ not none → none ≡ is_none found
-none_told found true e = ap not (sym e)
-none_told found false e = ap not (sym e)
+pub none_reported : {F : Type 0} (found : Option F) (none : Bool) → is_some found ≡ not none → none ≡ is_none found
+none_reported found true e = ap not (sym e)
+none_reported found false e = ap not (sym e)
 
 -- nothing is found where the test passes, and what is found fails
 pub record Finds {F : Type 0} (found : Option F) (test : Bool) (P : F → Type 0) : Type 0 where
@@ -104,7 +104,7 @@ module _ {X : Type 0} (xs : List X) where
         by (fault n y) (test n y) (finds n y (stands_here n y ys stands)) (faulty_from test fault finds (n + 1) ys (stands_next n y ys stands))
       where
         by : (found : Option F) (fits : Bool) → Finds found fits (P n y) → Finds (first_faulty fault (enumerate_from (n + 1) ys)) (list_all (λ p. test p.0 p.1) (enumerate_from (n + 1) ys)) AtItem →
-            Finds (told found n (first_faulty fault (enumerate_from (n + 1) ys))) (fits && list_all (λ p. test p.0 p.1) (enumerate_from (n + 1) ys)) AtItem
+            Finds (or_further found n (first_faulty fault (enumerate_from (n + 1) ys))) (fits && list_all (λ p. test p.0 p.1) (enumerate_from (n + 1) ys)) AtItem
         by None fits first next = record { fits = next.fits ∙ ap (λ b. b && list_all (λ p. test p.0 p.1) (enumerate_from (n + 1) ys)) first.fits; fails = next.fails }
         by (Some found) fits first next = record { fits = ap (λ b. b && list_all (λ p. test p.0 p.1) (enumerate_from (n + 1) ys)) first.fits; fails = (y, stands_here n y ys stands, first.fails) }
 

@@ -18,7 +18,8 @@ use Rattle.naga_ir.specs.declared.module.Module.{Module}
 use Rattle.naga_info.specs.declared.info.ExpressionInfo.{ExpressionInfo}
 use Rattle.naga_info.specs.declared.info.ModuleInfo.{ModuleInfo}
 use Rattle.naga_info.specs.declared.info.TypeResolution.{TypeResolution}
-use Rattle.naga_acceptance.specs.Faults.{EntryPartFails, ExpressionFails, Fails, PartFails, Unfit}
+use Rattle.naga_acceptance.specs.Faults.{EntryPlaceFails, ExpressionFails, Fails}
+use Rattle.naga_acceptance.specs.Faults.{FunctionPlaceFails, Unfit}
 use Rattle.naga_acceptance.specs.Faults.{entry_names_fit, known_of}
 use Rattle.naga_acceptance.specs.FirstFaults.{at, at_entry_point, at_expression, at_function}
 use Rattle.naga_acceptance.specs.FirstFaults.{declarations_range_fault, declarations_sound_fault}
@@ -38,8 +39,8 @@ use Rattle.naga_acceptance.specs.TextOrder.{is_in_range, is_sound, numbered, tex
 use Rattle.naga_acceptance.specs.declared.faults.Fault.{Fault}
 use Rattle.naga_acceptance.specs.declared.faults.Fault.TheVariants as fault
 use Rattle.naga_acceptance.specs.declared.faults.Item.TheVariants as item
-use Rattle.naga_acceptance.specs.declared.faults.Part.{Part}
-use Rattle.naga_acceptance.specs.declared.faults.Part.TheVariants as part
+use Rattle.naga_acceptance.specs.declared.faults.FunctionPlace.{FunctionPlace}
+use Rattle.naga_acceptance.specs.declared.faults.FunctionPlace.TheVariants as part
 use Rattle.naga_acceptance.specs.declared.faults.Unaccepted.{Unaccepted}
 use Rattle.module_meaning.specs.Accepted.{is_accepted}
 use Rattle.module_meaning.specs.AgreeingOperators.{module_operators_agree}
@@ -93,43 +94,43 @@ all_both a b n (x ∷ xs) =
 
 -- ---- what is named: parts of functions
 
-expression_range : (m : Module) (callees arguments locals h : ℕ) (e : Expression) (P : Fault → Type 0) →
-    (all_below h (expression_operands e) ≡ false → P fault.Operands) → (names_in_range m callees arguments locals e ≡ false → P fault.Names) →
-    Finds (expression_range_fault m callees arguments locals h e) (expression_in_range m callees arguments locals h e) P
-expression_range m callees arguments locals h e P operands names =
+expression_range : (m : Module) (arguments locals h : ℕ) (e : Expression) (P : Fault → Type 0) →
+    (all_below h (expression_operands e) ≡ false → P fault.Operands) → (names_in_range m arguments locals e ≡ false → P fault.Names) →
+    Finds (expression_range_fault m arguments locals h e) (expression_in_range m arguments locals h e) P
+expression_range m arguments locals h e P operands names =
     finds_unless (all_below h (expression_operands e)) fault.Operands operands
-    (λ _. finds_test (names_in_range m callees arguments locals e) fault.Names names)
+    (λ _. finds_test (names_in_range m arguments locals e) fault.Names names)
 
 module _ (m : Module) (callees : ℕ) (f : Function) (known : List TypeResolution) where
-  abbrev RangePart : Part × Fault → Type 0
-  RangePart found = PartFails m callees f known found.0 found.1
+  abbrev RangePlace : FunctionPlace × Fault → Type 0
+  RangePlace found = FunctionPlaceFails m callees f known found.0 found.1
 
   locals_found : Finds (first_unfit (λ _. local_in_range (length m.types) (length f.expressions)) (enumerate_from 0 f.local_variables))
       (list_all (local_in_range (length m.types) (length f.expressions)) f.local_variables)
-      (λ h. RangePart (part.Local h, fault.Names))
+      (λ h. RangePlace (part.Local h, fault.Names))
   locals_found = finds_plain (local_in_range (length m.types) (length f.expressions)) f.local_variables
 
-  expressions_found : Finds (first_faulty (expression_range_fault m callees (length f.arguments.items) (length f.local_variables)) (enumerate_from 0 f.expressions))
-      (expressions_in_range m callees f)
-      (λ found. RangePart (at_expression found))
+  expressions_found : Finds (first_faulty (expression_range_fault m (length f.arguments.items) (length f.local_variables)) (enumerate_from 0 f.expressions))
+      (expressions_in_range m f)
+      (λ found. RangePlace (at_expression found))
   expressions_found =
-      finds_weaker (first_faulty (expression_range_fault m callees (length f.arguments.items) (length f.local_variables)) (enumerate_from 0 f.expressions))
+      finds_weaker (first_faulty (expression_range_fault m (length f.arguments.items) (length f.local_variables)) (enumerate_from 0 f.expressions))
       (λ found at. at.2)
-      (finds_faulty (λ h x kind. ExpressionFails m callees f known h kind)
-      (expression_in_range m callees (length f.arguments.items) (length f.local_variables))
-      (expression_range_fault m callees (length f.arguments.items) (length f.local_variables)) f.expressions
-      (λ h e here. expression_range m callees (length f.arguments.items) (length f.local_variables) h e (λ kind. ExpressionFails m callees f known h kind)
+      (finds_faulty (λ h x kind. ExpressionFails m f known h kind)
+      (expression_in_range m (length f.arguments.items) (length f.local_variables))
+      (expression_range_fault m (length f.arguments.items) (length f.local_variables)) f.expressions
+      (λ h e here. expression_range m (length f.arguments.items) (length f.local_variables) h e (λ kind. ExpressionFails m f known h kind)
       (λ fails. unfit_at (λ x. all_below h (expression_operands x)) f.expressions h e here fails)
-      (λ fails. unfit_at (names_in_range m callees (length f.arguments.items) (length f.local_variables)) f.expressions h e here fails)))
+      (λ fails. unfit_at (names_in_range m (length f.arguments.items) (length f.local_variables)) f.expressions h e here fails)))
 
   statements_found : Finds (result_err (numbered (is_in_range callees (length f.expressions)) 0 (text_order f.body)))
       (block_in_range callees (length f.expressions) f.body)
-      (λ n. RangePart (part.Statement n, fault.Names))
+      (λ n. RangePlace (part.Statement n, fault.Names))
   statements_found =
       finds_same (sym (block_range callees (length f.expressions) false false f.body))
       (finds_statement (is_in_range callees (length f.expressions)) (text_order f.body))
 
-  pub function_range : Finds (function_range_fault m callees f) (function_in_range m callees f) RangePart
+  pub function_range : Finds (function_range_fault m callees f) (function_in_range m callees f) RangePlace
   function_range =
       finds_unless (signature_fits (length m.types) f) (part.Whole, fault.Signature) (λ fails. fails)
       (λ _. finds_unless (names_fit f) (part.Whole, fault.NamedExpressions) (λ fails. fails)
@@ -141,11 +142,11 @@ module _ (m : Module) (callees : ℕ) (f : Function) (known : List TypeResolutio
 
   expressions_sound : Finds (expressions_sound_fault m (Some f) known f.expressions)
       (list_all (λ p. has_its_type m (Some f) known p.0 p.1 && operands_fit m.types known p.1) (enumerate_from 0 f.expressions))
-      (λ found. RangePart (at_expression found))
+      (λ found. RangePlace (at_expression found))
   expressions_sound =
       finds_weaker (expressions_sound_fault m (Some f) known f.expressions)
       (λ found at. at.2)
-      (finds_faulty (λ h x kind. ExpressionFails m callees f known h kind)
+      (finds_faulty (λ h x kind. ExpressionFails m f known h kind)
       (λ h e. has_its_type m (Some f) known h e && operands_fit m.types known e)
       (expression_sound_fault m (Some f) known) f.expressions
       (λ h e here. finds_unless (has_its_type m (Some f) known h e) fault.OtherType
@@ -155,17 +156,17 @@ module _ (m : Module) (callees : ℕ) (f : Function) (known : List TypeResolutio
 
   locals_sound_found : Finds (first_unfit (λ _. local_is_sound m.types known) (enumerate_from 0 f.local_variables))
       (list_all (local_is_sound m.types known) f.local_variables)
-      (λ h. RangePart (part.Local h, fault.InitialiserType))
+      (λ h. RangePlace (part.Local h, fault.InitialiserType))
   locals_sound_found = finds_plain (local_is_sound m.types known) f.local_variables
 
   statements_sound_found : Finds (result_err (numbered (is_sound m f known) 0 (text_order f.body)))
       (body_is_sound m f known)
-      (λ n. RangePart (part.Statement n, fault.Unsatisfied))
+      (λ n. RangePlace (part.Statement n, fault.Unsatisfied))
   statements_sound_found =
       finds_same (sym (block_sound m f known false false f.body))
       (finds_statement (is_sound m f known) (text_order f.body))
 
-  pub function_sound : Finds (function_sound_fault m f known) (typed_function_is_sound m f known) RangePart
+  pub function_sound : Finds (function_sound_fault m f known) (typed_function_is_sound m f known) RangePlace
   function_sound =
       finds_or _ _ (finds_same (all_both (has_its_type m (Some f) known) (operands_fit m.types known) 0 f.expressions) (finds_map at_expression _ expressions_sound))
       (λ _. finds_or _ _ (finds_map (λ h. (part.Local h, fault.InitialiserType)) _ locals_sound_found)
@@ -195,9 +196,9 @@ module _ (m : Module) (info : ModuleInfo) where
       Finds (global_expression_range_fault m h e) (global_expression_in_range m h e) (λ kind. GlobalAt (h, kind))
   global_range h e here =
       finds_or _ _
-      (expression_range m (length m.functions) 0 0 h e (λ kind. GlobalAt (h, kind))
+      (expression_range m 0 0 h e (λ kind. GlobalAt (h, kind))
       (λ fails. unfit_at (λ x. all_below h (expression_operands x)) m.global_expressions h e here fails)
-      (λ fails. unfit_at (names_in_range m (length m.functions) 0 0) m.global_expressions h e here fails))
+      (λ fails. unfit_at (names_in_range m 0 0) m.global_expressions h e here fails))
       (λ _. finds_test (initialiser_before m h e) fault.LaterInitialiser
       (λ fails. unfit_at (initialiser_before m h) m.global_expressions h e here fails))
 
@@ -237,24 +238,25 @@ module _ (m : Module) (info : ModuleInfo) where
       (λ _. finds_unless (special_types_fit (length m.types) m.special_types) (at item.Module fault.SpecialTypes) (λ fails. fails)
       (λ _. items_range))
 
-  part_placed : (h : ℕ) (f : Function) → slice_get m.functions h ≡ Some f → (kind : Fault) (p : Part) →
-      PartFails m h f (known_of info.functions.items h) p kind → Fails m info (at (item.Function h p) kind)
+  part_placed : (h : ℕ) (f : Function) → slice_get m.functions h ≡ Some f → (kind : Fault) (p : FunctionPlace) →
+      FunctionPlaceFails m h f (known_of info.functions.items h) p kind → Fails m info (at (item.Function h p) kind)
   part_placed h f here fault.Disagreement part.Whole fails = absurd fails
   part_placed h f here fault.Disagreement (part.Local l) fails = absurd fails
   part_placed h f here fault.Disagreement (part.Expression e) fails = absurd fails
   part_placed h f here fault.Disagreement (part.Statement n) fails = absurd fails
   part_placed h f here _ p fails = (f, here, fails)
 
-  entry_placed : (h : ℕ) (p : EntryPoint) → slice_get m.entry_points.items h ≡ Some p → (kind : Fault) (q : Part) →
-      EntryPartFails m p (known_of info.entry_points.items h) q kind → Fails m info (at (item.EntryPoint h q) kind)
+  entry_placed : (h : ℕ) (p : EntryPoint) → slice_get m.entry_points.items h ≡ Some p → (kind : Fault) (q : FunctionPlace) →
+      EntryPlaceFails m p (known_of info.entry_points.items h) q kind → Fails m info (at (item.EntryPoint h q) kind)
   entry_placed h p here fault.Disagreement part.Whole fails = absurd fails
   entry_placed h p here fault.Disagreement (part.Local l) fails = absurd fails
   entry_placed h p here fault.Disagreement (part.Expression e) fails = absurd fails
   entry_placed h p here fault.Disagreement (part.Statement n) fails = absurd fails
   entry_placed h p here _ q fails = (p, here, fails)
 
-  entry_part : (p : EntryPoint) (known : List TypeResolution) (q : Part) (kind : Fault) →
-      PartFails m (length m.functions) p.function known q kind → EntryPartFails m p known q kind
+  entry_part : (p : EntryPoint) (known : List TypeResolution) (q : FunctionPlace) (kind : Fault) →
+      FunctionPlaceFails m (length m.functions) p.function known q kind →
+      EntryPlaceFails m p known q kind
   entry_part p known part.Whole fault.Names fails = absurd fails
   entry_part p known _ _ fails = fails
 
@@ -263,7 +265,8 @@ module _ (m : Module) (info : ModuleInfo) where
       finds_map (λ found. at_function found.0 found.1) _
       (finds_weaker (first_faulty (function_range_fault m) (enumerate_from 0 m.functions))
       (λ found at. part_placed found.0 at.0 at.1 found.1.1 found.1.0 at.2)
-      (finds_faulty (λ h f found. PartFails m h f (known_of info.functions.items h) found.0 found.1)
+      (finds_faulty (λ h f found. FunctionPlaceFails m h f (known_of info.functions.items h) found.0
+      found.1)
       (function_in_range m) (function_range_fault m) m.functions
       (λ h f here. function_range m h f (known_of info.functions.items h))))
 
@@ -274,7 +277,7 @@ module _ (m : Module) (info : ModuleInfo) where
   entry_regroup false b c d e = refl
 
   entry_range : (p : EntryPoint) (known : List TypeResolution) →
-      Finds (entry_point_range_fault m p) (entry_point_in_range m p) (λ found. EntryPartFails m p known found.0 found.1)
+      Finds (entry_point_range_fault m p) (entry_point_in_range m p) (λ found. EntryPlaceFails m p known found.0 found.1)
   entry_range p known =
       finds_same (entry_regroup (is_below (length m.global_variables) (option_map (λ k. k.output_variable) p.mesh_info))
       (is_below (length m.global_variables) p.task_payload) (is_below (length m.global_variables) p.incoming_ray_payload)
@@ -289,7 +292,7 @@ module _ (m : Module) (info : ModuleInfo) where
       finds_map (λ found. at_entry_point found.0 found.1) _
       (finds_weaker (first_faulty (λ _. entry_point_range_fault m) (enumerate_from 0 m.entry_points.items))
       (λ found at. entry_placed found.0 at.0 at.1 found.1.1 found.1.0 at.2)
-      (finds_plain_faulty (λ h p found. EntryPartFails m p (known_of info.entry_points.items h) found.0 found.1)
+      (finds_plain_faulty (λ h p found. EntryPlaceFails m p (known_of info.entry_points.items h) found.0 found.1)
       (entry_point_in_range m) (λ _. entry_point_range_fault m) m.entry_points.items
       (λ h p here. entry_range p (known_of info.entry_points.items h))))
 
@@ -348,7 +351,7 @@ module _ (m : Module) (info : ModuleInfo) where
       composed None = refl
       composed (Some k) = refl
 
-  abbrev UnknownAt : List (List ExpressionInfo) → ℕ × (Part × Fault) → Type 0
+  abbrev UnknownAt : List (List ExpressionInfo) → ℕ × (FunctionPlace × Fault) → Type 0
   UnknownAt kss found = (ks : List ExpressionInfo) × (slice_get kss found.0 ≡ Some ks)
       × ((e : ℕ) × (found.1 ≡ (part.Expression e, fault.KnownType)) × Unfit (resolution_fits (length m.overrides) (length m.types)) (known_of kss found.0) e)
 
@@ -380,15 +383,19 @@ module _ (m : Module) (info : ModuleInfo) where
       (finds_weaker (first_known_fault (length m.overrides) (length m.types) info.entry_points.items) in_entry_point (known_found info.entry_points.items)))
       (λ _. finds_map (λ h. at (item.GlobalExpression h) fault.KnownType) _ globals_known))
     where
-      in_function : (found : ℕ × (Part × Fault)) → UnknownAt info.functions.items found → Fails m info (at_function found.0 found.1)
+      in_function : (found : ℕ × (FunctionPlace × Fault)) → UnknownAt info.functions.items found → Fails m info (at_function found.0 found.1)
       in_function found at =
           let f = item_beside m.functions info.functions.items found.0 at.0 functions at.1
-          in subst (λ told. Fails m info (at_function found.0 told)) (sym at.2.1) (f.0, f.1, at.2.2)
+          in subst (λ reported. Fails m info (at_function found.0 reported)) (sym at.2.1) (
+            f.0,
+            f.1,
+            at.2.2,
+          )
 
-      in_entry_point : (found : ℕ × (Part × Fault)) → UnknownAt info.entry_points.items found → Fails m info (at_entry_point found.0 found.1)
+      in_entry_point : (found : ℕ × (FunctionPlace × Fault)) → UnknownAt info.entry_points.items found → Fails m info (at_entry_point found.0 found.1)
       in_entry_point found at =
           let p = item_beside m.entry_points.items info.entry_points.items found.0 at.0 entry_points at.1
-          in subst (λ told. Fails m info (at_entry_point found.0 told)) (sym at.2.1) (p.0, p.1, at.2.2)
+          in subst (λ reported. Fails m info (at_entry_point found.0 reported)) (sym at.2.1) (p.0, p.1, at.2.2)
 
   forms_found : Finds (first_unfit (λ _. type_is_fit) (enumerate_from 0 m.types)) (list_all type_is_fit m.types) (λ h. Fails m info (at (item.Type h) fault.TypeForm))
   forms_found = finds_plain type_is_fit m.types
@@ -444,16 +451,17 @@ module _ (m : Module) (info : ModuleInfo) where
       finds_unless (length m.functions == length info.functions.items) (at item.Module fault.InfoSize) (λ fails. and_left _ _ fails)
       (λ _. finds_map (λ found. at_function found.0 found.1) _
       (finds_weaker (first_faulty (λ _ p. function_sound_fault m p.0 (map (λ k. k.ty) p.1)) (enumerate_from 0 (zip m.functions info.functions.items))) placed
-      (finds_plain_faulty (λ h p found. PartFails m h p.0 (map (λ k. k.ty) p.1) found.0 found.1)
+      (finds_plain_faulty
+      (λ h p found. FunctionPlaceFails m h p.0 (map (λ k. k.ty) p.1) found.0 found.1)
       (λ p. function_is_sound m p.0 p.1) (λ _ p. function_sound_fault m p.0 (map (λ k. k.ty) p.1)) (zip m.functions info.functions.items)
       (λ h p here. function_sound m h p.0 (map (λ k. k.ty) p.1)))))
     where
-      placed : (found : ℕ × (Part × Fault)) → AtItem (zip m.functions info.functions.items) (λ h p told. PartFails m h p.0 (map (λ k. k.ty) p.1) told.0 told.1) found →
+      placed : (found : ℕ × (FunctionPlace × Fault)) → AtItem (zip m.functions info.functions.items) (λ h p reported. FunctionPlaceFails m h p.0 (map (λ k. k.ty) p.1) reported.0 reported.1) found →
           Fails m info (at_function found.0 found.1)
       placed found at =
           let both = zip_parts m.functions info.functions.items found.0 at.0 at.1
           in part_placed found.0 at.0.0 both.0 found.1.1 found.1.0
-          (subst (λ known. PartFails m found.0 at.0.0 known found.1.0 found.1.1) (sym (known_is info.functions.items found.0 at.0.1 both.1)) at.2)
+          (subst (λ known. FunctionPlaceFails m found.0 at.0.0 known found.1.0 found.1.1) (sym (known_is info.functions.items found.0 at.0.1 both.1)) at.2)
 
   entry_points_sound : Finds (entry_points_sound_fault m m.entry_points.items info.entry_points.items) (all_paired (entry_point_is_sound m) m.entry_points.items info.entry_points.items) (Fails m info)
   entry_points_sound =
@@ -461,17 +469,20 @@ module _ (m : Module) (info : ModuleInfo) where
       (λ fails. and_right (length m.functions == length info.functions.items) _ (and_left _ _ fails))
       (λ _. finds_map (λ found. at_entry_point found.0 found.1) _
       (finds_weaker (first_faulty (λ _ p. function_sound_fault m p.0.function (map (λ k. k.ty) p.1)) (enumerate_from 0 (zip m.entry_points.items info.entry_points.items))) placed
-      (finds_plain_faulty (λ h p found. PartFails m (length m.functions) p.0.function (map (λ k. k.ty) p.1) found.0 found.1)
+      (finds_plain_faulty (λ h p found. FunctionPlaceFails m (length m.functions) p.0.function (map (λ k. k.ty) p.1) found.0 found.1)
       (λ p. entry_point_is_sound m p.0 p.1) (λ _ p. function_sound_fault m p.0.function (map (λ k. k.ty) p.1)) (zip m.entry_points.items info.entry_points.items)
       (λ h p here. function_sound m (length m.functions) p.0.function (map (λ k. k.ty) p.1)))))
     where
-      placed : (found : ℕ × (Part × Fault)) → AtItem (zip m.entry_points.items info.entry_points.items) (λ h p told. PartFails m (length m.functions) p.0.function (map (λ k. k.ty) p.1) told.0 told.1) found →
+      placed : (found : ℕ × (FunctionPlace × Fault)) →
+          AtItem (zip m.entry_points.items info.entry_points.items)
+          (λ h p reported. FunctionPlaceFails m (length m.functions) p.0.function
+          (map (λ k. k.ty) p.1) reported.0 reported.1) found →
           Fails m info (at_entry_point found.0 found.1)
       placed found at =
           let both = zip_parts m.entry_points.items info.entry_points.items found.0 at.0 at.1
           in entry_placed found.0 at.0.0 both.0 found.1.1 found.1.0
           (entry_part at.0.0 (known_of info.entry_points.items found.0) found.1.0 found.1.1
-          (subst (λ known. PartFails m (length m.functions) at.0.0.function known found.1.0 found.1.1) (sym (known_is info.entry_points.items found.0 at.0.1 both.1)) at.2))
+          (subst (λ known. FunctionPlaceFails m (length m.functions) at.0.0.function known found.1.0 found.1.1) (sym (known_is info.entry_points.items found.0 at.0.1 both.1)) at.2))
 
   pub sound_found : Finds (sound_fault m info) (module_is_sound m info) (Fails m info)
   unfolding module_is_sound
@@ -516,5 +527,8 @@ module _ (m : Module) (info : ModuleInfo) where
   unfolding is_accepted
   accepted_operators named wanted found is none next nothing agree =
       agree
-      ∙ ap (λ b. b && module_operators_agree m info) (sym (passes wanted (module_is_sound m info) (subst (λ found. Finds found (module_is_sound m info) (Fails m info)) (sym next) sound_found) nothing))
+      ∙ ap (λ b. b && module_operators_agree m info)
+      (sym (passes wanted (module_is_sound m info)
+      (subst (λ found. Finds found (module_is_sound m info) (Fails m info))
+      (sym next) sound_found) nothing))
       ∙ ap (λ b. b && (module_is_sound m info && module_operators_agree m info)) (sym (fits_named named is none))

@@ -223,15 +223,15 @@ found_or_not ns a r position rise =
         (λ i. (i ≤ length ns) × ((k : ℕ) → k < i → get_or ns k 0 < a) ×
         ((k : ℕ) → i ≤ k → k < length ns → a < get_or ns k 0)) →
         is_ok r ≡ nat_lt 0 (times a ns)
-    by (Ok i) told = sym (lt-ltb 0 (times a ns) (found_once ns i a told.0 told.1))
-    by (Err i) told =
+    by (Ok i) answer = sym (lt-ltb 0 (times a ns) (found_once ns i a answer.0 answer.1))
+    by (Err i) answer =
         let never : (k : ℕ) → k < length ns → slice_index ns k ≢ a =
         λ k within same. beside k within same (cases_lt k i)
         in sym (le-ltb 0 (times a ns) (omega (arith, found_never ns a never)))
       where
         beside : (k : ℕ) → k < length ns → slice_index ns k ≡ a → (k < i) ⊎ (i ≤ k) → ⊥
-        beside k within same (inl before) = omega (arith, same, told.1 k before)
-        beside k within same (inr behind) = omega (arith, same, told.2 k behind within)
+        beside k within same (inl before) = omega (arith, same, answer.1 k before)
+        beside k within same (inr behind) = omega (arith, same, answer.2 k behind within)
 
 -- ---- the first numbers, sorted, and those behind
 
@@ -286,20 +286,20 @@ sorted_shared xs ys sorted moved shared =
     in twice_joined one.0 xs ys (omega (arith, one.1, one.2, same))
 
 -- what is told where no number stands beside itself
-pub shares_told : (xs ys : List SwitchCase) (sorted : List ℕ) (b : Bool) →
+pub shares_decided : (xs ys : List SwitchCase) (sorted : List ℕ) (b : Bool) →
     IsPermutation (numbers_of (cases_of xs)) sorted → IsNonDecreasing sorted → AreApart sorted →
     b ≡ shares sorted (numbers_of (cases_of ys)) →
     MatchBool (not b) (AreOnce (numbers_of (cases_of xs)) (numbers_of (cases_of ys)))
     (labels_differ (cases_of (xs ++ ys)) ≡ false)
-shares_told xs ys sorted true moved rise apart e = sorted_shared xs ys sorted moved (sym e)
-shares_told xs ys sorted false moved rise apart e =
+shares_decided xs ys sorted true moved rise apart e = sorted_shared xs ys sorted moved (sym e)
+shares_decided xs ys sorted false moved rise apart e =
     sorted_once (numbers_of (cases_of xs)) sorted (numbers_of (cases_of ys)) moved rise apart
     (sym e)
 
 -- and where one does
-pub twice_told : (xs ys : List SwitchCase) (sorted : List ℕ) (b : Bool) →
+pub twice_decided : (xs ys : List SwitchCase) (sorted : List ℕ) (b : Bool) →
     IsPermutation (numbers_of (cases_of xs)) sorted → b ≡ true → IsTwice sorted →
     MatchBool (not b) (AreOnce (numbers_of (cases_of xs)) (numbers_of (cases_of ys)))
     (labels_differ (cases_of (xs ++ ys)) ≡ false)
-twice_told xs ys sorted true moved e twice = sorted_twice xs ys sorted moved twice
-twice_told xs ys sorted false moved e twice = absurd (cc)
+twice_decided xs ys sorted true moved e twice = sorted_twice xs ys sorted moved twice
+twice_decided xs ys sorted false moved e twice = absurd (cc)

@@ -4,7 +4,7 @@ use Rattle.std.proofs.Common.{slice_index_or, slice_get, Option, Some, None}
 use Rattle.std.specs.List.{enumerate_from, list_all, zip}
 use Rattle.std.specs.Prelude.{◌&&◌}
 use Rattle.module_meaning.proofs.Fitting.{drop_first, item_at}
-use Rattle.naga_acceptance.specs.Searching.{first_faulty, first_unfit, told, unless}
+use Rattle.naga_acceptance.specs.Searching.{first_faulty, first_unfit, or_further, unless}
 
 module _ {X Y : Type 0} (xs : List X) (ys : List Y) where
   -- what is left of the two from this place on, with its numbers
@@ -53,10 +53,10 @@ module _ {X Y : Type 0} (xs : List X) (ys : List Y) where
         → first_faulty (λ _ p. fault p.0 p.1) (left i) ≡ Some (i, found)
     faulty_here i x d found in_xs in_ys here fails =
         ap (first_faulty (λ _ p. fault p.0 p.1)) (left_step i x d in_xs in_ys here)
-        ∙ ap (λ o. told o i (first_faulty (λ _ p. fault p.0 p.1) (left (i + 1)))) fails
+        ∙ ap (λ o. or_further o i (first_faulty (λ _ p. fault p.0 p.1) (left (i + 1)))) fails
 
     pub faulty_next : (i : ℕ) (x : X) (d : Y) → i < length xs → i < length ys → slice_get xs i ≡ Some x → fault x (slice_index_or ys i d) ≡ None
         → first_faulty (λ _ p. fault p.0 p.1) (left i) ≡ first_faulty (λ _ p. fault p.0 p.1) (left (i + 1))
     faulty_next i x d in_xs in_ys here fits =
         ap (first_faulty (λ _ p. fault p.0 p.1)) (left_step i x d in_xs in_ys here)
-        ∙ ap (λ o. told o i (first_faulty (λ _ p. fault p.0 p.1) (left (i + 1)))) fits
+        ∙ ap (λ o. or_further o i (first_faulty (λ _ p. fault p.0 p.1) (left (i + 1)))) fits

@@ -36,7 +36,10 @@ same_known : (test : TypeResolution → Bool) (c : ℕ → ℕ) (n : ℕ) (es : 
 same_known test c n [] = refl
 same_known test c n (e ∷ es) = ap (λ b. test e.ty && b) (same_known test c (n + 1) es)
 
-all_same_known : (test : TypeResolution → Bool) (fs : List Function) (ess : List (List ExpressionInfo)) → list_all (list_all (λ k. test k.ty)) (all_with_counts fs ess) ≡ list_all (list_all (λ k. test k.ty)) ess
+all_same_known : (test : TypeResolution → Bool) (fs : List Function)
+    (ess : List (List ExpressionInfo)) →
+    list_all (list_all (λ k. test k.ty)) (all_with_counts fs ess) ≡ list_all
+    (list_all (λ k. test k.ty)) ess
 all_same_known test [] ess = refl
 all_same_known test (f ∷ fs) [] = refl
 all_same_known test (f ∷ fs) (es ∷ ess) = λ i. same_known test (use_count (operand_places f)) 0 es i && all_same_known test fs ess i
@@ -67,8 +70,14 @@ module _ (m : Module) (old new : ModuleInfo) (functions : new.functions.items �
 
   same_sizes : sizes_fit m new ≡ sizes_fit m old
   same_sizes = λ i.
-      (ap (all_paired function_size_fits m.functions) functions ∙ same_paired function_size_fits (λ f g es. ap (λ n. length f.expressions == n) (same_length _ 0 es)) m.functions m.functions old.functions.items) i &&
-      ((ap (all_paired entry_point_size_fits m.entry_points.items) entries ∙ same_paired entry_point_size_fits (λ p g es. ap (λ n. length p.function.expressions == n) (same_length _ 0 es)) m.entry_points.items points old.entry_points.items) i &&
+      (ap (all_paired function_size_fits m.functions) functions
+      ∙ same_paired function_size_fits
+      (λ f g es. ap (λ n. length f.expressions == n) (same_length _ 0 es)) m.functions
+      m.functions old.functions.items) i &&
+      ((ap (all_paired entry_point_size_fits m.entry_points.items) entries
+      ∙ same_paired entry_point_size_fits
+      (λ p g es. ap (λ n. length p.function.expressions == n) (same_length _ 0 es))
+      m.entry_points.items points old.entry_points.items) i &&
       (length m.global_expressions == length (types i).items))
 
   same_all_known : (test : TypeResolution → Bool) → all_known test new ≡ all_known test old
@@ -85,8 +94,14 @@ module _ (m : Module) (old new : ModuleInfo) (functions : new.functions.items �
   unfolding module_is_sound
   same_soundness = λ i.
       declarations_are_sound m (types i).items &&
-      ((ap (all_paired (function_is_sound m) m.functions) functions ∙ same_paired (function_is_sound m) (λ f g es. ap (typed_function_is_sound m f) (same_types _ 0 es)) m.functions m.functions old.functions.items) i &&
-      (ap (all_paired (entry_point_is_sound m) m.entry_points.items) entries ∙ same_paired (entry_point_is_sound m) (λ p g es. ap (typed_function_is_sound m p.function) (same_types _ 0 es)) m.entry_points.items points old.entry_points.items) i)
+      ((ap (all_paired (function_is_sound m) m.functions) functions
+      ∙ same_paired (function_is_sound m)
+      (λ f g es. ap (typed_function_is_sound m f) (same_types _ 0 es)) m.functions m.functions
+      old.functions.items) i &&
+      (ap (all_paired (entry_point_is_sound m) m.entry_points.items) entries
+      ∙ same_paired (entry_point_is_sound m)
+      (λ p g es. ap (typed_function_is_sound m p.function) (same_types _ 0 es))
+      m.entry_points.items points old.entry_points.items) i)
 
   same_agreement : module_operators_agree m new ≡ module_operators_agree m old
   same_agreement = λ i.

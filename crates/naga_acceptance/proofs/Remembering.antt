@@ -72,7 +72,7 @@ pub none_remembered : (types : List Type_) (gs : List Group) (table : List (Opti
     table ≡ replicate 509 None → Remembers types gs [] table
 none_remembered types gs table e = record {
   size = ap length e ∙ length-replicate {A = Option Site} 509 None;
-  told = λ slot site here. absurd (filled (slice_index_or table slot None) site (ap (λ t. slice_index_or t slot None) e ∙ nothing_there 509 slot) here);
+  sites = λ slot site here. absurd (filled (slice_index_or table slot None) site (ap (λ t. slice_index_or t slot None) e ∙ nothing_there 509 slot) here);
   full = λ v among. absurd (missing v among.0 among.1);
 }
   where
@@ -101,7 +101,8 @@ pub further_remembered : (types : List Type_) (gs : List Group) (os : List Opera
     Remembers types gs (os ++ v ∷ []) table
 further_remembered types gs os table v remembered filled = record {
   size = remembered.size;
-  told = λ slot site here. site_of_more types gs os (v ∷ []) site (remembered.told slot site here);
+  sites = λ slot site here. site_of_more types gs os (v ∷ []) site
+      (remembered.sites slot site here);
   full = λ w among. either w (among_either os v w among);
 }
   where
@@ -118,7 +119,7 @@ pub entered_remembered : (types : List Type_) (gs : List Group) (os : List Opera
     Remembers types gs (os ++ v ∷ []) (slice_set table slot (Some site))
 entered_remembered types gs os table v slot site remembered own within here = record {
   size = length-set table slot (Some site) ∙ remembered.size;
-  told = λ place other at. told_at place other (place == slot) refl at;
+  sites = λ place other at. site_at place other (place == slot) refl at;
   full = λ w among. full_at w (among_either os v w among) (slot_of w == slot) refl;
 }
   where
@@ -133,16 +134,16 @@ entered_remembered types gs os table v slot site remembered own within here = re
     at_other place e =
         get_or-set_other table slot place (Some site) None (eqb-false place slot e)
 
-    told_at : (place : ℕ) (other : Site) (b : Bool) → (place == slot) ≡ b →
+    site_at : (place : ℕ) (other : Site) (b : Bool) → (place == slot) ≡ b →
         slice_index_or (slice_set table slot (Some site)) place None ≡ Some other →
         IsSiteOf types gs (os ++ v ∷ []) other
-    told_at place other true e at =
+    site_at place other true e at =
         let same : site ≡ other =
         same_Some site other (sym (at_own place (eqb-true place slot e)) ∙ at)
         in (v, ap (use_at types gs) (sym same) ∙ here, among_last os v)
-    told_at place other false e at =
+    site_at place other false e at =
         site_of_more types gs os (v ∷ []) other
-        (remembered.told place other (sym (at_other place e) ∙ at))
+        (remembered.sites place other (sym (at_other place e) ∙ at))
 
     full_at : (w : Operation) → IsAmong w os ⊎ (w ≡ v) → (b : Bool) → (slot_of w == slot) ≡ b →
         is_some (slice_index_or (slice_set table slot (Some site)) (slot_of w) None) ≡ true
@@ -178,6 +179,6 @@ pub seen_slot : (types : List Type_) (gs : List Group) (os : List Operation)
     is_same_operator w v ≡ true →
     bytes_eq w.answer v.answer ≡ list_all (λ o. agrees o v) os
 seen_slot types gs os table slot site v w agree remembered filled there same =
-    let is = remembered.told slot site filled
+    let is = remembered.sites slot site filled
     in let one : is.0 ≡ w = same_Some is.0 w (sym is.1 ∙ there)
     in seen_agrees os agree is.2.0 v w (is.2.1 ∙ ap Some one) same

@@ -10,17 +10,17 @@ use Rattle.std.specs.Bool.{nat_eq}
 use Rattle.naga_ir.specs.declared.types.Type_.{Type_}
 use Rattle.naga_info.specs.declared.info.TypeResolution.{TypeResolution}
 use Rattle.naga_info.specs.declared.info.TypeResolution.TheVariants.{Handle}
-use Rattle.module_meaning.specs.AlikeTypes.{type_form, type_identity}
+use Rattle.module_meaning.specs.AlikeTypes.{type_key, type_identity}
 use Rattle.module_meaning.specs.TypeIdentity.{identity, identity_at, identity_code, inner_code}
 use Rattle.module_meaning.specs.TypeIdentity.{StructAt, Itself}
-use Rattle.module_meaning.proofs.AlikeTypes.{begins_plain, form_plain, formless_at}
+use Rattle.module_meaning.proofs.AlikeTypes.{begins_plain, key_plain, formless_at}
 use Rattle.naga_acceptance.specs.declared.type_numbers.Level.{Level}
 use Rattle.naga_acceptance.specs.declared.alike.Identity.TheVariants.{Formed, Formless}
 use Rattle.naga_acceptance.specs.declared.alike.Over.{Over}
 use Rattle.naga_acceptance.specs.declared.alike.Over.TheVariants.{Nothing, Type_ as TypeAt, Value as ValueOver}
 use Rattle.naga_acceptance.specs.declared.alike.Top.{Top}
-use Rattle.naga_acceptance.specs.Views.{numbers, over_form, top_form, next_form, rank, formless_code}
-use Rattle.naga_acceptance.specs.Views.{is_whole, told}
+use Rattle.naga_acceptance.specs.Views.{numbers, over_key, top_key, next_key, rank, formless_code}
+use Rattle.naga_acceptance.specs.Views.{is_whole, identity_numbers}
 
 -- ---- levels
 six : (a b c d e f r : Bool) → (a && (b && (c && (d && (e && (f && r)))))) ≡ (a && (b && (c && (d && (e && (f && true)))))) && r
@@ -52,29 +52,31 @@ behind_some l (Some xs) e = refl
 
 -- ---- what a type is over
 module _ (types : List Type_) where
-  pub over_is : (o : Over) (x : Top) → suc (rank x.over) ≤ rank o → next_form o (top_form types (Some x)) ≡ over_form types o → over_form types o ≡ behind x.level (over_form types x.over)
+  pub over_is : (o : Over) (x : Top) → suc (rank x.over) ≤ rank o → next_key o (top_key types (Some x)) ≡ over_key types o → over_key types o ≡ behind x.level (over_key types x.over)
   over_is Nothing x less e = absurd (omega (arith, less))
   over_is (TypeAt h d) x less e = sym e
   over_is (ValueOver n s) x less e = sym e
 
-  pub over_ends : (o : Over) → next_form o None ≡ over_form types o → is_some (over_form types o) ≡ true → over_form types o ≡ Some []
+  pub over_ends : (o : Over) → next_key o None ≡ over_key types o → is_some (over_key types o) ≡ true → over_key types o ≡ Some []
   over_ends Nothing e some = refl
   over_ends (TypeAt h d) e some = absurd (true≢false (sym some ∙ ap is_some (sym e)))
   over_ends (ValueOver n s) e some = absurd (true≢false (sym some ∙ ap is_some (sym e)))
 
-  pub over_goes_on : (o : Over) (x : Top) → suc (rank x.over) ≤ rank o → next_form o (top_form types (Some x)) ≡ over_form types o → is_some (over_form types o) ≡ true → is_some (over_form types x.over) ≡ true
-  over_goes_on o x less e some = behind_some x.level (over_form types x.over) (ap is_some (sym (over_is o x less e)) ∙ some)
+  pub over_goes_on : (o : Over) (x : Top) → suc (rank x.over) ≤ rank o →
+      next_key o (top_key types (Some x)) ≡ over_key types o → is_some (over_key types o) ≡ true →
+      is_some (over_key types x.over) ≡ true
+  over_goes_on o x less e some = behind_some x.level (over_key types x.over) (ap is_some (sym (over_is o x less e)) ∙ some)
 
   -- two that go on are the same where their levels are and what is behind
-  pub both_go_on : (o p : Over) (x y : Top) → suc (rank x.over) ≤ rank o → next_form o (top_form types (Some x)) ≡ over_form types o →
-      suc (rank y.over) ≤ rank p → next_form p (top_form types (Some y)) ≡ over_form types p →
-      is_some (over_form types o) ≡ true → is_some (over_form types p) ≡ true →
-      bytes_eq (unwrap_or (over_form types o) []) (unwrap_or (over_form types p) [])
-      ≡ bytes_eq (numbers x.level) (numbers y.level) && bytes_eq (unwrap_or (over_form types x.over) []) (unwrap_or (over_form types y.over) [])
+  pub both_go_on : (o p : Over) (x y : Top) → suc (rank x.over) ≤ rank o → next_key o (top_key types (Some x)) ≡ over_key types o →
+      suc (rank y.over) ≤ rank p → next_key p (top_key types (Some y)) ≡ over_key types p →
+      is_some (over_key types o) ≡ true → is_some (over_key types p) ≡ true →
+      bytes_eq (unwrap_or (over_key types o) []) (unwrap_or (over_key types p) [])
+      ≡ bytes_eq (numbers x.level) (numbers y.level) && bytes_eq (unwrap_or (over_key types x.over) []) (unwrap_or (over_key types y.over) [])
   both_go_on o p x y lx ex ly ey so sp =
-      ap (λ w. bytes_eq (unwrap_or w []) (unwrap_or (over_form types p) [])) (over_is o x lx ex)
-      ∙ (ap (λ w. bytes_eq (unwrap_or (behind x.level (over_form types x.over)) []) (unwrap_or w [])) (over_is p y ly ey)
-      ∙ rests x.level y.level (over_form types x.over) (over_form types y.over) (over_goes_on o x lx ex so) (over_goes_on p y ly ey sp))
+      ap (λ w. bytes_eq (unwrap_or w []) (unwrap_or (over_key types p) [])) (over_is o x lx ex)
+      ∙ (ap (λ w. bytes_eq (unwrap_or (behind x.level (over_key types x.over)) []) (unwrap_or w [])) (over_is p y ly ey)
+      ∙ rests x.level y.level (over_key types x.over) (over_key types y.over) (over_goes_on o x lx ex so) (over_goes_on p y ly ey sp))
 
   -- one that goes on is not the same as one that ends
   goes_on_apart : (l : Level) (o : Option (List ℕ)) → is_some o ≡ true → bytes_eq (unwrap_or (behind l o) []) [] ≡ false
@@ -85,55 +87,59 @@ module _ (types : List Type_) where
   ends_apart l None e = absurd (true≢false (sym e))
   ends_apart l (Some xs) e = refl
 
-  pub first_ends : (o p : Over) (y : Top) → next_form o None ≡ over_form types o →
-      suc (rank y.over) ≤ rank p → next_form p (top_form types (Some y)) ≡ over_form types p →
-      is_some (over_form types o) ≡ true → is_some (over_form types p) ≡ true →
-      bytes_eq (unwrap_or (over_form types o) []) (unwrap_or (over_form types p) []) ≡ false
+  pub first_ends : (o p : Over) (y : Top) → next_key o None ≡ over_key types o →
+      suc (rank y.over) ≤ rank p → next_key p (top_key types (Some y)) ≡ over_key types p →
+      is_some (over_key types o) ≡ true → is_some (over_key types p) ≡ true →
+      bytes_eq (unwrap_or (over_key types o) []) (unwrap_or (over_key types p) []) ≡ false
   first_ends o p y eo ly ey so sp =
-      ap (λ w. bytes_eq (unwrap_or w []) (unwrap_or (over_form types p) [])) (over_ends o eo so)
-      ∙ (ap (λ w. bytes_eq [] (unwrap_or w [])) (over_is p y ly ey) ∙ ends_apart y.level (over_form types y.over) (over_goes_on p y ly ey sp))
+      ap (λ w. bytes_eq (unwrap_or w []) (unwrap_or (over_key types p) [])) (over_ends o eo so)
+      ∙ (ap (λ w. bytes_eq [] (unwrap_or w [])) (over_is p y ly ey) ∙ ends_apart y.level (over_key types y.over) (over_goes_on p y ly ey sp))
 
-  pub second_ends : (o p : Over) (x : Top) → suc (rank x.over) ≤ rank o → next_form o (top_form types (Some x)) ≡ over_form types o →
-      next_form p None ≡ over_form types p →
-      is_some (over_form types o) ≡ true → is_some (over_form types p) ≡ true →
-      bytes_eq (unwrap_or (over_form types o) []) (unwrap_or (over_form types p) []) ≡ false
+  pub second_ends : (o p : Over) (x : Top) → suc (rank x.over) ≤ rank o → next_key o (top_key types (Some x)) ≡ over_key types o →
+      next_key p None ≡ over_key types p →
+      is_some (over_key types o) ≡ true → is_some (over_key types p) ≡ true →
+      bytes_eq (unwrap_or (over_key types o) []) (unwrap_or (over_key types p) []) ≡ false
   second_ends o p x lx ex ep so sp =
-      ap (λ w. bytes_eq (unwrap_or (over_form types o) []) (unwrap_or w [])) (over_ends p ep sp)
-      ∙ (ap (λ w. bytes_eq (unwrap_or w []) []) (over_is o x lx ex) ∙ goes_on_apart x.level (over_form types x.over) (over_goes_on o x lx ex so))
+      ap (λ w. bytes_eq (unwrap_or (over_key types o) []) (unwrap_or w [])) (over_ends p ep sp)
+      ∙ (ap (λ w. bytes_eq (unwrap_or w []) []) (over_is o x lx ex) ∙ goes_on_apart x.level (over_key types x.over) (over_goes_on o x lx ex so))
 
-  pub both_end : (o p : Over) → next_form o None ≡ over_form types o → next_form p None ≡ over_form types p →
-      is_some (over_form types o) ≡ true → is_some (over_form types p) ≡ true →
-      bytes_eq (unwrap_or (over_form types o) []) (unwrap_or (over_form types p) []) ≡ true
+  pub both_end : (o p : Over) → next_key o None ≡ over_key types o → next_key p None ≡ over_key types p →
+      is_some (over_key types o) ≡ true → is_some (over_key types p) ≡ true →
+      bytes_eq (unwrap_or (over_key types o) []) (unwrap_or (over_key types p) []) ≡ true
   both_end o p eo ep so sp =
-      ap (λ w. bytes_eq (unwrap_or w []) (unwrap_or (over_form types p) [])) (over_ends o eo so) ∙ ap (λ w. bytes_eq [] (unwrap_or w [])) (over_ends p ep sp)
+      ap (λ w. bytes_eq (unwrap_or w []) (unwrap_or (over_key types p) [])) (over_ends o eo so) ∙ ap (λ w. bytes_eq [] (unwrap_or w [])) (over_ends p ep sp)
 
   -- ---- whole types
 
   -- what tells a type with a form, and one without
-  pub formed_told : (r : TypeResolution) (x : Top) → top_form types (Some x) ≡ type_form types r → is_some (over_form types x.over) ≡ true → told types (Formed x) ≡ type_identity types r
-  formed_told r x e some = by (type_form types r) (over_form types x.over) (sym e) some _
+  pub formed_identity : (r : TypeResolution) (x : Top) → top_key types (Some x) ≡ type_key types r → is_some (over_key types x.over) ≡ true → identity_numbers types (Formed x) ≡ type_identity types r
+  formed_identity r x e some = by (type_key types r) (over_key types x.over) (sym e) some _
     where
       by : (s p : Option (List ℕ)) → s ≡ behind x.level p → is_some p ≡ true → (u : List ℕ) → unwrap_or (behind x.level p) [] ≡ unwrap_or s u
       by s None es sp u = absurd (true≢false (sym sp))
       by s (Some xs) es sp u = sym (ap (λ o. unwrap_or o u) es)
 
-  pub told_by : (r : TypeResolution) → type_form types r ≡ None → type_identity types r ≡ 32 ∷ identity_code (identity types r)
-  told_by r none = ap (λ o. unwrap_or o (32 ∷ identity_code (identity types r))) none
+  pub distinguished_by : (r : TypeResolution) → type_key types r ≡ None → type_identity types r ≡ 32 ∷ identity_code (identity types r)
+  distinguished_by r none = ap (λ o. unwrap_or o (32 ∷ identity_code (identity types r))) none
 
-  pub formless_is : (r : TypeResolution) (l : Option Level) → type_form types r ≡ None → formless_code (option_map numbers l) ≡ identity_code (identity types r) → told types (Formless l) ≡ type_identity types r
-  formless_is r l none same = ap (λ w. 32 ∷ w) same ∙ sym (told_by r none)
+  pub formless_is : (r : TypeResolution) (l : Option Level) → type_key types r ≡ None →
+      formless_code (option_map numbers l) ≡ identity_code (identity types r) →
+      identity_numbers types (Formless l) ≡ type_identity types r
+  formless_is r l none same = ap (λ w. 32 ∷ w) same ∙ sym (distinguished_by r none)
 
   -- a type with a form is told apart from those without
-  pub formed_whole : (r : TypeResolution) (x : Top) → top_form types (Some x) ≡ type_form types r → is_some (over_form types x.over) ≡ true → is_whole types (Formed x) ≡ true
-  formed_whole r x e some = by (over_form types x.over) some (ap begins_plain e ∙ form_plain types r)
+  pub formed_whole : (r : TypeResolution) (x : Top) → top_key types (Some x) ≡ type_key types r → is_some (over_key types x.over) ≡ true → is_whole types (Formed x) ≡ true
+  formed_whole r x e some = by (over_key types x.over) some (ap begins_plain e ∙ key_plain types r)
     where
       by : (p : Option (List ℕ)) → is_some p ≡ true → begins_plain (behind x.level p) ≡ true → is_some p && not (nat_eq x.level.tag 32) ≡ true
       by None sp plain = absurd (true≢false (sym sp))
       by (Some xs) sp plain = plain
 
-  pub both_formed : (x y : Top) → is_some (over_form types x.over) ≡ true → is_some (over_form types y.over) ≡ true →
-      bytes_eq (told types (Formed x)) (told types (Formed y)) ≡ bytes_eq (numbers x.level) (numbers y.level) && bytes_eq (unwrap_or (over_form types x.over) []) (unwrap_or (over_form types y.over) [])
-  both_formed x y sx sy = rests x.level y.level (over_form types x.over) (over_form types y.over) sx sy
+  pub both_formed : (x y : Top) → is_some (over_key types x.over) ≡ true → is_some (over_key types y.over) ≡ true →
+      bytes_eq (identity_numbers types (Formed x)) (identity_numbers types (Formed y)) ≡ bytes_eq
+      (numbers x.level) (numbers y.level) && bytes_eq (unwrap_or (over_key types x.over) [])
+      (unwrap_or (over_key types y.over) [])
+  both_formed x y sx sy = rests x.level y.level (over_key types x.over) (over_key types y.over) sx sy
 
   blank_apart : (l : Level) (p : Option (List ℕ)) (v : List ℕ) → is_some p && not (nat_eq l.tag 32) ≡ true → bytes_eq (unwrap_or (behind l p) []) (32 ∷ v) ≡ false
   blank_apart l None v whole = absurd (true≢false (sym whole))
@@ -143,18 +149,21 @@ module _ (types : List Type_) where
   apart_blank l None v whole = absurd (true≢false (sym whole))
   apart_blank l (Some xs) v whole = and_left (nat_eq 32 l.tag) _ (ne_eqb 32 l.tag (λ e. eqb-false l.tag 32 (not-true (nat_eq l.tag 32) whole) (sym e)))
 
-  pub formed_apart : (x : Top) (l : Option Level) → is_whole types (Formed x) ≡ true → bytes_eq (told types (Formed x)) (told types (Formless l)) ≡ false
-  formed_apart x l whole = blank_apart x.level (over_form types x.over) (formless_code (option_map numbers l)) whole
+  pub formed_apart : (x : Top) (l : Option Level) → is_whole types (Formed x) ≡ true → bytes_eq (identity_numbers types (Formed x)) (identity_numbers types (Formless l)) ≡ false
+  formed_apart x l whole = blank_apart x.level (over_key types x.over) (formless_code (option_map numbers l)) whole
 
-  pub formless_apart : (l : Option Level) (x : Top) → is_whole types (Formed x) ≡ true → bytes_eq (told types (Formless l)) (told types (Formed x)) ≡ false
-  formless_apart l x whole = apart_blank x.level (over_form types x.over) (formless_code (option_map numbers l)) whole
+  pub formless_apart : (l : Option Level) (x : Top) → is_whole types (Formed x) ≡ true → bytes_eq (identity_numbers types (Formless l)) (identity_numbers types (Formed x)) ≡ false
+  formless_apart l x whole = apart_blank x.level (over_key types x.over) (formless_code (option_map numbers l)) whole
 
   -- ---- what tells a type without a form
-  pub formless_told : (h : ℕ) (t : Type_) (l : Level) → slice_get types h ≡ Some t → numbers l ≡ inner_code t.inner → type_form types (Handle h) ≡ None → formless_code (Some (numbers l)) ≡ identity_code (identity types (Handle h))
-  formless_told h t l is code none =
+  pub formless_identity : (h : ℕ) (t : Type_) (l : Level) → slice_get types h ≡ Some t →
+      numbers l ≡ inner_code t.inner → type_key types (Handle h) ≡ None →
+      formless_code (Some (numbers l)) ≡ identity_code (identity types (Handle h))
+  formless_identity h t l is code none =
       ap (λ c. 2 ∷ c) code
       ∙ (ap (λ b. identity_code (if b then StructAt h else Itself t.inner)) (sym (formless_at types h t is none))
       ∙ ap (λ o. identity_code (identity_at h (option_map (λ t. t.inner) o))) (sym is))
 
-  pub nothing_told : (h : ℕ) → slice_get types h ≡ None → formless_code None ≡ identity_code (identity types (Handle h))
-  nothing_told h is = ap (λ o. identity_code (identity_at h (option_map (λ t. t.inner) o))) (sym is)
+  pub nothing_reported : (h : ℕ) → slice_get types h ≡ None → formless_code None ≡ identity_code (identity types (Handle h))
+  nothing_reported h is = ap (λ o. identity_code (identity_at h (option_map (λ t. t.inner) o)))
+      (sym is)

@@ -22,7 +22,7 @@ use Rattle.module_meaning.specs.Ranges.{block_in_range, cases_in_range, is_below
 use Rattle.module_meaning.specs.StatementsFit.{block_is_sound, body_is_sound, cases_are_sound}
 use Rattle.module_meaning.specs.StatementsFit.{is_condition, statement_is_sound}
 use Rattle.module_meaning.proofs.Fitting.{drop_first}
-use Rattle.naga_acceptance.specs.TextOrder.{Standing, case_statements, is_in_range, is_sound}
+use Rattle.naga_acceptance.specs.TextOrder.{PlacedStatement, case_statements, is_in_range, is_sound}
 use Rattle.naga_acceptance.specs.TextOrder.{labels_fit_32_bits, numbered, own_in_range, own_is_sound, statements_in}
 use Rattle.naga_acceptance.specs.TextOrder.{statements_inside, text_order}
 
@@ -54,7 +54,7 @@ module _ {X : Type 0} (test : X → Bool) where
 
 -- ---- loops over statements and cases
 
-module _ (test : Standing → Bool) (breaks continues : Bool) where
+module _ (test : PlacedStatement → Bool) (breaks continues : Bool) where
   pub block_next : (n : ℕ) (ss : List Statement) (i : ℕ) (d : Statement) → i < length ss
       → numbered test n (statements_in breaks continues (block_of (drop i ss)))
       ≡ onward test (numbered test n (record { breaks = breaks; continues = continues; tree = tree_of (slice_index_or ss i d) } ∷ statements_inside breaks continues (tree_of (slice_index_or ss i d))))
@@ -101,7 +101,9 @@ joined test xs ys p q = both p q ∙ sym (list_all-append test xs ys)
 
 module _ (callees expressions : ℕ) where
   mutual
-    statement_range : (breaks continues : Bool) (s : StatementTree) → statement_in_range callees expressions s ≡ own_in_range callees expressions s && list_all (is_in_range callees expressions) (statements_inside breaks continues s)
+    statement_range : (breaks continues : Bool) (s : StatementTree) →
+        statement_in_range callees expressions s ≡ own_in_range callees expressions s && list_all
+        (is_in_range callees expressions) (statements_inside breaks continues s)
     statement_range breaks continues (simple s) = by (own_in_range callees expressions (simple s))
       where
         by : (a : Bool) → a ≡ a && true
@@ -109,7 +111,9 @@ module _ (callees expressions : ℕ) where
         by false = refl
     statement_range breaks continues (block b) = block_range breaks continues b
     statement_range breaks continues (branch condition accept reject) =
-        both refl (joined (is_in_range callees expressions) (statements_in breaks continues accept) (statements_in breaks continues reject) (block_range breaks continues accept) (block_range breaks continues reject))
+        both refl (joined (is_in_range callees expressions) (statements_in breaks continues accept)
+        (statements_in breaks continues reject) (block_range breaks continues accept)
+        (block_range breaks continues reject))
     statement_range breaks continues (switch selector cs) =
         both refl (cases_range true continues cs)
         ∙ sym (regroup (nat_lt selector expressions) (labels_fit_32_bits cs) (list_all (is_in_range callees expressions) (case_statements true continues cs)))
@@ -121,20 +125,29 @@ module _ (callees expressions : ℕ) where
     block_range breaks continues no_statements = refl
     block_range breaks continues (statement s b) =
         both (statement_range breaks continues s) (block_range breaks continues b)
-        ∙ (regroup (own_in_range callees expressions s) (list_all (is_in_range callees expressions) (statements_inside breaks continues s)) (list_all (is_in_range callees expressions) (statements_in breaks continues b))
+        ∙ (regroup (own_in_range callees expressions s)
+        (list_all (is_in_range callees expressions) (statements_inside breaks continues s))
+        (list_all (is_in_range callees expressions) (statements_in breaks continues b))
         ∙ both refl (sym (list_all-append (is_in_range callees expressions) (statements_inside breaks continues s) (statements_in breaks continues b))))
 
     -- the labels of all cases, and then the statements of all
-    cases_range : (breaks continues : Bool) (cs : CaseTrees) → cases_in_range callees expressions cs ≡ labels_fit_32_bits cs && list_all (is_in_range callees expressions) (case_statements breaks continues cs)
+    cases_range : (breaks continues : Bool) (cs : CaseTrees) →
+        cases_in_range callees expressions cs ≡ labels_fit_32_bits cs && list_all
+        (is_in_range callees expressions) (case_statements breaks continues cs)
     cases_range breaks continues no_cases = refl
     cases_range breaks continues (case v b falls cs) =
         both refl (both (block_range breaks continues b) (cases_range breaks continues cs))
-        ∙ (labels_first (label_fits_32_bits v) (list_all (is_in_range callees expressions) (statements_in breaks continues b)) (labels_fit_32_bits cs) (list_all (is_in_range callees expressions) (case_statements breaks continues cs))
+        ∙ (labels_first (label_fits_32_bits v)
+        (list_all (is_in_range callees expressions) (statements_in breaks continues b))
+        (labels_fit_32_bits cs)
+        (list_all (is_in_range callees expressions) (case_statements breaks continues cs))
         ∙ both refl (sym (list_all-append (is_in_range callees expressions) (statements_in breaks continues b) (case_statements breaks continues cs))))
 
 module _ (m : Module) (f : Function) (known : List TypeResolution) where
   mutual
-    statement_sound : (breaks continues : Bool) (s : StatementTree) → statement_is_sound m f known breaks continues s ≡ own_is_sound m f known breaks continues s && list_all (is_sound m f known) (statements_inside breaks continues s)
+    statement_sound : (breaks continues : Bool) (s : StatementTree) →
+        statement_is_sound m f known breaks continues s ≡ own_is_sound m f known breaks continues s
+        && list_all (is_sound m f known) (statements_inside breaks continues s)
     statement_sound breaks continues (simple s) = by (own_is_sound m f known breaks continues (simple s))
       where
         by : (a : Bool) → a ≡ a && true
@@ -142,7 +155,9 @@ module _ (m : Module) (f : Function) (known : List TypeResolution) where
         by false = refl
     statement_sound breaks continues (block b) = block_sound breaks continues b
     statement_sound breaks continues (branch condition accept reject) =
-        both refl (joined (is_sound m f known) (statements_in breaks continues accept) (statements_in breaks continues reject) (block_sound breaks continues accept) (block_sound breaks continues reject))
+        both refl (joined (is_sound m f known) (statements_in breaks continues accept)
+        (statements_in breaks continues reject) (block_sound breaks continues accept)
+        (block_sound breaks continues reject))
     statement_sound breaks continues (switch selector cs) = both refl (cases_sound true continues cs)
     statement_sound breaks continues (loop body continuing break_if) =
         last_first (block_is_sound m f known true true body) (block_is_sound m f known false false continuing) (option_map_or (is_condition m.types known) break_if true)

@@ -24,7 +24,9 @@ IsWritten-read target initial xs i d w =
 same_left : {X : Type 0} (i : ℕ) (initial xs : List X) (d : X) → i < length initial → i < length xs → drop i xs ≡ drop i initial → drop (i + 1) xs ≡ drop (i + 1) initial
 same_left i initial xs d h k same = sym (ap (λ ys. drop 1 ys) (drop_more xs i d k)) ∙ ap (λ ys. drop 1 ys) same ∙ ap (λ ys. drop 1 ys) (drop_more initial i d h)
 
-pub IsWritten-more : {X : Type 0} (target initial xs : List X) (i : ℕ) (y : X) → i < length initial → IsWritten target initial xs i → y ≡ slice_index_or target i y → IsWritten target initial (slice_set xs i y) (i + 1)
+pub IsWritten-more : {X : Type 0} (target initial xs : List X) (i : ℕ) (y : X) →
+    i < length initial → IsWritten target initial xs i → y ≡ slice_index_or target i y →
+    IsWritten target initial (slice_set xs i y) (i + 1)
 IsWritten-more target initial xs i y h w is =
     let in_xs : i < length xs = omega (arith, h, w.kept_length)
     in let in_target : i < length target = omega (arith, h, w.same_length)
@@ -43,7 +45,9 @@ IsWritten-all target initial xs w =
     in sym (take_all (length xs) xs enough) ∙ w.done ∙ take_all (length xs) target target_enough
 
 -- a place that stays as it was
-pub IsWritten-kept : {X : Type 0} (target initial xs : List X) (i : ℕ) (d : X) → i < length initial → IsWritten target initial xs i → slice_index_or initial i d ≡ slice_index_or target i d → IsWritten target initial xs (i + 1)
+pub IsWritten-kept : {X : Type 0} (target initial xs : List X) (i : ℕ) (d : X) →
+    i < length initial → IsWritten target initial xs i →
+    slice_index_or initial i d ≡ slice_index_or target i d → IsWritten target initial xs (i + 1)
 IsWritten-kept target initial xs i d h w is =
     let in_xs : i < length xs = omega (arith, h, w.kept_length)
     in let in_target : i < length target = omega (arith, h, w.same_length)

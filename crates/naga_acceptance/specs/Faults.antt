@@ -17,14 +17,14 @@ use Rattle.naga_ir.specs.declared.module.Module.{Module}
 use Rattle.naga_info.specs.declared.info.ExpressionInfo.{ExpressionInfo}
 use Rattle.naga_info.specs.declared.info.ModuleInfo.{ModuleInfo}
 use Rattle.naga_info.specs.declared.info.TypeResolution.{TypeResolution}
-use Rattle.naga_acceptance.specs.TextOrder.{Standing, is_in_range, is_sound, text_order}
+use Rattle.naga_acceptance.specs.TextOrder.{PlacedStatement, is_in_range, is_sound, text_order}
 use Rattle.naga_acceptance.specs.Uses.{earlier_uses}
 use Rattle.naga_acceptance.specs.declared.faults.Fault.{Fault}
 use Rattle.naga_acceptance.specs.declared.faults.Fault.TheVariants as fault
 use Rattle.naga_acceptance.specs.declared.faults.Item.{Item}
 use Rattle.naga_acceptance.specs.declared.faults.Item.TheVariants as item
-use Rattle.naga_acceptance.specs.declared.faults.Part.{Part}
-use Rattle.naga_acceptance.specs.declared.faults.Part.TheVariants as part
+use Rattle.naga_acceptance.specs.declared.faults.FunctionPlace.{FunctionPlace}
+use Rattle.naga_acceptance.specs.declared.faults.FunctionPlace.TheVariants as part
 use Rattle.naga_acceptance.specs.declared.faults.Unaccepted.{Unaccepted}
 use Rattle.module_meaning.specs.AgreeingOperators.{Group, groups_of}
 use Rattle.module_meaning.specs.ExpressionTypes.{has_its_type}
@@ -76,22 +76,22 @@ LocalFails m f known h fault.InitialiserType =
 LocalFails m f known h _ = ⊥
 
 abbrev pub ExpressionFails :
-    Module → (callees : ℕ) → Function → (known : List TypeResolution) → (h : ℕ) → Fault → Type 0
-ExpressionFails m callees f known h fault.Operands =
+    Module → Function → (known : List TypeResolution) → (h : ℕ) → Fault → Type 0
+ExpressionFails m f known h fault.Operands =
     Unfit (λ e. all_below h (expression_operands e)) f.expressions h
-ExpressionFails m callees f known h fault.Names =
-    Unfit (names_in_range m callees (length f.arguments.items) (length f.local_variables))
+ExpressionFails m f known h fault.Names =
+    Unfit (names_in_range m (length f.arguments.items) (length f.local_variables))
     f.expressions h
-ExpressionFails m callees f known h fault.KnownType =
+ExpressionFails m f known h fault.KnownType =
     Unfit (resolution_fits (length m.overrides) (length m.types)) known h
-ExpressionFails m callees f known h fault.OtherType =
+ExpressionFails m f known h fault.OtherType =
     Unfit (has_its_type m (Some f) known h) f.expressions h
-ExpressionFails m callees f known h fault.OperandTypes =
+ExpressionFails m f known h fault.OperandTypes =
     Unfit (operands_fit m.types known) f.expressions h
-ExpressionFails m callees f known h _ = ⊥
+ExpressionFails m f known h _ = ⊥
 
 -- the test fails of a statement of the body with this number, which is told modulo 2^64
-abbrev pub UnfitStatement : (Standing → Bool) → Function → (n : ℕ) → Type 0
+abbrev pub UnfitStatement : (PlacedStatement → Bool) → Function → (n : ℕ) → Type 0
 UnfitStatement test f n = (k : ℕ) × (n ≡ k % 2 ^ 64) × Unfit test (text_order f.body) k
 
 abbrev pub StatementFails :
@@ -108,18 +108,22 @@ WholeFails m f known fault.NamedExpressions = names_fit f ≡ false
 WholeFails m f known _ = ⊥
 
 -- a function's part fails
-abbrev pub PartFails :
-    Module → (callees : ℕ) → Function → (known : List TypeResolution) → Part → Fault → Type 0
-PartFails m callees f known part.Whole fault = WholeFails m f known fault
-PartFails m callees f known (part.Local h) fault = LocalFails m f known h fault
-PartFails m callees f known (part.Expression h) fault = ExpressionFails m callees f known h fault
-PartFails m callees f known (part.Statement n) fault = StatementFails m callees f known n fault
+abbrev pub FunctionPlaceFails :
+    Module → (callees : ℕ) → Function → (known : List TypeResolution) → FunctionPlace → Fault →
+    Type 0
+FunctionPlaceFails m callees f known part.Whole fault = WholeFails m f known fault
+FunctionPlaceFails m callees f known (part.Local h) fault = LocalFails m f known h fault
+FunctionPlaceFails m callees f known (part.Expression h) fault =
+    ExpressionFails m f known h fault
+FunctionPlaceFails m callees f known (part.Statement n) fault =
+    StatementFails m callees f known n fault
 
 -- an entry point's part fails, or what it names beside its function is not there
-abbrev pub EntryPartFails :
-    Module → EntryPoint → (known : List TypeResolution) → Part → Fault → Type 0
-EntryPartFails m p known part.Whole fault.Names = entry_names_fit m p ≡ false
-EntryPartFails m p known part fault = PartFails m (length m.functions) p.function known part fault
+abbrev pub EntryPlaceFails :
+    Module → EntryPoint → (known : List TypeResolution) → FunctionPlace → Fault → Type 0
+EntryPlaceFails m p known part.Whole fault.Names = entry_names_fit m p ≡ false
+EntryPlaceFails m p known part fault =
+    FunctionPlaceFails m (length m.functions) p.function known part fault
 
 -- ---- operators
 
@@ -185,7 +189,7 @@ abbrev pub GlobalExpressionFails : Module → ModuleInfo → (h : ℕ) → Fault
 GlobalExpressionFails m info h fault.Operands =
     Unfit (λ e. all_below h (expression_operands e)) m.global_expressions h
 GlobalExpressionFails m info h fault.Names =
-    Unfit (names_in_range m (length m.functions) 0 0) m.global_expressions h
+    Unfit (names_in_range m 0 0) m.global_expressions h
 GlobalExpressionFails m info h fault.LaterInitialiser =
     Unfit (initialiser_before m h) m.global_expressions h
 GlobalExpressionFails m info h fault.KnownType =
@@ -197,15 +201,15 @@ GlobalExpressionFails m info h fault.OperandTypes =
     Unfit (operands_fit m.types info.const_expression_types.items) m.global_expressions h
 GlobalExpressionFails m info h _ = ⊥
 
-abbrev pub FunctionFails : Module → ModuleInfo → (h : ℕ) → Part → Fault → Type 0
+abbrev pub FunctionFails : Module → ModuleInfo → (h : ℕ) → FunctionPlace → Fault → Type 0
 FunctionFails m info h part fault =
     (f : Function) × (slice_get m.functions h ≡ Some f)
-    × PartFails m h f (known_of info.functions.items h) part fault
+    × FunctionPlaceFails m h f (known_of info.functions.items h) part fault
 
-abbrev pub EntryPointFails : Module → ModuleInfo → (h : ℕ) → Part → Fault → Type 0
+abbrev pub EntryPointFails : Module → ModuleInfo → (h : ℕ) → FunctionPlace → Fault → Type 0
 EntryPointFails m info h part fault =
     (p : EntryPoint) × (slice_get m.entry_points.items h ≡ Some p)
-    × EntryPartFails m p (known_of info.entry_points.items h) part fault
+    × EntryPlaceFails m p (known_of info.entry_points.items h) part fault
 
 -- an item fails, of a fault that is no disagreement of operators
 abbrev pub ItemFails : Module → ModuleInfo → Item → Fault → Type 0

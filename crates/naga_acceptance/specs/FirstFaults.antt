@@ -27,8 +27,8 @@ use Rattle.naga_acceptance.specs.declared.faults.Fault.{Fault}
 use Rattle.naga_acceptance.specs.declared.faults.Fault.TheVariants as fault
 use Rattle.naga_acceptance.specs.declared.faults.Item.{Item}
 use Rattle.naga_acceptance.specs.declared.faults.Item.TheVariants as item
-use Rattle.naga_acceptance.specs.declared.faults.Part.{Part}
-use Rattle.naga_acceptance.specs.declared.faults.Part.TheVariants as part
+use Rattle.naga_acceptance.specs.declared.faults.FunctionPlace.{FunctionPlace}
+use Rattle.naga_acceptance.specs.declared.faults.FunctionPlace.TheVariants as part
 use Rattle.naga_acceptance.specs.declared.faults.Unaccepted.{Unaccepted}
 use Rattle.module_meaning.specs.ExpressionTypes.{has_its_type}
 use Rattle.module_meaning.specs.InfoSizes.{entry_point_size_fits, function_size_fits, type_is_fit}
@@ -45,30 +45,30 @@ abbrev pub at : Item → Fault → Unaccepted
 at place kind = record { item = place; fault = kind }
 
 -- a fault of a part of the function, or of the entry point, with this handle
-abbrev pub at_function : (h : ℕ) → Part × Fault → Unaccepted
+abbrev pub at_function : (h : ℕ) → FunctionPlace × Fault → Unaccepted
 at_function h found = at (item.Function h found.0) found.1
 
-abbrev pub at_entry_point : (h : ℕ) → Part × Fault → Unaccepted
+abbrev pub at_entry_point : (h : ℕ) → FunctionPlace × Fault → Unaccepted
 at_entry_point h found = at (item.EntryPoint h found.0) found.1
 
 -- a fault of an expression of a function
-abbrev pub at_expression : ℕ × Fault → Part × Fault
+abbrev pub at_expression : ℕ × Fault → FunctionPlace × Fault
 at_expression found = (part.Expression found.0, found.1)
 
 -- ---- what is named
 
 abbrev pub expression_range_fault :
-    Module → (callees arguments locals : ℕ) → (h : ℕ) → Expression → Option Fault
-expression_range_fault m callees arguments locals h e =
+    Module → (arguments locals : ℕ) → (h : ℕ) → Expression → Option Fault
+expression_range_fault m arguments locals h e =
     unless (all_below h (expression_operands e)) fault.Operands
-    (unless (names_in_range m callees arguments locals e) fault.Names None)
+    (unless (names_in_range m arguments locals e) fault.Names None)
 
 abbrev pub global_expression_range_fault : Module → (h : ℕ) → Expression → Option Fault
 global_expression_range_fault m h e =
-    option_or (expression_range_fault m (length m.functions) 0 0 h e)
+    option_or (expression_range_fault m 0 0 h e)
     (unless (initialiser_before m h e) fault.LaterInitialiser None)
 
-abbrev pub function_range_fault : Module → (callees : ℕ) → Function → Option (Part × Fault)
+abbrev pub function_range_fault : Module → (callees : ℕ) → Function → Option (FunctionPlace × Fault)
 function_range_fault m callees f =
     unless (signature_fits (length m.types) f) (part.Whole, fault.Signature)
     (unless (names_fit f) (part.Whole, fault.NamedExpressions)
@@ -77,12 +77,12 @@ function_range_fault m callees f =
     (enumerate_from 0 f.local_variables)))
     (option_or (option_map at_expression
     (first_faulty
-    (expression_range_fault m callees (length f.arguments.items) (length f.local_variables))
+    (expression_range_fault m (length f.arguments.items) (length f.local_variables))
     (enumerate_from 0 f.expressions)))
     (option_map (λ n. (part.Statement n, fault.Names))
     (result_err (numbered (is_in_range callees (length f.expressions)) 0 (text_order f.body)))))))
 
-abbrev pub entry_point_range_fault : Module → EntryPoint → Option (Part × Fault)
+abbrev pub entry_point_range_fault : Module → EntryPoint → Option (FunctionPlace × Fault)
 entry_point_range_fault m p =
     unless (entry_names_fit m p) (part.Whole, fault.Names)
     (function_range_fault m (length m.functions) p.function)
@@ -158,12 +158,12 @@ first_unknown overrides types ks =
 
 -- the same among several functions
 abbrev pub known_fault :
-    (overrides types : ℕ) → (h : ℕ) → List ExpressionInfo → Option (Part × Fault)
+    (overrides types : ℕ) → (h : ℕ) → List ExpressionInfo → Option (FunctionPlace × Fault)
 known_fault overrides types h ks =
     option_map (λ e. (part.Expression e, fault.KnownType)) (first_unknown overrides types ks)
 
 abbrev pub first_known_fault :
-    (overrides types : ℕ) → List (List ExpressionInfo) → Option (ℕ × (Part × Fault))
+    (overrides types : ℕ) → List (List ExpressionInfo) → Option (ℕ × (FunctionPlace × Fault))
 first_known_fault overrides types kss =
     first_faulty (known_fault overrides types) (enumerate_from 0 kss)
 
@@ -198,7 +198,7 @@ expressions_sound_fault m f known es =
     first_faulty (expression_sound_fault m f known) (enumerate_from 0 es)
 
 abbrev pub function_sound_fault :
-    Module → Function → (known : List TypeResolution) → Option (Part × Fault)
+    Module → Function → (known : List TypeResolution) → Option (FunctionPlace × Fault)
 function_sound_fault m f known =
     option_or (option_map at_expression (expressions_sound_fault m (Some f) known f.expressions))
     (option_or (option_map (λ h. (part.Local h, fault.InitialiserType))

@@ -3,8 +3,8 @@ use Rattle.std.specs.Prelude.{List, map}
 use Rattle.naga_ir.specs.declared.types.TypeInner.TheVariants as inner
 use Rattle.naga_info.specs.declared.info.TypeResolution.{TypeResolution}
 use Rattle.naga_info.specs.declared.info.TypeResolution.TheVariants.{Handle, Value}
-use Rattle.naga_acceptance.specs.declared.parts.GivenType.{GivenType}
-use Rattle.naga_acceptance.specs.declared.parts.GivenType.TheVariants as given_type
+use Rattle.naga_acceptance.specs.declared.parts.InferredType.{InferredType}
+use Rattle.naga_acceptance.specs.declared.parts.InferredType.TheVariants as inferred_type
 use Rattle.naga_acceptance.specs.declared.parts.Known.{Known}
 use Rattle.naga_acceptance.specs.declared.parts.Known.TheVariants as source
 use Rattle.naga_acceptance.specs.declared.expression_types.Wanted.{Wanted}
@@ -12,17 +12,17 @@ use Rattle.naga_acceptance.specs.declared.expression_types.Wanted.TheVariants as
 use Rattle.module_meaning.specs.ExpressionTypes.{WantedType, LikeThis, Anything, Nothing}
 
 -- a type that expressions are given
-abbrev pub given : GivenType → TypeResolution
-given (given_type.Handle handle) = Handle handle
-given (given_type.Scalar s) = Value (inner.Scalar s)
-given (given_type.Vector size s) = Value (inner.Vector size s)
-given (given_type.Matrix columns rows s) = Value (inner.Matrix columns rows s)
-given (given_type.Pointer base space) = Value (inner.Pointer base space)
-given (given_type.ValuePointer size s space) = Value (inner.ValuePointer size s space)
+abbrev pub inferred : InferredType → TypeResolution
+inferred (inferred_type.Handle handle) = Handle handle
+inferred (inferred_type.Scalar s) = Value (inner.Scalar s)
+inferred (inferred_type.Vector size s) = Value (inner.Vector size s)
+inferred (inferred_type.Matrix columns rows s) = Value (inner.Matrix columns rows s)
+inferred (inferred_type.Pointer base space) = Value (inner.Pointer base space)
+inferred (inferred_type.ValuePointer size s space) = Value (inner.ValuePointer size s space)
 
 -- what an expression's type may be
 abbrev pub wanted : Wanted → WantedType
-wanted (code.LikeThis one) = LikeThis (given one)
+wanted (code.LikeThis one) = LikeThis (inferred one)
 wanted code.Anything = Anything
 wanted code.Nothing = Nothing
 

@@ -15,11 +15,11 @@ first_unfit test [] = None
 first_unfit test (p ∷ ps) = unless (test p.0 p.1) p.0 (first_unfit test ps)
 
 -- the handle with the fault of what it names, if there is one, and else what is found further on
-abbrev pub told : {F : Type 0} → Option F → (h : ℕ) → Option (ℕ × F) → Option (ℕ × F)
-told None h further = further
-told (Some fault) h further = Some (h, fault)
+abbrev pub or_further : {F : Type 0} → Option F → (h : ℕ) → Option (ℕ × F) → Option (ℕ × F)
+or_further None h further = further
+or_further (Some fault) h further = Some (h, fault)
 
 -- the first item of which there is a fault, with the fault
 abbrev pub first_faulty : {X F : Type 0} → (ℕ → X → Option F) → List (ℕ × X) → Option (ℕ × F)
 first_faulty test [] = None
-first_faulty test (p ∷ ps) = told (test p.0 p.1) p.0 (first_faulty test ps)
+first_faulty test (p ∷ ps) = or_further (test p.0 p.1) p.0 (first_faulty test ps)

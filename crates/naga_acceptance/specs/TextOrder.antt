@@ -23,14 +23,14 @@ use Rattle.module_meaning.specs.Ranges.{is_below, simple_in_range}
 use Rattle.module_meaning.specs.StatementsFit.{is_condition, is_selection, simple_is_sound}
 
 -- a statement where it stands
-pub record Standing : Type 0 where
+pub record PlacedStatement : Type 0 where
   pub breaks : Bool
   pub continues : Bool
   pub tree : StatementTree
 
 -- the statements in the blocks of a statement, in those of a block and in those of cases
 abbrev mutual
-  pub statements_inside : (breaks continues : Bool) → StatementTree → List Standing
+  pub statements_inside : (breaks continues : Bool) → StatementTree → List PlacedStatement
   statements_inside breaks continues (simple s) = []
   statements_inside breaks continues (block b) = statements_in breaks continues b
   statements_inside breaks continues (branch condition accept reject) =
@@ -39,19 +39,19 @@ abbrev mutual
   statements_inside breaks continues (loop body continuing break_if) =
       statements_in true true body ++ statements_in false false continuing
 
-  pub statements_in : (breaks continues : Bool) → BlockTree → List Standing
+  pub statements_in : (breaks continues : Bool) → BlockTree → List PlacedStatement
   statements_in breaks continues no_statements = []
   statements_in breaks continues (statement s b) =
       record { breaks = breaks; continues = continues; tree = s }
       ∷ (statements_inside breaks continues s ++ statements_in breaks continues b)
 
-  pub case_statements : (breaks continues : Bool) → CaseTrees → List Standing
+  pub case_statements : (breaks continues : Bool) → CaseTrees → List PlacedStatement
   case_statements breaks continues no_cases = []
   case_statements breaks continues (case v b falls cs) =
       statements_in breaks continues b ++ case_statements breaks continues cs
 
 -- the statements of a body in the order of the text
-abbrev pub text_order : BlockTree → List Standing
+abbrev pub text_order : BlockTree → List PlacedStatement
 text_order b = statements_in false false b
 
 -- ---- what is asked of a statement by itself
@@ -84,14 +84,14 @@ own_is_sound m f known breaks continues (loop body continuing break_if) =
     option_map_or (is_condition m.types known) break_if true
 
 -- the same of a statement where it stands
-abbrev pub is_in_range : (callees expressions : ℕ) → Standing → Bool
+abbrev pub is_in_range : (callees expressions : ℕ) → PlacedStatement → Bool
 is_in_range callees expressions s = own_in_range callees expressions s.tree
 
-abbrev pub is_sound : Module → Function → (known : List TypeResolution) → Standing → Bool
+abbrev pub is_sound : Module → Function → (known : List TypeResolution) → PlacedStatement → Bool
 is_sound m f known s = own_is_sound m f known s.breaks s.continues s.tree
 
 -- one of the two
-abbrev pub is_met : Demand → Standing → Bool
+abbrev pub is_met : Demand → PlacedStatement → Bool
 is_met (demand.InRange callees expressions) s = is_in_range callees expressions s
 is_met (demand.Sound m f known) s = is_sound m.now f.now (known_types known) s
 

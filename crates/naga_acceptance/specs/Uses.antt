@@ -101,7 +101,7 @@ IsSiteOf types gs os site = (v : Operation) × (use_at types gs site ≡ Some v)
 pub record Remembers (types : List Type_) (gs : List Group) (os : List Operation)
     (table : List (Option Site)) : Type 0 where
   pub size : length table ≡ slot_count
-  pub told : (slot : ℕ) (site : Site) → slice_index_or table slot None ≡ Some site →
+  pub sites : (slot : ℕ) (site : Site) → slice_index_or table slot None ≡ Some site →
       IsSiteOf types gs os site
   pub full : (v : Operation) → IsAmong v os →
       is_some (slice_index_or table (slot_of v) None) ≡ true

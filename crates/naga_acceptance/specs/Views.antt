@@ -14,7 +14,7 @@ use Rattle.naga_acceptance.specs.declared.alike.Over.TheVariants.{Value as Value
 use Rattle.naga_acceptance.specs.declared.alike.Top.{Top}
 use Rattle.naga_acceptance.specs.declared.alike.Identity.{Identity}
 use Rattle.naga_acceptance.specs.declared.alike.Identity.TheVariants.{Formed, Formless}
-use Rattle.module_meaning.specs.AlikeTypes.{form_within, handle_form, value_form}
+use Rattle.module_meaning.specs.AlikeTypes.{key_within, handle_key, value_key}
 use Rattle.module_meaning.specs.TypeIdentity.{level}
 
 -- the six numbers of a level
@@ -22,20 +22,20 @@ abbrev pub numbers : Level → List ℕ
 numbers l = level l.tag l.first l.second l.third l.fourth l.fifth
 
 -- the form of what a type is over: nothing, a type so many levels deep, or a scalar or a vector
-abbrev pub over_form : List Type_ → Over → Option (List ℕ)
-over_form types Nothing = Some []
-over_form types (TypeAt handle deeper) = form_within (suc deeper) types handle
-over_form types (ValueOver size s) = value_form size s
+abbrev pub over_key : List Type_ → Over → Option (List ℕ)
+over_key types Nothing = Some []
+over_key types (TypeAt handle deeper) = key_within (suc deeper) types handle
+over_key types (ValueOver size s) = value_key size s
 
 -- the form of a type by its top, where it has one
-abbrev pub top_form : List Type_ → Option Top → Option (List ℕ)
-top_form types None = None
-top_form types (Some t) = option_map (λ rest. numbers t.level ++ rest) (over_form types t.over)
+abbrev pub top_key : List Type_ → Option Top → Option (List ℕ)
+top_key types None = None
+top_key types (Some t) = option_map (λ rest. numbers t.level ++ rest) (over_key types t.over)
 
 -- the forms of the types that a type is over: whole, or at most so many levels deep
 abbrev pub bases : List Type_ → (within : Option ℕ) → ℕ → Option (List ℕ)
-bases types None = handle_form types
-bases types (Some levels) = form_within levels types
+bases types None = handle_key types
+bases types (Some levels) = key_within levels types
 
 -- how many more levels there may be below
 abbrev pub depth : Over → ℕ
@@ -48,9 +48,9 @@ rank Nothing = 0
 rank over = suc (depth over)
 
 -- the form of what a type is over, by the form of its top
-abbrev pub next_form : Over → (form : Option (List ℕ)) → Option (List ℕ)
-next_form Nothing form = Some []
-next_form over form = form
+abbrev pub next_key : Over → (form : Option (List ℕ)) → Option (List ℕ)
+next_key Nothing form = Some []
+next_key over form = form
 
 -- the numbers of a type without a form, if there is such a type
 abbrev pub formless_code : Option (List ℕ) → List ℕ
@@ -58,11 +58,11 @@ formless_code None = 0 ∷ []
 formless_code (Some code) = 2 ∷ code
 
 -- what tells a type: its form, or what it is
-abbrev pub told : List Type_ → Identity → List ℕ
-told types (Formed top) = unwrap_or (top_form types (Some top)) []
-told types (Formless level) = 32 ∷ formless_code (option_map numbers level)
+abbrev pub identity_numbers : List Type_ → Identity → List ℕ
+identity_numbers types (Formed top) = unwrap_or (top_key types (Some top)) []
+identity_numbers types (Formless level) = 32 ∷ formless_code (option_map numbers level)
 
 -- what it is over has a form, and it is told apart from what has none
 abbrev pub is_whole : List Type_ → Identity → Bool
-is_whole types (Formed top) = is_some (over_form types top.over) && not (nat_eq top.level.tag 32)
+is_whole types (Formed top) = is_some (over_key types top.over) && not (nat_eq top.level.tag 32)
 is_whole types (Formless level) = true

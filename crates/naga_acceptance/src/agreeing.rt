@@ -18,7 +18,7 @@ ghost use Rattle.module_meaning.specs.AgreeingOperators.{groups_of, module_opera
 ghost use Rattle.module_meaning.specs.AgreeingOperators.{uses_of};
 ghost use Rattle.module_meaning.specs.Operations.{agrees, all_agree};
 
-use crate::faults::{Fault, Item, Part, Unaccepted, at};
+use crate::faults::{Fault, FunctionPlace, Item, Unaccepted, at};
 use crate::parts::Known;
 use crate::uses::{SLOTS, Use, expression_use, has_same_answer, is_same_operator, slot_of};
 use naga_info::{FunctionInfo, ModuleInfo};
@@ -316,11 +316,11 @@ fn use_item(module: &Module, number: u128, index: usize) -> Item
     let expression = Place::from_index(index);
     if number < functions {
         let handle = Place::from_index(number as usize);
-        return Item::Function(handle, Part::Expression(expression));
+        return Item::Function(handle, FunctionPlace::Expression(expression));
     }
     let further = number - functions;
     if further < module.entry_points.len() as u128 {
-        return Item::EntryPoint(further as usize, Part::Expression(expression));
+        return Item::EntryPoint(further as usize, FunctionPlace::Expression(expression));
     }
     Item::GlobalExpression(expression)
 }

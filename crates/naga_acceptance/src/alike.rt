@@ -5,23 +5,23 @@ ghost use Rattle.std.specs.Prelude.{◌≡◌, ◌≤◌, ◌&&◌, ◌++◌, �
 ghost use Rattle.std.specs.Prelude.{None};
 ghost use Rattle.std.specs.Option.{IfSome, is_some, option_and_then, option_map};
 ghost use Rattle.std.specs.Str.{bytes_eq};
-ghost use Rattle.module_meaning.specs.AlikeTypes.{are_alike as types_alike, form_within};
-ghost use Rattle.module_meaning.specs.AlikeTypes.{handle_form, has_form, image_form};
-ghost use Rattle.module_meaning.specs.AlikeTypes.{access_number, inner_form_by, over_scalar};
-ghost use Rattle.module_meaning.specs.AlikeTypes.{type_form, type_identity, value_form};
-ghost use Rattle.module_meaning.specs.AlikeTypes.{value_pointer_form};
+ghost use Rattle.module_meaning.specs.AlikeTypes.{are_alike as types_alike, key_within};
+ghost use Rattle.module_meaning.specs.AlikeTypes.{handle_key, is_spelled, image_key};
+ghost use Rattle.module_meaning.specs.AlikeTypes.{access_number, inner_key_by, over_scalar};
+ghost use Rattle.module_meaning.specs.AlikeTypes.{type_key, type_identity, value_key};
+ghost use Rattle.module_meaning.specs.AlikeTypes.{value_pointer_key};
 ghost use Rattle.module_meaning.specs.TypeIdentity.{identity, identity_code, image_code};
 ghost use Rattle.module_meaning.specs.TypeIdentity.{inner_code, length_kind, length_number, level};
 ghost use Rattle.module_meaning.specs.TypeIdentity.{space_number};
-ghost use Rattle.naga_acceptance.specs.KnownTypes.{given};
-ghost use Rattle.naga_acceptance.specs.Views.{bases, depth, formless_code, is_whole, next_form};
-ghost use Rattle.naga_acceptance.specs.Views.{numbers, over_form, rank, told, top_form};
+ghost use Rattle.naga_acceptance.specs.KnownTypes.{inferred};
+ghost use Rattle.naga_acceptance.specs.Views.{bases, depth, formless_code, is_whole, next_key};
+ghost use Rattle.naga_acceptance.specs.Views.{numbers, over_key, rank, identity_numbers, top_key};
 ghost use Rattle.naga_acceptance.specs.declared.alike.Over.TheVariants.{Nothing};
 ghost use Rattle.naga_info.specs.declared.info.TypeResolution.TheVariants.{Handle};
 ghost use Rattle.naga_ir.specs.declared.types.Type_ as ir_type;
 ghost use Rattle.wgsl_words.specs.Words.{scalar_word};
 
-use crate::parts::{GivenType, vector_number};
+use crate::parts::{InferredType, vector_number};
 use crate::type_numbers::{
     Level, access_number, components_number, cooperative_number, dimension_number,
     image_access_number, is_same_level, kind_number, length_kind, length_number, level_of,
@@ -82,7 +82,7 @@ fn has_scalar_word(scalar: Scalar) -> bool
 
 fn over_scalar(tag: usize, scalar: Scalar, third: usize, fourth: usize, fifth: usize) -> Option<Top>
     ensures form { (types : List ir_type.Type_) →
-        top_form types result ≡ over_scalar tag scalar third fourth fifth }
+        top_key types result ≡ over_scalar tag scalar third fourth fifth }
     ensures over { IfSome result (λ top. top.over ≡ Nothing) }
 {
     if has_scalar_word(scalar) {
@@ -97,7 +97,7 @@ fn over_scalar(tag: usize, scalar: Scalar, third: usize, fourth: usize, fifth: u
 }
 
 fn value_top(size: Option<VectorSize>, scalar: Scalar) -> Option<Top>
-    ensures form { (types : List ir_type.Type_) → top_form types result ≡ value_form size scalar }
+    ensures form { (types : List ir_type.Type_) → top_key types result ≡ value_key size scalar }
     ensures over { IfSome result (λ top. top.over ≡ Nothing) }
 {
     match size {
@@ -107,10 +107,10 @@ fn value_top(size: Option<VectorSize>, scalar: Scalar) -> Option<Top>
 }
 
 /// The type that a type is over: whole, or at most `within` levels deep.
-#[tactic(auto, unfolding(module_meaning::specs::AlikeTypes::handle_form))]
+#[tactic(auto, unfolding(module_meaning::specs::AlikeTypes::handle_key))]
 fn over_base(base: Handle<Type_>, within: Option<usize>) -> Option<Over>
     ensures form { (types : List ir_type.Type_) →
-        option_and_then (over_form types) result ≡ bases types within base }
+        option_and_then (over_key types) result ≡ bases types within base }
     ensures depth { (levels : ℕ) → within ≡ Some levels →
         IfSome result (λ over. depth over ≤ levels) }
 {
@@ -129,8 +129,8 @@ fn over_base(base: Handle<Type_>, within: Option<usize>) -> Option<Over>
 
 /// A level over a type that has a form, if it has one.
 fn level_over(level: Level, over: Option<Over>) -> Option<Top>
-    ensures form { (types : List ir_type.Type_) → top_form types result
-        ≡ option_map (λ rest. numbers level ++ rest) (option_and_then (over_form types) over) }
+    ensures form { (types : List ir_type.Type_) → top_key types result
+        ≡ option_map (λ rest. numbers level ++ rest) (option_and_then (over_key types) over) }
     ensures depth { (levels : ℕ) → IfSome over (λ o. depth o ≤ levels) →
         IfSome result (λ top. depth top.over ≤ levels) }
 {
@@ -155,7 +155,7 @@ fn array_level(tag: usize, size: &ArraySize) -> Level
 /// A type that is over nothing, with this level.
 fn alone(tag: usize, first: usize, second: usize, third: usize, fourth: usize, fifth: usize) -> Top
     ensures form { (types : List ir_type.Type_) →
-        top_form types (Some result) ≡ Some (level tag first second third fourth fifth) }
+        top_key types (Some result) ≡ Some (level tag first second third fourth fifth) }
     ensures over { result.over ≡ Nothing }
 {
     let level = level_of(tag, first, second, third, fourth, fifth);
@@ -167,7 +167,7 @@ fn alone(tag: usize, first: usize, second: usize, third: usize, fourth: usize, f
 
 fn image_top(dim: ImageDimension, arrayed: bool, class: ImageClass) -> Option<Top>
     ensures form { (types : List ir_type.Type_) →
-        top_form types result ≡ image_form dim arrayed class }
+        top_key types result ≡ image_key dim arrayed class }
     ensures over { IfSome result (λ top. top.over ≡ Nothing) }
 {
     let dimension = dimension_number(dim);
@@ -207,7 +207,7 @@ fn image_top(dim: ImageDimension, arrayed: bool, class: ImageClass) -> Option<To
 /// A type by itself that is over the type with the handle `base`, or over none.
 fn inner_top(inner: &TypeInner, within: Option<usize>) -> Option<Top>
     ensures form { (types : List ir_type.Type_) →
-        top_form types result ≡ inner_form_by (bases types within) inner.now }
+        top_key types result ≡ inner_key_by (bases types within) inner.now }
     ensures depth { (levels : ℕ) → within ≡ Some levels →
         IfSome result (λ top. depth top.over ≤ levels) }
 {
@@ -264,7 +264,7 @@ fn inner_top(inner: &TypeInner, within: Option<usize>) -> Option<Top>
 
 fn value_pointer_top(size: Option<VectorSize>, scalar: Scalar, space: AddressSpace) -> Option<Top>
     ensures form { (types : List ir_type.Type_) →
-        top_form types result ≡ value_pointer_form space (value_form size scalar) }
+        top_key types result ≡ value_pointer_key space (value_key size scalar) }
     ensures depth { IfSome result (λ top. depth top.over ≡ 0) }
 {
     match space {
@@ -278,7 +278,7 @@ fn value_pointer_top(size: Option<VectorSize>, scalar: Scalar, space: AddressSpa
 
 /// The type with this handle, of which no more than `deeper` further levels are looked at.
 fn type_top(types: &UniqueArena<Type_>, handle: Handle<Type_>, deeper: usize) -> Option<Top>
-    ensures form { top_form types.now result ≡ form_within (suc deeper) types.now handle }
+    ensures form { top_key types.now result ≡ key_within (suc deeper) types.now handle }
     ensures depth { IfSome result (λ top. depth top.over ≤ deeper) }
 {
     if handle.index() >= types.len() {
@@ -290,23 +290,23 @@ fn type_top(types: &UniqueArena<Type_>, handle: Handle<Type_>, deeper: usize) ->
     }
 }
 
-#[tactic(auto, unfolding(module_meaning::specs::AlikeTypes::handle_form))]
-fn given_top(types: &UniqueArena<Type_>, ty: &GivenType) -> Option<Top>
-    ensures { top_form types.now result ≡ type_form types.now (given ty.now) }
+#[tactic(auto, unfolding(module_meaning::specs::AlikeTypes::handle_key))]
+fn inferred_top(types: &UniqueArena<Type_>, ty: &InferredType) -> Option<Top>
+    ensures { top_key types.now result ≡ type_key types.now (inferred ty.now) }
 {
     match *ty {
-        GivenType::Handle(handle) => type_top(types, handle, handle.index()),
-        GivenType::Scalar(scalar) => value_top(None, scalar),
-        GivenType::Vector { size, scalar } => value_top(Some(size), scalar),
-        GivenType::Matrix {
+        InferredType::Handle(handle) => type_top(types, handle, handle.index()),
+        InferredType::Scalar(scalar) => value_top(None, scalar),
+        InferredType::Vector { size, scalar } => value_top(Some(size), scalar),
+        InferredType::Matrix {
             columns,
             rows,
             scalar,
         } => over_scalar(2, scalar, vector_number(columns), vector_number(rows), 0),
-        GivenType::Pointer { base, space } => {
+        InferredType::Pointer { base, space } => {
             level_over(pointer_level(space), over_base(base, None))
         }
-        GivenType::ValuePointer {
+        InferredType::ValuePointer {
             size,
             scalar,
             space,
@@ -314,9 +314,9 @@ fn given_top(types: &UniqueArena<Type_>, ty: &GivenType) -> Option<Top>
     }
 }
 
-#[tactic(auto, unfolding(module_meaning::specs::AlikeTypes::handle_form))]
+#[tactic(auto, unfolding(module_meaning::specs::AlikeTypes::handle_key))]
 fn resolution_top(types: &UniqueArena<Type_>, ty: &TypeResolution) -> Option<Top>
-    ensures { top_form types.now result ≡ type_form types.now ty.now }
+    ensures { top_key types.now result ≡ type_key types.now ty.now }
 {
     match ty {
         TypeResolution::Handle(handle) => type_top(types, *handle, handle.index()),
@@ -325,8 +325,8 @@ fn resolution_top(types: &UniqueArena<Type_>, ty: &TypeResolution) -> Option<Top
 }
 
 /// Whether what a type is over has a form.
-fn over_has_form(types: &UniqueArena<Type_>, over: Over) -> bool
-    ensures { result ≡ is_some (over_form types.now over) }
+fn over_is_spelled(types: &UniqueArena<Type_>, over: Over) -> bool
+    ensures { result ≡ is_some (over_key types.now over) }
 {
     let mut over = over;
     loop {
@@ -341,32 +341,32 @@ fn over_has_form(types: &UniqueArena<Type_>, over: Over) -> bool
     }
 }
 
-fn top_has_form(types: &UniqueArena<Type_>, top: Option<Top>) -> bool
-    ensures { result ≡ is_some (top_form types.now top) }
+fn top_is_spelled(types: &UniqueArena<Type_>, top: Option<Top>) -> bool
+    ensures { result ≡ is_some (top_key types.now top) }
 {
     match top {
-        Some(top) => over_has_form(types, top.over),
+        Some(top) => over_is_spelled(types, top.over),
         None => false,
     }
 }
 
 /// Whether WGSL spells the type.
-pub(crate) fn has_form(types: &UniqueArena<Type_>, ty: &GivenType) -> bool
-    ensures { result ≡ has_form types.now (given ty.now) }
+pub(crate) fn inferred_is_spelled(types: &UniqueArena<Type_>, ty: &InferredType) -> bool
+    ensures { result ≡ is_spelled types.now (inferred ty.now) }
 {
-    top_has_form(types, given_top(types, ty))
+    top_is_spelled(types, inferred_top(types, ty))
 }
 
 /// Whether WGSL spells an expression's type.
 pub fn is_spelled(types: &UniqueArena<Type_>, ty: &TypeResolution) -> bool
-    ensures { result ≡ has_form types.now ty.now }
+    ensures { result ≡ is_spelled types.now ty.now }
 {
-    top_has_form(types, resolution_top(types, ty))
+    top_is_spelled(types, resolution_top(types, ty))
 }
 
 /// What `over` is, if it is something that has a level.
 pub(crate) fn next(types: &UniqueArena<Type_>, over: Over) -> Option<Top>
-    ensures form { next_form over (top_form types.now result) ≡ over_form types.now over }
+    ensures form { next_key over (top_key types.now result) ≡ over_key types.now over }
     ensures rank { IfSome result (λ top. suc (rank top.over) ≤ rank over) }
 {
     match over {
@@ -378,10 +378,10 @@ pub(crate) fn next(types: &UniqueArena<Type_>, over: Over) -> Option<Top>
 
 /// Whether what two types are over, which has a form, has the same levels.
 fn is_over_same(types: &UniqueArena<Type_>, a: Over, b: Over) -> bool
-    requires a { is_some (over_form types.now a) ≡ true }
-    requires b { is_some (over_form types.now b) ≡ true }
+    requires a { is_some (over_key types.now a) ≡ true }
+    requires b { is_some (over_key types.now b) ≡ true }
     ensures { result ≡ bytes_eq
-        (unwrap_or (over_form types.now a) []) (unwrap_or (over_form types.now b) []) }
+        (unwrap_or (over_key types.now a) []) (unwrap_or (over_key types.now b) []) }
 {
     let (mut one, mut other) = (a, b);
     loop {
@@ -406,11 +406,11 @@ fn is_over_same(types: &UniqueArena<Type_>, a: Over, b: Over) -> bool
 
 /// The top, if what it is over has a form.
 fn formed(types: &UniqueArena<Type_>, top: Option<Top>) -> Option<Top>
-    ensures form { top_form types.now result ≡ top_form types.now top }
-    ensures over { IfSome result (λ top. is_some (over_form types.now top.over) ≡ true) }
+    ensures form { top_key types.now result ≡ top_key types.now top }
+    ensures over { IfSome result (λ top. is_some (over_key types.now top.over) ≡ true) }
 {
     match top {
-        Some(top) if over_has_form(types, top.over) => Some(top),
+        Some(top) if over_is_spelled(types, top.over) => Some(top),
         _ => None,
     }
 }
@@ -530,7 +530,7 @@ fn own_image_level(dim: ImageDimension, arrayed: bool, class: ImageClass) -> Lev
 
 /// The numbers of a type of the module without a form, if there is such a type.
 fn formless_level_at(types: &UniqueArena<Type_>, handle: Handle<Type_>) -> Option<Level>
-    ensures { handle_form types.now handle ≡ None → formless_code (option_map numbers result)
+    ensures { handle_key types.now handle ≡ None → formless_code (option_map numbers result)
         ≡ identity_code (identity types.now (Handle handle)) }
 {
     if handle.index() < types.len() {
@@ -541,7 +541,7 @@ fn formless_level_at(types: &UniqueArena<Type_>, handle: Handle<Type_>) -> Optio
 }
 
 fn resolution_formless_level(types: &UniqueArena<Type_>, ty: &TypeResolution) -> Option<Level>
-    ensures { type_form types.now ty.now ≡ None → formless_code (option_map numbers result)
+    ensures { type_key types.now ty.now ≡ None → formless_code (option_map numbers result)
         ≡ identity_code (identity types.now ty.now) }
 {
     match ty {
@@ -553,23 +553,23 @@ fn resolution_formless_level(types: &UniqueArena<Type_>, ty: &TypeResolution) ->
     }
 }
 
-fn given_formless_level(types: &UniqueArena<Type_>, ty: &GivenType) -> Option<Level>
-    ensures { type_form types.now (given ty.now) ≡ None →
+fn inferred_formless_level(types: &UniqueArena<Type_>, ty: &InferredType) -> Option<Level>
+    ensures { type_key types.now (inferred ty.now) ≡ None →
         formless_code (option_map numbers result)
-        ≡ identity_code (identity types.now (given ty.now)) }
+        ≡ identity_code (identity types.now (inferred ty.now)) }
 {
     match *ty {
-        GivenType::Handle(handle) => formless_level_at(types, handle),
-        GivenType::Scalar(scalar) => Some(level_of_scalar(0, scalar, 0, 0, 0)),
-        GivenType::Vector { size, scalar } => {
+        InferredType::Handle(handle) => formless_level_at(types, handle),
+        InferredType::Scalar(scalar) => Some(level_of_scalar(0, scalar, 0, 0, 0)),
+        InferredType::Vector { size, scalar } => {
             Some(level_of_scalar(1, scalar, vector_number(size), 0, 0))
         }
-        GivenType::Matrix {
+        InferredType::Matrix {
             columns,
             rows,
             scalar,
         } => Some(level_of_scalar(2, scalar, vector_number(columns), vector_number(rows), 0)),
-        GivenType::Pointer { base, space } => {
+        InferredType::Pointer { base, space } => {
             Some(level_of(
                 5,
                 base.index(),
@@ -579,7 +579,7 @@ fn given_formless_level(types: &UniqueArena<Type_>, ty: &GivenType) -> Option<Le
                 0,
             ))
         }
-        GivenType::ValuePointer {
+        InferredType::ValuePointer {
             size,
             scalar,
             space,
@@ -595,7 +595,7 @@ fn given_formless_level(types: &UniqueArena<Type_>, ty: &GivenType) -> Option<Le
 
 /// What tells a known type.
 pub(crate) fn identity_of(types: &UniqueArena<Type_>, ty: &TypeResolution) -> Identity
-    ensures told { told types.now result ≡ type_identity types.now ty.now }
+    ensures identity_numbers { identity_numbers types.now result ≡ type_identity types.now ty.now }
     ensures whole { is_whole types.now result ≡ true }
 {
     match formed(types, resolution_top(types, ty)) {
@@ -605,13 +605,14 @@ pub(crate) fn identity_of(types: &UniqueArena<Type_>, ty: &TypeResolution) -> Id
 }
 
 /// What tells a type that is given.
-pub(crate) fn given_identity(types: &UniqueArena<Type_>, ty: &GivenType) -> Identity
-    ensures told { told types.now result ≡ type_identity types.now (given ty.now) }
+pub(crate) fn inferred_identity(types: &UniqueArena<Type_>, ty: &InferredType) -> Identity
+    ensures identity_numbers { identity_numbers types.now result ≡ type_identity types.now
+        (inferred ty.now) }
     ensures whole { is_whole types.now result ≡ true }
 {
-    match formed(types, given_top(types, ty)) {
+    match formed(types, inferred_top(types, ty)) {
         Some(top) => Identity::Formed(top),
-        None => Identity::Formless(given_formless_level(types, ty)),
+        None => Identity::Formless(inferred_formless_level(types, ty)),
     }
 }
 
@@ -631,7 +632,7 @@ fn is_same_formless(a: Option<Level>, b: Option<Level>) -> bool
 pub(crate) fn are_alike(types: &UniqueArena<Type_>, a: Identity, b: Identity) -> bool
     requires a { is_whole types.now a ≡ true }
     requires b { is_whole types.now b ≡ true }
-    ensures { result ≡ bytes_eq (told types.now a) (told types.now b) }
+    ensures { result ≡ bytes_eq (identity_numbers types.now a) (identity_numbers types.now b) }
 {
     match (a, b) {
         (Identity::Formed(x), Identity::Formed(y)) => {
@@ -664,23 +665,27 @@ pub(crate) fn are_known_alike(
 }
 
 /// Whether a known type is the given one by its handle.
-fn is_given_handle(own: &TypeResolution, wanted: &GivenType) -> bool
-    ensures { result ≡ true → own.now ≡ given wanted.now }
+fn is_inferred_handle(own: &TypeResolution, wanted: &InferredType) -> bool
+    ensures { result ≡ true → own.now ≡ inferred wanted.now }
 {
     match (own, wanted) {
-        (TypeResolution::Handle(x), GivenType::Handle(y)) => x == y,
+        (TypeResolution::Handle(x), InferredType::Handle(y)) => x == y,
         _ => false,
     }
 }
 
 /// Whether a known type is like a given one.
-pub(crate) fn is_like(types: &UniqueArena<Type_>, own: &TypeResolution, wanted: &GivenType) -> bool
-    ensures { result ≡ types_alike types.now own.now (given wanted.now) }
+pub(crate) fn is_like(
+    types: &UniqueArena<Type_>,
+    own: &TypeResolution,
+    wanted: &InferredType,
+) -> bool
+    ensures { result ≡ types_alike types.now own.now (inferred wanted.now) }
 {
-    is_given_handle(own, wanted)
+    is_inferred_handle(own, wanted)
         || are_alike(
             types,
             identity_of(types, own),
-            given_identity(types, wanted),
+            inferred_identity(types, wanted),
         )
 }

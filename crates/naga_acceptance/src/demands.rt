@@ -7,26 +7,21 @@ ghost use Rattle.module_meaning.specs.OperandDemands.{is_components, is_integer}
 ghost use Rattle.module_meaning.specs.OperandDemands.{is_pointer, is_swizzled, letters_fit};
 ghost use Rattle.module_meaning.specs.OperandDemands.{operand_is, operands_fit};
 ghost use Rattle.module_meaning.specs.OperandDemands.{points_to_components};
-ghost use Rattle.module_meaning.specs.TypeParts.{has_computed_parts, is_part_number, own_scalar};
+ghost use Rattle.module_meaning.specs.TypeParts.{has_computed_parts, is_part_number};
 
 use crate::parts::{
-    Known, has_computed_parts, inner_at, is_part_number, known_inner, own_scalar, pointee_type,
-    vector_number,
+    Known, has_computed_parts, inner_at, is_part_number, known_inner, pointee_type, vector_number,
 };
 use naga_ir::{
-    Expression, Handle, Scalar, ScalarKind, SwizzleComponent, Type_, TypeInner, UniqueArena,
-    VectorSize,
+    Expression, Handle, ScalarKind, SwizzleComponent, Type_, TypeInner, UniqueArena, VectorSize,
 };
 
-/// Whether a type is `i16`, `u16`, `i32`, `u32`, `i64` or `u64`.
+/// Whether a type is an integer, of whatever width.
 fn is_integer(inner: &TypeInner) -> bool
     ensures { result ≡ is_integer inner.now }
 {
     match inner {
-        TypeInner::Scalar(Scalar { kind, width }) => match kind {
-            ScalarKind::Sint | ScalarKind::Uint => *width == 2 || *width == 4 || *width == 8,
-            _ => false,
-        },
+        TypeInner::Scalar(scalar) => { matches!(scalar.kind, ScalarKind::Sint | ScalarKind::Uint) }
         _ => false,
     }
 }
@@ -106,7 +101,8 @@ fn access_fits(
 /// - `Access` asks for a base that has parts at computed indexes (a vector, a matrix, an array, or
 ///   a pointer to one of these; no struct), and for an index that is an integer.
 /// - `AccessIndex` into something whose number of parts is known asks for an index below that.
-/// - `Splat` asks for a scalar, and `Swizzle` for a vector that has the components that are chosen.
+/// - `Splat` asks for a scalar or a vector, and `Swizzle` for a vector that has the components that
+///   are chosen.
 /// - `Load` asks for a pointer, and `CooperativeLoad` for one to a scalar or a vector.
 ///
 /// An operand whose type is not known, or lies outside the types, is not such.
@@ -120,7 +116,7 @@ pub fn operands_fit(types: &UniqueArena<Type_>, known: Known<'_>, expression: &E
             None => false,
         },
         Expression::Splat { value, .. } => match known_inner(types, known, *value) {
-            Some(value) => own_scalar(value).is_some(),
+            Some(value) => is_components(value),
             None => false,
         },
         Expression::Swizzle {

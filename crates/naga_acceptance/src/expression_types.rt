@@ -2,7 +2,7 @@
 
 ghost use Rattle.std.specs.Prelude.{◌≡◌, Option};
 ghost use Rattle.std.specs.Option.{option_and_then, option_copied, option_map};
-ghost use Rattle.naga_acceptance.specs.KnownTypes.{given, known_types, wanted};
+ghost use Rattle.naga_acceptance.specs.KnownTypes.{inferred, known_types, wanted};
 ghost use Rattle.module_meaning.specs.ExpressionTypes.{argument_type, binary_type, constant_type};
 ghost use Rattle.module_meaning.specs.ExpressionTypes.{global_type, has_its_type};
 ghost use Rattle.module_meaning.specs.ExpressionTypes.{if_any, is_bool, is_wanted};
@@ -14,7 +14,8 @@ ghost use Rattle.module_meaning.specs.TypeParts.{known_inner, known_pointee, par
 
 use crate::alike::is_like;
 use crate::parts::{
-    GivenType, Known, known_inner, known_type, own_scalar, part_type, pointee_type, vector_scalar,
+    InferredType, Known, component_scalar, known_inner, known_type, part_type, pointee_type,
+    vector_scalar,
 };
 use naga_info::TypeResolution;
 use naga_ir::{
@@ -26,15 +27,15 @@ use naga_ir::{
 #[derive(Debug, Clone, Copy, PartialEq, Eq)]
 pub enum Wanted {
     /// One like this.
-    LikeThis(GivenType),
+    LikeThis(InferredType),
     /// Any.
     Anything,
     /// None: what the expression stands for gives none.
     Nothing,
 }
 
-fn only(ty: Option<GivenType>) -> Wanted
-    ensures { wanted result ≡ only (option_map given ty) }
+fn only(ty: Option<InferredType>) -> Wanted
+    ensures { wanted result ≡ only (option_map inferred ty) }
 {
     match ty {
         Some(ty) => Wanted::LikeThis(ty),
@@ -42,8 +43,8 @@ fn only(ty: Option<GivenType>) -> Wanted
     }
 }
 
-fn if_any(ty: Option<GivenType>) -> Wanted
-    ensures { wanted result ≡ if_any (option_map given ty) }
+fn if_any(ty: Option<InferredType>) -> Wanted
+    ensures { wanted result ≡ if_any (option_map inferred ty) }
 {
     match ty {
         Some(ty) => Wanted::LikeThis(ty),
@@ -51,37 +52,37 @@ fn if_any(ty: Option<GivenType>) -> Wanted
     }
 }
 
-fn variable_type(space: AddressSpace, ty: Handle<Type_>) -> GivenType
-    ensures { given result ≡ variable_type space ty }
+fn variable_type(space: AddressSpace, ty: Handle<Type_>) -> InferredType
+    ensures { inferred result ≡ variable_type space ty }
 {
     match space {
-        AddressSpace::Handle => GivenType::Handle(ty),
-        _ => GivenType::Pointer { base: ty, space },
+        AddressSpace::Handle => InferredType::Handle(ty),
+        _ => InferredType::Pointer { base: ty, space },
     }
 }
 
-fn constant_type(module: &Module, handle: Handle<Constant>) -> Option<GivenType>
-    ensures { option_map given result ≡ constant_type «module».now handle }
+fn constant_type(module: &Module, handle: Handle<Constant>) -> Option<InferredType>
+    ensures { option_map inferred result ≡ constant_type «module».now handle }
 {
     if handle.index() < module.constants.len() {
-        Some(GivenType::Handle(module.constants[handle].ty))
+        Some(InferredType::Handle(module.constants[handle].ty))
     } else {
         None
     }
 }
 
-fn override_type(module: &Module, handle: Handle<Override>) -> Option<GivenType>
-    ensures { option_map given result ≡ override_type «module».now handle }
+fn override_type(module: &Module, handle: Handle<Override>) -> Option<InferredType>
+    ensures { option_map inferred result ≡ override_type «module».now handle }
 {
     if handle.index() < module.overrides.len() {
-        Some(GivenType::Handle(module.overrides[handle].ty))
+        Some(InferredType::Handle(module.overrides[handle].ty))
     } else {
         None
     }
 }
 
-fn global_type(module: &Module, handle: Handle<GlobalVariable>) -> Option<GivenType>
-    ensures { option_map given result ≡ global_type «module».now handle }
+fn global_type(module: &Module, handle: Handle<GlobalVariable>) -> Option<InferredType>
+    ensures { option_map inferred result ≡ global_type «module».now handle }
 {
     if handle.index() < module.global_variables.len() {
         let variable = &module.global_variables[handle];
@@ -92,12 +93,12 @@ fn global_type(module: &Module, handle: Handle<GlobalVariable>) -> Option<GivenT
 }
 
 /// The type of what a function returns, if there is the function and it returns something.
-pub(crate) fn result_type(module: &Module, handle: Handle<Function>) -> Option<GivenType>
-    ensures { option_map given result ≡ result_type «module».now handle }
+pub(crate) fn result_type(module: &Module, handle: Handle<Function>) -> Option<InferredType>
+    ensures { option_map inferred result ≡ result_type «module».now handle }
 {
     if handle.index() < module.functions.len() {
         match &module.functions[handle].result {
-            Some(answer) => Some(GivenType::Handle(answer.ty)),
+            Some(answer) => Some(InferredType::Handle(answer.ty)),
             None => None,
         }
     } else {
@@ -105,24 +106,24 @@ pub(crate) fn result_type(module: &Module, handle: Handle<Function>) -> Option<G
     }
 }
 
-fn argument_type(function: Option<&Function>, number: u32) -> Option<GivenType>
-    ensures { option_map given result ≡ argument_type (option_copied function.entry) number }
+fn argument_type(function: Option<&Function>, number: u32) -> Option<InferredType>
+    ensures { option_map inferred result ≡ argument_type (option_copied function.entry) number }
 {
     match function {
         Some(function) => match function.arguments.get(number as usize) {
-            Some(argument) => Some(GivenType::Handle(argument.ty)),
+            Some(argument) => Some(InferredType::Handle(argument.ty)),
             None => None,
         },
         None => None,
     }
 }
 
-fn local_type(function: Option<&Function>, handle: Handle<LocalVariable>) -> Option<GivenType>
-    ensures { option_map given result ≡ local_type (option_copied function.entry) handle }
+fn local_type(function: Option<&Function>, handle: Handle<LocalVariable>) -> Option<InferredType>
+    ensures { option_map inferred result ≡ local_type (option_copied function.entry) handle }
 {
     match function {
         Some(function) if handle.index() < function.local_variables.len() => {
-            Some(GivenType::Pointer {
+            Some(InferredType::Pointer {
                 base: function.local_variables[handle].ty,
                 space: AddressSpace::Function,
             })
@@ -131,24 +132,24 @@ fn local_type(function: Option<&Function>, handle: Handle<LocalVariable>) -> Opt
     }
 }
 
-fn splat_type(size: VectorSize, value: Option<&TypeInner>) -> Option<GivenType>
-    ensures { option_map given result ≡ splat_type size (option_copied value.entry) }
+fn splat_type(size: VectorSize, value: Option<&TypeInner>) -> Option<InferredType>
+    ensures { option_map inferred result ≡ splat_type size (option_copied value.entry) }
 {
     match value {
-        Some(value) => match own_scalar(value) {
-            Some(scalar) => Some(GivenType::Vector { size, scalar }),
+        Some(value) => match component_scalar(value) {
+            Some(scalar) => Some(InferredType::Vector { size, scalar }),
             None => None,
         },
         None => None,
     }
 }
 
-fn swizzle_type(size: VectorSize, vector: Option<&TypeInner>) -> Option<GivenType>
-    ensures { option_map given result ≡ swizzle_type size (option_copied vector.entry) }
+fn swizzle_type(size: VectorSize, vector: Option<&TypeInner>) -> Option<InferredType>
+    ensures { option_map inferred result ≡ swizzle_type size (option_copied vector.entry) }
 {
     match vector {
         Some(vector) => match vector_scalar(vector) {
-            Some(scalar) => Some(GivenType::Vector { size, scalar }),
+            Some(scalar) => Some(InferredType::Vector { size, scalar }),
             None => None,
         },
         None => None,
@@ -172,7 +173,7 @@ fn logical_type(left: Option<&TypeInner>) -> Wanted
     ensures { wanted result ≡ logical_type (option_copied left.entry) }
 {
     match left {
-        Some(left) if is_bool(left) => Wanted::LikeThis(GivenType::Scalar(Scalar::BOOL)),
+        Some(left) if is_bool(left) => Wanted::LikeThis(InferredType::Scalar(Scalar::BOOL)),
         _ => Wanted::Anything,
     }
 }
@@ -191,8 +192,8 @@ fn part_at(
     known: Known<'_>,
     base: Handle<Expression>,
     index: Option<u32>,
-) -> Option<GivenType>
-    ensures { option_map given result ≡ option_and_then (λ it. part_type types.now it index)
+) -> Option<InferredType>
+    ensures { option_map inferred result ≡ option_and_then (λ it. part_type types.now it index)
         (known_inner types.now (known_types known.entry) base) }
 {
     match known_inner(types, known, base) {
@@ -206,8 +207,8 @@ pub(crate) fn pointee_at(
     types: &UniqueArena<Type_>,
     known: Known<'_>,
     pointer: Handle<Expression>,
-) -> Option<GivenType>
-    ensures { option_map given result
+) -> Option<InferredType>
+    ensures { option_map inferred result
         ≡ known_pointee types.now (known_types known.entry) pointer }
 {
     match known_inner(types, known, pointer) {
@@ -244,14 +245,16 @@ pub fn wanted_type(
 {
     let types = &module.types;
     match expression {
-        Expression::Literal(literal) => { Wanted::LikeThis(GivenType::Scalar(literal.scalar())) }
+        Expression::Literal(literal) => { Wanted::LikeThis(InferredType::Scalar(literal.scalar())) }
         Expression::Constant(handle) => only(constant_type(module, *handle)),
         Expression::Override(handle) => only(override_type(module, *handle)),
         Expression::ZeroValue(ty)
         | Expression::Compose { ty, .. }
         | Expression::AtomicResult { ty, .. }
         | Expression::WorkGroupUniformLoadResult { ty }
-        | Expression::SubgroupOperationResult { ty } => { Wanted::LikeThis(GivenType::Handle(*ty)) }
+        | Expression::SubgroupOperationResult { ty } => {
+            Wanted::LikeThis(InferredType::Handle(*ty))
+        }
         Expression::Access { base, .. } => only(part_at(types, known, *base, None)),
         Expression::AccessIndex { base, index } => {
             if_any(part_at(types, known, *base, Some(*index)))

@@ -24,14 +24,14 @@ pub enum Item {
     Override(Handle<Override>),
     GlobalVariable(Handle<GlobalVariable>),
     GlobalExpression(Handle<Expression>),
-    Function(Handle<Function>, Part),
+    Function(Handle<Function>, FunctionPlace),
     /// The entry point with this index.
-    EntryPoint(usize, Part),
+    EntryPoint(usize, FunctionPlace),
 }
 
 /// A part of a function or of an entry point.
 #[derive(Debug, Clone, Copy, PartialEq, Eq)]
-pub enum Part {
+pub enum FunctionPlace {
     Whole,
     Local(Handle<LocalVariable>),
     Expression(Handle<Expression>),
@@ -90,24 +90,24 @@ pub(crate) fn at(item: Item, fault: Fault) -> Unaccepted
 }
 
 /// A fault of a part of the function with this handle.
-pub(crate) fn at_function(handle: Handle<Function>, found: (Part, Fault)) -> Unaccepted
+pub(crate) fn at_function(handle: Handle<Function>, found: (FunctionPlace, Fault)) -> Unaccepted
     ensures { result ≡ at_function handle found }
 {
     at(Item::Function(handle, found.0), found.1)
 }
 
 /// A fault of a part of the entry point with this index.
-pub(crate) fn at_entry_point(index: usize, found: (Part, Fault)) -> Unaccepted
+pub(crate) fn at_entry_point(index: usize, found: (FunctionPlace, Fault)) -> Unaccepted
     ensures { result ≡ at_entry_point index found }
 {
     at(Item::EntryPoint(index, found.0), found.1)
 }
 
 /// A fault of an expression of a function.
-pub(crate) fn at_expression(found: (Handle<Expression>, Fault)) -> (Part, Fault)
+pub(crate) fn at_expression(found: (Handle<Expression>, Fault)) -> (FunctionPlace, Fault)
     ensures { result ≡ at_expression found }
 {
-    (Part::Expression(found.0), found.1)
+    (FunctionPlace::Expression(found.0), found.1)
 }
 
 impl fmt::Display for Unaccepted {
@@ -131,13 +131,13 @@ impl fmt::Display for Item {
     }
 }
 
-impl fmt::Display for Part {
+impl fmt::Display for FunctionPlace {
     fn fmt<W: fmt::Write>(&self, f: &mut fmt::Formatter<W>) -> fmt::Result {
         match self {
-            Part::Whole => Ok(()),
-            Part::Local(handle) => write!(f, ", local {}", handle.index()),
-            Part::Expression(handle) => write!(f, ", expression {}", handle.index()),
-            Part::Statement(number) => write!(f, ", statement {}", number),
+            FunctionPlace::Whole => Ok(()),
+            FunctionPlace::Local(handle) => write!(f, ", local {}", handle.index()),
+            FunctionPlace::Expression(handle) => write!(f, ", expression {}", handle.index()),
+            FunctionPlace::Statement(number) => write!(f, ", statement {}", number),
         }
     }
 }

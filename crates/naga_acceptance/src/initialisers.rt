@@ -11,7 +11,7 @@ ghost use Rattle.module_meaning.specs.Initialisers.{local_is_sound};
 ghost use Rattle.module_meaning.specs.Initialisers.{override_is_sound};
 
 use crate::faults::{Fault, Item, Unaccepted, at};
-use crate::parts::{GivenType, Known};
+use crate::parts::{InferredType, Known};
 use crate::statements::value_has_type;
 use naga_ir::{
     Arena, Constant, Expression, GlobalVariable, Handle, LocalVariable, Module, Override, Type_,
@@ -28,7 +28,7 @@ fn initialiser_fits(
     ensures { result ≡ initialiser_fits types.now (known_types known.entry) ty value }
 {
     match value {
-        Some(value) => value_has_type(types, known, value, GivenType::Handle(ty)),
+        Some(value) => value_has_type(types, known, value, InferredType::Handle(ty)),
         None => true,
     }
 }

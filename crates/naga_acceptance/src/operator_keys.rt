@@ -3,7 +3,7 @@
 ghost use Rattle.std.specs.Prelude.{◌≡◌, ◌<◌, List, Some};
 ghost use Rattle.std.specs.Option.{option_copied, option_map};
 ghost use Rattle.std.specs.Str.{bytes_eq};
-ghost use Rattle.naga_acceptance.specs.KnownTypes.{given, known_types};
+ghost use Rattle.naga_acceptance.specs.KnownTypes.{inferred, known_types};
 ghost use Rattle.naga_acceptance.specs.OperatorKeys.{key};
 ghost use Rattle.naga_ir.specs.declared.types.Type_ as ir_type;
 ghost use Rattle.naga_ir.specs.declared.types.TypeInner as ir_inner;
@@ -14,8 +14,8 @@ ghost use Rattle.module_meaning.specs.AgreeingOperators.{operator_key, swizzle_k
 ghost use Rattle.module_meaning.specs.AgreeingOperators.{typed_key, width_number, word_key};
 ghost use Rattle.module_meaning.specs.Conversions.{conversion_target, converted_scalar, keeps_bits};
 
-use crate::alike::{are_alike, given_identity, has_form};
-use crate::parts::{GivenType, Known, known_inner, vector_number};
+use crate::alike::{are_alike, inferred_identity, inferred_is_spelled};
+use crate::parts::{InferredType, Known, known_inner, vector_number};
 use crate::type_numbers::{Level, is_same_level, kind_number, level_of, truth_number};
 use naga_ir::{
     Expression, Handle, Scalar, ScalarKind, SwizzleComponent, Type_, TypeInner, UniqueArena,
@@ -30,15 +30,15 @@ pub(crate) enum Key {
         /// Whether the bits are kept.
         bits: bool,
         /// The type.
-        ty: GivenType,
+        ty: InferredType,
     },
     /// A kind, and up to five numbers.
     Word(Level),
 }
 
-fn typed_key(bits: bool, ty: GivenType) -> Key
+fn typed_key(bits: bool, ty: InferredType) -> Key
     ensures { (types : List ir_type.Type_) →
-        key types result ≡ typed_key types bits (given ty) }
+        key types result ≡ typed_key types bits (inferred ty) }
 {
     Key::Typed { bits, ty }
 }
@@ -52,8 +52,8 @@ fn one_key(kind: usize, number: usize) -> Key
 fn constructor_key(types: &UniqueArena<Type_>, ty: Handle<Type_>) -> Key
     ensures { key types.now result ≡ constructor_key types.now ty }
 {
-    let constructed = GivenType::Handle(ty);
-    if has_form(types, &constructed) {
+    let constructed = InferredType::Handle(ty);
+    if inferred_is_spelled(types, &constructed) {
         typed_key(false, constructed)
     } else {
         one_key(0, ty.index())
@@ -90,15 +90,15 @@ fn conversion_target(
     operand: &TypeInner,
     kind: ScalarKind,
     convert: Option<u8>,
-) -> Option<GivenType>
-    ensures { option_map given result
+) -> Option<InferredType>
+    ensures { option_map inferred result
         ≡ option_map (λ it. Value it) (conversion_target operand.now kind convert) }
 {
     match operand {
         TypeInner::Scalar(scalar) => {
-            Some(GivenType::Scalar(converted_scalar(*scalar, kind, convert)))
+            Some(InferredType::Scalar(converted_scalar(*scalar, kind, convert)))
         }
-        TypeInner::Vector { size, scalar } => Some(GivenType::Vector {
+        TypeInner::Vector { size, scalar } => Some(InferredType::Vector {
             size: *size,
             scalar: converted_scalar(*scalar, kind, convert),
         }),
@@ -106,7 +106,7 @@ fn conversion_target(
             columns,
             rows,
             scalar,
-        } => Some(GivenType::Matrix {
+        } => Some(InferredType::Matrix {
             columns: *columns,
             rows: *rows,
             scalar: converted_scalar(*scalar, kind, convert),
@@ -130,12 +130,12 @@ fn target_key(
     kind: ScalarKind,
     convert: Option<u8>,
     bits: bool,
-    target: &GivenType,
+    target: &InferredType,
 ) -> Key
-    ensures { (it : ir_inner.TypeInner) → given target.now ≡ Value it →
+    ensures { (it : ir_inner.TypeInner) → inferred target.now ≡ Value it →
         key types.now result ≡ target_key types.now kind convert bits it }
 {
-    if has_form(types, target) {
+    if inferred_is_spelled(types, target) {
         typed_key(bits, *target)
     } else {
         formless_key(kind, convert)
@@ -231,7 +231,12 @@ pub(crate) fn is_same_key(types: &UniqueArena<Type_>, a: &Key, b: &Key) -> bool
 {
     match (a, b) {
         (Key::Typed { bits: x, ty: s }, Key::Typed { bits: y, ty: t }) => {
-            x == y && are_alike(types, given_identity(types, s), given_identity(types, t))
+            x == y
+                && are_alike(
+                    types,
+                    inferred_identity(types, s),
+                    inferred_identity(types, t),
+                )
         }
         (Key::Word(x), Key::Word(y)) => is_same_level(x, y),
         _ => false,

@@ -2,13 +2,14 @@
 
 ghost use Rattle.std.specs.Prelude.{◌≡◌, false, slice_get};
 ghost use Rattle.std.specs.Option.{is_some, option_copied, option_map, option_map_or};
-ghost use Rattle.naga_acceptance.specs.KnownTypes.{given, known_types};
+ghost use Rattle.naga_acceptance.specs.KnownTypes.{inferred, known_types};
 ghost use Rattle.module_meaning.specs.ExpressionOperators.{has_parts, is_composite};
-ghost use Rattle.module_meaning.specs.Part.{known_passes};
+ghost use Rattle.module_meaning.specs.WrittenSoFar.{known_passes};
 ghost use Rattle.module_meaning.specs.TypeIdentity.{vector_number};
-ghost use Rattle.module_meaning.specs.TypeParts.{component_pointer, element_count};
+ghost use Rattle.module_meaning.specs.TypeParts.{component_pointer, component_scalar};
+ghost use Rattle.module_meaning.specs.TypeParts.{element_count};
 ghost use Rattle.module_meaning.specs.TypeParts.{has_computed_parts, inner_at, is_part_number};
-ghost use Rattle.module_meaning.specs.TypeParts.{known_inner, member_type, own_scalar, part_count};
+ghost use Rattle.module_meaning.specs.TypeParts.{known_inner, member_type, part_count};
 ghost use Rattle.module_meaning.specs.TypeParts.{part_type, pointed_part, pointee_type};
 ghost use Rattle.module_meaning.specs.TypeParts.{stored_type, value_part, value_part_count};
 ghost use Rattle.module_meaning.specs.TypeParts.{vector_scalar};
@@ -22,7 +23,7 @@ use naga_ir::{
 
 /// A type that an expression is given by what it stands for. It takes no memory.
 #[derive(Debug, Clone, Copy, PartialEq, Eq)]
-pub enum GivenType {
+pub enum InferredType {
     /// One of the module's types.
     Handle(Handle<Type_>),
     /// A number or a truth value.
@@ -190,45 +191,45 @@ fn member_type(members: &[StructMember], index: Option<u32>) -> Option<Handle<Ty
     }
 }
 
-fn value_part(inner: &TypeInner, index: Option<u32>) -> Option<GivenType>
-    ensures { option_map given result ≡ value_part inner.now index }
+fn value_part(inner: &TypeInner, index: Option<u32>) -> Option<InferredType>
+    ensures { option_map inferred result ≡ value_part inner.now index }
 {
     match inner {
-        TypeInner::Vector { scalar, .. } => Some(GivenType::Scalar(*scalar)),
-        TypeInner::Matrix { rows, scalar, .. } => Some(GivenType::Vector {
+        TypeInner::Vector { scalar, .. } => Some(InferredType::Scalar(*scalar)),
+        TypeInner::Matrix { rows, scalar, .. } => Some(InferredType::Vector {
             size: *rows,
             scalar: *scalar,
         }),
         TypeInner::Array { base, .. } | TypeInner::BindingArray { base, .. } => {
-            Some(GivenType::Handle(*base))
+            Some(InferredType::Handle(*base))
         }
         TypeInner::Struct { members, .. } => match member_type(members, index) {
-            Some(ty) => Some(GivenType::Handle(ty)),
+            Some(ty) => Some(InferredType::Handle(ty)),
             None => None,
         },
         _ => None,
     }
 }
 
-fn pointed_part(space: AddressSpace, inner: &TypeInner, index: Option<u32>) -> Option<GivenType>
-    ensures { option_map given result ≡ pointed_part space inner.now index }
+fn pointed_part(space: AddressSpace, inner: &TypeInner, index: Option<u32>) -> Option<InferredType>
+    ensures { option_map inferred result ≡ pointed_part space inner.now index }
 {
     match inner {
-        TypeInner::Vector { scalar, .. } => Some(GivenType::ValuePointer {
+        TypeInner::Vector { scalar, .. } => Some(InferredType::ValuePointer {
             size: None,
             scalar: *scalar,
             space,
         }),
-        TypeInner::Matrix { rows, scalar, .. } => Some(GivenType::ValuePointer {
+        TypeInner::Matrix { rows, scalar, .. } => Some(InferredType::ValuePointer {
             size: Some(*rows),
             scalar: *scalar,
             space,
         }),
         TypeInner::Array { base, .. } | TypeInner::BindingArray { base, .. } => {
-            Some(GivenType::Pointer { base: *base, space })
+            Some(InferredType::Pointer { base: *base, space })
         }
         TypeInner::Struct { members, .. } => match member_type(members, index) {
-            Some(base) => Some(GivenType::Pointer { base, space }),
+            Some(base) => Some(InferredType::Pointer { base, space }),
             None => None,
         },
         _ => None,
@@ -239,11 +240,11 @@ fn component_pointer(
     size: Option<VectorSize>,
     scalar: Scalar,
     space: AddressSpace,
-) -> Option<GivenType>
-    ensures { option_map given result ≡ component_pointer size scalar space }
+) -> Option<InferredType>
+    ensures { option_map inferred result ≡ component_pointer size scalar space }
 {
     match size {
-        Some(_) => Some(GivenType::ValuePointer {
+        Some(_) => Some(InferredType::ValuePointer {
             size: None,
             scalar,
             space,
@@ -258,8 +259,8 @@ pub(crate) fn part_type(
     types: &UniqueArena<Type_>,
     inner: &TypeInner,
     index: Option<u32>,
-) -> Option<GivenType>
-    ensures { option_map given result ≡ part_type types.now inner.now index }
+) -> Option<InferredType>
+    ensures { option_map inferred result ≡ part_type types.now inner.now index }
 {
     match inner {
         TypeInner::Pointer { base, space } => match inner_at(types, *base) {
@@ -343,18 +344,18 @@ pub(crate) fn is_part_number(types: &UniqueArena<Type_>, inner: &TypeInner, numb
     }
 }
 
-fn stored_type(handle: Handle<Type_>, inner: &TypeInner) -> GivenType
-    ensures { given result ≡ stored_type handle inner.now }
+fn stored_type(handle: Handle<Type_>, inner: &TypeInner) -> InferredType
+    ensures { inferred result ≡ stored_type handle inner.now }
 {
     match inner {
-        TypeInner::Atomic(scalar) => GivenType::Scalar(*scalar),
-        _ => GivenType::Handle(handle),
+        TypeInner::Atomic(scalar) => InferredType::Scalar(*scalar),
+        _ => InferredType::Handle(handle),
     }
 }
 
 /// What is read and written through a pointer: of an atomic, its scalar.
-pub(crate) fn pointee_type(types: &UniqueArena<Type_>, inner: &TypeInner) -> Option<GivenType>
-    ensures { option_map given result ≡ pointee_type types.now inner.now }
+pub(crate) fn pointee_type(types: &UniqueArena<Type_>, inner: &TypeInner) -> Option<InferredType>
+    ensures { option_map inferred result ≡ pointee_type types.now inner.now }
 {
     match inner {
         TypeInner::Pointer { base, .. } => match inner_at(types, *base) {
@@ -362,22 +363,22 @@ pub(crate) fn pointee_type(types: &UniqueArena<Type_>, inner: &TypeInner) -> Opt
             None => None,
         },
         TypeInner::ValuePointer { size, scalar, .. } => Some(match size {
-            Some(size) => GivenType::Vector {
+            Some(size) => InferredType::Vector {
                 size: *size,
                 scalar: *scalar,
             },
-            None => GivenType::Scalar(*scalar),
+            None => InferredType::Scalar(*scalar),
         }),
         _ => None,
     }
 }
 
-/// The scalar that a type is, if it is one.
-pub(crate) fn own_scalar(inner: &TypeInner) -> Option<Scalar>
-    ensures { result ≡ own_scalar inner.now }
+/// The scalar that a type is, or of which it is a vector.
+pub(crate) fn component_scalar(inner: &TypeInner) -> Option<Scalar>
+    ensures { result ≡ component_scalar inner.now }
 {
     match inner {
-        TypeInner::Scalar(scalar) => Some(*scalar),
+        TypeInner::Scalar(scalar) | TypeInner::Vector { scalar, .. } => Some(*scalar),
         _ => None,
     }
 }

@@ -25,7 +25,7 @@ pub(crate) mod statements;
 pub(crate) mod types;
 
 use crate::faults::{
-    Fault, Item, Part, Unaccepted, at, at_entry_point, at_expression, at_function,
+    Fault, FunctionPlace, Item, Unaccepted, at, at_entry_point, at_expression, at_function,
 };
 use crate::ranges::expressions::{
     first_expression_out_of_range, first_global_expression_out_of_range,
@@ -242,25 +242,25 @@ fn function_range_fault(
     module: &Module,
     callees: usize,
     function: &Function,
-) -> Option<(Part, Fault)>
+) -> Option<(FunctionPlace, Fault)>
     ensures { result ≡ function_range_fault «module».now callees function.now }
 {
     let types = module.types.len();
     let expressions = function.expressions.len();
     if !signature_fits(types, function) {
-        return Some((Part::Whole, Fault::Signature));
+        return Some((FunctionPlace::Whole, Fault::Signature));
     }
     if !names_fit(function) {
-        return Some((Part::Whole, Fault::NamedExpressions));
+        return Some((FunctionPlace::Whole, Fault::NamedExpressions));
     }
     if let Some(local) = first_local_out_of_range(types, expressions, &function.local_variables) {
-        return Some((Part::Local(local), Fault::Names));
+        return Some((FunctionPlace::Local(local), Fault::Names));
     }
-    if let Some(found) = first_expression_out_of_range(module, callees, function) {
+    if let Some(found) = first_expression_out_of_range(module, function) {
         return Some(at_expression(found));
     }
     match first_out_of_range(callees, expressions, &function.body) {
-        Some(number) => Some((Part::Statement(number), Fault::Names)),
+        Some(number) => Some((FunctionPlace::Statement(number), Fault::Names)),
         None => None,
     }
 }
@@ -293,11 +293,14 @@ fn entry_names_fit(module: &Module, entry_point: &EntryPoint) -> bool
 }
 
 /// The first part of an entry point that names what is not there. It may call each function.
-fn entry_point_range_fault(module: &Module, entry_point: &EntryPoint) -> Option<(Part, Fault)>
+fn entry_point_range_fault(
+    module: &Module,
+    entry_point: &EntryPoint,
+) -> Option<(FunctionPlace, Fault)>
     ensures { result ≡ entry_point_range_fault «module».now entry_point.now }
 {
     if !entry_names_fit(module, entry_point) {
-        return Some((Part::Whole, Fault::Names));
+        return Some((FunctionPlace::Whole, Fault::Names));
     }
     function_range_fault(module, module.functions.len(), &entry_point.function)
 }
@@ -357,12 +360,12 @@ fn first_known_fault(
     overrides: usize,
     types: usize,
     infos: &[FunctionInfo],
-) -> Option<(usize, (Part, Fault))>
+) -> Option<(usize, (FunctionPlace, Fault))>
     ensures { result ≡ first_known_fault overrides types infos.now }
 {
     for (index, info) in infos.iter().enumerate() {
         if let Some(handle) = first_unknown(overrides, types, info.expressions.as_slice()) {
-            return Some((index, (Part::Expression(handle), Fault::KnownType)));
+            return Some((index, (FunctionPlace::Expression(handle), Fault::KnownType)));
         }
     }
     None

@@ -14,7 +14,7 @@ ghost use Rattle.module_meaning.specs.Soundness.{module_is_sound};
 use crate::demands::operands_fit;
 use crate::expression_types::has_its_type;
 use crate::faults::{
-    Fault, Item, Part, Unaccepted, at, at_entry_point, at_expression, at_function,
+    Fault, FunctionPlace, Item, Unaccepted, at, at_entry_point, at_expression, at_function,
 };
 use crate::initialisers::{first_unsound_local, initialisers_fault};
 use crate::parts::Known;
@@ -66,7 +66,7 @@ fn function_sound_fault(
     module: &Module,
     function: &Function,
     info: &FunctionInfo,
-) -> Option<(Part, Fault)>
+) -> Option<(FunctionPlace, Fault)>
     ensures { result ≡ function_sound_fault «module».now function.now
         (map (λ k. k.ty) info.now) }
 {
@@ -76,10 +76,10 @@ fn function_sound_fault(
         return Some(at_expression(found));
     }
     if let Some(local) = first_unsound_local(&module.types, known, &function.local_variables) {
-        return Some((Part::Local(local), Fault::InitialiserType));
+        return Some((FunctionPlace::Local(local), Fault::InitialiserType));
     }
     match first_unsound(module, function, known) {
-        Some(number) => Some((Part::Statement(number), Fault::Unsatisfied)),
+        Some(number) => Some((FunctionPlace::Statement(number), Fault::Unsatisfied)),
         None => None,
     }
 }

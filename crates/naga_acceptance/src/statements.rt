@@ -3,13 +3,13 @@
 ghost use Rattle.std.specs.Prelude.{None, ◌≡◌, slice_get, false, true};
 ghost use Rattle.std.specs.Option.{option_map};
 ghost use Rattle.std.specs.Result.{result_err};
-ghost use Rattle.naga_acceptance.specs.KnownTypes.{given, known_types};
+ghost use Rattle.naga_acceptance.specs.KnownTypes.{inferred, known_types};
 ghost use Rattle.naga_ir.specs.StatementViews.{cases_of, tree_of};
 ghost use Rattle.module_meaning.specs.OperandDemands.{operand_is, points_to_components};
 ghost use Rattle.naga_acceptance.specs.TextOrder.{is_sound, numbered, own_is_sound, text_order};
 ghost use Rattle.module_meaning.specs.StatementsFit.{are_passed, body_is_sound};
 ghost use Rattle.module_meaning.specs.StatementsFit.{has_label, is_answered};
-ghost use Rattle.module_meaning.specs.StatementsFit.{is_atomic, is_atomic_result};
+ghost use Rattle.module_meaning.specs.StatementsFit.{is_atomic_result};
 ghost use Rattle.module_meaning.specs.StatementsFit.{is_ballot_result, is_call, is_condition};
 ghost use Rattle.module_meaning.specs.StatementsFit.{is_result, is_result_if, is_result_of};
 ghost use Rattle.module_meaning.specs.StatementsFit.{is_returned, is_same_label, is_selection};
@@ -17,15 +17,16 @@ ghost use Rattle.module_meaning.specs.StatementsFit.{is_stored, is_subgroup_resu
 ghost use Rattle.module_meaning.specs.StatementsFit.{is_uniform_load_result, label_is_of};
 ghost use Rattle.module_meaning.specs.StatementsFit.{labels_are_of, labels_differ, labels_fit};
 ghost use Rattle.naga_acceptance.specs.Labels.{is_before, is_behind, labels_ascend};
-ghost use Rattle.module_meaning.specs.StatementsFit.{last_falls_through, points_to_atomic};
+ghost use Rattle.module_meaning.specs.StatementsFit.{last_falls_through};
 ghost use Rattle.module_meaning.specs.StatementsFit.{selection_fits, selects};
 ghost use Rattle.module_meaning.specs.StatementsFit.{value_has_type};
+ghost use Rattle.module_meaning.specs.TypeParts.{is_atomic, points_to_atomic};
 
 use crate::alike::is_like;
 use crate::demands::points_to_components;
 use crate::expression_types::{is_bool, pointee_at};
 use crate::label_numbers::none_is_repeated;
-use crate::parts::{GivenType, Known, inner_at, known_inner, known_type};
+use crate::parts::{InferredType, Known, inner_at, known_inner, known_type};
 use crate::walk::{first_unmet, sound_demand};
 use naga_ir::{
     Expression, Function, FunctionArgument, FunctionResult, Handle, Module, Scalar, ScalarKind,
@@ -39,9 +40,9 @@ pub(crate) fn value_has_type(
     types: &UniqueArena<Type_>,
     known: Known<'_>,
     value: Handle<Expression>,
-    wanted: GivenType,
+    wanted: InferredType,
 ) -> bool
-    ensures { result ≡ value_has_type types.now (known_types known.entry) value (given wanted) }
+    ensures { result ≡ value_has_type types.now (known_types known.entry) value (inferred wanted) }
 {
     match known_type(known, value) {
         Some(ty) => is_like(types, ty, &wanted),
@@ -319,7 +320,7 @@ pub(crate) fn is_returned(
             types,
             known,
             value,
-            GivenType::Handle(answer.ty),
+            InferredType::Handle(answer.ty),
         ),
         (None, None) => true,
         (Some(_), None) => false,
@@ -341,7 +342,7 @@ pub(crate) fn are_passed(
         return false;
     }
     for index in 0..values.len() {
-        let wanted = GivenType::Handle(arguments[index].ty);
+        let wanted = InferredType::Handle(arguments[index].ty);
         if !value_has_type(types, known, values[index], wanted) {
             return false;
         }

@@ -3,7 +3,7 @@
 ghost use Rattle.std.specs.Prelude.{◌≡◌, [], true, unwrap_or};
 ghost use Rattle.std.specs.Option.{is_some};
 ghost use Rattle.naga_acceptance.specs.Uses.{all_mixed, mixed};
-ghost use Rattle.naga_acceptance.specs.Views.{is_whole, numbers, over_form, told};
+ghost use Rattle.naga_acceptance.specs.Views.{is_whole, numbers, over_key, identity_numbers};
 
 use crate::alike::{Identity, Over, next};
 use crate::type_numbers::Level;
@@ -25,8 +25,8 @@ pub(crate) fn level_mixed(hash: usize, level: &Level) -> usize
 
 /// The numbers of what a type is over, which has a form.
 fn over_mixed(types: &UniqueArena<Type_>, hash: usize, over: Over) -> usize
-    requires { is_some (over_form types.now over) ≡ true }
-    ensures { result ≡ all_mixed hash (unwrap_or (over_form types.now over) []) }
+    requires { is_some (over_key types.now over) ≡ true }
+    ensures { result ≡ all_mixed hash (unwrap_or (over_key types.now over) []) }
 {
     let (mut hash, mut over) = (hash, over);
     while let Some(top) = next(types, over) {
@@ -39,7 +39,7 @@ fn over_mixed(types: &UniqueArena<Type_>, hash: usize, over: Over) -> usize
 /// The numbers that tell a type.
 pub(crate) fn identity_mixed(types: &UniqueArena<Type_>, hash: usize, identity: Identity) -> usize
     requires { is_whole types.now identity ≡ true }
-    ensures { result ≡ all_mixed hash (told types.now identity) }
+    ensures { result ≡ all_mixed hash (identity_numbers types.now identity) }
 {
     match identity {
         Identity::Formed(top) => over_mixed(types, level_mixed(hash, &top.level), top.over),

@@ -11,7 +11,7 @@ ghost use Rattle.naga_ir.specs.Operands.{expression_operands};
 ghost use Rattle.module_meaning.specs.AgreeingOperators.{expression_use, identity_at};
 ghost use Rattle.module_meaning.specs.Operations.{are_same_words};
 
-use crate::alike::{are_known_alike, given_identity, identity_of};
+use crate::alike::{are_known_alike, identity_of, inferred_identity};
 use crate::operator_keys::{Key, is_same_key, operator_key};
 use crate::parts::{Known, known_type};
 use crate::type_hash::{identity_mixed, level_mixed, mixed};
@@ -115,7 +115,7 @@ fn key_mixed(types: &UniqueArena<Type_>, hash: usize, operator: &Key) -> usize
         Key::Typed { bits, ty } => identity_mixed(
             types,
             mixed(mixed(hash, 0), truth_number(*bits)),
-            given_identity(types, ty),
+            inferred_identity(types, ty),
         ),
         Key::Word(word) => level_mixed(mixed(hash, 1), word),
     }

@@ -85,7 +85,7 @@ pub record IsAccepted (m : Module) (k : ℕ) (f : Function) (es : List Expressio
 
 -- its expressions and its body are in range
 pub ranges_are : (m : Module) (callees : ℕ) (f : Function) → function_in_range m callees f ≡ true →
-    (expressions_in_range m callees f ≡ true) ×
+    (expressions_in_range m f ≡ true) ×
     (block_in_range callees (length f.expressions) f.body ≡ true)
 ranges_are m callees f ranges =
     let one = and_parts (signature_fits (length m.types) f) _ ranges in
@@ -94,7 +94,7 @@ ranges_are m callees f ranges =
     and_parts (list_all (local_in_range (length m.types) (length f.expressions)) f.local_variables)
     _ two.1 in
     let four =
-    and_parts (expressions_in_range m callees f)
+    and_parts (expressions_in_range m f)
     (block_in_range callees (length f.expressions) f.body) three.1 in
     (four.0, four.1)
 
@@ -112,13 +112,13 @@ locals_are_in_range m callees f ranges =
 pub names_are_in_range : (m : Module) (callees : ℕ) (f : Function) →
     function_in_range m callees f ≡ true → (h : ℕ) (e : Expression) →
     slice_get f.expressions h ≡ Some e →
-    names_in_range m callees (length f.arguments.items) (length f.local_variables) e ≡ true
+    names_in_range m (length f.arguments.items) (length f.local_variables) e ≡ true
 names_are_in_range m callees f ranges h e at =
     let test =
-    expression_in_range m callees (length f.arguments.items) (length f.local_variables) in
+    expression_in_range m (length f.arguments.items) (length f.local_variables) in
     let from : 0 + h ≡ h = omega arith in
     (and_parts (all_below h (expression_operands e))
-    (names_in_range m callees (length f.arguments.items) (length f.local_variables) e)
+    (names_in_range m (length f.arguments.items) (length f.local_variables) e)
     (sym (ap (λ n. test n e) from) ∙
     placed_at test 0 f.expressions h e (ranges_are m callees f ranges).0 at)).1
 
@@ -162,7 +162,7 @@ module _ (m : Module) (info : ModuleInfo) (accepted : IsTrue (is_accepted m info
   functions_counted =
       paired_length function_size_fits m.functions info.functions.items functions_paired
 
-  of_function : (k : ℕ) (f : Function) (es : List ExpressionInfo) →
+  pub of_function : (k : ℕ) (f : Function) (es : List ExpressionInfo) →
       slice_get m.functions k ≡ Some f → slice_get info.functions.items k ≡ Some es →
       IsAccepted m k f es
   of_function k f es here there =

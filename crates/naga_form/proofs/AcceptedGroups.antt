@@ -1,6 +1,6 @@
 -- What acceptance says of the expressions that stand together in a function, in an entry point or in
 -- the module itself.
-use Rattle.module_meaning.specs.Names.{TypesAreTold}
+use Rattle.module_meaning.specs.Names.{TypesAreDistinguished}
 use Rattle.module_meaning.proofs.SideBySide.{in_groups, paired_at}
 use Rattle.std.proofs.Common.{◌≡◌, ℕ, zero, suc, ◌<◌, ◌+◌, Bool, true, false, List, [], ◌∷◌, refl, sym, ap, ◌∙◌, length, ◌&&◌}
 use Rattle.std.proofs.Common.{Option, Some, None, slice_get, map, arith, nat_lt, ◌^◌, ◌≤◌, eqb-true}
@@ -36,7 +36,14 @@ use Rattle.module_meaning.specs.ExpressionTypes.{expression_type_fits, has_its_t
 use Rattle.module_meaning.specs.InfoSizes.{all_paired, sizes_fit, function_size_fits, type_is_fit, resolution_is_fit, all_known, entry_point_size_fits}
 use Rattle.module_meaning.specs.Numbers.{fits_32_bits, size_fits_32_bits, type_fits_32_bits, workgroup_fits_32_bits}
 use Rattle.module_meaning.specs.OperandDemands.{operands_fit, are_operands_fit}
-use Rattle.module_meaning.specs.Ranges.{module_ranges_fit, module_in_range, resolution_fits, types_in_range, function_in_range, entry_point_in_range, expression_in_range, all_below, all_placed, global_expression_in_range, signature_fits, names_fit, local_in_range, expressions_in_range, block_in_range, declarations_in_range, names_in_range, numbers_in_range, parts_before, special_types_fit, constant_in_range, override_in_range, global_in_range, is_below}
+use Rattle.module_meaning.specs.Ranges.{module_ranges_fit, module_in_range, resolution_fits}
+use Rattle.module_meaning.specs.Ranges.{types_in_range, function_in_range, entry_point_in_range}
+use Rattle.module_meaning.specs.Ranges.{expression_in_range, all_below, all_placed}
+use Rattle.module_meaning.specs.Ranges.{global_expression_in_range, signature_fits, names_fit}
+use Rattle.module_meaning.specs.Ranges.{local_in_range, expressions_in_range, block_in_range}
+use Rattle.module_meaning.specs.Ranges.{declarations_in_range, names_in_range, numbers_in_range}
+use Rattle.module_meaning.specs.Ranges.{parts_before, special_types_fit, constant_in_range}
+use Rattle.module_meaning.specs.Ranges.{override_in_range, global_in_range, is_below}
 use Rattle.module_meaning.specs.Soundness.{module_is_sound, function_is_sound, entry_point_is_sound, declarations_are_sound}
 use Rattle.module_meaning.proofs.Lists.{list_all_at}
 use Rattle.module_meaning.proofs.Lists.{placed_at}
@@ -133,8 +140,8 @@ module _ (m : Module) (info : ModuleInfo) where
     }
 
     -- the same, where structs and overrides are told by their names
-    pub types_are_counted : TypesAreTold m → TypesAreCounted m
-    types_are_counted told = record { names = told; types = types_are_fit }
+    pub types_are_counted : TypesAreDistinguished m → TypesAreCounted m
+    types_are_counted distinguished = record { names = distinguished; types = types_are_fit }
 
     pub fit_of : (r : TypeResolution) → resolution_fits (length m.overrides) (length m.types) r ≡ true → IsFit m r
     fit_of (Handle h) fits = tt
@@ -143,16 +150,18 @@ module _ (m : Module) (info : ModuleInfo) where
         let three = and_parts (length_within (length m.overrides) it) (type_fits_32_bits it) two.1 in
         (one.0, inner_counted it three.1, three.0)
 
-    sound_parts : (declarations_are_sound m info.const_expression_types.items ≡ true) × (all_paired (function_is_sound m) m.functions info.functions.items ≡ true) × (all_paired (entry_point_is_sound m) m.entry_points.items info.entry_points.items ≡ true)
+    sound_parts : (declarations_are_sound m info.const_expression_types.items ≡ true) ×
+        (all_paired (function_is_sound m) m.functions info.functions.items ≡ true) ×
+        (all_paired (entry_point_is_sound m) m.entry_points.items info.entry_points.items ≡ true)
     unfolding module_is_sound
     sound_parts = let one = and_parts _ _ accepted_parts.1 in let two = and_parts _ _ one.1 in (one.0, two.0, two.1)
 
     -- of expressions that are sound
-    sound_group : (f : Option Function) (g : Group) (callees arguments locals : ℕ) → IsIn (groups_of m info) g → length g.expressions ≡ length g.known →
+    sound_group : (f : Option Function) (g : Group) (arguments locals : ℕ) → IsIn (groups_of m info) g → length g.expressions ≡ length g.known →
         ((h : ℕ) (r : TypeResolution) → slice_get g.known h ≡ Some r → resolution_fits (length m.overrides) (length m.types) r ≡ true) →
-        ((h : ℕ) (e : Expression) → slice_get g.expressions h ≡ Some e → expression_in_range m callees arguments locals h e ≡ true) →
+        ((h : ℕ) (e : Expression) → slice_get g.expressions h ≡ Some e → expression_in_range m arguments locals h e ≡ true) →
         have_their_types m f g.known g.expressions ≡ true → are_operands_fit m.types g.known g.expressions ≡ true → IsSoundGroup m info f g
-    sound_group f g callees arguments locals place size fits ranges typed demands = record {
+    sound_group f g arguments locals place size fits ranges typed demands = record {
       place = place;
       size = size;
       fits = λ h r at. fit_of r (fits h r at);
@@ -166,8 +175,8 @@ module _ (m : Module) (info : ModuleInfo) where
       patterns = λ h size vector pattern at. eqb-true (length pattern) 4 (in_range h (expression.Swizzle size vector pattern) at).1;
     }
       where
-        in_range : (h : ℕ) (e : Expression) → slice_get g.expressions h ≡ Some e → (all_below h (expression_operands e) ≡ true) × (names_in_range m callees arguments locals e ≡ true)
-        in_range h e at = and_parts (all_below h (expression_operands e)) (names_in_range m callees arguments locals e) (ranges h e at)
+        in_range : (h : ℕ) (e : Expression) → slice_get g.expressions h ≡ Some e → (all_below h (expression_operands e) ≡ true) × (names_in_range m arguments locals e ≡ true)
+        in_range h e at = and_parts (all_below h (expression_operands e)) (names_in_range m arguments locals e) (ranges h e at)
 
     -- of a function that is in range and sound
     function_is : (callees : ℕ) (f : Function) (es : List ExpressionInfo) → IsIn (groups_of m info) (function_group f es) → function_size_fits f es ≡ true → function_in_range m callees f ≡ true →
@@ -175,21 +184,30 @@ module _ (m : Module) (info : ModuleInfo) where
     function_is callees f es place size ranges known sound =
         let one = and_parts (signature_fits (length m.types) f) _ ranges in let two = and_parts (names_fit f) _ one.1 in
         let three = and_parts (list_all (local_in_range (length m.types) (length f.expressions)) f.local_variables) _ two.1 in
-        let four = and_parts (expressions_in_range m callees f) (block_in_range callees (length f.expressions) f.body) three.1 in
+        let four = and_parts (expressions_in_range m f) (block_in_range callees (length f.expressions) f.body) three.1 in
         let parts = and_parts _ _ sound in let typed = and_parts _ _ parts.0 in
-        let test = expression_in_range m callees (length f.arguments.items) (length f.local_variables) in
-        sound_group (Some f) (function_group f es) callees (length f.arguments.items) (length f.local_variables) place (eqb-true (length f.expressions) (length es) size ∙ sym (length-map es (λ e. e.ty)))
+        let test = expression_in_range m (length f.arguments.items) (length f.local_variables) in
+        sound_group (Some f) (function_group f es) (length f.arguments.items)
+        (length f.local_variables) place (eqb-true (length f.expressions) (length es) size
+        ∙ sym (length-map es (λ e. e.ty)))
         (known_test (resolution_fits (length m.overrides) (length m.types)) es known)
         (λ h e at. let from : 0 + h ≡ h = omega arith in sym (ap (λ n. test n e) from) ∙ placed_at test 0 f.expressions h e four.0 at)
         typed.0 typed.1
 
     -- each function
-    pub functions_are : (k : ℕ) (f : Function) (es : List ExpressionInfo) → slice_get m.functions k ≡ Some f → slice_get info.functions.items k ≡ Some es → IsSoundGroup m info (Some f) (function_group f es)
+    pub functions_are : (k : ℕ) (f : Function) (es : List ExpressionInfo) →
+        slice_get m.functions k ≡ Some f → slice_get info.functions.items k ≡ Some es →
+        IsSoundGroup m info (Some f) (function_group f es)
     functions_are k f es here there =
         let sizes = and_parts _ _ ranges_parts.0 in
         let range = and_parts _ _ ranges_parts.2 in let functions = and_parts _ _ range.1 in
         let from : 0 + k ≡ k = omega arith in
-        function_is k f es (k, in_left (function_groups m.functions info.functions.items) (further_groups_of m info) k (function_group f es) (in_groups m.functions info.functions.items k f es here there))
+        function_is k f es (
+          k,
+          in_left (function_groups m.functions info.functions.items)
+              (further_groups_of m info) k (function_group f es)
+              (in_groups m.functions info.functions.items k f es here there),
+        )
         (paired_at function_size_fits m.functions info.functions.items sizes.0 k f es here there)
         (sym (ap (λ n. function_in_range m n f) from) ∙ placed_at (function_in_range m) 0 m.functions k f functions.0 here)
         (list_all_at (list_all (λ k. resolution_fits (length m.overrides) (length m.types) k.ty)) info.functions.items k es (and_parts _ _ ranges_parts.3).0 there)
@@ -197,7 +215,9 @@ module _ (m : Module) (info : ModuleInfo) where
 
     -- each entry point
     -- what is known of a function's expressions is fit, and names what is there
-    pub known_is_fit : (k : ℕ) (es : List ExpressionInfo) → slice_get info.functions.items k ≡ Some es → (h : ℕ) (e : ExpressionInfo) → slice_get es h ≡ Some e → resolution_fits (length m.overrides) (length m.types) e.ty ≡ true
+    pub known_is_fit : (k : ℕ) (es : List ExpressionInfo) →
+        slice_get info.functions.items k ≡ Some es → (h : ℕ) (e : ExpressionInfo) →
+        slice_get es h ≡ Some e → resolution_fits (length m.overrides) (length m.types) e.ty ≡ true
     known_is_fit k es there h e at =
         list_all_at (λ k. resolution_fits (length m.overrides) (length m.types) k.ty) es h e
         (list_all_at (list_all (λ k. resolution_fits (length m.overrides) (length m.types) k.ty)) info.functions.items k es (and_parts _ _ ranges_parts.3).0 there)
@@ -206,7 +226,9 @@ module _ (m : Module) (info : ModuleInfo) where
     pub known_fits : (k : ℕ) (es : List ExpressionInfo) → slice_get info.functions.items k ≡ Some es → (h : ℕ) (e : ExpressionInfo) → slice_get es h ≡ Some e → IsFit m e.ty
     known_fits k es there h e at = fit_of e.ty (known_is_fit k es there h e at)
 
-    pub entry_points_are : (k : ℕ) (p : EntryPoint) (es : List ExpressionInfo) → slice_get m.entry_points.items k ≡ Some p → slice_get info.entry_points.items k ≡ Some es → IsSoundGroup m info (Some p.function) (function_group p.function es)
+    pub entry_points_are : (k : ℕ) (p : EntryPoint) (es : List ExpressionInfo) →
+        slice_get m.entry_points.items k ≡ Some p → slice_get info.entry_points.items k ≡ Some es →
+        IsSoundGroup m info (Some p.function) (function_group p.function es)
     entry_points_are k p es here there =
         let sizes = and_parts _ _ ranges_parts.0 in let more = and_parts _ _ sizes.1 in
         let range = and_parts _ _ ranges_parts.2 in let functions = and_parts _ _ range.1 in
@@ -220,7 +242,12 @@ module _ (m : Module) (info : ModuleInfo) where
         let known = and_parts _ _ ranges_parts.3 in
         let group = in_groups (map (λ p. p.function) m.entry_points.items) info.entry_points.items k p.function es mapped there in
         function_is (length m.functions) p.function es
-        (in_right (function_groups m.functions info.functions.items) (further_groups_of m info) (function_group p.function es) (k, in_left (function_groups (map (λ p. p.function) m.entry_points.items) info.entry_points.items) _ k (function_group p.function es) group))
+        (in_right (function_groups m.functions info.functions.items) (further_groups_of m info)
+        (function_group p.function es) (
+          k,
+          in_left (function_groups (map (λ p. p.function) m.entry_points.items)
+              info.entry_points.items) _ k (function_group p.function es) group,
+        ))
         (paired_at entry_point_size_fits m.entry_points.items info.entry_points.items more.0 k p es here there)
         four.1
         (list_all_at (list_all (λ k. resolution_fits (length m.overrides) (length m.types) k.ty)) info.entry_points.items k es (and_parts _ _ known.1).0 there)
@@ -242,10 +269,13 @@ module _ (m : Module) (info : ModuleInfo) where
         let d4 = and_parts (list_all (global_in_range types own) m.global_variables) (all_placed (global_expression_in_range m) m.global_expressions) d3.1 in
         let known = and_parts _ _ ranges_parts.3 in let all = and_parts _ _ known.1 in
         let sound = and_parts _ _ sound_parts.0 in let typed = and_parts _ _ sound.0 in
-        sound_group None own_group (length m.functions) 0 0
+        sound_group None own_group 0 0
         (in_right (function_groups m.functions info.functions.items) (further_groups_of m info) own_group
         (in_right (function_groups (map (λ p. p.function) m.entry_points.items) info.entry_points.items) (own_group ∷ []) own_group (0, refl)))
         (eqb-true (length m.global_expressions) (length info.const_expression_types.items) more.1)
         (λ h r at. list_all_at (resolution_fits (length m.overrides) (length m.types)) info.const_expression_types.items h r all.1 at)
-        (λ h e at. let from : 0 + h ≡ h = omega arith in (and_parts (expression_in_range m (length m.functions) 0 0 h e) _ (sym (ap (λ n. global_expression_in_range m n e) from) ∙ placed_at (global_expression_in_range m) 0 m.global_expressions h e d4.1 at)).0)
+        (λ h e at. let from : 0 + h ≡ h = omega arith in
+        (and_parts (expression_in_range m 0 0 h e)
+        _ (sym (ap (λ n. global_expression_in_range m n e) from)
+        ∙ placed_at (global_expression_in_range m) 0 m.global_expressions h e d4.1 at)).0)
         typed.0 typed.1

@@ -1,7 +1,7 @@
 -- Expressions of an accepted module over operands of equal types: their operands are told alike,
 -- and where one key tells what they apply, or one type what they have, their values are of one
 -- type.
-use Rattle.module_meaning.specs.Names.{TypesAreTold}
+use Rattle.module_meaning.specs.Names.{TypesAreDistinguished}
 use Rattle.std.proofs.Common.{◌≡◌, ℕ, List, [], sym, ap, ◌∙◌}
 use Rattle.std.proofs.Common.{Some, slice_get, map}
 use Rattle.std.specs.Prelude.{IsTrue}
@@ -17,11 +17,11 @@ use Rattle.module_meaning.specs.AgreeingOperators.{operator_key, identity_at}
 use Rattle.module_meaning.specs.AlikeTypes.{type_identity}
 use Rattle.module_meaning.specs.ExpressionTypes.{wanted_type, LikeThis, is_wanted}
 use Rattle.naga_form.proofs.AcceptedGroups.{types_are_counted, agree, operands_known, own_known}
-use Rattle.naga_form.proofs.AgreeingUses.{IsUse, AreKnown, value_at, uses_agree, all_told_alike, valued_alike}
+use Rattle.naga_form.proofs.AgreeingUses.{IsUse, AreKnown, value_at, uses_agree, all_distinguished_alike, valued_alike}
 use Rattle.naga_form.proofs.SameValues.{TypesAreCounted}
 use Rattle.naga_form.proofs.Signatures.{IsOfExpression}
 
-module _ (m : Module) (info : ModuleInfo) (accepted : IsTrue (is_accepted m info)) (named : TypesAreTold m) where
+module _ (m : Module) (info : ModuleInfo) (accepted : IsTrue (is_accepted m info)) (named : TypesAreDistinguished m) where
   abbrev pub are : TypesAreCounted m
   are = types_are_counted m info accepted named
 
@@ -67,7 +67,9 @@ module _ (m : Module) (info : ModuleInfo) (accepted : IsTrue (is_accepted m info
       same_values = sym a.operands ∙ (operands ∙ b.operands)
 
       pub same_operands : map (identity_at m.types a.group.known) (expression_operands a.expression) ≡ map (identity_at m.types b.group.known) (expression_operands b.expression)
-      same_operands = all_told_alike m info are a.group.known b.group.known a.sound.fits b.sound.fits (expression_operands a.expression) (expression_operands b.expression) (operands_are a) (operands_are b) same_values
+      same_operands = all_distinguished_alike m info are a.group.known b.group.known a.sound.fits
+          b.sound.fits (expression_operands a.expression) (expression_operands b.expression)
+          (operands_are a) (operands_are b) same_values
 
       -- of one key, they are of one type
       pub by_key : (k l : List ℕ) → operator_key m.types a.group.known a.expression ≡ Some k → operator_key m.types b.group.known b.expression ≡ Some l → k ≡ l → x.result ≡ y.result

@@ -1,6 +1,6 @@
 -- Signatures of an accepted module that are called alike, over operands of equal types, have
 -- results of one type, wherever they stand in it.
-use Rattle.module_meaning.specs.Names.{ItemsAreTold}
+use Rattle.module_meaning.specs.Names.{ItemsAreDistinguished}
 use Rattle.std.proofs.Common.{◌≡◌, ℕ, true, false, List, [], ◌∷◌, refl, sym, ap, ◌∙◌, subst, length, arith, ◌+◌}
 use Rattle.std.proofs.Common.{Option, Some, None, slice_get, get_or, map}
 use Rattle.std.specs.Prelude.{IsTrue}
@@ -32,13 +32,13 @@ use Rattle.module_meaning.specs.TypeParts.{is_part_number}
 use Rattle.module_meaning.proofs.Lists.{placed_at}
 use Rattle.naga_form.proofs.AcceptedGroups.{types_range}
 use Rattle.naga_form.proofs.AgreeingExpressions.{operands_are, same_operands, by_key}
-use Rattle.naga_form.proofs.AgreeingParts.{Named, part_named, one_number, no_part, vector_is_none, struct_told, key_read, swizzle_told, letters_are_several}
+use Rattle.naga_form.proofs.AgreeingParts.{Named, part_named, one_number, no_part, vector_is_none, struct_distinguished, key_read, swizzle_distinguished, letters_are_several}
 use Rattle.naga_form.proofs.AgreeingWords.{Call, Composed, Zeroed, Applied, Indexed, Selected, Lettered, call, both_values, both_applied, composed_applied, zeroed_applied}
 use Rattle.naga_form.proofs.AgreeingUses.{AreKnown}
 use Rattle.naga_form.proofs.SameValues.{IsFit}
 use Rattle.naga_form.proofs.Signatures.{IsOfExpression, declared_for}
 
-module _ (m : Module) (info : ModuleInfo) (accepted : IsTrue (is_accepted m info)) (told : ItemsAreTold m) where
+module _ (m : Module) (info : ModuleInfo) (accepted : IsTrue (is_accepted m info)) (distinguished : ItemsAreDistinguished m) where
   -- a type's parts stand before it
   pub parts_stand : (h : ℕ) (t : Type_) → slice_get m.types h ≡ Some t → parts_before h t.inner ≡ true
   parts_stand h t at =
@@ -59,25 +59,32 @@ module _ (m : Module) (info : ModuleInfo) (accepted : IsTrue (is_accepted m info
   module _ {x : Signature} (a : IsOfExpression m info x) where
     base_of : (base : ℕ) → expression_operands a.expression ≡ base ∷ [] → IsBase a base
     base_of base is =
-        let known = subst (AreKnown m info a.group.known) is (operands_are m info accepted told.types a) in
+        let known = subst (AreKnown m info a.group.known) is (operands_are m info accepted distinguished.types a) in
         record { r = known.0.0; there = known.0.1; operands = is }
 
     -- what an expression asks of its operands
     demanded : (e : Expression) → a.expression ≡ e → operands_fit m.types a.group.known e ≡ true
     demanded e is = sym (ap (operands_fit m.types a.group.known) is) ∙ a.sound.demands a.handle a.expression a.there
 
-    part_is : (base index : ℕ) (s : Selector) → a.expression ≡ expression.AccessIndex base index → part_selector (declared_for m info a.group) base index ≡ Some s → (b : IsBase a base) → Named m info b.r index s
+    part_is : (base index : ℕ) (s : Selector) → a.expression ≡ expression.AccessIndex base index →
+        part_selector (declared_for m info a.group) base index ≡ Some s → (b : IsBase a base) →
+        Named m info b.r index s
     part_is base index s is selected b =
         part_named m info a.group parts_stand b.r (fit b.r (a.sound.fits base b.r b.there)) index s
         (sym (ap (λ o. option_and_then (λ r. option_and_then (λ it. selector (declared_for m info a.group) (handle_of r) it index) (inner_of r m.types)) o) b.there) ∙ selected)
         (sym (ap (λ o. option_map_or (λ it. is_part_number m.types it index) (option_and_then (λ r. inner_of r m.types) o) false) b.there) ∙ demanded (expression.AccessIndex base index) is)
 
     -- what is swizzled is a vector
-    swizzled_is_none : (size : VectorSize) (vector : ℕ) (pattern : List SwizzleComponent) → a.expression ≡ expression.Swizzle size vector pattern → (b : IsBase a vector) → struct_told (type_identity m.types b.r) ≡ None
+    swizzled_is_none : (size : VectorSize) (vector : ℕ) (pattern : List SwizzleComponent) →
+        a.expression ≡ expression.Swizzle size vector pattern → (b : IsBase a vector) →
+        struct_distinguished (type_identity m.types b.r) ≡ None
     swizzled_is_none size vector pattern is b =
-        by (inner_of b.r m.types) refl (sym (ap (λ o. option_map_or (is_swizzled size pattern) (option_and_then (λ r. inner_of r m.types) o) false) b.there) ∙ demanded (expression.Swizzle size vector pattern) is)
+        by (inner_of b.r m.types) refl
+        (sym (ap (λ o. option_map_or (is_swizzled size pattern)
+        (option_and_then (λ r. inner_of r m.types) o) false) b.there)
+        ∙ demanded (expression.Swizzle size vector pattern) is)
       where
-        by : (o : Option TypeInner) → inner_of b.r m.types ≡ o → option_map_or (is_swizzled size pattern) o false ≡ true → struct_told (type_identity m.types b.r) ≡ None
+        by : (o : Option TypeInner) → inner_of b.r m.types ≡ o → option_map_or (is_swizzled size pattern) o false ≡ true → struct_distinguished (type_identity m.types b.r) ≡ None
         by (Some (inner.Vector n scalar)) at fits = vector_is_none m info b.r n scalar at
         by (Some _) at fits = absurd cc
         by None at fits = absurd cc
@@ -108,53 +115,64 @@ module _ (m : Module) (info : ModuleInfo) (accepted : IsTrue (is_accepted m info
     bases_alike : (i j : ℕ) (p : IsBase a i) (q : IsBase b j) → type_identity m.types p.r ≡ type_identity m.types q.r
     bases_alike i j p q =
         let all : identity_at m.types a.group.known i ∷ [] ≡ identity_at m.types b.group.known j ∷ [] =
-        ap (map (identity_at m.types a.group.known)) (sym p.operands) ∙ (same_operands m info accepted told.types a b operands ∙ ap (map (identity_at m.types b.group.known)) q.operands) in
+        ap (map (identity_at m.types a.group.known)) (sym p.operands) ∙ (same_operands m info accepted distinguished.types a b operands ∙ ap (map (identity_at m.types b.group.known)) q.operands) in
         sym (ap (λ o. option_map_or (type_identity m.types) o []) p.there)
         ∙ (ap (λ xs. get_or xs 0 []) all ∙ ap (λ o. option_map_or (type_identity m.types) o []) q.there)
 
-    key_of : {z : Signature} (c : IsOfExpression m info z) (e : Expression) (k : List ℕ) → c.expression ≡ e → operator_key m.types c.group.known e ≡ Some k → operator_key m.types c.group.known c.expression ≡ Some k
+    key_of : {z : Signature} (c : IsOfExpression m info z) (e : Expression) (k : List ℕ) →
+        c.expression ≡ e → operator_key m.types c.group.known e ≡ Some k →
+        operator_key m.types c.group.known c.expression ≡ Some k
     key_of c e k is at = ap (operator_key m.types c.group.known) is ∙ at
 
-    both_parts : (i j k l : ℕ) (s : Selector) → a.expression ≡ expression.AccessIndex i k → b.expression ≡ expression.AccessIndex j l → part_selector (declared_for m info a.group) i k ≡ Some s → part_selector (declared_for m info b.group) j l ≡ Some s → x.result ≡ y.result
+    both_parts : (i j k l : ℕ) (s : Selector) → a.expression ≡ expression.AccessIndex i k →
+        b.expression ≡ expression.AccessIndex j l →
+        part_selector (declared_for m info a.group) i k ≡ Some s →
+        part_selector (declared_for m info b.group) j l ≡ Some s → x.result ≡ y.result
     both_parts i j k l s one two first second =
         let p = base_of a i (ap expression_operands one) in let q = base_of b j (ap expression_operands two) in
-        let same = one_number m info told p.r q.r k l s (bases_alike i j p q) (part_is a i k s one first p) (part_is b j l s two second q) in
-        by_key m info accepted told.types a b operands (one_key 4 k) (one_key 4 l) (key_of a _ _ one refl) (key_of b _ _ two refl) (ap (one_key 4) same)
+        let same = one_number m info distinguished p.r q.r k l s (bases_alike i j p q) (part_is a i k s one first p) (part_is b j l s two second q) in
+        by_key m info accepted distinguished.types a b operands (one_key 4 k) (one_key 4 l) (key_of a _ _ one refl) (key_of b _ _ two refl) (ap (one_key 4) same)
 
     -- a part is not a swizzle
-    part_swizzle : (i j k : ℕ) (s : Selector) (size : VectorSize) (pattern : List SwizzleComponent) → a.expression ≡ expression.AccessIndex i k → b.expression ≡ expression.Swizzle size j pattern → part_selector (declared_for m info a.group) i k ≡ Some s → s ≡ MemberNamed (swizzle_letters size pattern) → ⊥
+    part_swizzle : (i j k : ℕ) (s : Selector) (size : VectorSize)
+        (pattern : List SwizzleComponent) → a.expression ≡ expression.AccessIndex i k →
+        b.expression ≡ expression.Swizzle size j pattern →
+        part_selector (declared_for m info a.group) i k ≡ Some s →
+        s ≡ MemberNamed (swizzle_letters size pattern) → ⊥
     part_swizzle i j k s size pattern one two selected is =
         let p = base_of a i (ap expression_operands one) in let q = base_of b j (ap expression_operands two) in
         no_part m info p.r q.r k s (swizzle_letters size pattern) (bases_alike i j p q) (swizzled_is_none b size j pattern two q) is
         (letters_are_several size pattern (four b size j pattern two)) (part_is a i k s one selected p)
 
-    both_swizzles : (i j : ℕ) (n k : VectorSize) (v w : List SwizzleComponent) → a.expression ≡ expression.Swizzle n i v → b.expression ≡ expression.Swizzle k j w → swizzle_letters n v ≡ swizzle_letters k w → x.result ≡ y.result
+    both_swizzles : (i j : ℕ) (n k : VectorSize) (v w : List SwizzleComponent) →
+        a.expression ≡ expression.Swizzle n i v → b.expression ≡ expression.Swizzle k j w →
+        swizzle_letters n v ≡ swizzle_letters k w → x.result ≡ y.result
     both_swizzles i j n k v w one two e =
-        by_key m info accepted told.types a b operands (swizzle_key n v) (swizzle_key k w) (key_of a _ _ one refl) (key_of b _ _ two refl)
-        (sym (swizzle_told n v (four a n i v one)) ∙ (ap key_read e ∙ swizzle_told k w (four b k j w two)))
+        by_key m info accepted distinguished.types a b operands (swizzle_key n v) (swizzle_key k w) (key_of a _ _ one refl) (key_of b _ _ two refl)
+        (sym (swizzle_distinguished n v (four a n i v one)) ∙ (ap key_read e ∙ swizzle_distinguished k w (four b k j w two)))
 
     both_indexed : (i j k l : ℕ) → a.expression ≡ expression.Access i k → b.expression ≡ expression.Access j l → x.result ≡ y.result
-    both_indexed i j k l one two = by_key m info accepted told.types a b operands (one_key 3 0) (one_key 3 0) (key_of a _ _ one refl) (key_of b _ _ two refl) refl
+    both_indexed i j k l one two = by_key m info accepted distinguished.types a b operands (one_key 3 0) (one_key 3 0) (key_of a _ _ one refl) (key_of b _ _ two refl) refl
 
   -- the same, by how they are called
   calls_agree : {x y : Signature} (a : IsOfExpression m info x) (b : IsOfExpression m info y) → x.operands ≡ y.operands → x.word ≡ y.word →
-      Call m info accepted told.types a.group a.expression x.word → Call m info accepted told.types b.group b.expression y.word → x.result ≡ y.result
+      Call m info accepted distinguished.types a.group a.expression x.word → Call m info accepted distinguished.types b.group b.expression y.word → x.result ≡ y.result
   calls_agree a b operands e (Composed ty n k wanted ao ak formed v) (Composed uy l h other bo bk bf w) =
-      both_values m info accepted told.types a b (Handle ty) (Handle uy) n l tt tt (wanted a.function) (other b.function) (spelled_word _ _ (sym v ∙ (e ∙ w)))
+      both_values m info accepted distinguished.types a b (Handle ty) (Handle uy) n l tt tt (wanted a.function) (other b.function) (spelled_word _ _ (sym v ∙ (e ∙ w)))
   calls_agree a b operands e (Composed ty n k wanted ao ak formed v) (Zeroed uy other none w) =
-      both_values m info accepted told.types a b (Handle ty) (Handle uy) n 0 tt tt (wanted a.function) (other b.function) (spelled_word _ _ (sym v ∙ (e ∙ w)))
+      both_values m info accepted distinguished.types a b (Handle ty) (Handle uy) n 0 tt tt (wanted a.function) (other b.function) (spelled_word _ _ (sym v ∙ (e ∙ w)))
   calls_agree a b operands e (Composed ty n k wanted ao ak formed v) (Applied p l bo bk bf h hs some w) =
-      composed_applied m info accepted told.types a b operands ty n k ao ak formed p l bo bk bf (spelled_word _ _ (sym v ∙ (e ∙ w)))
+      composed_applied m info accepted distinguished.types a b operands ty n k ao ak formed p l bo bk bf (spelled_word _ _ (sym v ∙ (e ∙ w)))
   calls_agree a b operands e (Zeroed ty wanted none v) (Composed uy l h other bo bk bf w) =
-      both_values m info accepted told.types a b (Handle ty) (Handle uy) 0 l tt tt (wanted a.function) (other b.function) (spelled_word _ _ (sym v ∙ (e ∙ w)))
+      both_values m info accepted distinguished.types a b (Handle ty) (Handle uy) 0 l tt tt (wanted a.function) (other b.function) (spelled_word _ _ (sym v ∙ (e ∙ w)))
   calls_agree a b operands e (Zeroed ty wanted none v) (Zeroed uy other nothing w) =
-      both_values m info accepted told.types a b (Handle ty) (Handle uy) 0 0 tt tt (wanted a.function) (other b.function) (spelled_word _ _ (sym v ∙ (e ∙ w)))
-  calls_agree a b operands e (Zeroed ty wanted none v) (Applied p l bo bk bf h hs some w) = absurd (zeroed_applied m info accepted told.types a b operands none h hs some)
+      both_values m info accepted distinguished.types a b (Handle ty) (Handle uy) 0 0 tt tt (wanted a.function) (other b.function) (spelled_word _ _ (sym v ∙ (e ∙ w)))
+  calls_agree a b operands e (Zeroed ty wanted none v) (Applied p l bo bk bf h hs some w) = absurd (zeroed_applied m info accepted distinguished.types a b operands none h hs some)
   calls_agree a b operands e (Applied o k ao ak af h hs some v) (Composed uy l i other bo bk bf w) =
-      sym (composed_applied m info accepted told.types b a (sym operands) uy l i bo bk bf o k ao ak af (spelled_word _ _ (sym w ∙ (sym e ∙ v))))
-  calls_agree a b operands e (Applied o k ao ak af h hs some v) (Zeroed uy other none w) = absurd (zeroed_applied m info accepted told.types b a (sym operands) none h hs some)
+      sym (composed_applied m info accepted distinguished.types b a (sym operands) uy l i bo bk bf o k ao ak af (spelled_word _ _ (sym w ∙ (sym e ∙ v))))
+  calls_agree a b operands e (Applied o k ao ak af h hs some v) (Zeroed uy other none w) = absurd (zeroed_applied m info accepted distinguished.types b a (sym operands) none h hs some)
   calls_agree a b operands e (Applied o k ao ak af h hs some v) (Applied p l bo bk bf i is more w) =
-      both_applied m info accepted told.types a b operands o p k l ao ak af bo bk bf (spelled_word _ _ (sym v ∙ (e ∙ w)))
+      both_applied m info accepted distinguished.types a b operands o p k l ao ak af bo bk bf (spelled_word _ _ (sym v ∙ (e ∙ w)))
   calls_agree a b operands e (Indexed i k one v) (Indexed j l two w) = both_indexed a b operands i j k l one two
   calls_agree a b operands e (Selected i k s one first v) (Selected j l t two second w) =
       both_parts a b operands i j k l s one two first (second ∙ ap Some (part_word _ _ (sym w ∙ (sym e ∙ v))))
@@ -191,5 +209,5 @@ module _ (m : Module) (info : ModuleInfo) (accepted : IsTrue (is_accepted m info
   pub signatures_agree : (x y : Signature) → IsOfExpression m info x → IsOfExpression m info y → x.word ≡ y.word → x.operands ≡ y.operands → x.result ≡ y.result
   signatures_agree x y a b word operands =
       calls_agree a b operands word
-      (call m info accepted told.types a.group a.expression x.word a.called)
-      (call m info accepted told.types b.group b.expression y.word b.called)
+      (call m info accepted distinguished.types a.group a.expression x.word a.called)
+      (call m info accepted distinguished.types b.group b.expression y.word b.called)

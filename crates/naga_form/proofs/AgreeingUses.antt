@@ -17,7 +17,7 @@ use Rattle.module_meaning.specs.AlikeTypes.{type_identity}
 use Rattle.module_meaning.specs.ExpressionOperators.{applied_operator}
 use Rattle.module_meaning.specs.Operations.{Operation}
 use Rattle.module_meaning.specs.OperatorTable.{Operator, run_word}
-use Rattle.module_meaning.specs.Surroundings.{surroundings}
+use Rattle.module_meaning.specs.ExpressionContexts.{expression_context}
 use Rattle.module_meaning.specs.Types.{type_of_values}
 use Rattle.module_meaning.proofs.Operations.{all_agree_at}
 use Rattle.naga_form.proofs.OperatorKeys.{IsFormed, IsKeyed, keyed, one_key_of_word}
@@ -113,29 +113,38 @@ module _ (m : Module) (info : ModuleInfo) where
 
   module _ (are : TypesAreCounted m) where
     -- handles whose values are of one type are told alike
-    pub told_alike : (ks ls : List TypeResolution) → AllFit ks → AllFit ls → (h k : ℕ) → (r : TypeResolution) → slice_get ks h ≡ Some r → (s : TypeResolution) → slice_get ls k ≡ Some s → value_at ks h ≡ value_at ls k → identity_at m.types ks h ≡ identity_at m.types ls k
-    told_alike ks ls p q h k r at s bt e =
+    pub distinguished_alike : (ks ls : List TypeResolution) → AllFit ks → AllFit ls → (h k : ℕ) →
+        (r : TypeResolution) → slice_get ks h ≡ Some r → (s : TypeResolution) →
+        slice_get ls k ≡ Some s → value_at ks h ≡ value_at ls k →
+        identity_at m.types ks h ≡ identity_at m.types ls k
+    distinguished_alike ks ls p q h k r at s bt e =
         identity_is ks h r at
         ∙ (numbers_by_values m are r s (p h r at) (q k s bt) (sym (value_is ks h r at) ∙ (e ∙ value_is ls k s bt)) ∙ sym (identity_is ls k s bt))
 
-    pub valued_alike : (ks ls : List TypeResolution) → AllFit ks → AllFit ls → (h k : ℕ) → (r : TypeResolution) → slice_get ks h ≡ Some r → (s : TypeResolution) → slice_get ls k ≡ Some s → identity_at m.types ks h ≡ identity_at m.types ls k → value_at ks h ≡ value_at ls k
+    pub valued_alike : (ks ls : List TypeResolution) → AllFit ks → AllFit ls → (h k : ℕ) →
+        (r : TypeResolution) → slice_get ks h ≡ Some r → (s : TypeResolution) →
+        slice_get ls k ≡ Some s → identity_at m.types ks h ≡ identity_at m.types ls k →
+        value_at ks h ≡ value_at ls k
     valued_alike ks ls p q h k r at s bt e =
         value_is ks h r at
         ∙ (values_by_numbers m are r s (p h r at) (q k s bt) (sym (identity_is ks h r at) ∙ (e ∙ identity_is ls k s bt)) ∙ sym (value_is ls k s bt))
 
-    pub all_told_alike : (ks ls : List TypeResolution) → AllFit ks → AllFit ls → (hs is : List ℕ) → AreKnown ks hs → AreKnown ls is → map (value_at ks) hs ≡ map (value_at ls) is → map (identity_at m.types ks) hs ≡ map (identity_at m.types ls) is
-    all_told_alike ks ls p q [] [] known other e = refl
-    all_told_alike ks ls p q [] (k ∷ is) known other e = absurd cc
-    all_told_alike ks ls p q (h ∷ hs) [] known other e = absurd cc
-    all_told_alike ks ls p q (h ∷ hs) (k ∷ is) known other e =
+    pub all_distinguished_alike : (ks ls : List TypeResolution) → AllFit ks → AllFit ls →
+        (hs is : List ℕ) → AreKnown ks hs → AreKnown ls is →
+        map (value_at ks) hs ≡ map (value_at ls) is →
+        map (identity_at m.types ks) hs ≡ map (identity_at m.types ls) is
+    all_distinguished_alike ks ls p q [] [] known other e = refl
+    all_distinguished_alike ks ls p q [] (k ∷ is) known other e = absurd cc
+    all_distinguished_alike ks ls p q (h ∷ hs) [] known other e = absurd cc
+    all_distinguished_alike ks ls p q (h ∷ hs) (k ∷ is) known other e =
         let first : value_at ks h ≡ value_at ls k = ap (λ xs. get_or xs 0 BooleanType) e in
         let rest : map (value_at ks) hs ≡ map (value_at ls) is = ap (drop 1) e in
-        (λ i. told_alike ks ls p q h k known.0.0 known.0.1 other.0.0 other.0.1 first i ∷ all_told_alike ks ls p q hs is known.1 other.1 rest i)
+        (λ i. distinguished_alike ks ls p q h k known.0.0 known.0.1 other.0.0 other.0.1 first i ∷ all_distinguished_alike ks ls p q hs is known.1 other.1 rest i)
 
     -- a use that applies an operator over known operands
     pub record IsApplied (u : IsUse m info) : Type 0 where
       pub operator : Operator
-      pub applied : applied_operator (surroundings m (λ h. slice_get u.group.known h)) u.expression ≡ Some operator
+      pub applied : applied_operator (expression_context m (λ h. slice_get u.group.known h)) u.expression ≡ Some operator
       pub formed : IsFormed m are u.expression
       pub fits : AllFit u.group.known
       pub operands : AreKnown u.group.known (expression_operands u.expression)
@@ -154,4 +163,7 @@ module _ (m : Module) (info : ModuleInfo) where
         let keys = one_key_of_word m are x.operator y.operator (length (expression_operands b.expression)) a.key b.key
         (subst (λ n. IsKeyed m are x.operator n a.key) count one) two words in
         valued_alike a.group.known b.group.known x.fits y.fits a.handle b.handle x.own x.own_there y.own y.own_there
-        (uses_agree agree a b keys (all_told_alike a.group.known b.group.known x.fits y.fits (expression_operands a.expression) (expression_operands b.expression) x.operands y.operands operands))
+        (uses_agree agree a b keys
+        (all_distinguished_alike a.group.known b.group.known x.fits y.fits
+        (expression_operands a.expression) (expression_operands b.expression) x.operands
+        y.operands operands))

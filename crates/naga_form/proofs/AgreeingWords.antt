@@ -1,6 +1,6 @@
 -- Expressions of an accepted module that the runs call by one spelled word, over operands of equal
 -- types, are of one type: by the type whose value they are, or by the operator that they apply.
-use Rattle.module_meaning.specs.Names.{TypesAreTold}
+use Rattle.module_meaning.specs.Names.{TypesAreDistinguished}
 use Rattle.std.proofs.Common.{◌≡◌, ℕ, Bool, true, false, List, [], ◌∷◌, refl, sym, ap, ◌∙◌, subst}
 use Rattle.std.proofs.Common.{Option, Some, None, map, drop, if◌then◌else◌}
 use Rattle.std.specs.Prelude.{IsTrue, slice_get, unwrap_or}
@@ -28,8 +28,8 @@ use Rattle.std.specs.List.{flat_map}
 use Rattle.std.specs.Prelude.{take}
 use Rattle.module_meaning.specs.Accepted.{is_accepted}
 use Rattle.module_meaning.specs.AgreeingOperators.{Group, operator_key}
-use Rattle.module_meaning.specs.AlikeTypes.{has_form}
-use Rattle.module_meaning.specs.ExpressionOperators.{applied_operator, constructor, matrix_load, points_to_atomic, sample_operator, query_operator}
+use Rattle.module_meaning.specs.AlikeTypes.{is_spelled}
+use Rattle.module_meaning.specs.ExpressionOperators.{applied_operator, constructor, matrix_load, is_atomic_pointer, sample_operator, query_operator}
 use Rattle.module_meaning.specs.ExpressionShapes.{part_selector, letter}
 use Rattle.module_meaning.specs.ExpressionTypes.{wanted_type, LikeThis, only}
 use Rattle.module_meaning.specs.OperatorTable.{Operator, AtomicLoad, CooperativeLoad, MatrixLoad, WithoutForm, ValueOf, Construct, Level, run_word, one_word, asks}
@@ -41,21 +41,21 @@ use Rattle.naga_form.proofs.AgreeingExpressions.{are, own_type, operands_are, ow
 use Rattle.naga_form.proofs.AgreeingUses.{IsApplied, value_at, results_agree}
 use Rattle.naga_form.proofs.OperatorKeys.{IsFormed, IsKeyed, Negated, Keyed, KeyIn, keyed, sound, spells, form_spelled}
 use Rattle.naga_form.proofs.SameValues.{IsFit, numbers_by_words}
-use Rattle.naga_form.proofs.Signatures.{IsCalled, by_operator, by_zero, by_constant, by_index, by_part, by_letters, IsOfExpression, around_group, declared_for}
+use Rattle.naga_form.proofs.Signatures.{IsCalled, by_operator, by_zero, by_constant, by_index, by_part, by_letters, IsOfExpression, group_context, declared_for}
 use Rattle.naga_form.proofs.TypedWords.{no_blank, share_a_word}
 
-module _ (m : Module) (info : ModuleInfo) (accepted : IsTrue (is_accepted m info)) (told : TypesAreTold m) where
+module _ (m : Module) (info : ModuleInfo) (accepted : IsTrue (is_accepted m info)) (distinguished : TypesAreDistinguished m) where
   -- how the runs call an expression: as a value of a type, from components or none; as an operator
   -- over operands; or as a part
   pub data Call (g : Group) (e : Expression) (w : Word) : Type 0 where
     Composed : (ty n : ℕ) (k : List ℕ) → ((f : Option Function) → wanted_type m f g.known e ≡ LikeThis (Handle ty)) →
-        applied_operator (around_group m info g) e ≡ Some (constructor (around_group m info g) (Handle ty) n) → operator_key m.types g.known e ≡ Some k →
-        (has_form m.types (Handle ty) ≡ true → IsFormed m (are m info accepted told) e) →
-        w ≡ Spelled (run_word (constructor (around_group m info g) (Handle ty) n)) → Call g e w
+        applied_operator (group_context m info g) e ≡ Some (constructor (group_context m info g) (Handle ty) n) → operator_key m.types g.known e ≡ Some k →
+        (is_spelled m.types (Handle ty) ≡ true → IsFormed m (are m info accepted distinguished) e) →
+        w ≡ Spelled (run_word (constructor (group_context m info g) (Handle ty) n)) → Call g e w
     Zeroed : (ty : ℕ) → ((f : Option Function) → wanted_type m f g.known e ≡ LikeThis (Handle ty)) → expression_operands e ≡ [] →
-        w ≡ Spelled (run_word (constructor (around_group m info g) (Handle ty) 0)) → Call g e w
-    Applied : (o : Operator) (k : List ℕ) → applied_operator (around_group m info g) e ≡ Some o → operator_key m.types g.known e ≡ Some k →
-        IsFormed m (are m info accepted told) e → (h : ℕ) (hs : List ℕ) → expression_operands e ≡ h ∷ hs → w ≡ Spelled (run_word o) → Call g e w
+        w ≡ Spelled (run_word (constructor (group_context m info g) (Handle ty) 0)) → Call g e w
+    Applied : (o : Operator) (k : List ℕ) → applied_operator (group_context m info g) e ≡ Some o → operator_key m.types g.known e ≡ Some k →
+        IsFormed m (are m info accepted distinguished) e → (h : ℕ) (hs : List ℕ) → expression_operands e ≡ h ∷ hs → w ≡ Spelled (run_word o) → Call g e w
     Indexed : (base index : ℕ) → e ≡ expression.Access base index → w ≡ IndexWord → Call g e w
     Selected : (base index : ℕ) (s : Selector) → e ≡ expression.AccessIndex base index → part_selector (declared_for m info g) base index ≡ Some s → w ≡ PartWord s → Call g e w
     Lettered : (size : VectorSize) (vector : ℕ) (pattern : List SwizzleComponent) → e ≡ expression.Swizzle size vector pattern →
@@ -65,7 +65,9 @@ module _ (m : Module) (info : ModuleInfo) (accepted : IsTrue (is_accepted m info
   asking : (o p : Operator) → Some p ≡ Some o → asks p ≡ true → asks o ≡ false → ⊥
   asking o p e is not_so = true≢false (sym is ∙ (ap asks (same_Some p o e) ∙ not_so))
 
-  samples_ask : (of_depths : Bool) (gather : Option SwizzleComponent) (level : Level) (compares clamped arrayed offset : Bool) → asks (sample_operator of_depths gather level compares clamped arrayed offset) ≡ true
+  samples_ask : (of_depths : Bool) (gather : Option SwizzleComponent) (level : Level)
+      (compares clamped arrayed offset : Bool) →
+      asks (sample_operator of_depths gather level compares clamped arrayed offset) ≡ true
   samples_ask of_depths None level compares clamped arrayed offset = refl
   samples_ask of_depths (Some component) level compares clamped arrayed offset = refl
 
@@ -75,11 +77,14 @@ module _ (m : Module) (info : ModuleInfo) (accepted : IsTrue (is_accepted m info
   queries_ask query.NumLayers = refl
   queries_ask query.NumSamples = refl
 
-  loads_ask : (columns rows : CooperativeSize) (role : CooperativeRole) (row_major : Bool) (o : Option (List ℕ)) → asks (option_map_or (CooperativeLoad row_major) o (WithoutForm (MatrixLoad columns rows role row_major))) ≡ true
+  loads_ask : (columns rows : CooperativeSize) (role : CooperativeRole) (row_major : Bool)
+      (o : Option (List ℕ)) →
+      asks (option_map_or (CooperativeLoad row_major) o
+      (WithoutForm (MatrixLoad columns rows role row_major))) ≡ true
   loads_ask columns rows role row_major None = refl
   loads_ask columns rows role row_major (Some w) = refl
 
-  applied : (g : Group) (e : Expression) (o : Operator) → applied_operator (around_group m info g) e ≡ Some o → asks o ≡ false → Call g e (Spelled (run_word o))
+  applied : (g : Group) (e : Expression) (o : Operator) → applied_operator (group_context m info g) e ≡ Some o → asks o ≡ false → Call g e (Spelled (run_word o))
   applied g (expression.Compose ty parts) o a silent = Composed ty _ _ (λ f. refl) refl refl (λ has. has) (ap (λ o. Spelled (run_word o)) (sym (same_Some _ o a)))
   applied g (expression.As operand kind convert) o a silent = Applied o _ a refl tt operand [] refl refl
   applied g (expression.Splat size value) o a silent = Applied o _ a refl tt value [] refl refl
@@ -93,7 +98,7 @@ module _ (m : Module) (info : ModuleInfo) (accepted : IsTrue (is_accepted m info
   applied g (expression.CooperativeMultiplyAdd p q r) o a silent = Applied o _ a refl tt p (q ∷ r ∷ []) refl refl
   applied g (expression.RayQueryGetIntersection query committed) o a silent = Applied o _ a refl tt query [] refl refl
   applied g (expression.RayQueryVertexPositions query committed) o a silent = Applied o _ a refl tt query [] refl refl
-  applied g (expression.Load pointer) o a silent = by (points_to_atomic (around_group m info g) pointer) a
+  applied g (expression.Load pointer) o a silent = by (is_atomic_pointer (group_context m info g) pointer) a
     where
       by : (b : Bool) → (if b then Some AtomicLoad else None) ≡ Some o → Call g (expression.Load pointer) (Spelled (run_word o))
       by true a = absurd (asking o AtomicLoad a refl silent)
@@ -104,15 +109,15 @@ module _ (m : Module) (info : ModuleInfo) (accepted : IsTrue (is_accepted m info
   applied g (expression.ImageQuery image q) o a silent = absurd (asking o (query_operator q) a (queries_ask q) silent)
   applied g (expression.Derivative axis control operand) o a silent = absurd (asking o _ a refl silent)
   applied g (expression.CooperativeLoad columns rows role place) o a silent =
-      absurd (asking o (matrix_load (around_group m info g) columns rows role place) a (loads_ask columns rows role place.row_major _) silent)
+      absurd (asking o (matrix_load (group_context m info g) columns rows role place) a (loads_ask columns rows role place.row_major _) silent)
   applied g _ o a silent = absurd cc
 
-  zeroed : (g : Group) (e : Expression) (ty : ℕ) → e ≡ expression.ZeroValue ty → Call g e (Spelled (run_word (constructor (around_group m info g) (Handle ty) 0)))
+  zeroed : (g : Group) (e : Expression) (ty : ℕ) → e ≡ expression.ZeroValue ty → Call g e (Spelled (run_word (constructor (group_context m info g) (Handle ty) 0)))
   zeroed g e ty is = Zeroed ty (λ f. ap (wanted_type m f g.known) is) (ap expression_operands is) refl
 
   -- a constant that counts as the zero value of its type
   constant_zeroed : (g : Group) (e : Expression) (c : ℕ) (k : Constant) → e ≡ expression.Constant c → slice_get m.constants c ≡ Some k →
-      Call g e (Spelled (run_word (constructor (around_group m info g) (Handle k.ty) 0)))
+      Call g e (Spelled (run_word (constructor (group_context m info g) (Handle k.ty) 0)))
   constant_zeroed g e c k is there =
       Zeroed k.ty (λ f. ap (wanted_type m f g.known) is ∙ ap (λ o. only (option_map (λ c. Handle c.ty) o)) there) (ap expression_operands is) refl
 
@@ -129,74 +134,95 @@ module _ (m : Module) (info : ModuleInfo) (accepted : IsTrue (is_accepted m info
   value_word o r n = run_word (option_map_or (λ spelling. Construct spelling n) o (WithoutForm (ValueOf (identity_code (identity m.types r)) n)))
 
   -- the word of a type's value tells the type's word
-  one_type : (r s : TypeResolution) (n k : ℕ) → IsFit m r → IsFit m s → value_word (spelled_resolution (type_names m) r) r n ≡ value_word (spelled_resolution (type_names m) s) s k → word_of_values m r ≡ word_of_values m s
+  one_type : (r s : TypeResolution) (n k : ℕ) → IsFit m r → IsFit m s →
+      value_word (spelled_resolution (type_names m) r) r n ≡ value_word
+      (spelled_resolution (type_names m) s) s k → word_of_values m r ≡ word_of_values m s
   one_type r s n k p q e = by (spelled_resolution (type_names m) r) refl (spelled_resolution (type_names m) s) refl e
     where
       by : (x : Option (List ℕ)) → spelled_resolution (type_names m) r ≡ x → (y : Option (List ℕ)) → spelled_resolution (type_names m) s ≡ y → value_word x r n ≡ value_word y s k →
           unwrap_or x (word_of_unspelled_type (identity m.types r)) ≡ unwrap_or y (word_of_unspelled_type (identity m.types s))
       by (Some v) at (Some w) bt e = e
-      by (Some v) at None bt e = absurd (no_blank v _ (spells m (are m info accepted told) r p v at) e)
-      by None at (Some w) bt e = absurd (no_blank w _ (spells m (are m info accepted told) s q w bt) (sym e))
+      by (Some v) at None bt e = absurd (no_blank v _ (spells m (are m info accepted distinguished) r p v at) e)
+      by None at (Some w) bt e = absurd (no_blank w _ (spells m (are m info accepted distinguished) s q w bt) (sym e))
       by None at None bt e = ap (λ c. 32 ∷ drop 2 c) e
 
   -- an operator over operands is not a value of a type without a form
-  not_formless : (o : Operator) (count : ℕ) (k numbers : List ℕ) (n : ℕ) → IsKeyed m (are m info accepted told) o count k → run_word o ≡ run_word (WithoutForm (ValueOf numbers n)) → ⊥
-  not_formless o count k numbers n keyed e = by keyed (share_a_word o (WithoutForm (ValueOf numbers n)) (sound m (are m info accepted told) o count k keyed) tt e)
+  not_formless : (o : Operator) (count : ℕ) (k numbers : List ℕ) (n : ℕ) → IsKeyed m (are m info accepted distinguished) o count k → run_word o ≡ run_word (WithoutForm (ValueOf numbers n)) → ⊥
+  not_formless o count k numbers n keyed e = by keyed (share_a_word o (WithoutForm (ValueOf numbers n)) (sound m (are m info accepted distinguished) o count k keyed) tt e)
     where
-      by : IsKeyed m (are m info accepted told) o count k → one_word o ≡ WithoutForm (ValueOf numbers 1) → ⊥
+      by : IsKeyed m (are m info accepted distinguished) o count k → one_word o ≡ WithoutForm (ValueOf numbers 1) → ⊥
       by (Negated sign one key) is = absurd cc
-      by (Keyed key) is = subst (λ p. KeyIn m (are m info accepted told) p count k) is key
+      by (Keyed key) is = subst (λ p. KeyIn m (are m info accepted distinguished) p count k) is key
 
   -- ---- two of one word
   module _ {x y : Signature} (a : IsOfExpression m info x) (b : IsOfExpression m info y) where
     -- values of types with one word
-    pub both_values : (r s : TypeResolution) (n k : ℕ) → IsFit m r → IsFit m s → wanted_type m a.function a.group.known a.expression ≡ LikeThis r → wanted_type m b.function b.group.known b.expression ≡ LikeThis s →
+    pub both_values : (r s : TypeResolution) (n k : ℕ) → IsFit m r → IsFit m s →
+        wanted_type m a.function a.group.known a.expression ≡ LikeThis r →
+        wanted_type m b.function b.group.known b.expression ≡ LikeThis s →
         value_word (spelled_resolution (type_names m) r) r n ≡ value_word (spelled_resolution (type_names m) s) s k → x.result ≡ y.result
     both_values r s n k p q wanted other e =
-        by_identity m info accepted told a b
-        (own_is m info accepted told a r wanted ∙ (numbers_by_words m (are m info accepted told) r s p q (one_type r s n k p q e) ∙ sym (own_is m info accepted told b s other)))
+        by_identity m info accepted distinguished a b
+        (own_is m info accepted distinguished a r wanted
+        ∙ (numbers_by_words m (are m info accepted distinguished) r s p q
+        (one_type r s n k p q e) ∙ sym (own_is m info accepted distinguished b s other)))
 
     module _ (operands : x.operands ≡ y.operands) where
-      abbrev applies : {z : Signature} (c : IsOfExpression m info z) (k : List ℕ) (at : operator_key m.types c.group.known c.expression ≡ Some k) (o : Operator) → applied_operator (around_group m info c.group) c.expression ≡ Some o → IsFormed m (are m info accepted told) c.expression →
-          IsApplied m info (are m info accepted told) (use_of m info accepted told c k at)
+      abbrev applies : {z : Signature} (c : IsOfExpression m info z) (k : List ℕ)
+          (at : operator_key m.types c.group.known c.expression ≡ Some k) (o : Operator) →
+          applied_operator (group_context m info c.group) c.expression ≡ Some o →
+          IsFormed m (are m info accepted distinguished) c.expression →
+          IsApplied m info (are m info accepted distinguished)
+          (use_of m info accepted distinguished c k at)
       applies c k at o applied formed = record {
         operator = o;
         applied = applied;
         formed = formed;
         fits = c.sound.fits;
-        operands = operands_are m info accepted told c;
-        own = (own_type m info accepted told c).0;
-        own_there = (own_type m info accepted told c).1;
+        operands = operands_are m info accepted distinguished c;
+        own = (own_type m info accepted distinguished c).0;
+        own_there = (own_type m info accepted distinguished c).1;
       }
 
       -- operators of one word
-      pub both_applied : (o p : Operator) (k l : List ℕ) → applied_operator (around_group m info a.group) a.expression ≡ Some o → operator_key m.types a.group.known a.expression ≡ Some k → IsFormed m (are m info accepted told) a.expression →
-          applied_operator (around_group m info b.group) b.expression ≡ Some p → operator_key m.types b.group.known b.expression ≡ Some l → IsFormed m (are m info accepted told) b.expression →
+      pub both_applied : (o p : Operator) (k l : List ℕ) →
+          applied_operator (group_context m info a.group) a.expression ≡ Some o →
+          operator_key m.types a.group.known a.expression ≡ Some k →
+          IsFormed m (are m info accepted distinguished) a.expression →
+          applied_operator (group_context m info b.group) b.expression ≡ Some p →
+          operator_key m.types b.group.known b.expression ≡ Some l →
+          IsFormed m (are m info accepted distinguished) b.expression →
           run_word o ≡ run_word p → x.result ≡ y.result
       both_applied o p k l ao ak af bo bk bf e =
           a.result
-          ∙ (results_agree m info (are m info accepted told) (agree m info accepted)
-          (use_of m info accepted told a k ak) (use_of m info accepted told b l bk) (applies a k ak o ao af) (applies b l bk p bo bf) e
-          (same_values m info accepted told a b operands) ∙ sym b.result)
+          ∙ (results_agree m info (are m info accepted distinguished) (agree m info accepted)
+          (use_of m info accepted distinguished a k ak) (use_of m info accepted distinguished b l bk) (applies a k ak o ao af) (applies b l bk p bo bf) e
+          (same_values m info accepted distinguished a b operands) ∙ sym b.result)
 
       -- a composition and an operator
-      pub composed_applied : (ty n : ℕ) (k : List ℕ) → applied_operator (around_group m info a.group) a.expression ≡ Some (constructor (around_group m info a.group) (Handle ty) n) → operator_key m.types a.group.known a.expression ≡ Some k →
-          (has_form m.types (Handle ty) ≡ true → IsFormed m (are m info accepted told) a.expression) →
-          (p : Operator) (l : List ℕ) → applied_operator (around_group m info b.group) b.expression ≡ Some p → operator_key m.types b.group.known b.expression ≡ Some l → IsFormed m (are m info accepted told) b.expression →
-          run_word (constructor (around_group m info a.group) (Handle ty) n) ≡ run_word p → x.result ≡ y.result
+      pub composed_applied : (ty n : ℕ) (k : List ℕ) →
+          applied_operator (group_context m info a.group) a.expression ≡
+          Some (constructor (group_context m info a.group) (Handle ty) n) →
+          operator_key m.types a.group.known a.expression ≡ Some k →
+          (is_spelled m.types (Handle ty) ≡ true → IsFormed m (are m info accepted distinguished) a.expression) →
+          (p : Operator) (l : List ℕ) →
+          applied_operator (group_context m info b.group) b.expression ≡ Some p →
+          operator_key m.types b.group.known b.expression ≡ Some l →
+          IsFormed m (are m info accepted distinguished) b.expression →
+          run_word (constructor (group_context m info a.group) (Handle ty) n) ≡ run_word p → x.result ≡ y.result
       composed_applied ty n k ao ak formed p l bo bk bf e = by (spelled_resolution (type_names m) (Handle ty)) refl
         where
           by : (o : Option (List ℕ)) → spelled_resolution (type_names m) (Handle ty) ≡ o → x.result ≡ y.result
-          by (Some w) at = both_applied _ p k l ao ak (formed (sym (form_spelled m (are m info accepted told) (Handle ty)) ∙ ap is_some at)) bo bk bf e
+          by (Some w) at = both_applied _ p k l ao ak (formed (sym (form_spelled m (are m info accepted distinguished) (Handle ty)) ∙ ap is_some at)) bo bk bf e
           by None at =
               absurd (not_formless p _ l (identity_code (identity m.types (Handle ty))) n
-              (keyed m (are m info accepted told) b.group.known b.expression l p bk bo bf)
+              (keyed m (are m info accepted distinguished) b.group.known b.expression l p bk bo bf)
               (sym e ∙ ap (λ o. value_word o (Handle ty) n) at))
 
       -- an operator has operands
       pub zeroed_applied : expression_operands a.expression ≡ [] → (h : ℕ) (hs : List ℕ) → expression_operands b.expression ≡ h ∷ hs → ⊥
       zeroed_applied none h hs some =
-          let values = same_values m info accepted told a b operands in
+          let values = same_values m info accepted distinguished a b operands in
           let empty : [] ≡ value_at m info b.group.known h ∷ map (value_at m info b.group.known) hs =
           ap (map (value_at m info a.group.known)) (sym none) ∙ (values ∙ ap (map (value_at m info b.group.known)) some) in
           absurd cc

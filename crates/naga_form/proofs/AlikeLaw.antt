@@ -13,8 +13,8 @@ use Rattle.naga_info.specs.Resolution.{inner_of}
 use Rattle.naga_ir.specs.declared.types.Type_.{Type_}
 use Rattle.naga_ir.specs.declared.types.TypeInner.{TypeInner}
 use Rattle.naga_words.specs.Spelling.{is_struct}
-use Rattle.module_meaning.specs.AlikeTypes.{are_alike, type_form, type_identity, handle_form}
-use Rattle.module_meaning.specs.AlikeTypes.{found_form_by, form_within, inner_form_by}
+use Rattle.module_meaning.specs.AlikeTypes.{are_alike, type_key, type_identity, handle_key}
+use Rattle.module_meaning.specs.AlikeTypes.{found_key_by, key_within, inner_key_by}
 use Rattle.module_meaning.specs.InfoSizes.{type_is_fit, resolution_is_fit, is_handle_pointer}
 use Rattle.module_meaning.specs.TypeIdentity.{level}
 use Rattle.module_meaning.specs.TypeIdentity.{Identity, Nothing, StructAt, Itself, identity}
@@ -23,7 +23,7 @@ use Rattle.module_meaning.proofs.Lists.{list_all_at}
 use Rattle.module_meaning.proofs.TypeIdentity.{word_tells}
 use Rattle.naga_form.specs.Readable.{AreAlike, SpelledAlike, Formless, handle_names}
 use Rattle.naga_form.proofs.AlikeTypes.{form_read, form_is_read, other_read}
-use Rattle.naga_form.proofs.AlikeNumbers.{tree_numbers, own_handle, handles_are_told, resolution_is_told, form_is_told, no_numbers, is_no}
+use Rattle.naga_form.proofs.AlikeNumbers.{tree_numbers, own_handle, handles_are_distinguished, resolution_is_distinguished, form_is_distinguished, no_numbers, is_no}
 
 -- a type without a form is told by what it is
 abbrev pub by_itself : Option TypeInner → Identity
@@ -39,64 +39,89 @@ itself_back None = refl
 itself_back (Some it) = refl
 
 module _ (types : List Type_) where
-  pub told_by_itself : (r : TypeResolution) → resolution_is_fit r ≡ true → type_form types r ≡ None → identity types r ≡ by_itself (inner_of r types)
-  unfolding handle_form
-  told_by_itself (Handle h) fit formless = found (slice_get types h) formless
+  pub distinguished_by_itself : (r : TypeResolution) → resolution_is_fit r ≡ true → type_key types r ≡ None → identity types r ≡ by_itself (inner_of r types)
+  unfolding handle_key
+  distinguished_by_itself (Handle h) fit formless = found (slice_get types h) formless
     where
       named : (it : TypeInner) (b : Bool) (form : Option (List ℕ)) → (if b then Some (level 8 h 0 0 0 0) else form) ≡ None → (if b then StructAt h else Itself it) ≡ Itself it
       named it true form e = absurd (cc)
       named it false form e = refl
 
-      found : (o : Option Type_) → found_form_by (form_within h types) h o ≡ None → identity_at h (option_map (λ t. t.inner) o) ≡ by_itself (option_map (λ t. t.inner) o)
+      found : (o : Option Type_) → found_key_by (key_within h types) h o ≡ None → identity_at h (option_map (λ t. t.inner) o) ≡ by_itself (option_map (λ t. t.inner) o)
       found None e = refl
-      found (Some t) e = named t.inner (is_struct t.inner) (inner_form_by (form_within h types) t.inner) e
-  told_by_itself (Value it) fit formless =
+      found (Some t) e = named t.inner (is_struct t.inner) (inner_key_by (key_within h types) t.inner) e
+  distinguished_by_itself (Value it) fit formless =
       let parts = and_parts _ _ fit in
       ap (λ b. if b then Nothing else Itself it) (is_no (is_struct it) parts.0)
 
   module _ (named : (h : ℕ) (t : Type_) → slice_get types h ≡ Some t → is_handle_pointer t.inner ≡ false) where
     -- the numbers of a form are not those of a type without one
-    pub form_apart : (r : TypeResolution) → resolution_is_fit r ≡ true → (it code : List ℕ) → type_form types r ≡ Some it → it ≡ 32 ∷ code → ⊥
+    pub form_apart : (r : TypeResolution) → resolution_is_fit r ≡ true → (it code : List ℕ) → type_key types r ≡ Some it → it ≡ 32 ∷ code → ⊥
     form_apart r fit it code at e =
-        let told : Some it ≡ Some ((tree_numbers own_handle) (form_read (handle_names types) it)) =
-        sym at ∙ form_is_told own_handle (handle_names types) (handles_are_told types) named r (resolution_is_told types r) fit ∙ ap (option_map (tree_numbers own_handle)) (form_is_read (handle_names types) r ∙ ap (option_map (form_read (handle_names types))) at)
+        let distinguished : Some it ≡
+        Some ((tree_numbers own_handle) (form_read (handle_names types) it)) =
+        sym at ∙ form_is_distinguished own_handle (handle_names types)
+        (handles_are_distinguished types) named r (resolution_is_distinguished types r) fit
+        ∙ ap (option_map (tree_numbers own_handle)) (form_is_read (handle_names types) r
+        ∙ ap (option_map (form_read (handle_names types))) at)
         in
         let nothing : it ≡ [] =
-        same_Some it ((tree_numbers own_handle) (form_read (handle_names types) it)) told ∙ (ap (λ w. (tree_numbers own_handle) (form_read (handle_names types) w)) e ∙ (ap (tree_numbers own_handle) (other_read (handle_names types) code) ∙ no_numbers own_handle))
+        same_Some it ((tree_numbers own_handle) (form_read (handle_names types) it)) distinguished
+        ∙ (ap (λ w. (tree_numbers own_handle) (form_read (handle_names types) w)) e
+        ∙ (ap (tree_numbers own_handle) (other_read (handle_names types) code)
+        ∙ no_numbers own_handle))
         in
         let other : 32 ∷ code ≡ [] = sym e ∙ nothing in
         absurd (cc)
 
     from_numbers : (a b : TypeResolution) → resolution_is_fit a ≡ true → resolution_is_fit b ≡ true → type_identity types a ≡ type_identity types b → AreAlike types a b
-    from_numbers a b p q e = by (type_form types a) refl (type_form types b) refl e
+    from_numbers a b p q e = by (type_key types a) refl (type_key types b) refl e
       where
-        by : (x : Option (List ℕ)) → type_form types a ≡ x → (y : Option (List ℕ)) → type_form types b ≡ y → unwrap_or x (word_of_unspelled_type (identity types a)) ≡ unwrap_or y (word_of_unspelled_type (identity types b)) → AreAlike types a b
+        by : (x : Option (List ℕ)) → type_key types a ≡ x → (y : Option (List ℕ)) →
+            type_key types b ≡ y → unwrap_or x (word_of_unspelled_type (identity types a)) ≡
+            unwrap_or y (word_of_unspelled_type (identity types b)) → AreAlike types a b
         by (Some x) at (Some y) bt e =
             SpelledAlike (form_read (handle_names types) x) (form_is_read (handle_names types) a ∙ ap (option_map (form_read (handle_names types))) at)
             (form_is_read (handle_names types) b ∙ ap (option_map (form_read (handle_names types))) (bt ∙ ap Some (sym e)))
         by (Some x) at None bt e = absurd (form_apart a p x (identity_code (identity types b)) at e)
         by None at (Some y) bt e = absurd (form_apart b q y (identity_code (identity types a)) bt (sym e))
         by None at None bt e =
-            let same = sym (told_by_itself a p at) ∙ (word_tells types a b e ∙ told_by_itself b q bt) in
-            Formless (form_is_read (handle_names types) a ∙ ap (option_map (form_read (handle_names types))) at) (form_is_read (handle_names types) b ∙ ap (option_map (form_read (handle_names types))) bt)
+            let same = sym (distinguished_by_itself a p at) ∙ (word_tells types a b e ∙ distinguished_by_itself b q bt) in
+            Formless (form_is_read (handle_names types) a
+            ∙ ap (option_map (form_read (handle_names types))) at)
+            (form_is_read (handle_names types) b
+            ∙ ap (option_map (form_read (handle_names types))) bt)
             (sym (itself_back (inner_of a types)) ∙ (ap itself same ∙ itself_back (inner_of b types)))
 
     to_numbers : (a b : TypeResolution) → resolution_is_fit a ≡ true → resolution_is_fit b ≡ true → AreAlike types a b → type_identity types a ≡ type_identity types b
     to_numbers a b p q (SpelledAlike t x y) =
-        let of_a = form_is_told own_handle (handle_names types) (handles_are_told types) named a (resolution_is_told types a) p ∙ ap (option_map (tree_numbers own_handle)) x in
-        let of_b = form_is_told own_handle (handle_names types) (handles_are_told types) named b (resolution_is_told types b) q ∙ ap (option_map (tree_numbers own_handle)) y in
+        let of_a = form_is_distinguished own_handle (handle_names types)
+        (handles_are_distinguished types) named a (resolution_is_distinguished types a) p
+        ∙ ap (option_map (tree_numbers own_handle)) x in
+        let of_b = form_is_distinguished own_handle (handle_names types)
+        (handles_are_distinguished types) named b (resolution_is_distinguished types b) q
+        ∙ ap (option_map (tree_numbers own_handle)) y in
         ap (λ o. unwrap_or o (word_of_unspelled_type (identity types a))) of_a ∙ sym (ap (λ o. unwrap_or o (word_of_unspelled_type (identity types b))) of_b)
     to_numbers a b p q (Formless x y same) =
-        let of_a = form_is_told own_handle (handle_names types) (handles_are_told types) named a (resolution_is_told types a) p ∙ ap (option_map (tree_numbers own_handle)) x in
-        let of_b = form_is_told own_handle (handle_names types) (handles_are_told types) named b (resolution_is_told types b) q ∙ ap (option_map (tree_numbers own_handle)) y in
-        let told = told_by_itself a p of_a ∙ (ap by_itself same ∙ sym (told_by_itself b q of_b)) in
-        ap (λ o. unwrap_or o (word_of_unspelled_type (identity types a))) of_a ∙ (ap word_of_unspelled_type told ∙ sym (ap (λ o. unwrap_or o (word_of_unspelled_type (identity types b))) of_b))
+        let of_a = form_is_distinguished own_handle (handle_names types)
+        (handles_are_distinguished types) named a (resolution_is_distinguished types a) p
+        ∙ ap (option_map (tree_numbers own_handle)) x in
+        let of_b = form_is_distinguished own_handle (handle_names types)
+        (handles_are_distinguished types) named b (resolution_is_distinguished types b) q
+        ∙ ap (option_map (tree_numbers own_handle)) y in
+        let distinguished = distinguished_by_itself a p of_a
+        ∙ (ap by_itself same ∙ sym (distinguished_by_itself b q of_b)) in
+        ap (λ o. unwrap_or o (word_of_unspelled_type (identity types a))) of_a
+        ∙ (ap word_of_unspelled_type distinguished
+        ∙ sym (ap (λ o. unwrap_or o (word_of_unspelled_type (identity types b))) of_b))
 
 -- each type of a module that has only such types
 pub each_named : (types : List Type_) → list_all type_is_fit types ≡ true → (h : ℕ) (t : Type_) → slice_get types h ≡ Some t → is_handle_pointer t.inner ≡ false
 each_named types fits h t at = is_no (is_handle_pointer t.inner) (list_all_at type_is_fit types h t fits at)
 
-pub alike_by_numbers : (types : List Type_) (a b : TypeResolution) → list_all type_is_fit types ≡ true → resolution_is_fit a ≡ true → resolution_is_fit b ≡ true → (are_alike types a b ≡ true) ↔ AreAlike types a b
+pub alike_by_numbers : (types : List Type_) (a b : TypeResolution) →
+    list_all type_is_fit types ≡ true → resolution_is_fit a ≡ true → resolution_is_fit b ≡ true →
+    (are_alike types a b ≡ true) ↔ AreAlike types a b
 alike_by_numbers types a b fits p q =
     let named = each_named types fits in
     let decides = bytes_eq-Decides (type_identity types a) (type_identity types b) in

@@ -35,8 +35,9 @@ use Rattle.naga_ir.specs.declared.types.VectorSize.{VectorSize}
 use Rattle.naga_ir.specs.declared.types.VectorSize.TheVariants.{Bi, Tri, Quad}
 use Rattle.naga_info.specs.declared.info.TypeResolution.{TypeResolution}
 use Rattle.naga_info.specs.declared.info.TypeResolution.TheVariants.{Handle, Value}
-use Rattle.wgsl_text.specs.Types.{TypeSpecifier, TypeParts, Named, Template, NoParts, TypePart}
-use Rattle.wgsl_text.specs.Types.{SizePart, of_one, of_two, pointer_tree}
+use Rattle.wgsl_text.specs.Types.{TypeSpecifier, TemplateArguments, Named, Template}
+use Rattle.wgsl_text.specs.Types.{NoTemplateArguments, TypeArgument}
+use Rattle.wgsl_text.specs.Types.{SizeArgument, of_one, of_two, pointer_tree}
 use Rattle.wgsl_words.specs.Words.{scalar_word, scalar_word_of, space_word, space_access_word}
 use Rattle.wgsl_words.specs.Words.{image_access_word, format_word, role_word, has, atomic_bit}
 use Rattle.wgsl_words.specs.Words.{store_bit, load_bit}
@@ -48,10 +49,10 @@ use Rattle.module_meaning.specs.TypeIdentity.{level}
 use Rattle.module_meaning.specs.TypeIdentity.{kind_number, vector_number, cooperative_number}
 use Rattle.module_meaning.specs.TypeIdentity.{role_number, dimension_number, truth_number}
 use Rattle.module_meaning.proofs.TypeIdentity.{formats}
-use Rattle.module_meaning.specs.AlikeTypes.{value_form, scalar_form, pointer_form}
-use Rattle.module_meaning.specs.AlikeTypes.{value_pointer_form, array_form, image_form}
-use Rattle.module_meaning.specs.AlikeTypes.{inner_form_by, found_form_by, form_within, handle_form}
-use Rattle.module_meaning.specs.AlikeTypes.{type_form}
+use Rattle.module_meaning.specs.AlikeTypes.{value_key, scalar_key, pointer_key}
+use Rattle.module_meaning.specs.AlikeTypes.{value_pointer_key, array_key, image_key}
+use Rattle.module_meaning.specs.AlikeTypes.{inner_key_by, found_key_by, key_within, handle_key}
+use Rattle.module_meaning.specs.AlikeTypes.{type_key}
 use Rattle.naga_form.specs.TypeTrees.{scalar_tree, value_tree, pointer_tree_in, array_tree}
 use Rattle.naga_form.specs.TypeTrees.{value_pointer_tree_in, image_tree, ray_tree, inner_tree_by}
 use Rattle.naga_form.specs.TypeTrees.{found_tree_by, tree_within, type_tree, resolution_tree}
@@ -121,12 +122,13 @@ word_rows =
     depth_row true Cube true ∷
     map format_row formats
 
--- the numbers of a word. What has no row is a struct's or an override's, of which `told` tells the
--- handle
-pub word_numbers : (told : List ℕ → ℕ) → List ℕ → List ℕ
-word_numbers told [] = []
-word_numbers told (h ∷ []) = level 8 (told (h ∷ [])) 0 0 0 0
-word_numbers told (x ∷ y ∷ w) = first_row (level 8 (told (x ∷ y ∷ w)) 0 0 0 0) word_rows (x ∷ y ∷ w)
+-- the numbers of a word. What has no row is a struct's or an override's, of which `distinguished`
+-- tells the handle
+pub word_numbers : (distinguished : List ℕ → ℕ) → List ℕ → List ℕ
+word_numbers distinguished [] = []
+word_numbers distinguished (h ∷ []) = level 8 (distinguished (h ∷ [])) 0 0 0 0
+word_numbers distinguished (x ∷ y ∷ w) =
+    first_row (level 8 (distinguished (x ∷ y ∷ w)) 0 0 0 0) word_rows (x ∷ y ∷ w)
 
 -- a word that has no row
 no_row : {X : Type 0} (is : List ℕ → Bool) (other : X) (rows : List (List ℕ × X)) (w : List ℕ) → list_all (λ row. is row.0) rows ≡ true → is w ≡ false → first_row other rows w ≡ other
@@ -147,12 +149,12 @@ unfolding is_builtin is_reserved
 rows_are_taken = refl
 
 -- an identifier has no row
-pub named_numbers : (told : List ℕ → ℕ) (w : List ℕ) → IsIdentifier w → word_numbers told w ≡ level 8 (told w) 0 0 0 0
+pub named_numbers : (distinguished : List ℕ → ℕ) (w : List ℕ) → IsIdentifier w → word_numbers distinguished w ≡ level 8 (distinguished w) 0 0 0 0
 unfolding word_numbers
-named_numbers told [] is = absurd (true≢false (sym is.word.text))
-named_numbers told (h ∷ []) is = refl
-named_numbers told (x ∷ y ∷ w) is =
-    no_row is_taken (level 8 (told (x ∷ y ∷ w)) 0 0 0 0) word_rows (x ∷ y ∷ w) rows_are_taken (λ i. is.own i || is.word.free i)
+named_numbers distinguished [] is = absurd (true≢false (sym is.word.text))
+named_numbers distinguished (h ∷ []) is = refl
+named_numbers distinguished (x ∷ y ∷ w) is =
+    no_row is_taken (level 8 (distinguished (x ∷ y ∷ w)) 0 0 0 0) word_rows (x ∷ y ∷ w) rows_are_taken (λ i. is.own i || is.word.free i)
 
 -- ---- words with parts
 -- how the numbers of the parts make those of the whole
@@ -237,8 +239,8 @@ abbrev number_at : List (List ℕ) → (part place : ℕ) → ℕ
 number_at parts i j = get_or (get_or parts i []) j 0
 
 -- the letter of a role, which stands in the second part
-abbrev letter_in : TypeParts → ℕ
-letter_in (TypePart t (TypePart (Named (c ∷ w)) more)) = c
+abbrev letter_in : TemplateArguments → ℕ
+letter_in (TypeArgument t (TypeArgument (Named (c ∷ w)) more)) = c
 letter_in _ = 0
 
 abbrev role_at : ℕ → ℕ
@@ -258,48 +260,54 @@ filled (ArrayOf tag) letter parts = level tag (length_tag (number_at parts 1 0))
 filled (WithReturn tag) letter parts = level tag 1 0 0 0 0
 
 abbrev mutual
-  pub tree_numbers : (told : List ℕ → ℕ) → TypeSpecifier → List ℕ
-  tree_numbers told (Named w) = word_numbers told w
-  tree_numbers told (Template w parts) = filled (filling_of w) (letter_in parts) (parts_numbers told parts)
+  pub tree_numbers : (distinguished : List ℕ → ℕ) → TypeSpecifier → List ℕ
+  tree_numbers distinguished (Named w) = word_numbers distinguished w
+  tree_numbers distinguished (Template w parts) = filled (filling_of w) (letter_in parts) (parts_numbers distinguished parts)
 
-  parts_numbers : (told : List ℕ → ℕ) → TypeParts → List (List ℕ)
-  parts_numbers told NoParts = []
-  parts_numbers told (TypePart t more) = tree_numbers told t ∷ parts_numbers told more
-  parts_numbers told (SizePart n more) = level 30 n 0 0 0 0 ∷ parts_numbers told more
+  parts_numbers : (distinguished : List ℕ → ℕ) → TemplateArguments → List (List ℕ)
+  parts_numbers distinguished NoTemplateArguments = []
+  parts_numbers distinguished (TypeArgument t more) =
+      tree_numbers distinguished t ∷ parts_numbers distinguished more
+  parts_numbers distinguished (SizeArgument n more) =
+      level 30 n 0 0 0 0 ∷ parts_numbers distinguished more
 
-pub no_numbers : (told : List ℕ → ℕ) → tree_numbers told (Named []) ≡ []
+pub no_numbers : (distinguished : List ℕ → ℕ) → tree_numbers distinguished (Named []) ≡ []
 unfolding word_numbers
-no_numbers told = refl
+no_numbers distinguished = refl
 
 pub is_no : (b : Bool) → not b ≡ true → b ≡ false
 is_no true e = absurd (true≢false (sym e))
 is_no false e = refl
 
 -- a length that is an override is told by the override's name
-abbrev pub LengthIsTold : (told : List ℕ → ℕ) → Names → ArraySize → Type 0
-LengthIsTold told under (size.Pending o) = word_numbers told (under.override_name o) ≡ level 8 o 0 0 0 0
-LengthIsTold told under _ = Unit {0}
+abbrev pub LengthIsDistinguished : (distinguished : List ℕ → ℕ) → Names → ArraySize → Type 0
+LengthIsDistinguished distinguished under (size.Pending o) = word_numbers distinguished (under.override_name o) ≡ level 8 o 0 0 0 0
+LengthIsDistinguished distinguished under _ = Unit {0}
 
-abbrev pub InnerIsTold : (told : List ℕ → ℕ) → Names → TypeInner → Type 0
-InnerIsTold told under (inner.Array base n stride) = LengthIsTold told under n
-InnerIsTold told under (inner.BindingArray base n) = LengthIsTold told under n
-InnerIsTold told under _ = Unit {0}
+abbrev pub InnerIsDistinguished : (distinguished : List ℕ → ℕ) → Names → TypeInner → Type 0
+InnerIsDistinguished distinguished under (inner.Array base n stride) =
+    LengthIsDistinguished distinguished under n
+InnerIsDistinguished distinguished under (inner.BindingArray base n) =
+    LengthIsDistinguished distinguished under n
+InnerIsDistinguished distinguished under _ = Unit {0}
 
-abbrev pub ResolutionIsTold : (told : List ℕ → ℕ) → Names → TypeResolution → Type 0
-ResolutionIsTold told under (Handle h) = Unit {0}
-ResolutionIsTold told under (Value it) = InnerIsTold told under it
+abbrev pub ResolutionIsDistinguished : (distinguished : List ℕ → ℕ) → Names → TypeResolution →
+    Type 0
+ResolutionIsDistinguished distinguished under (Handle h) = Unit {0}
+ResolutionIsDistinguished distinguished under (Value it) =
+    InnerIsDistinguished distinguished under it
 
 -- the words of structs and of overrides tell their handles
-pub record AreTold (told : List ℕ → ℕ) (under : Names) : Type 0 where
-  pub structs : (h : ℕ) (t : Type_) → slice_get under.types h ≡ Some t → is_struct t.inner ≡ true → word_numbers told (under.struct_name h) ≡ level 8 h 0 0 0 0
-  pub lengths : (h : ℕ) (t : Type_) → slice_get under.types h ≡ Some t → InnerIsTold told under t.inner
+pub record AreDistinguished (distinguished : List ℕ → ℕ) (under : Names) : Type 0 where
+  pub structs : (h : ℕ) (t : Type_) → slice_get under.types h ≡ Some t → is_struct t.inner ≡ true → word_numbers distinguished (under.struct_name h) ≡ level 8 h 0 0 0 0
+  pub lengths : (h : ℕ) (t : Type_) → slice_get under.types h ≡ Some t → InnerIsDistinguished distinguished under t.inner
 
-abbrev length_part : Names → ℕ → TypeParts
-length_part under o = TypePart (Named (under.override_name o)) NoParts
+abbrev length_part : Names → ℕ → TemplateArguments
+length_part under o = TypeArgument (Named (under.override_name o)) NoTemplateArguments
 
-module _ (told : List ℕ → ℕ) where
+module _ (distinguished : List ℕ → ℕ) where
   -- ---- each word's row
-  format_numbers : (f : StorageFormat) → word_numbers told (format_word f) ≡ level 23 (tag_of format_names f) 0 0 0 0
+  format_numbers : (f : StorageFormat) → word_numbers distinguished (format_word f) ≡ level 23 (tag_of format_names f) 0 0 0 0
   unfolding word_numbers
   format_numbers format.R8Unorm = refl
   format_numbers _ = refl
@@ -328,7 +336,9 @@ module _ (told : List ℕ → ℕ) where
   cooperative_filling Sixteen Eight = refl
   cooperative_filling Sixteen Sixteen = refl
 
-  sampled_filling : (multi : Bool) (dim : ImageDimension) (arrayed : Bool) → filling_of (image_word (codes "texture_") multi dim arrayed) ≡ SampledImage (dimension_number dim) (truth_number arrayed) (truth_number multi)
+  sampled_filling : (multi : Bool) (dim : ImageDimension) (arrayed : Bool) →
+      filling_of (image_word (codes "texture_") multi dim arrayed) ≡ SampledImage
+      (dimension_number dim) (truth_number arrayed) (truth_number multi)
   unfolding filling_of
   sampled_filling false D1 false = refl
   sampled_filling false D1 true = refl
@@ -358,7 +368,9 @@ module _ (told : List ℕ → ℕ) where
   storage_filling Cube false = refl
   storage_filling Cube true = refl
 
-  depth_numbers : (multi : Bool) (dim : ImageDimension) (arrayed : Bool) → word_numbers told (image_word (codes "texture_depth_") multi dim arrayed) ≡ level 9 (dimension_number dim) (truth_number arrayed) 1 (truth_number multi) 0
+  depth_numbers : (multi : Bool) (dim : ImageDimension) (arrayed : Bool) →
+      word_numbers distinguished (image_word (codes "texture_depth_") multi dim arrayed) ≡ level 9
+      (dimension_number dim) (truth_number arrayed) 1 (truth_number multi) 0
   unfolding word_numbers
   depth_numbers false D1 false = refl
   depth_numbers false D1 true = refl
@@ -377,14 +389,17 @@ module _ (told : List ℕ → ℕ) where
   depth_numbers true Cube false = refl
   depth_numbers true Cube true = refl
 
-  abbrev role_parts : CooperativeRole → TypeParts
-  role_parts r = TypePart (Named []) (TypePart (Named (role_word r)) NoParts)
+  abbrev role_parts : CooperativeRole → TemplateArguments
+  role_parts r = TypeArgument (Named []) (TypeArgument (Named (role_word r)) NoTemplateArguments)
 
   role_numbers : (r : CooperativeRole) → role_at (letter_in (role_parts r)) ≡ role_number r
   role_numbers A = refl
   role_numbers _ = refl
 
-  image_access_numbers : (a l s : Bool) → get_or (word_numbers told (if a then codes "atomic" else (if l then (if s then codes "read_write" else codes "read") else codes "write"))) 1 0 ≡ (if a then 3 else (if l then (if s then 2 else 1) else 0))
+  image_access_numbers : (a l s : Bool) →
+      get_or (word_numbers distinguished
+      (if a then codes "atomic" else (if l then (if s then codes "read_write" else codes "read")
+      else codes "write"))) 1 0 ≡ (if a then 3 else (if l then (if s then 2 else 1) else 0))
   unfolding word_numbers
   image_access_numbers true l s = refl
   image_access_numbers false true true = refl
@@ -393,16 +408,18 @@ module _ (told : List ℕ → ℕ) where
 
   -- a scalar of that kind and width
   abbrev IsScalarNumbers : (kind width : ℕ) → List ℕ → Type 0
-  IsScalarNumbers k n w = word_numbers told w ≡ level 0 k n 0 0 0
+  IsScalarNumbers k n w = word_numbers distinguished w ≡ level 0 k n 0 0 0
 
-  scalar_choice : (k n m : ℕ) (u : List ℕ) (others : Option (List ℕ)) (w : List ℕ) → IsScalarNumbers k m u → (others ≡ Some w → IsScalarNumbers k n w) → (if n == m then Some u else others) ≡ Some w → IsScalarNumbers k n w
+  scalar_choice : (k n m : ℕ) (u : List ℕ) (others : Option (List ℕ)) (w : List ℕ) →
+      IsScalarNumbers k m u → (others ≡ Some w → IsScalarNumbers k n w) →
+      (if n == m then Some u else others) ≡ Some w → IsScalarNumbers k n w
   scalar_choice k n m u others w one more e = by (n == m) refl e
     where
       by : (b : Bool) → (n == m) ≡ b → (if b then Some u else others) ≡ Some w → IsScalarNumbers k n w
       by true at e =
           let width : n ≡ m = eqb-true n m at in
           let word : u ≡ w = same_Some u w e in
-          ap (word_numbers told) (sym word) ∙ one ∙ ap (λ x. level 0 k x 0 0 0) (sym width)
+          ap (word_numbers distinguished) (sym word) ∙ one ∙ ap (λ x. level 0 k x 0 0 0) (sym width)
       by false at e = more e
 
   scalar_numbers : (k : ScalarKind) (n : ℕ) (w : List ℕ) → scalar_word_of k n ≡ Some w → IsScalarNumbers (kind_number k) n w
@@ -415,41 +432,63 @@ module _ (told : List ℕ → ℕ) where
   scalar_numbers kind.AbstractFloat n w e = absurd (cc)
 
   -- ---- each type
-  over_is_told : (word : Option (List ℕ)) (over : TypeSpecifier → TypeSpecifier) (it : List ℕ) → ((w : List ℕ) → word ≡ Some w → tree_numbers told (over (Named w)) ≡ it) → (if is_some word then Some it else None) ≡ option_map (tree_numbers told) (option_map over (option_map Named word))
-  over_is_told None over it e = refl
-  over_is_told (Some w) over it e = ap Some (sym (e w refl))
+  over_is_distinguished : (word : Option (List ℕ)) (over : TypeSpecifier → TypeSpecifier)
+      (it : List ℕ) →
+      ((w : List ℕ) → word ≡ Some w → tree_numbers distinguished (over (Named w)) ≡ it) →
+      (if is_some word then Some it else None) ≡ option_map (tree_numbers distinguished)
+      (option_map over (option_map Named word))
+  over_is_distinguished None over it e = refl
+  over_is_distinguished (Some w) over it e = ap Some (sym (e w refl))
 
-  scalar_is_told : (s : Scalar) → scalar_form s ≡ option_map (tree_numbers told) (scalar_tree s)
-  scalar_is_told s = by (scalar_word s) (scalar_numbers s.kind s.width)
+  scalar_is_distinguished : (s : Scalar) → scalar_key s ≡ option_map (tree_numbers distinguished)
+      (scalar_tree s)
+  scalar_is_distinguished s = by (scalar_word s) (scalar_numbers s.kind s.width)
     where
-      by : (word : Option (List ℕ)) → ((w : List ℕ) → word ≡ Some w → IsScalarNumbers (kind_number s.kind) s.width w) → (if is_some word then Some (level 0 (kind_number s.kind) s.width 0 0 0) else None) ≡ option_map (tree_numbers told) (option_map Named word)
+      by : (word : Option (List ℕ)) →
+          ((w : List ℕ) → word ≡ Some w → IsScalarNumbers (kind_number s.kind) s.width w) →
+          (if is_some word then Some (level 0 (kind_number s.kind) s.width 0 0 0) else None) ≡
+          option_map (tree_numbers distinguished) (option_map Named word)
       by None e = refl
       by (Some w) e = ap Some (sym (e w refl))
 
   -- a type over a scalar, by its word's row
-  scalar_part : (word : List ℕ) (filling : Filling) → filling_of word ≡ filling → (s : Scalar) (w : List ℕ) → scalar_word s ≡ Some w → tree_numbers told (of_one word (Named w)) ≡ filled filling 0 (level 0 (kind_number s.kind) s.width 0 0 0 ∷ [])
+  scalar_part : (word : List ℕ) (filling : Filling) → filling_of word ≡ filling →
+      (s : Scalar) (w : List ℕ) → scalar_word s ≡ Some w →
+      tree_numbers distinguished (of_one word (Named w)) ≡ filled filling 0
+      (level 0 (kind_number s.kind) s.width 0 0 0 ∷ [])
   scalar_part word filling row s w e = λ i. filled (row i) 0 (scalar_numbers s.kind s.width w e i ∷ [])
 
-  value_is_told : (n : Option VectorSize) (s : Scalar) → value_form n s ≡ option_map (tree_numbers told) (value_tree n s)
-  value_is_told None s = scalar_is_told s
-  value_is_told (Some n) s = over_is_told (scalar_word s) (of_one (vector_word n)) _ (scalar_part (vector_word n) _ (vector_filling n) s)
+  value_is_distinguished : (n : Option VectorSize) (s : Scalar) → value_key n s ≡ option_map (tree_numbers distinguished) (value_tree n s)
+  value_is_distinguished None s = scalar_is_distinguished s
+  value_is_distinguished (Some n) s = over_is_distinguished (scalar_word s) (of_one (vector_word n)) _ (scalar_part (vector_word n) _ (vector_filling n) s)
 
-  buffer_is_told : (a s : Bool) (t : TypeSpecifier) → level 5 4 (if a then 2 else (if s then 1 else 0)) 0 0 0 ++ tree_numbers told t ≡ tree_numbers told (pointer_tree (codes "storage") (if a then Some (codes "atomic") else (if s then Some (codes "read_write") else None)) t)
+  buffer_is_distinguished : (a s : Bool) (t : TypeSpecifier) →
+      level 5 4 (if a then 2 else (if s then 1 else 0)) 0 0 0 ++ tree_numbers distinguished t ≡
+      tree_numbers distinguished
+      (pointer_tree (codes "storage")
+      (if a then Some (codes "atomic") else (if s then Some (codes "read_write") else None)) t)
   unfolding word_numbers filling_of
-  buffer_is_told true s t = refl
-  buffer_is_told false true t = refl
-  buffer_is_told false false t = refl
+  buffer_is_distinguished true s t = refl
+  buffer_is_distinguished false true t = refl
+  buffer_is_distinguished false false t = refl
 
-  pointer_is_told : (at : AddressSpace) → is_handle_space at ≡ false → (p : Option (List ℕ)) (o : Option TypeSpecifier) → p ≡ option_map (tree_numbers told) o → pointer_form at p ≡ option_map (tree_numbers told) (pointer_tree_in (space_word at) (space_access_word at) o)
+  pointer_is_distinguished : (at : AddressSpace) → is_handle_space at ≡ false →
+      (p : Option (List ℕ)) (o : Option TypeSpecifier) →
+      p ≡ option_map (tree_numbers distinguished) o →
+      pointer_key at p ≡ option_map (tree_numbers distinguished)
+      (pointer_tree_in (space_word at) (space_access_word at) o)
   unfolding word_numbers filling_of
-  pointer_is_told at named p o e = ap (pointer_form at) e ∙ by o
+  pointer_is_distinguished at named p o e = ap (pointer_key at) e ∙ by o
     where
-      nothing : (word access : Option (List ℕ)) → None ≡ option_map (tree_numbers told) (pointer_tree_in word access None)
+      nothing : (word access : Option (List ℕ)) → None ≡ option_map (tree_numbers distinguished) (pointer_tree_in word access None)
       nothing None access = refl
       nothing (Some word) access = refl
 
-      pointee : (at : AddressSpace) → is_handle_space at ≡ false → (t : TypeSpecifier) → pointer_form at (Some (tree_numbers told t)) ≡ option_map (tree_numbers told) (pointer_tree_in (space_word at) (space_access_word at) (Some t))
-      pointee (space.Storage access) named t = ap Some (buffer_is_told (has atomic_bit access) (has store_bit access) t)
+      pointee : (at : AddressSpace) → is_handle_space at ≡ false → (t : TypeSpecifier) →
+          pointer_key at (Some (tree_numbers distinguished t)) ≡ option_map
+          (tree_numbers distinguished)
+          (pointer_tree_in (space_word at) (space_access_word at) (Some t))
+      pointee (space.Storage access) named t = ap Some (buffer_is_distinguished (has atomic_bit access) (has store_bit access) t)
       pointee space.Handle named t = absurd (true≢false named)
       pointee space.Function named t = refl
       pointee space.Private named t = refl
@@ -460,117 +499,160 @@ module _ (told : List ℕ → ℕ) where
       pointee space.RayPayload named t = refl
       pointee space.IncomingRayPayload named t = refl
 
-      by : (o : Option TypeSpecifier) → pointer_form at (option_map (tree_numbers told) o) ≡ option_map (tree_numbers told) (pointer_tree_in (space_word at) (space_access_word at) o)
+      by : (o : Option TypeSpecifier) → pointer_key at (option_map (tree_numbers distinguished) o) ≡ option_map (tree_numbers distinguished) (pointer_tree_in (space_word at) (space_access_word at) o)
       by None = nothing (space_word at) (space_access_word at)
       by (Some t) = pointee at named t
 
-  value_pointer_is_told : (at : AddressSpace) (p : Option (List ℕ)) (o : Option TypeSpecifier) → p ≡ option_map (tree_numbers told) o → value_pointer_form at p ≡ option_map (tree_numbers told) (value_pointer_tree_in (space_word at) (space_access_word at) o)
-  value_pointer_is_told space.Handle p o e = refl
-  value_pointer_is_told space.Function p o e = pointer_is_told space.Function refl p o e
-  value_pointer_is_told space.Private p o e = pointer_is_told space.Private refl p o e
-  value_pointer_is_told space.WorkGroup p o e = pointer_is_told space.WorkGroup refl p o e
-  value_pointer_is_told space.Uniform p o e = pointer_is_told space.Uniform refl p o e
-  value_pointer_is_told (space.Storage access) p o e = pointer_is_told (space.Storage access) refl p o e
-  value_pointer_is_told space.Immediate p o e = pointer_is_told space.Immediate refl p o e
-  value_pointer_is_told space.TaskPayload p o e = pointer_is_told space.TaskPayload refl p o e
-  value_pointer_is_told space.RayPayload p o e = pointer_is_told space.RayPayload refl p o e
-  value_pointer_is_told space.IncomingRayPayload p o e = pointer_is_told space.IncomingRayPayload refl p o e
+  value_pointer_is_distinguished : (at : AddressSpace) (p : Option (List ℕ))
+      (o : Option TypeSpecifier) → p ≡ option_map (tree_numbers distinguished) o →
+      value_pointer_key at p ≡ option_map (tree_numbers distinguished)
+      (value_pointer_tree_in (space_word at) (space_access_word at) o)
+  value_pointer_is_distinguished space.Handle p o e = refl
+  value_pointer_is_distinguished space.Function p o e =
+      pointer_is_distinguished space.Function refl p o e
+  value_pointer_is_distinguished space.Private p o e =
+      pointer_is_distinguished space.Private refl p o e
+  value_pointer_is_distinguished space.WorkGroup p o e =
+      pointer_is_distinguished space.WorkGroup refl p o e
+  value_pointer_is_distinguished space.Uniform p o e =
+      pointer_is_distinguished space.Uniform refl p o e
+  value_pointer_is_distinguished (space.Storage access) p o e = pointer_is_distinguished (space.Storage access) refl p o e
+  value_pointer_is_distinguished space.Immediate p o e =
+      pointer_is_distinguished space.Immediate refl p o e
+  value_pointer_is_distinguished space.TaskPayload p o e =
+      pointer_is_distinguished space.TaskPayload refl p o e
+  value_pointer_is_distinguished space.RayPayload p o e =
+      pointer_is_distinguished space.RayPayload refl p o e
+  value_pointer_is_distinguished space.IncomingRayPayload p o e = pointer_is_distinguished space.IncomingRayPayload refl p o e
 
-  array_is_told : (under : Names) (word : List ℕ) (tag : ℕ) → filling_of word ≡ ArrayOf tag → (n : ArraySize) → LengthIsTold told under n → (p : Option (List ℕ)) (o : Option TypeSpecifier) → p ≡ option_map (tree_numbers told) o → array_form tag n p ≡ option_map (tree_numbers told) (option_map (array_tree under word n) o)
+  array_is_distinguished : (under : Names) (word : List ℕ) (tag : ℕ) →
+      filling_of word ≡ ArrayOf tag →
+      (n : ArraySize) → LengthIsDistinguished distinguished under n →
+      (p : Option (List ℕ)) (o : Option TypeSpecifier) →
+      p ≡ option_map (tree_numbers distinguished) o →
+      array_key tag n p ≡ option_map (tree_numbers distinguished)
+      (option_map (array_tree under word n) o)
   unfolding word_numbers
-  array_is_told under word tag row n is p o e = ap (array_form tag n) e ∙ by n is o
+  array_is_distinguished under word tag row n is p o e = ap (array_key tag n) e ∙ by n is o
     where
-      by : (n : ArraySize) → LengthIsTold told under n → (o : Option TypeSpecifier) → array_form tag n (option_map (tree_numbers told) o) ≡ option_map (tree_numbers told) (option_map (array_tree under word n) o)
+      by : (n : ArraySize) → LengthIsDistinguished distinguished under n →
+          (o : Option TypeSpecifier) → array_key tag n (option_map (tree_numbers distinguished) o) ≡
+          option_map (tree_numbers distinguished) (option_map (array_tree under word n) o)
       by (size.Constant number) is None = refl
       by (size.Pending handle) is None = refl
       by size.Dynamic is None = refl
-      by (size.Constant number) is (Some t) = λ i. Some (filled (sym row i) 0 (parts_numbers told (TypePart t (SizePart (non_zero_u32_get number) NoParts))))
-      by (size.Pending handle) is (Some t) = (λ i. Some (level tag (length_tag (get_or (sym is i) 0 0)) (get_or (sym is i) 1 0) 0 0 0 ++ tree_numbers told t)) ∙ (λ i. Some (filled (sym row i) (letter_in (TypePart t (length_part under handle))) (parts_numbers told (TypePart t (length_part under handle)))))
-      by size.Dynamic is (Some t) = λ i. Some (filled (sym row i) 0 (parts_numbers told (TypePart t NoParts)))
+      by (size.Constant number) is (Some t) = λ i. Some (filled (sym row i) 0 (parts_numbers distinguished (TypeArgument t (SizeArgument (non_zero_u32_get number) NoTemplateArguments))))
+      by (size.Pending handle) is (Some t) =
+          (λ i. Some (level tag (length_tag (get_or (sym is i) 0 0)) (get_or (sym is i) 1 0) 0 0 0
+          ++ tree_numbers distinguished t))
+          ∙ (λ i. Some (filled (sym row i) (letter_in (TypeArgument t (length_part under handle)))
+          (parts_numbers distinguished (TypeArgument t (length_part under handle)))))
+      by size.Dynamic is (Some t) = λ i. Some (filled (sym row i) 0 (parts_numbers distinguished (TypeArgument t NoTemplateArguments)))
 
-  image_is_told : (dim : ImageDimension) (arrayed : Bool) (c : ImageClass) → image_form dim arrayed c ≡ option_map (tree_numbers told) (image_tree dim arrayed c)
+  image_is_distinguished : (dim : ImageDimension) (arrayed : Bool) (c : ImageClass) → image_key dim arrayed c ≡ option_map (tree_numbers distinguished) (image_tree dim arrayed c)
   unfolding word_numbers
-  image_is_told dim arrayed (class.Sampled k multi) =
+  image_is_distinguished dim arrayed (class.Sampled k multi) =
       let s : Scalar = record { kind = k; width = 4 } in
       let word = image_word (codes "texture_") multi dim arrayed in
-      over_is_told (scalar_word s) (of_one word) _ (scalar_part word _ (sampled_filling multi dim arrayed) s)
-  image_is_told dim arrayed (class.Depth multi) = ap Some (sym (depth_numbers multi dim arrayed))
-  image_is_told dim arrayed class.External = refl
-  image_is_told dim arrayed (class.Storage f access) =
-      let access_told = image_access_numbers (has atomic_bit access) (has load_bit access) (has store_bit access) in
-      sym ((λ i. Some (filled (storage_filling dim arrayed i) (letter_in (TypePart (Named []) (TypePart (Named (image_access_word access)) NoParts))) (format_numbers f i ∷ word_numbers told (image_access_word access) ∷ []))) ∙
-      ap (λ x. Some (level 9 (dimension_number dim) (truth_number arrayed) 2 (tag_of format_names f) x)) access_told)
+      over_is_distinguished (scalar_word s) (of_one word) _ (scalar_part word _ (sampled_filling multi dim arrayed) s)
+  image_is_distinguished dim arrayed (class.Depth multi) =
+      ap Some (sym (depth_numbers multi dim arrayed))
+  image_is_distinguished dim arrayed class.External = refl
+  image_is_distinguished dim arrayed (class.Storage f access) =
+      let access_distinguished = image_access_numbers (has atomic_bit access) (has load_bit access) (has store_bit access) in
+      sym ((λ i. Some
+      (filled (storage_filling dim arrayed i)
+      (letter_in (TypeArgument (Named [])
+      (TypeArgument (Named (image_access_word access)) NoTemplateArguments)))
+      (format_numbers f i ∷ word_numbers distinguished (image_access_word access) ∷ []))) ∙
+      ap (λ x. Some (level 9 (dimension_number dim) (truth_number arrayed) 2 (tag_of format_names f) x)) access_distinguished)
 
-  sampler_is_told : (b : Bool) → Some (level 10 (truth_number b) 0 0 0 0) ≡ Some (word_numbers told (sampler_word b))
+  sampler_is_distinguished : (b : Bool) → Some (level 10 (truth_number b) 0 0 0 0) ≡ Some (word_numbers distinguished (sampler_word b))
   unfolding word_numbers
-  sampler_is_told true = refl
-  sampler_is_told false = refl
+  sampler_is_distinguished true = refl
+  sampler_is_distinguished false = refl
 
-  structure_is_told : (b : Bool) → Some (level 11 (truth_number b) 0 0 0 0) ≡ Some (tree_numbers told (ray_tree (codes "acceleration_structure") b))
+  structure_is_distinguished : (b : Bool) → Some (level 11 (truth_number b) 0 0 0 0) ≡ Some (tree_numbers distinguished (ray_tree (codes "acceleration_structure") b))
   unfolding word_numbers filling_of
-  structure_is_told true = refl
-  structure_is_told false = refl
+  structure_is_distinguished true = refl
+  structure_is_distinguished false = refl
 
-  query_is_told : (b : Bool) → Some (level 12 (truth_number b) 0 0 0 0) ≡ Some (tree_numbers told (ray_tree (codes "ray_query") b))
+  query_is_distinguished : (b : Bool) → Some (level 12 (truth_number b) 0 0 0 0) ≡ Some (tree_numbers distinguished (ray_tree (codes "ray_query") b))
   unfolding word_numbers filling_of
-  query_is_told true = refl
-  query_is_told false = refl
+  query_is_distinguished true = refl
+  query_is_distinguished false = refl
 
   module _ (under : Names) where
-    inner_is_told : (f : ℕ → Option (List ℕ)) (g : ℕ → Option TypeSpecifier) → ((h : ℕ) → f h ≡ option_map (tree_numbers told) (g h)) → (it : TypeInner) → InnerIsTold told under it → is_handle_pointer it ≡ false → inner_form_by f it ≡ option_map (tree_numbers told) (inner_tree_by under g it)
+    inner_is_distinguished : (f : ℕ → Option (List ℕ)) (g : ℕ → Option TypeSpecifier) →
+        ((h : ℕ) → f h ≡ option_map (tree_numbers distinguished) (g h)) →
+        (it : TypeInner) → InnerIsDistinguished distinguished under it →
+        is_handle_pointer it ≡ false → inner_key_by f it ≡ option_map (tree_numbers distinguished)
+        (inner_tree_by under g it)
     unfolding filling_of
-    inner_is_told f g same (inner.Scalar s) is named = scalar_is_told s
-    inner_is_told f g same (inner.Vector n s) is named = value_is_told (Some n) s
-    inner_is_told f g same (inner.Matrix c r s) is named = over_is_told (scalar_word s) (of_one (matrix_word c r)) _ (scalar_part (matrix_word c r) _ (matrix_filling c r) s)
-    inner_is_told f g same (inner.CooperativeMatrix c r s role) is named =
-        over_is_told (scalar_word s) (λ t. of_two (cooperative_word c r) t (Named (role_word role))) _
-        (λ w e. (λ i. filled (cooperative_filling c r i) (letter_in (role_parts role)) (scalar_numbers s.kind s.width w e i ∷ word_numbers told (role_word role) ∷ [])) ∙
+    inner_is_distinguished f g same (inner.Scalar s) is named = scalar_is_distinguished s
+    inner_is_distinguished f g same (inner.Vector n s) is named = value_is_distinguished (Some n) s
+    inner_is_distinguished f g same (inner.Matrix c r s) is named = over_is_distinguished (scalar_word s) (of_one (matrix_word c r)) _ (scalar_part (matrix_word c r) _ (matrix_filling c r) s)
+    inner_is_distinguished f g same (inner.CooperativeMatrix c r s role) is named =
+        over_is_distinguished (scalar_word s) (λ t. of_two (cooperative_word c r) t (Named (role_word role))) _
+        (λ w e. (λ i. filled (cooperative_filling c r i) (letter_in (role_parts role)) (scalar_numbers s.kind s.width w e i ∷ word_numbers distinguished (role_word role) ∷ [])) ∙
         ap (λ x. level 3 (kind_number s.kind) s.width (cooperative_number c) (cooperative_number r) x) (role_numbers role))
-    inner_is_told f g same (inner.Atomic s) is named = over_is_told (scalar_word s) (of_one (codes "atomic")) _ (scalar_part (codes "atomic") _ refl s)
-    inner_is_told f g same (inner.Pointer base at) is named = pointer_is_told at named (f base) (g base) (same base)
-    inner_is_told f g same (inner.ValuePointer n s at) is named = value_pointer_is_told at (value_form n s) (value_tree n s) (value_is_told n s)
-    inner_is_told f g same (inner.Array base n stride) is named = array_is_told under (codes "array") 6 refl n is (f base) (g base) (same base)
-    inner_is_told f g same (inner.BindingArray base n) is named = array_is_told under (codes "binding_array") 7 refl n is (f base) (g base) (same base)
-    inner_is_told f g same (inner.Struct members span) is named = refl
-    inner_is_told f g same (inner.Image dim arrayed c) is named = image_is_told dim arrayed c
-    inner_is_told f g same (inner.Sampler comparison) is named = sampler_is_told comparison
-    inner_is_told f g same (inner.AccelerationStructure b) is named = structure_is_told b
-    inner_is_told f g same (inner.RayQuery b) is named = query_is_told b
+    inner_is_distinguished f g same (inner.Atomic s) is named = over_is_distinguished (scalar_word s) (of_one (codes "atomic")) _ (scalar_part (codes "atomic") _ refl s)
+    inner_is_distinguished f g same (inner.Pointer base at) is named = pointer_is_distinguished at named (f base) (g base) (same base)
+    inner_is_distinguished f g same (inner.ValuePointer n s at) is named = value_pointer_is_distinguished at (value_key n s) (value_tree n s) (value_is_distinguished n s)
+    inner_is_distinguished f g same (inner.Array base n stride) is named = array_is_distinguished under (codes "array") 6 refl n is (f base) (g base) (same base)
+    inner_is_distinguished f g same (inner.BindingArray base n) is named = array_is_distinguished under (codes "binding_array") 7 refl n is (f base) (g base) (same base)
+    inner_is_distinguished f g same (inner.Struct members span) is named = refl
+    inner_is_distinguished f g same (inner.Image dim arrayed c) is named =
+        image_is_distinguished dim arrayed c
+    inner_is_distinguished f g same (inner.Sampler comparison) is named =
+        sampler_is_distinguished comparison
+    inner_is_distinguished f g same (inner.AccelerationStructure b) is named =
+        structure_is_distinguished b
+    inner_is_distinguished f g same (inner.RayQuery b) is named = query_is_distinguished b
 
-    module _ (are : AreTold told under) (named : (h : ℕ) (t : Type_) → slice_get under.types h ≡ Some t → is_handle_pointer t.inner ≡ false) where
-      found_is_told : (f : ℕ → Option (List ℕ)) (g : ℕ → Option TypeSpecifier) → ((h : ℕ) → f h ≡ option_map (tree_numbers told) (g h)) → (h : ℕ) (o : Option Type_) → slice_get under.types h ≡ o → found_form_by f h o ≡ option_map (tree_numbers told) (found_tree_by under g h o)
+    module _ (are : AreDistinguished distinguished under) (named : (h : ℕ) (t : Type_) → slice_get under.types h ≡ Some t → is_handle_pointer t.inner ≡ false) where
+      found_is_distinguished : (f : ℕ → Option (List ℕ)) (g : ℕ → Option TypeSpecifier) →
+          ((h : ℕ) → f h ≡ option_map (tree_numbers distinguished) (g h)) →
+          (h : ℕ) (o : Option Type_) → slice_get under.types h ≡ o →
+          found_key_by f h o ≡ option_map (tree_numbers distinguished) (found_tree_by under g h o)
       unfolding word_numbers
-      found_is_told f g same h None at = refl
-      found_is_told f g same h (Some t) at = by (is_struct t.inner) refl _ _ (inner_is_told f g same t.inner (are.lengths h t at) (named h t at))
+      found_is_distinguished f g same h None at = refl
+      found_is_distinguished f g same h (Some t) at = by (is_struct t.inner) refl _ _ (inner_is_distinguished f g same t.inner (are.lengths h t at) (named h t at))
         where
-          by : (b : Bool) → is_struct t.inner ≡ b → (x : Option (List ℕ)) (y : Option TypeSpecifier) → x ≡ option_map (tree_numbers told) y → (if b then Some (level 8 h 0 0 0 0) else x) ≡ option_map (tree_numbers told) (if b then Some (Named (under.struct_name h)) else y)
+          by : (b : Bool) → is_struct t.inner ≡ b →
+              (x : Option (List ℕ)) (y : Option TypeSpecifier) →
+              x ≡ option_map (tree_numbers distinguished) y →
+              (if b then Some (level 8 h 0 0 0 0) else x) ≡ option_map (tree_numbers distinguished)
+              (if b then Some (Named (under.struct_name h)) else y)
           by true is x y e = ap Some (sym (are.structs h t at is))
           by false is x y e = e
 
-      within_is_told : (levels h : ℕ) → form_within levels under.types h ≡ option_map (tree_numbers told) (tree_within levels under h)
-      within_is_told zero h = refl
-      within_is_told (suc levels) h = found_is_told (form_within levels under.types) (tree_within levels under) (within_is_told levels) h (slice_get under.types h) refl
+      within_is_distinguished : (levels h : ℕ) → key_within levels under.types h ≡ option_map (tree_numbers distinguished) (tree_within levels under h)
+      within_is_distinguished zero h = refl
+      within_is_distinguished (suc levels) h = found_is_distinguished (key_within levels under.types) (tree_within levels under) (within_is_distinguished levels) h (slice_get under.types h) refl
 
-      handle_is_told : (h : ℕ) → handle_form under.types h ≡ option_map (tree_numbers told) (type_tree under h)
-      unfolding type_tree handle_form
-      handle_is_told h = within_is_told (suc h) h
+      handle_is_distinguished : (h : ℕ) → handle_key under.types h ≡ option_map (tree_numbers distinguished) (type_tree under h)
+      unfolding type_tree handle_key
+      handle_is_distinguished h = within_is_distinguished (suc h) h
 
       -- a type's numbers can be read off its tree
-      pub form_is_told : (r : TypeResolution) → ResolutionIsTold told under r → resolution_is_fit r ≡ true → type_form under.types r ≡ option_map (tree_numbers told) (resolution_tree under r)
-      form_is_told (Handle h) is fit = handle_is_told h
-      form_is_told (Value it) is fit = inner_is_told (handle_form under.types) (type_tree under) handle_is_told it is (is_no (is_handle_pointer it) (and_parts _ _ fit).1)
+      pub form_is_distinguished : (r : TypeResolution) →
+          ResolutionIsDistinguished distinguished under r → resolution_is_fit r ≡ true →
+          type_key under.types r ≡ option_map (tree_numbers distinguished) (resolution_tree under r)
+      form_is_distinguished (Handle h) is fit = handle_is_distinguished h
+      form_is_distinguished (Value it) is fit = inner_is_distinguished (handle_key under.types) (type_tree under) handle_is_distinguished it is (is_no (is_handle_pointer it) (and_parts _ _ fit).1)
 
 -- ---- names that are handles
 abbrev pub own_handle : List ℕ → ℕ
 own_handle w = get_or w 0 0
 
 module _ (types : List Type_) where
-  length_is : (n : ArraySize) → LengthIsTold own_handle (handle_names types) n
+  length_is : (n : ArraySize) → LengthIsDistinguished own_handle (handle_names types) n
   unfolding word_numbers
   length_is (size.Pending o) = refl
   length_is _ = tt
 
-  inner_is : (it : TypeInner) → InnerIsTold own_handle (handle_names types) it
+  inner_is : (it : TypeInner) → InnerIsDistinguished own_handle (handle_names types) it
   inner_is (inner.Array base n stride) = length_is n
   inner_is (inner.BindingArray base n) = length_is n
   inner_is _ = tt
@@ -579,9 +661,10 @@ module _ (types : List Type_) where
   unfolding word_numbers
   struct_is h = refl
 
-  pub handles_are_told : AreTold own_handle (handle_names types)
-  handles_are_told = record { structs = λ h t at is. struct_is h; lengths = λ h t at. inner_is t.inner }
+  pub handles_are_distinguished : AreDistinguished own_handle (handle_names types)
+  handles_are_distinguished = record { structs = λ h t at is. struct_is h; lengths = λ h t at. inner_is t.inner }
 
-  pub resolution_is_told : (r : TypeResolution) → ResolutionIsTold own_handle (handle_names types) r
-  resolution_is_told (Handle h) = tt
-  resolution_is_told (Value it) = inner_is it
+  pub resolution_is_distinguished : (r : TypeResolution) →
+      ResolutionIsDistinguished own_handle (handle_names types) r
+  resolution_is_distinguished (Handle h) = tt
+  resolution_is_distinguished (Value it) = inner_is it

@@ -31,15 +31,16 @@ use Rattle.naga_info.specs.declared.info.TypeResolution.{TypeResolution}
 use Rattle.naga_info.specs.declared.info.TypeResolution.TheVariants.{Handle, Value}
 use Rattle.wgsl_words.specs.Words.{scalar_word, space_word}
 use Rattle.naga_ir.specs.declared.types.ScalarKind.TheVariants as kind
-use Rattle.module_meaning.specs.AlikeTypes.{are_alike, type_form, type_identity, handle_form, form_within, found_form_by, named_form_by, inner_form_by}
-use Rattle.module_meaning.specs.AlikeTypes.{over_scalar, value_form, pointer_form, value_pointer_form, array_form, image_form, access_number}
+use Rattle.module_meaning.specs.AlikeTypes.{are_alike, type_key, type_identity, handle_key, key_within, found_key_by, named_key_by, inner_key_by}
+use Rattle.module_meaning.specs.AlikeTypes.{over_scalar, value_key, pointer_key, value_pointer_key, array_key, image_key, access_number}
 use Rattle.module_meaning.specs.InfoSizes.{is_handle_space, is_handle_pointer, resolution_is_fit}
 use Rattle.naga_words.specs.Spelling.{is_struct}
 use Rattle.module_meaning.specs.Ranges.{parts_before}
 use Rattle.module_meaning.specs.TypeIdentity.{identity, identity_code, word_of_unspelled_type, level, kind_number, vector_number, space_number, truth_number, dimension_number}
 use Rattle.module_meaning.specs.TypeParts.{part_type, pointed_part, member_type, has_computed_parts, inner_at}
 use Rattle.module_meaning.proofs.TypeIdentity.{word_tells}
-use Rattle.naga_form.proofs.AlikeLaw.{form_apart, told_by_itself, each_named, itself, itself_back}
+use Rattle.naga_form.proofs.AlikeLaw.{form_apart, distinguished_by_itself, each_named, itself}
+use Rattle.naga_form.proofs.AlikeLaw.{itself_back}
 use Rattle.naga_form.proofs.AlikeNumbers.{is_no}
 use Rattle.naga_form.proofs.SameValues.{TypesAreCounted, IsFit}
 
@@ -71,7 +72,7 @@ module _ (m : Module) (are : TypesAreCounted m) (stand : PartsStand m) where
   -- ---- what a form tells of parts
   abbrev PartIs : Option (List ℕ) → Option TypeResolution → Type 0
   PartIs None None = Unit {0}
-  PartIs (Some z) (Some p) = type_form m.types p ≡ Some z
+  PartIs (Some z) (Some p) = type_key m.types p ≡ Some z
   PartIs _ _ = ⊥
 
   -- what a pointer of this form points to: a type that is no struct, or one
@@ -81,25 +82,27 @@ module _ (m : Module) (are : TypesAreCounted m) (stand : PartsStand m) where
     Whole : (number access h : ℕ) → form ≡ level 5 number access 0 0 0 ++ level 8 h 0 0 0 0 → has_computed_parts m.types it ≡ false → Pointed it form
 
   -- ---- forms at any depth that suffices
-  same_found : (f g : ℕ → Option (List ℕ)) (h : ℕ) → ((b : ℕ) → b < h → f b ≡ g b) → (o : Option Type_) → ((t : Type_) → o ≡ Some t → parts_before h t.inner ≡ true) → found_form_by f h o ≡ found_form_by g h o
+  same_found : (f g : ℕ → Option (List ℕ)) (h : ℕ) → ((b : ℕ) → b < h → f b ≡ g b) →
+      (o : Option Type_) → ((t : Type_) → o ≡ Some t → parts_before h t.inner ≡ true) →
+      found_key_by f h o ≡ found_key_by g h o
   same_found f g h same None before = refl
   same_found f g h same (Some t) before = by t.inner (before t refl)
     where
-      by : (it : TypeInner) → parts_before h it ≡ true → named_form_by f h it ≡ named_form_by g h it
-      by (inner.Pointer base at) lt = ap (pointer_form at) (same base (ltb-true base h lt))
-      by (inner.Array base n stride) lt = ap (array_form 6 n) (same base (ltb-true base h lt))
-      by (inner.BindingArray base n) lt = ap (array_form 7 n) (same base (ltb-true base h lt))
+      by : (it : TypeInner) → parts_before h it ≡ true → named_key_by f h it ≡ named_key_by g h it
+      by (inner.Pointer base at) lt = ap (pointer_key at) (same base (ltb-true base h lt))
+      by (inner.Array base n stride) lt = ap (array_key 6 n) (same base (ltb-true base h lt))
+      by (inner.BindingArray base n) lt = ap (array_key 7 n) (same base (ltb-true base h lt))
       by _ lt = refl
 
-  levels_agree : (n k h : ℕ) → h < n → h < k → form_within n m.types h ≡ form_within k m.types h
+  levels_agree : (n k h : ℕ) → h < n → h < k → key_within n m.types h ≡ key_within k m.types h
   levels_agree zero k h p q = absurd (omega (arith, p))
   levels_agree (suc n) zero h p q = absurd (omega (arith, q))
   levels_agree (suc n) (suc k) h p q =
-      same_found (form_within n m.types) (form_within k m.types) h (λ b lt. levels_agree n k b (omega (arith, p, lt)) (omega (arith, q, lt)))
+      same_found (key_within n m.types) (key_within k m.types) h (λ b lt. levels_agree n k b (omega (arith, p, lt)) (omega (arith, q, lt)))
       (slice_get m.types h) (stand h)
 
-  at_depth : (n h : ℕ) → h < n → form_within n m.types h ≡ handle_form m.types h
-  unfolding handle_form
+  at_depth : (n h : ℕ) → h < n → key_within n m.types h ≡ handle_key m.types h
+  unfolding handle_key
   at_depth n h lt = levels_agree n (suc h) h lt (omega arith)
 
   -- ---- pointers by their forms
@@ -112,8 +115,8 @@ module _ (m : Module) (are : TypesAreCounted m) (stand : PartsStand m) where
   has_word _ not_handle = refl
 
   -- a pointer to a value of a form
-  value_pointer : (at : AddressSpace) → is_none (space_word at) ≡ false → (form : Option (List ℕ)) (y : List ℕ) → form ≡ Some y → value_pointer_form at form ≡ Some (behind at y)
-  value_pointer at named form y is = (λ i. if named i then None else pointer_form at form) ∙ ap (pointer_form at) is
+  value_pointer : (at : AddressSpace) → is_none (space_word at) ≡ false → (form : Option (List ℕ)) (y : List ℕ) → form ≡ Some y → value_pointer_key at form ≡ Some (behind at y)
+  value_pointer at named form y is = (λ i. if named i then None else pointer_key at form) ∙ ap (pointer_key at) is
 
   scalar_is : (tag : ℕ) (s : Scalar) (c d e : ℕ) → is_some (scalar_word s) ≡ true → over_scalar tag s c d e ≡ Some (level tag (kind_number s.kind) s.width c d e)
   scalar_is tag s c d e word = λ i. if word i then Some (level tag (kind_number s.kind) s.width c d e) else None
@@ -130,18 +133,18 @@ module _ (m : Module) (are : TypesAreCounted m) (stand : PartsStand m) where
       by true = none
       by false = tt
 
-  pointer_no_parts : (at : AddressSpace) (o : Option (List ℕ)) → OfNoParts (pointer_form at o)
+  pointer_no_parts : (at : AddressSpace) (o : Option (List ℕ)) → OfNoParts (pointer_key at o)
   pointer_no_parts at None = tt
   pointer_no_parts at (Some y) = (refl, λ number access. refl)
 
-  value_pointer_no_parts : (at : AddressSpace) (o : Option (List ℕ)) → OfNoParts (value_pointer_form at o)
+  value_pointer_no_parts : (at : AddressSpace) (o : Option (List ℕ)) → OfNoParts (value_pointer_key at o)
   value_pointer_no_parts at o = by (is_none (space_word at))
     where
-      by : (b : Bool) → OfNoParts (if b then None else pointer_form at o)
+      by : (b : Bool) → OfNoParts (if b then None else pointer_key at o)
       by true = tt
       by false = pointer_no_parts at o
 
-  image_no_parts : (dim : ImageDimension) (arrayed : Bool) (c : ImageClass) → OfNoParts (image_form dim arrayed c)
+  image_no_parts : (dim : ImageDimension) (arrayed : Bool) (c : ImageClass) → OfNoParts (image_key dim arrayed c)
   image_no_parts dim arrayed (class.Sampled kind multi) = by (is_some (scalar_word (record { kind = kind; width = 4 })))
     where
       by : (b : Bool) → OfNoParts (if b then Some (level 9 (dimension_number dim) (truth_number arrayed) 0 (kind_number kind) (truth_number multi)) else None)
@@ -178,29 +181,34 @@ module _ (m : Module) (are : TypesAreCounted m) (stand : PartsStand m) where
           ((z : List ℕ) → part_form (space_number at) (access_number at) (size z) ≡ Some (behind at z)) →
           ((index : Option ℕ) → pointed_part at it index ≡ Some (Value (inner.Pointer element at))) →
           element < base →
-          (o : Option (List ℕ)) → form_within n m.types element ≡ o → (x : List ℕ) → option_map size o ≡ Some x → Pointed (inner.Pointer base at) (behind at x)
+          (o : Option (List ℕ)) → key_within n m.types element ≡ o → (x : List ℕ) → option_map size o ≡ Some x → Pointed (inner.Pointer base at) (behind at x)
       elements it is element size other form parts before None f x g = absurd cc
       elements it is element size other form parts before (Some z) f x g =
           plain it is (size z) (other z)
           (λ index. subst (λ o. PartIs o (pointed_part at it index)) (sym (form z)) (subst (PartIs (Some (behind at z))) (sym (parts index))
-          (ap (pointer_form at) (sym (at_depth n element (depth before deep)) ∙ f))))
+          (ap (pointer_key at) (sym (at_depth n element (depth before deep)) ∙ f))))
           (Some (size z)) refl x g
         where
           depth : element < base → base ≤ n → element < n
           depth a b = omega (arith, a, b)
 
-      pointee : (it : TypeInner) → t.inner ≡ it → (x : List ℕ) → named_form_by (form_within n m.types) base it ≡ Some x → Pointed (inner.Pointer base at) (behind at x)
+      pointee : (it : TypeInner) → t.inner ≡ it → (x : List ℕ) → named_key_by (key_within n m.types) base it ≡ Some x → Pointed (inner.Pointer base at) (behind at x)
       pointee (inner.Scalar s) is x g = partless (inner.Scalar s) is (λ index. refl) _ (over_no_parts 0 s 0 0 0 (refl, λ number access. refl)) x g
       pointee (inner.Vector k s) is x g = by (is_some (scalar_word s)) refl g
         where
-          by : (b : Bool) → is_some (scalar_word s) ≡ b → (if b then Some (level 1 (kind_number s.kind) s.width (vector_number k) 0 0) else None) ≡ Some x → Pointed (inner.Pointer base at) (behind at x)
+          by : (b : Bool) → is_some (scalar_word s) ≡ b →
+              (if b then Some (level 1 (kind_number s.kind) s.width (vector_number k) 0 0)
+              else None) ≡ Some x → Pointed (inner.Pointer base at) (behind at x)
           by false word g = absurd cc
           by true word g =
               plain (inner.Vector k s) is (level 1 (kind_number s.kind) s.width (vector_number k) 0 0) refl
               (λ index. value_pointer at named (over_scalar 0 s 0 0 0) _ (scalar_is 0 s 0 0 0 word)) _ refl x g
       pointee (inner.Matrix columns rows s) is x g = by (is_some (scalar_word s)) refl g
         where
-          by : (b : Bool) → is_some (scalar_word s) ≡ b → (if b then Some (level 2 (kind_number s.kind) s.width (vector_number columns) (vector_number rows) 0) else None) ≡ Some x → Pointed (inner.Pointer base at) (behind at x)
+          by : (b : Bool) → is_some (scalar_word s) ≡ b →
+              (if b then Some (level 2 (kind_number s.kind) s.width (vector_number columns)
+              (vector_number rows) 0) else None) ≡ Some x →
+              Pointed (inner.Pointer base at) (behind at x)
           by false word g = absurd cc
           by true word g =
               plain (inner.Matrix columns rows s) is (level 2 (kind_number s.kind) s.width (vector_number columns) (vector_number rows) 0) refl
@@ -208,14 +216,14 @@ module _ (m : Module) (are : TypesAreCounted m) (stand : PartsStand m) where
       pointee (inner.CooperativeMatrix columns rows s role) is x g =
           partless (inner.CooperativeMatrix columns rows s role) is (λ index. refl) _ (over_no_parts 3 s _ _ _ (refl, λ number access. refl)) x g
       pointee (inner.Atomic s) is x g = partless (inner.Atomic s) is (λ index. refl) _ (over_no_parts 4 s 0 0 0 (refl, λ number access. refl)) x g
-      pointee (inner.Pointer other to) is x g = partless (inner.Pointer other to) is (λ index. refl) _ (pointer_no_parts to (form_within n m.types other)) x g
-      pointee (inner.ValuePointer k s to) is x g = partless (inner.ValuePointer k s to) is (λ index. refl) _ (value_pointer_no_parts to (value_form k s)) x g
+      pointee (inner.Pointer other to) is x g = partless (inner.Pointer other to) is (λ index. refl) _ (pointer_no_parts to (key_within n m.types other)) x g
+      pointee (inner.ValuePointer k s to) is x g = partless (inner.ValuePointer k s to) is (λ index. refl) _ (value_pointer_no_parts to (value_key k s)) x g
       pointee (inner.Array element size stride) is x g =
           elements (inner.Array element size stride) is element _ (λ z. refl) (λ z. refl) (λ index. refl)
-          (ltb-true element base (sym (ap (parts_before base) is) ∙ stand base t there)) (form_within n m.types element) refl x g
+          (ltb-true element base (sym (ap (parts_before base) is) ∙ stand base t there)) (key_within n m.types element) refl x g
       pointee (inner.BindingArray element size) is x g =
           elements (inner.BindingArray element size) is element _ (λ z. refl) (λ z. refl) (λ index. refl)
-          (ltb-true element base (sym (ap (parts_before base) is) ∙ stand base t there)) (form_within n m.types element) refl x g
+          (ltb-true element base (sym (ap (parts_before base) is) ∙ stand base t there)) (key_within n m.types element) refl x g
       pointee (inner.Struct members span) is x g =
           Whole (space_number at) (access_number at) base (ap (behind at) (sym (same_Some _ x g))) (ap is_some (parts_are (inner.Struct members span) is None))
       pointee (inner.Image dim arrayed c) is x g = partless (inner.Image dim arrayed c) is (λ index. refl) _ (image_no_parts dim arrayed c) x g
@@ -224,31 +232,39 @@ module _ (m : Module) (are : TypesAreCounted m) (stand : PartsStand m) where
       pointee (inner.RayQuery vertex_return) is x g = partless (inner.RayQuery vertex_return) is (λ index. refl) _ (refl, λ number access. refl) x g
 
   -- what is pointed to stands in the module where it has a form
-  pointed_module : (base : ℕ) (at : AddressSpace) → is_handle_space at ≡ false → (n : ℕ) → base ≤ n → (o : Option (List ℕ)) → form_within (suc n) m.types base ≡ o → (x : List ℕ) → pointer_form at o ≡ Some x → Pointed (inner.Pointer base at) x
+  pointed_module : (base : ℕ) (at : AddressSpace) → is_handle_space at ≡ false →
+      (n : ℕ) → base ≤ n → (o : Option (List ℕ)) → key_within (suc n) m.types base ≡ o →
+      (x : List ℕ) → pointer_key at o ≡ Some x → Pointed (inner.Pointer base at) x
   pointed_module base at free n deep None f x g = absurd cc
   pointed_module base at free n deep (Some y) f x g =
       subst (Pointed (inner.Pointer base at)) (same_Some _ x g) (by (slice_get m.types base) refl f)
     where
-      by : (o : Option Type_) → slice_get m.types base ≡ o → found_form_by (form_within n m.types) base o ≡ Some y → Pointed (inner.Pointer base at) (behind at y)
+      by : (o : Option Type_) → slice_get m.types base ≡ o → found_key_by (key_within n m.types) base o ≡ Some y → Pointed (inner.Pointer base at) (behind at y)
       by None there f = absurd cc
       by (Some t) there f = pointee base at t there (has_word at free) n deep t.inner refl y f
 
-  pointed_value : (size : Option VectorSize) (s : Scalar) (at : AddressSpace) (x : List ℕ) → value_pointer_form at (value_form size s) ≡ Some x → Pointed (inner.ValuePointer size s at) x
+  pointed_value : (size : Option VectorSize) (s : Scalar) (at : AddressSpace) (x : List ℕ) → value_pointer_key at (value_key size s) ≡ Some x → Pointed (inner.ValuePointer size s at) x
   pointed_value size s at x g = by (is_none (space_word at)) refl g
     where
-      behind_word : (size : Option VectorSize) → is_none (space_word at) ≡ false → (b : Bool) → is_some (scalar_word s) ≡ b → (x : List ℕ) → pointer_form at (value_form size s) ≡ Some x → Pointed (inner.ValuePointer size s at) x
+      behind_word : (size : Option VectorSize) → is_none (space_word at) ≡ false →
+          (b : Bool) → is_some (scalar_word s) ≡ b →
+          (x : List ℕ) → pointer_key at (value_key size s) ≡ Some x →
+          Pointed (inner.ValuePointer size s at) x
       behind_word None named true word x g =
-          Plain (space_number at) (access_number at) (level 0 (kind_number s.kind) s.width 0 0 0) (same_Some x _ (sym g ∙ ap (pointer_form at) (scalar_is 0 s 0 0 0 word))) refl
+          Plain (space_number at) (access_number at) (level 0 (kind_number s.kind) s.width 0 0 0) (same_Some x _ (sym g ∙ ap (pointer_key at) (scalar_is 0 s 0 0 0 word))) refl
           (λ index. tt)
       behind_word (Some k) named true word x g =
-          Plain (space_number at) (access_number at) (level 1 (kind_number s.kind) s.width (vector_number k) 0 0) (same_Some x _ (sym g ∙ ap (pointer_form at) (scalar_is 1 s (vector_number k) 0 0 word))) refl
+          Plain (space_number at) (access_number at)
+          (level 1 (kind_number s.kind) s.width (vector_number k) 0 0)
+          (same_Some x _ (sym g
+          ∙ ap (pointer_key at) (scalar_is 1 s (vector_number k) 0 0 word))) refl
           (λ index. value_pointer at named (over_scalar 0 s 0 0 0) _ (scalar_is 0 s 0 0 0 word))
       behind_word None named false word x g =
-          let none : None ≡ Some x = sym (ap (λ b. pointer_form at (if b then Some (level 0 (kind_number s.kind) s.width 0 0 0) else None)) word) ∙ g in absurd cc
+          let none : None ≡ Some x = sym (ap (λ b. pointer_key at (if b then Some (level 0 (kind_number s.kind) s.width 0 0 0) else None)) word) ∙ g in absurd cc
       behind_word (Some k) named false word x g =
-          let none : None ≡ Some x = sym (ap (λ b. pointer_form at (if b then Some (level 1 (kind_number s.kind) s.width (vector_number k) 0 0) else None)) word) ∙ g in absurd cc
+          let none : None ≡ Some x = sym (ap (λ b. pointer_key at (if b then Some (level 1 (kind_number s.kind) s.width (vector_number k) 0 0) else None)) word) ∙ g in absurd cc
 
-      by : (b : Bool) → is_none (space_word at) ≡ b → (if b then None else pointer_form at (value_form size s)) ≡ Some x → Pointed (inner.ValuePointer size s at) x
+      by : (b : Bool) → is_none (space_word at) ≡ b → (if b then None else pointer_key at (value_key size s)) ≡ Some x → Pointed (inner.ValuePointer size s at) x
       by true named g = absurd cc
       by false named g = behind_word size named (is_some (scalar_word s)) refl x g
 
@@ -271,32 +287,34 @@ module _ (m : Module) (are : TypesAreCounted m) (stand : PartsStand m) where
       by None there at = absurd cc
       by (Some t) there at = subst IsFree (same_Some t.inner it at) (free_by t.inner (each_named m.types are.types.fits h t there))
 
-  pointed : (r : TypeResolution) (it : TypeInner) → IsFree it → inner_of r m.types ≡ Some it → is_pointer it ≡ true → (x : List ℕ) → type_form m.types r ≡ Some x → Pointed it x
-  unfolding handle_form
-  pointed (Value it) other free at pointer x form = by other free pointer (ap (λ it. inner_form_by (handle_form m.types) it) (sym (same_Some it other at)) ∙ form)
+  pointed : (r : TypeResolution) (it : TypeInner) → IsFree it → inner_of r m.types ≡ Some it → is_pointer it ≡ true → (x : List ℕ) → type_key m.types r ≡ Some x → Pointed it x
+  unfolding handle_key
+  pointed (Value it) other free at pointer x form = by other free pointer (ap (λ it. inner_key_by (handle_key m.types) it) (sym (same_Some it other at)) ∙ form)
     where
-      by : (it : TypeInner) → IsFree it → is_pointer it ≡ true → inner_form_by (handle_form m.types) it ≡ Some x → Pointed it x
-      by (inner.Pointer base at) free pointer form = pointed_module base at free base (omega arith) (form_within (suc base) m.types base) refl x form
+      by : (it : TypeInner) → IsFree it → is_pointer it ≡ true → inner_key_by (handle_key m.types) it ≡ Some x → Pointed it x
+      by (inner.Pointer base at) free pointer form = pointed_module base at free base (omega arith) (key_within (suc base) m.types base) refl x form
       by (inner.ValuePointer n s at) free pointer form = pointed_value n s at x form
       by _ free pointer form = absurd (true≢false (sym pointer))
   pointed (Handle h) it free at pointer x form = by h (slice_get m.types h) refl at form
     where
-      of_handle : (h : ℕ) (t : Type_) → slice_get m.types h ≡ Some t → (it : TypeInner) → t.inner ≡ it → IsFree it → is_pointer it ≡ true → named_form_by (form_within h m.types) h it ≡ Some x → Pointed it x
+      of_handle : (h : ℕ) (t : Type_) → slice_get m.types h ≡ Some t →
+          (it : TypeInner) → t.inner ≡ it → IsFree it → is_pointer it ≡ true →
+          named_key_by (key_within h m.types) h it ≡ Some x → Pointed it x
       of_handle zero t there (inner.Pointer base at) is free pointer form = absurd cc
       of_handle (suc n) t there (inner.Pointer base at) is free pointer form =
           pointed_module base at free n (depth (ltb-true base (suc n) (sym (ap (parts_before (suc n)) is) ∙ stand (suc n) t there)))
-          (form_within (suc n) m.types base) refl x form
+          (key_within (suc n) m.types base) refl x form
         where
           depth : base < suc n → base ≤ n
           depth lt = omega (arith, lt)
       of_handle h t there (inner.ValuePointer k s at) is free pointer form = pointed_value k s at x form
       of_handle h t there _ is free pointer form = absurd (true≢false (sym pointer))
 
-      by : (h : ℕ) (o : Option Type_) → slice_get m.types h ≡ o → option_map (λ t. t.inner) o ≡ Some it → found_form_by (form_within h m.types) h (slice_get m.types h) ≡ Some x → Pointed it x
+      by : (h : ℕ) (o : Option Type_) → slice_get m.types h ≡ o → option_map (λ t. t.inner) o ≡ Some it → found_key_by (key_within h m.types) h (slice_get m.types h) ≡ Some x → Pointed it x
       by h None there at form = absurd cc
       by h (Some t) there at form =
           of_handle h t there it (same_Some t.inner it at) free pointer
-          (ap (named_form_by (form_within h m.types) h) (sym (same_Some t.inner it at)) ∙ (sym (ap (found_form_by (form_within h m.types) h) there) ∙ form))
+          (ap (named_key_by (key_within h m.types) h) (sym (same_Some t.inner it at)) ∙ (sym (ap (found_key_by (key_within h m.types) h) there) ∙ form))
 
   -- ---- a part of a pointer is fit
   abbrev pub FitPart : Option TypeResolution → Type 0
@@ -333,7 +351,7 @@ module _ (m : Module) (are : TypesAreCounted m) (stand : PartsStand m) where
 
   -- ---- two that are told by the same numbers
   data Alike (a b : TypeResolution) : Type 0 where
-    OneForm : (x : List ℕ) → type_form m.types a ≡ Some x → type_form m.types b ≡ Some x → Alike a b
+    OneForm : (x : List ℕ) → type_key m.types a ≡ Some x → type_key m.types b ≡ Some x → Alike a b
     Itselves : inner_of a m.types ≡ inner_of b m.types → Alike a b
 
   fit_of : (r : TypeResolution) → IsFit m r → resolution_is_fit r ≡ true
@@ -341,17 +359,19 @@ module _ (m : Module) (are : TypesAreCounted m) (stand : PartsStand m) where
   fit_of (Value it) fit = fit.0
 
   alike : (a b : TypeResolution) → IsFit m a → IsFit m b → type_identity m.types a ≡ type_identity m.types b → Alike a b
-  alike a b p q e = by (type_form m.types a) refl (type_form m.types b) refl e
+  alike a b p q e = by (type_key m.types a) refl (type_key m.types b) refl e
     where
-      apart : (r : TypeResolution) → IsFit m r → (it code : List ℕ) → type_form m.types r ≡ Some it → it ≡ 32 ∷ code → ⊥
+      apart : (r : TypeResolution) → IsFit m r → (it code : List ℕ) → type_key m.types r ≡ Some it → it ≡ 32 ∷ code → ⊥
       apart r fit = form_apart m.types (each_named m.types are.types.fits) r (fit_of r fit)
 
-      by : (x : Option (List ℕ)) → type_form m.types a ≡ x → (y : Option (List ℕ)) → type_form m.types b ≡ y → unwrap_or x (word_of_unspelled_type (identity m.types a)) ≡ unwrap_or y (word_of_unspelled_type (identity m.types b)) → Alike a b
+      by : (x : Option (List ℕ)) → type_key m.types a ≡ x → (y : Option (List ℕ)) →
+          type_key m.types b ≡ y → unwrap_or x (word_of_unspelled_type (identity m.types a)) ≡
+          unwrap_or y (word_of_unspelled_type (identity m.types b)) → Alike a b
       by (Some x) at (Some y) bt e = OneForm x at (bt ∙ ap Some (sym e))
       by (Some x) at None bt e = absurd (apart a p x (identity_code (identity m.types b)) at e)
       by None at (Some y) bt e = absurd (apart b q y (identity_code (identity m.types a)) bt (sym e))
       by None at None bt e =
-          let same = sym (told_by_itself m.types a (fit_of a p) at) ∙ (word_tells m.types a b e ∙ told_by_itself m.types b (fit_of b q) bt) in
+          let same = sym (distinguished_by_itself m.types a (fit_of a p) at) ∙ (word_tells m.types a b e ∙ distinguished_by_itself m.types b (fit_of b q) bt) in
           Itselves (sym (itself_back (inner_of a m.types)) ∙ (ap itself same ∙ itself_back (inner_of b m.types)))
 
   parts_of_one : (o : Option TypeResolution) → FitPart o → PartsAlike o o
@@ -419,10 +439,10 @@ with_struct t = record { name = None; inner = inner.Scalar (record { kind = kind
 
 -- pointers to the struct, into storage that is read and storage of which nothing is said, are alike
 structs_alike : (t : Type_) → is_struct t.inner ≡ true → are_alike (with_struct t) (Value (inner.Pointer 1 (storage 0))) (Value (inner.Pointer 1 (storage 1))) ≡ true
-unfolding handle_form
+unfolding handle_key
 structs_alike t e = rw e refl
 
 -- and those to its member, which has no form, are not
 members_apart : (t : Type_) → are_alike (with_struct t) (Value (inner.Pointer 0 (storage 0))) (Value (inner.Pointer 0 (storage 1))) ≡ false
-unfolding handle_form
+unfolding handle_key
 members_apart t = refl

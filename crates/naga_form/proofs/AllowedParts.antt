@@ -7,12 +7,12 @@ use Rattle.std.proofs.lemmas.Bool.{and_parts}
 use Rattle.std.proofs.lemmas.Option.{same_Some, slice_get-map}
 use Rattle.naga_ir.specs.declared.expression.SwizzleComponent.TheVariants as component
 use Rattle.naga_ir.specs.declared.types.Type_.{Type_}
-use Rattle.module_meaning.proofs.ExpressionShapes.{there_if}
-use Rattle.module_meaning.specs.AlikeTypes.{has_form}
-use Rattle.module_meaning.specs.Part.{converts, expression_is_written, known_passes, loads_matrix}
+use Rattle.module_meaning.specs.AlikeTypes.{is_spelled}
+use Rattle.module_meaning.specs.WrittenSoFar.{converts, expression_is_written, known_passes}
+use Rattle.module_meaning.specs.WrittenSoFar.{loads_matrix}
 use Rattle.module_meaning.specs.InfoSizes.{resolution_is_fit}
 use Rattle.module_meaning.specs.Names.{module_names, name_in}
-use Rattle.module_meaning.specs.Part.{types_are_of_part}
+use Rattle.module_meaning.specs.WrittenSoFar.{types_are_written_so_far}
 use Rattle.module_meaning.specs.Undeclared.{is_undeclared, member_is_written, member_words}
 use Rattle.module_meaning.specs.Undeclared.{part_is_written_at, whole_known, whole_of}
 use Rattle.module_meaning.specs.Types.{type_names}
@@ -27,7 +27,7 @@ use Rattle.wgsl_text.proofs.Words.{passes}
 use Rattle.wgsl_text.specs.Keywords.{reserved_words}
 use Rattle.wgsl_text.specs.Words.{IsWord, is_reserved, is_word_text, stands_in}
 use Rattle.naga_form.proofs.Letters.{letter_is_a_word}
-use Rattle.std.specs.Option.{is_some, option_and_then, option_map, option_map_or}
+use Rattle.std.specs.Option.{option_and_then, option_map, option_map_or}
 use Rattle.naga_info.specs.Resolution.{inner_of, handle_of}
 use Rattle.naga_info.specs.declared.info.ExpressionInfo.{ExpressionInfo}
 use Rattle.naga_info.specs.declared.info.ModuleInfo.{ModuleInfo}
@@ -39,7 +39,7 @@ use Rattle.naga_ir.specs.declared.types.CooperativeSize.{CooperativeSize}
 use Rattle.naga_ir.specs.declared.types.Scalar.{Scalar}
 use Rattle.naga_ir.specs.declared.types.ScalarKind.{ScalarKind}
 use Rattle.module_meaning.specs.Conversions.{conversion_target}
-use Rattle.module_meaning.specs.ExpressionOperators.{Surroundings, scalar_behind, type_known}
+use Rattle.module_meaning.specs.ExpressionOperators.{ExpressionContext, scalar_behind, type_known}
 use Rattle.naga_form.proofs.SameValues.{IsFit}
 use Rattle.naga_form.proofs.AlikeNumbers.{is_no}
 use Rattle.naga_form.proofs.WrittenTypes.{struct_undeclared, tree_there}
@@ -51,7 +51,7 @@ use Rattle.naga_ir.specs.declared.types.TypeInner.TheVariants as inner
 use Rattle.module_meaning.specs.ExpressionOperators.{has_parts, is_composite, type_with}
 use Rattle.module_meaning.specs.ExpressionShapes.{Declared, component_letters, own_selector}
 use Rattle.module_meaning.specs.ExpressionShapes.{part_selector, selector}
-use Rattle.module_meaning.specs.Surroundings.{declared, types_known}
+use Rattle.module_meaning.specs.ExpressionContexts.{declared, types_known}
 use Rattle.shader_runs.specs.Value.{Selector, MemberNamed, ElementAt}
 
 -- what has parts has one at each index
@@ -65,8 +65,8 @@ own_selected d whole (inner.Struct members span) index is = (_, refl)
 own_selected d whole _ index is = absurd cc
 
 inner_selected : (d : Declared) (whole : Option ℕ) (it : TypeInner) (index : ℕ) →
-    has_parts d.around.types it ≡ true → (x : Selector) × (selector d whole it index ≡ Some x)
-inner_selected d whole (inner.Pointer base space) index is = by (type_with d.around.types base) is
+    has_parts d.context.types it ≡ true → (x : Selector) × (selector d whole it index ≡ Some x)
+inner_selected d whole (inner.Pointer base space) index is = by (type_with d.context.types base) is
   where
     by : (o : Option TypeInner) → option_map_or is_composite o false ≡ true →
         (x : Selector) × (option_and_then (λ it. own_selector d (Some base) it index) o ≡ Some x)
@@ -120,17 +120,17 @@ no_own_struct m own it fit same is =
 -- one that is pointed to.
 abbrev MembersAreWords : Declared → TypeResolution → (it : TypeInner) → (index : ℕ) → Type 0
 MembersAreWords d r it index =
-    (h : ℕ) (t : Type_) → slice_get d.around.types h ≡ Some t → is_struct t.inner ≡ true →
+    (h : ℕ) (t : Type_) → slice_get d.context.types h ≡ Some t → is_struct t.inner ≡ true →
     whole_of r it ≡ Some h → IsWord (d.member h index)
 
-inner_well : (m : Module) (d : Declared) → d.around.types ≡ m.types → (r : TypeResolution) →
-    IsFit m r → (it : TypeInner) (index : ℕ) → inner_of r d.around.types ≡ Some it →
+inner_well : (m : Module) (d : Declared) → d.context.types ≡ m.types → (r : TypeResolution) →
+    IsFit m r → (it : TypeInner) (index : ℕ) → inner_of r d.context.types ≡ Some it →
     MembersAreWords d r it index → index < 2 ^ 32 →
     (x : Selector) → selector d (handle_of r) it index ≡ Some x → IsWellSelected x
 inner_well m d same r fit (inner.Pointer base space) index is words lt x e =
-    by (slice_get d.around.types base) refl e
+    by (slice_get d.context.types base) refl e
   where
-    by : (o : Option Type_) → slice_get d.around.types base ≡ o →
+    by : (o : Option Type_) → slice_get d.context.types base ≡ o →
         option_and_then (λ it. own_selector d (Some base) it index) (option_map (λ t. t.inner) o) ≡
         Some x →
         IsWellSelected x
@@ -141,9 +141,9 @@ inner_well m d same r fit (inner.ValuePointer (Some size) s at) index is words l
 inner_well m d same r fit (inner.ValuePointer None s at) index is words lt x e = absurd cc
 inner_well m d same (Handle h) fit (inner.Struct members span) index is words lt x e =
     own_well d (Some h) (inner.Struct members span) index
-    (λ struct. by (slice_get d.around.types h) refl is) lt x e
+    (λ struct. by (slice_get d.context.types h) refl is) lt x e
   where
-    by : (o : Option Type_) → slice_get d.around.types h ≡ o →
+    by : (o : Option Type_) → slice_get d.context.types h ≡ o →
         option_map (λ t. t.inner) o ≡ Some (inner.Struct members span) → IsWord (d.member h index)
     by (Some t) at is = words h t at (ap is_struct (same_Some t.inner _ is)) refl
     by None at is = absurd cc
@@ -187,7 +187,7 @@ known_base m es base index may =
     (and_parts (known_passes m.types es (has_parts m.types) base) _ may).0
 
 -- a member of a struct of the part that is written is named by a word
-member_well : (m : Module) → types_are_of_part m ≡ true → (h index : ℕ) (t : Type_) →
+member_well : (m : Module) → types_are_written_so_far m ≡ true → (h index : ℕ) (t : Type_) →
     slice_get m.types h ≡ Some t → is_struct t.inner ≡ true →
     part_is_written_at m index h ≡ true → IsWord (name_in (module_names m) (key.StructMember h index))
 unfolding is_reserved reserved_words
@@ -215,21 +215,21 @@ member_well m part h index t at is written =
     by false one struct two written = absurd cc
 
 -- what a conversion that is written takes, and what it gives, which has a form
-pub record Conversion (m : Module) (a : Surroundings) (operand : ℕ) (kind : ScalarKind) (convert : Option ℕ) : Type 0 where
+pub record Conversion (m : Module) (a : ExpressionContext) (operand : ℕ) (kind : ScalarKind) (convert : Option ℕ) : Type 0 where
   pub from : TypeInner
   pub known : type_known a operand ≡ Some from
   pub to : TypeInner
   pub target : conversion_target from kind convert ≡ Some to
-  pub written : has_form m.types (Value to) ≡ true
+  pub written : is_spelled m.types (Value to) ≡ true
   pub tree : TypeSpecifier
   pub is : inner_tree (type_names m) to ≡ Some tree
 
 -- the scalars of the matrix that a cooperative load that is written loads, whose type has a form
-pub record LoadedMatrix (m : Module) (a : Surroundings) (columns rows : CooperativeSize)
+pub record LoadedMatrix (m : Module) (a : ExpressionContext) (columns rows : CooperativeSize)
     (role : CooperativeRole) (pointer : ℕ) : Type 0 where
   pub scalar : Scalar
   pub known : scalar_pointed a pointer ≡ Some scalar
-  pub written : has_form m.types (Value (inner.CooperativeMatrix columns rows scalar role)) ≡ true
+  pub written : is_spelled m.types (Value (inner.CooperativeMatrix columns rows scalar role)) ≡ true
   pub tree : TypeSpecifier
   pub is : inner_tree (type_names m) (inner.CooperativeMatrix columns rows scalar role) ≡ Some tree
 
@@ -246,23 +246,23 @@ module _ (m : Module) (info : ModuleInfo) (es : List ExpressionInfo) where
   d = declared m info (types_known es)
 
   pub type_known_is : (h : ℕ) (k : ExpressionInfo) → slice_get es h ≡ Some k →
-      type_known d.around h ≡ inner_of k.ty m.types
+      type_known d.context h ≡ inner_of k.ty m.types
   type_known_is h k at =
       ap (option_and_then (λ r. inner_of r m.types))
       (slice_get-map (λ k. k.ty) es h ∙ ap (option_map (λ k. k.ty)) at)
 
   pub conversion : (operand : ℕ) (kind : ScalarKind) (convert : Option ℕ) →
       expression_is_written m es (As operand kind convert) ≡ true →
-      Conversion m d.around operand kind convert
+      Conversion m d.context operand kind convert
   conversion operand kind convert may =
       let k = known_operand m es (converts m.types kind convert) operand may in
       by k.type (type_known_is operand k.known k.there ∙ k.is)
       (conversion_target k.type kind convert) refl k.passes
     where
-      by : (it : TypeInner) → type_known d.around operand ≡ Some it → (o : Option TypeInner) →
+      by : (it : TypeInner) → type_known d.context operand ≡ Some it → (o : Option TypeInner) →
           conversion_target it kind convert ≡ o →
-          option_map_or (λ new. has_form m.types (Value new)) o false ≡ true →
-          Conversion m d.around operand kind convert
+          option_map_or (λ new. is_spelled m.types (Value new)) o false ≡ true →
+          Conversion m d.context operand kind convert
       by it known (Some new) target written =
           let t = tree_there (type_names m) (Value new) written in
           record {
@@ -279,7 +279,7 @@ module _ (m : Module) (info : ModuleInfo) (es : List ExpressionInfo) where
   pub loaded_matrix : (columns rows : CooperativeSize) (role : CooperativeRole)
       (place : CooperativeData) →
       expression_is_written m es (CooperativeLoad columns rows role place) ≡ true →
-      LoadedMatrix m d.around columns rows role place.pointer
+      LoadedMatrix m d.context columns rows role place.pointer
   loaded_matrix columns rows role place may =
       let k = known_operand m es (loads_matrix m.types columns rows role) place.pointer may in
       by (scalar_behind m.types k.type)
@@ -287,11 +287,11 @@ module _ (m : Module) (info : ModuleInfo) (es : List ExpressionInfo) where
       (type_known_is place.pointer k.known k.there ∙ k.is))
       k.passes
     where
-      by : (o : Option Scalar) → scalar_pointed d.around place.pointer ≡ o →
+      by : (o : Option Scalar) → scalar_pointed d.context place.pointer ≡ o →
           option_map_or
-          (λ s. has_form m.types (Value (inner.CooperativeMatrix columns rows s role))) o false ≡
+          (λ s. is_spelled m.types (Value (inner.CooperativeMatrix columns rows s role))) o false ≡
           true →
-          LoadedMatrix m d.around columns rows role place.pointer
+          LoadedMatrix m d.context columns rows role place.pointer
       by (Some s) known written =
           let t = tree_there (type_names m) (Value (inner.CooperativeMatrix columns rows s role)) written in
           record { scalar = s; known = known; written = written; tree = t.0; is = t.1 }
@@ -305,26 +305,6 @@ module _ (m : Module) (info : ModuleInfo) (es : List ExpressionInfo) where
       (λ r. option_and_then (λ it. selector d (handle_of r) it index) (inner_of r m.types)))
       (slice_get-map (λ k. k.ty) es base ∙ ap (option_map (λ k. k.ty)) b.there)
       ∙ ap (option_and_then (λ it. selector d (handle_of b.known.ty) it index)) b.is
-
-  -- there is a part just where the base is known to have parts
-  pub part_there : (base index : ℕ) →
-      is_some (part_selector d base index) ≡ known_passes m.types es (has_parts m.types) base
-  part_there base index =
-      ap
-      (λ o. is_some (option_and_then
-      (λ r. option_and_then (λ it. selector d (handle_of r) it index) (inner_of r m.types)) o))
-      (slice_get-map (λ k. k.ty) es base)
-      ∙ by (slice_get es base)
-    where
-      by : (o : Option ExpressionInfo) →
-          is_some
-          (option_and_then
-          (λ r. option_and_then (λ it. selector d (handle_of r) it index) (inner_of r m.types))
-          (option_map (λ k. k.ty) o)) ≡
-          option_map_or (λ k. option_map_or (has_parts m.types) (inner_of k.ty m.types) false) o
-          false
-      by None = refl
-      by (Some k) = there_if d (handle_of k.ty) index (inner_of k.ty m.types)
 
   -- its index selects a part
   pub selected : (base index : ℕ) → expression_is_written m es (AccessIndex base index) ≡ true →
@@ -343,7 +323,7 @@ module _ (m : Module) (info : ModuleInfo) (es : List ExpressionInfo) where
 
   -- by a word or a number of the grammar
   pub selected_well : (base index : ℕ) → expression_is_written m es (AccessIndex base index) ≡ true →
-      types_are_of_part m ≡ true →
+      types_are_written_so_far m ≡ true →
       ((h : ℕ) (k : ExpressionInfo) → slice_get es h ≡ Some k → IsFit m k.ty) → index < 2 ^ 32 →
       (x : Selector) → part_selector d base index ≡ Some x → IsWellSelected x
   selected_well base index may part fits lt x e =

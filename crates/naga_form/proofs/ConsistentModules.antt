@@ -1,7 +1,7 @@
 -- The operators of the program of shapes of every accepted module are typed consistently: what is
 -- spelled is of expressions, and what expressions spell alike is of types alike. So there is a
 -- meaning that keeps the types.
-use Rattle.module_meaning.specs.Names.{ItemsAreTold}
+use Rattle.module_meaning.specs.Names.{ItemsAreDistinguished}
 use Rattle.std.proofs.Common.{◌≡◌, ℕ, Some, slice_get, sym, subst}
 use Rattle.std.specs.Prelude.{IsTrue}
 use Rattle.naga_ir.specs.declared.module.Module as ir_module
@@ -19,22 +19,22 @@ use Rattle.naga_form.proofs.ModulePlaces.{function_at}
 use Rattle.naga_form.proofs.Signatures.{IsOfExpression}
 use Rattle.naga_form.proofs.SpelledSignatures.{of_spelled}
 
-module _ (m : ir_module.Module) (info : ModuleInfo) (accepted : IsTrue (is_accepted m info)) (told : ItemsAreTold m) where
+module _ (m : ir_module.Module) (info : ModuleInfo) (accepted : IsTrue (is_accepted m info)) (distinguished : ItemsAreDistinguished m) where
   -- what expressions over pointers or truth values give, in each function of the module
   parts : (place : ℕ) (f : Function) → slice_get (module_shape m info).functions place ≡ Some f → (h : ℕ) →
       PartsFit (module_shape m info).parts f (handle_type f h) (expression_of f h)
   parts place f there h =
-      let k = function_at m info accepted told.types place f there in
+      let k = function_at m info accepted distinguished.types place f there in
       subst (λ f. PartsFit (module_shape m info).parts f (handle_type f h) (expression_of f h)) (sym k.same)
-      (parts_fit m info accepted told k.function k.known k.sound h)
+      (parts_fit m info accepted distinguished k.function k.known k.sound h)
 
   -- what is spelled is of an expression
   spelled : (x : Signature) → IsSpelled (module_shape m info) x → IsOfExpression m info x
-  spelled = of_spelled m info (tree_spelled m info accepted told.types) accepted told.types (initialiser_spelled m info accepted told.types)
+  spelled = of_spelled m info (tree_spelled m info accepted distinguished.types) accepted distinguished.types (initialiser_spelled m info accepted distinguished.types)
 
   pub consistent : OperatorsAreConsistent m info
   consistent = record {
-    alike = λ x y is_x is_y. signatures_agree m info accepted told x y (spelled x is_x) (spelled y is_y);
+    alike = λ x y is_x is_y. signatures_agree m info accepted distinguished x y (spelled x is_x) (spelled y is_y);
     parts = parts;
   }
 

@@ -11,25 +11,27 @@ use Rattle.std.specs.List.{AllByRecursion, list_all}
 use Rattle.std.specs.Option.{is_some, option_and_then, option_map, option_map_or}
 use Rattle.std.proofs.lemmas.Bool.{and_parts}
 use Rattle.std.proofs.lemmas.Option.{slice_get_within}
-use Rattle.module_meaning.proofs.Part.{form_of_spellable}
-use Rattle.module_meaning.specs.AlikeTypes.{has_form}
+use Rattle.module_meaning.proofs.WrittenSoFar.{spelled_of_spellable}
+use Rattle.module_meaning.specs.AlikeTypes.{is_spelled}
 use Rattle.module_meaning.specs.Undeclared.{is_spellable}
-use Rattle.module_meaning.specs.ExpressionOperators.{Surroundings, constructor}
+use Rattle.module_meaning.specs.ExpressionOperators.{ExpressionContext, constructor}
 use Rattle.module_meaning.specs.ExpressionShapes.{Declared, built, tree_over, tree_then, tree_within}
 use Rattle.module_meaning.specs.ExpressionShapes.{trees, trees_of}
 use Rattle.module_meaning.specs.Literals.{literal_value}
 use Rattle.module_meaning.specs.Names.{constant_name, module_names}
 use Rattle.module_meaning.specs.Namings.{outer_names}
 use Rattle.module_meaning.specs.OperatorTable.{Operator, Splat, run_word}
-use Rattle.module_meaning.specs.Part.{constant_is_written, constant_is_written_over}
-use Rattle.module_meaning.specs.Part.{expression_is_written}
-use Rattle.module_meaning.specs.Part.{global_is_written, global_is_written_over}
-use Rattle.module_meaning.specs.Part.{global_is_written_within, is_written_literal}
-use Rattle.module_meaning.specs.Surroundings.{constant_number, constant_over, declared, declared_over}
-use Rattle.module_meaning.specs.Surroundings.{global_tree, global_tree_within, global_types_known}
-use Rattle.module_meaning.specs.Surroundings.{override_number}
-use Rattle.module_meaning.specs.Surroundings.{surroundings, types_known, written_constant}
-use Rattle.module_meaning.specs.Surroundings.{zero_of_type}
+use Rattle.module_meaning.specs.WrittenSoFar.{constant_is_written, constant_is_written_over}
+use Rattle.module_meaning.specs.WrittenSoFar.{expression_is_written}
+use Rattle.module_meaning.specs.WrittenSoFar.{global_is_written, global_is_written_over}
+use Rattle.module_meaning.specs.WrittenSoFar.{global_is_written_within, is_written_literal}
+use Rattle.module_meaning.specs.ExpressionContexts.{constant_number, constant_over, declared, declared_over}
+use Rattle.module_meaning.specs.ExpressionContexts.{global_tree, global_tree_within}
+use Rattle.module_meaning.specs.ExpressionContexts.{global_types_known}
+use Rattle.module_meaning.specs.ExpressionContexts.{override_number}
+use Rattle.module_meaning.specs.ExpressionContexts.{expression_context, types_known}
+use Rattle.module_meaning.specs.ExpressionContexts.{written_constant}
+use Rattle.module_meaning.specs.ExpressionContexts.{zero_of_type}
 use Rattle.module_meaning.specs.Types.{type_names}
 use Rattle.naga_info.specs.declared.info.ExpressionInfo.{ExpressionInfo}
 use Rattle.naga_info.specs.declared.info.ModuleInfo.{ModuleInfo}
@@ -91,12 +93,12 @@ names_are_read m = record {
 -- ---- what is read
 module _ (outer : ModuleNames) (m : Module) (constants : ℕ → Option ConstantTree)
     (known other : ℕ → Option TypeResolution) (t : TypeNames)
-    (spells : SpellsTypes (surroundings m other) t) where
+    (spells : SpellsTypes (expression_context m other) t) where
   abbrev d : Declared
   d = declared_over m constants known
 
-  abbrev a : Surroundings
-  a = surroundings m other
+  abbrev a : ExpressionContext
+  a = expression_context m other
 
   -- what is built is read as it is built, where the type of its handle is known
   built_read : (h : ℕ) → is_some (known h) ≡ true → (op : Operator)
@@ -176,7 +178,7 @@ module _ (outer : ModuleNames) (m : Module) (constants : ℕ → Option Constant
 
 -- ---- of a function
 module _ (outer : ModuleNames) (m : Module) (info : ModuleInfo) (es : List ExpressionInfo)
-    (t : TypeNames) (spells : SpellsTypes (surroundings m (types_known es)) t)
+    (t : TypeNames) (spells : SpellsTypes (expression_context m (types_known es)) t)
     (named : NamesAreRead outer m t)
     (constants : (c : ℕ) → constant_is_written m c ≡ true →
     IsReadAs outer (written_constant m info c) (written_constant_form m t c))
@@ -191,7 +193,7 @@ module _ (outer : ModuleNames) (m : Module) (info : ModuleInfo) (es : List Expre
   own = declared m info (types_known es)
 
   abbrev out_form : (levels : ℕ) → ℕ → Expression
-  out_form levels = constant_form_within levels own.around t (written_constant_form m t) all
+  out_form levels = constant_form_within levels own.context t (written_constant_form m t) all
 
   -- what may be written out, and is written, has a tree and is read as it
   pub read_out : (levels h : ℕ) → W h → written_out_within levels all h ≡ true →
@@ -232,7 +234,7 @@ module _ (outer : ModuleNames) (m : Module) (info : ModuleInfo) (es : List Expre
           ((x : ℕ) → W x → may x ≡ true → IsReadAs outer (tree_of x) (out_form levels x)) →
           IsReadAs outer (option_and_then (tree_over own tree_of h) o)
           (option_map_or
-          (constant_form_over own.around t (written_constant_form m t) (out_form levels)) o
+          (constant_form_over own.context t (written_constant_form m t) (out_form levels)) o
           no_constant_form)
       by None at is each = absurd cc
       by (Some e) at is each =
@@ -242,7 +244,7 @@ module _ (outer : ModuleNames) (m : Module) (info : ModuleInfo) (es : List Expre
 
 -- ---- of a module
 module _ (outer : ModuleNames) (m : Module) (info : ModuleInfo) (t : TypeNames)
-    (spells : SpellsTypes (surroundings m (λ h. None)) t)
+    (spells : SpellsTypes (expression_context m (λ h. None)) t)
     (named : NamesAreRead outer m t)
     (size : length m.global_expressions ≡ length info.const_expression_types.items) where
   -- a constant, over what is said of the module's own expressions
@@ -328,7 +330,7 @@ module _ (outer : ModuleNames) (m : Module) (info : ModuleInfo) (t : TypeNames)
           (option_and_then
           (tree_over (declared_over m (constant_over m tree_of) (global_types_known info)) tree_of h) o)
           (option_map_or
-          (constant_form_over (surroundings m (λ x. None)) t (constant_form_by m part) part) o
+          (constant_form_over (expression_context m (λ x. None)) t (constant_form_by m part) part) o
           no_constant_form)
       by None at is each = absurd cc
       by (Some e) at is each =
@@ -343,7 +345,7 @@ module _ (outer : ModuleNames) (m : Module) (info : ModuleInfo) (t : TypeNames)
       (λ x is. global_read (suc x) x is) c is
 
 -- ---- what is of the grammar
-module _ (a : Surroundings) (t : TypeNames) (constant part : ℕ → Expression) where
+module _ (a : ExpressionContext) (t : TypeNames) (constant part : ℕ → Expression) where
   -- what is asked of an expression that is written out
   abbrev IsOutOf : ir.Expression → Type 0
   IsOutOf (expression.Literal value) = IsExpression (Constant (literal_form value))
@@ -383,7 +385,8 @@ module _ (a : Surroundings) (t : TypeNames) (constant part : ℕ → Expression)
   over_is _ is = tt
 
 -- of a function
-module _ (a : Surroundings) (t : TypeNames) (constant : ℕ → Expression) (es : List ir.Expression)
+module _ (a : ExpressionContext) (t : TypeNames) (constant : ℕ → Expression)
+    (es : List ir.Expression)
     (W : ℕ → Type 0)
     (closed : (h : ℕ) (e : ir.Expression) → slice_get es h ≡ Some e → W h →
     AllByRecursion W (expression_operands e))
@@ -431,7 +434,7 @@ module _ (m : Module) (t : TypeNames)
     (named : (c : ℕ) → c < length m.constants → IsIdentifier (constant_name (module_names m) c))
     (overrides : (h o : ℕ) → slice_get m.global_expressions h ≡ Some (expression.Override o) →
     IsIdentifier (t.override_name o))
-    (formed : (ty : ℕ) → has_form m.types (Handle ty) ≡ true → HasFormAt t ty) where
+    (formed : (ty : ℕ) → is_spelled m.types (Handle ty) ≡ true → HasFormAt t ty) where
   constant_is_by : (own : ℕ → Bool) (part : ℕ → Expression) →
       ((x : ℕ) → own x ≡ true → IsExpression (part x)) → (c : ℕ) →
       constant_is_written_over m own c ≡ true → IsExpression (constant_form_by m part c)
@@ -472,14 +475,15 @@ module _ (m : Module) (t : TypeNames)
 
       out_of : ((x : ℕ) → own x ≡ true → IsExpression (part x)) → (e : ir.Expression) →
           slice_get m.global_expressions h ≡ Some e → global_is_written_over m own e ≡ true →
-          IsOutOf (surroundings m (λ x. None)) t (constant_form_by m part) part e
+          IsOutOf (expression_context m (λ x. None)) t (constant_form_by m part) part e
       out_of each (expression.Literal value) at is = literals h value at is
       out_of each (expression.Constant handle) at is = constant_is_by own part each handle is
       out_of each (expression.Override handle) at is = overrides h handle at
-      out_of each (expression.ZeroValue ty) at is = formed ty (form_of_spellable m (Handle ty) is)
+      out_of each (expression.ZeroValue ty) at is =
+          formed ty (spelled_of_spellable m (Handle ty) is)
       out_of each (expression.Compose ty parts) at is =
           let both = and_parts (is_spellable m (Handle ty)) (list_all own parts.items) is in
-          (formed ty (form_of_spellable m (Handle ty) both.0), all_are each parts.items both.1)
+          (formed ty (spelled_of_spellable m (Handle ty) both.0), all_are each parts.items both.1)
       out_of each (expression.Splat size value) at is = each value is
       out_of each _ at is = tt
 
@@ -488,11 +492,11 @@ module _ (m : Module) (t : TypeNames)
           ((x : ℕ) → own x ≡ true → IsExpression (part x)) →
           IsExpression
           (option_map_or
-          (constant_form_over (surroundings m (λ x. None)) t (constant_form_by m part) part) o
+          (constant_form_over (expression_context m (λ x. None)) t (constant_form_by m part) part) o
           no_constant_form)
       by None at is each = tt
       by (Some e) at is each =
-          over_is (surroundings m (λ x. None)) t (constant_form_by m part) part e
+          over_is (expression_context m (λ x. None)) t (constant_form_by m part) part e
           (out_of each e at is)
 
   -- a constant that is written

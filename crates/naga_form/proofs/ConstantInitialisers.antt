@@ -1,7 +1,7 @@
 -- What the program of shapes of an accepted module has for its constants: the trees of a group and
 -- the initialisers of the named constants spell signatures of expressions, and name what is there.
 -- A tree has its expression's type; an initialiser has its constant's, where it has a tree.
-use Rattle.module_meaning.specs.Names.{TypesAreTold}
+use Rattle.module_meaning.specs.Names.{TypesAreDistinguished}
 use Rattle.shader_runs.proofs.Typing.{no_signature}
 use Rattle.std.proofs.Common.{◌≡◌, ℕ, zero, suc, Bool, true, false, List, [], ◌∷◌, refl, sym, ap, ◌∙◌, subst}
 use Rattle.std.proofs.Common.{Option, Some, None, slice_get, if◌then◌else◌}
@@ -22,7 +22,7 @@ use Rattle.module_meaning.specs.Accepted.{is_accepted}
 use Rattle.module_meaning.specs.AgreeingOperators.{Group}
 use Rattle.module_meaning.specs.ExpressionShapes.{constant_tree}
 use Rattle.module_meaning.specs.ModuleShapes.{module_shape, named_constants, initialiser}
-use Rattle.module_meaning.specs.Surroundings.{global_tree}
+use Rattle.module_meaning.specs.ExpressionContexts.{global_tree}
 use Rattle.module_meaning.specs.Types.{type_of_values}
 use Rattle.naga_form.proofs.AcceptedGroups.{IsSoundGroup}
 use Rattle.naga_form.proofs.AgreeingUses.{value_at}
@@ -50,19 +50,19 @@ named_stands (d ∷ cs) i c here = by (named_stands cs) (is_named d) refl here
         at zero here = (0, here, subst (λ x. is_named x ≡ true) (same_Some d c here) named)
         at (suc i) here = further (rest i c here)
 
-module _ (m : Module) (info : ModuleInfo) (accepted : IsTrue (is_accepted m info)) (told : TypesAreTold m) where
+module _ (m : Module) (info : ModuleInfo) (accepted : IsTrue (is_accepted m info)) (distinguished : TypesAreDistinguished m) where
   -- ---- trees of a sound group
   pub tree_typed : (f : Option Function) (g : Group) → IsSoundGroup m info f g → (h : ℕ) (t : ConstantTree) → constant_tree (declared_for m info g) g.expressions h ≡ Some t →
       constant_type (module_shape m info) t ≡ value_at m info g.known h
-  tree_typed f g is h t found = (trees_are m info accepted told f g is h t found).type
+  tree_typed f g is h t found = (trees_are m info accepted distinguished f g is h t found).type
 
   pub tree_spelled : (f : Option Function) (g : Group) → IsSoundGroup m info f g → (h : ℕ) (t : ConstantTree) → constant_tree (declared_for m info g) g.expressions h ≡ Some t →
       (x : Signature) → IsOneOf x (constant_signatures (module_shape m info) t) → IsOfExpression m info x
-  tree_spelled f g is h t found = (trees_are m info accepted told f g is h t found).spelled
+  tree_spelled f g is h t found = (trees_are m info accepted distinguished f g is h t found).spelled
 
   pub tree_in_range : (f : Option Function) (g : Group) → IsSoundGroup m info f g → (h : ℕ) (t : ConstantTree) → constant_tree (declared_for m info g) g.expressions h ≡ Some t →
       ConstantInRange (module_shape m info) t
-  tree_in_range f g is h t found = (trees_are m info accepted told f g is h t found).range
+  tree_in_range f g is h t found = (trees_are m info accepted distinguished f g is h t found).range
 
   -- ---- initialisers of named constants
   -- the named constant that an initialiser is of, among all constants
@@ -86,7 +86,7 @@ module _ (m : Module) (info : ModuleInfo) (accepted : IsTrue (is_accepted m info
     where
       by : (o : Option ConstantTree) → global_tree m info c.init ≡ o → P (unwrap_or o (Fixed (Truth false)))
       by None found = none
-      by (Some t) found = some t (initialiser_is m info accepted told h c at t found)
+      by (Some t) found = some t (initialiser_is m info accepted distinguished h c at t found)
 
   pub initialiser_spelled : (i : ℕ) (e : ConstantTree) → slice_get (module_shape m info).initialisers i ≡ Some e →
       (x : Signature) → IsOneOf x (constant_signatures (module_shape m info) e) → IsOfExpression m info x
@@ -113,4 +113,4 @@ module _ (m : Module) (info : ModuleInfo) (accepted : IsTrue (is_accepted m info
       let k = initialiser_of i e at in let tree = have i k.constant k.named in
       let found : initialiser m info k.constant ≡ tree.0 = ap (λ o. unwrap_or o (Fixed (Truth false))) tree.1 in
       place_typed m info i k.constant k.named
-      ∙ (sym (initialiser_is m info accepted told k.handle k.constant k.there tree.0 tree.1).type ∙ ap (constant_type (module_shape m info)) (sym found ∙ k.is))
+      ∙ (sym (initialiser_is m info accepted distinguished k.handle k.constant k.there tree.0 tree.1).type ∙ ap (constant_type (module_shape m info)) (sym found ∙ k.is))

@@ -1,6 +1,6 @@
 -- The named constants of an accepted module have an order in which each stands behind those that
 -- its initialiser names: that of their initialisers among the module's own expressions.
-use Rattle.module_meaning.specs.Names.{TypesAreTold}
+use Rattle.module_meaning.specs.Names.{TypesAreDistinguished}
 use Rattle.std.proofs.Common.{◌≡◌, ℕ, zero, suc, ◌<◌, ◌≤◌, Bool, true, false, List, [], ◌∷◌, refl, sym, ap, ◌∙◌, length, subst}
 use Rattle.std.proofs.Common.{Option, Some, None, slice_get, arith, nat_lt, if◌then◌else◌}
 use Rattle.std.specs.Prelude.{IsTrue, unwrap_or}
@@ -25,10 +25,10 @@ use Rattle.module_meaning.specs.ExpressionShapes.{Declared, trees, tree_then, tr
 use Rattle.module_meaning.specs.ModuleShapes.{module_shape, named_constants, initialiser}
 use Rattle.module_meaning.specs.OperatorTable.{Operator, Splat, run_word}
 use Rattle.module_meaning.specs.Ranges.{all_below}
-use Rattle.module_meaning.specs.Surroundings.{constant_over, declared_over, global_tree, global_tree_within, constant_number, override_number}
-use Rattle.module_meaning.specs.Surroundings.{global_types_known, named_count, zero_of_type}
+use Rattle.module_meaning.specs.ExpressionContexts.{constant_over, declared_over, global_tree, global_tree_within, constant_number, override_number}
+use Rattle.module_meaning.specs.ExpressionContexts.{global_types_known, named_count, zero_of_type}
 use Rattle.naga_form.proofs.ConstantInitialisers.{initialiser_of}
-use Rattle.naga_form.proofs.ConstantTrees.{standing_tree}
+use Rattle.naga_form.proofs.ConstantTrees.{availability_tree}
 use Rattle.naga_form.proofs.NamedConstants.{named_at, count_is, types_count, types_of_constants}
 use Rattle.naga_form.proofs.WrittenOut.{Own, own_is, constant_named, initialiser_stands_before}
 
@@ -53,7 +53,10 @@ trees_leaves P tree_of bound are (h ∷ hs) below ts is =
     let low = and_parts (nat_lt h bound) (all_below bound hs) below in
     by (tree_of h) (are h (ltb-true h bound low.0)) (trees_of tree_of hs) (trees_leaves P tree_of bound are hs low.1) is
   where
-    by : (o : Option ConstantTree) → ((t : ConstantTree) → o ≡ Some t → EachLeaf AnyValue P t) → (os : Option (List ConstantTree)) → ((us : List ConstantTree) → os ≡ Some us → EachLeafOf AnyValue P (trees us)) → tree_then o os ≡ Some ts → EachLeafOf AnyValue P (trees ts)
+    by : (o : Option ConstantTree) → ((t : ConstantTree) → o ≡ Some t → EachLeaf AnyValue P t) →
+        (os : Option (List ConstantTree)) →
+        ((us : List ConstantTree) → os ≡ Some us → EachLeafOf AnyValue P (trees us)) →
+        tree_then o os ≡ Some ts → EachLeafOf AnyValue P (trees ts)
     by None one os more is = absurd cc
     by (Some t) one None more is = absurd cc
     by (Some t) one (Some us) more is = subst (λ vs. EachLeafOf AnyValue P (trees vs)) (same_Some (t ∷ us) ts is) (one t refl, more us refl)
@@ -89,12 +92,14 @@ module _ (m : Module) (info : ModuleInfo) where
   abbrev AreBefore : (ℕ → Option ConstantTree) → Type 0
   AreBefore written = (h : ℕ) (c : Constant) → slice_get m.constants h ≡ Some c → (t : ConstantTree) → written h ≡ Some t → EachLeaf AnyValue (Before (suc c.init)) t
 
-  module _ (accepted : IsTrue (is_accepted m info)) (told : TypesAreTold m) where
+  module _ (accepted : IsTrue (is_accepted m info)) (distinguished : TypesAreDistinguished m) where
     module _ (written : ℕ → Option ConstantTree) (are : AreBefore written) where
       abbrev inside : Declared
       inside = declared_over m written (global_types_known info)
 
-      built_before : (h bound : ℕ) (o : Operator) (ts : List ConstantTree) → EachLeafOf AnyValue (Before bound) (trees ts) → (t : ConstantTree) → built inside h o ts ≡ Some t → EachLeaf AnyValue (Before bound) t
+      built_before : (h bound : ℕ) (o : Operator) (ts : List ConstantTree) →
+          EachLeafOf AnyValue (Before bound) (trees ts) → (t : ConstantTree) →
+          built inside h o ts ≡ Some t → EachLeaf AnyValue (Before bound) t
       built_before h bound o ts before t made =
           let parts = map_some (λ r. Constructed (run_word o) (inside.value_type r) (trees ts)) (global_types_known info h) t made in
           subst (EachLeaf AnyValue (Before bound)) parts.2 before
@@ -107,9 +112,9 @@ module _ (m : Module) (info : ModuleInfo) where
           let lt = initialiser_stands_before m info accepted h c at item.0 item.1 in
           before_more (suc item.0.init) h (omega (arith, lt)) t (are c item.0 item.1 t found)
       over_before tree_of h (expression.Override o) at below t found = subst (EachLeaf AnyValue (Before h)) (same_Some (NamedConstant (override_number m o)) t found) (override_before h o)
-      over_before tree_of h (expression.ZeroValue ty) at below t found = built_before h h (constructor inside.around (Handle ty) 0) [] tt t found
+      over_before tree_of h (expression.ZeroValue ty) at below t found = built_before h h (constructor inside.context (Handle ty) 0) [] tt t found
       over_before tree_of h (expression.Compose ty components) at below t found =
-          let o = constructor inside.around (Handle ty) (length components.items) in
+          let o = constructor inside.context (Handle ty) (length components.items) in
           let parts = then_some (built inside h o) (trees_of tree_of components.items) t found in
           built_before h h o parts.0 (trees_leaves (Before h) tree_of h below components.items ((own_is m info accepted).below h (expression.Compose ty components) at) parts.0 parts.1) t parts.2
       over_before tree_of h (expression.Splat size v) at below t found =
@@ -130,7 +135,7 @@ module _ (m : Module) (info : ModuleInfo) where
     constants_before : (global : ℕ → Option ConstantTree) → GlobalsBefore global → AreBefore (constant_over m global)
     constants_before global are h c at t found =
         subst (EachLeaf AnyValue (Before (suc c.init)))
-        (same_Some (standing_tree m info accepted told global h c) t (sym (ap (option_map (standing_tree m info accepted told global h)) at) ∙ found))
+        (same_Some (availability_tree m info accepted distinguished global h c) t (sym (ap (option_map (availability_tree m info accepted distinguished global h)) at) ∙ found))
         (by (is_some c.name) refl)
       where
         or_zero : (o : Option ConstantTree) → global c.init ≡ o → EachLeaf AnyValue (Before (suc c.init)) (unwrap_or o (zero_of_type m c.ty))
@@ -153,7 +158,7 @@ module _ (m : Module) (info : ModuleInfo) where
     pub initialiser_before : (i : ℕ) (e : ConstantTree) → slice_get shape.initialisers i ≡ Some e →
         EachLeaf (λ v. Unit {0}) (λ k. k < constant_count shape → constant_rank k < constant_rank i) e
     initialiser_before i e at =
-        let k = initialiser_of m info accepted told i e at in
+        let k = initialiser_of m info accepted distinguished i e at in
         let rank : constant_rank i ≡ k.constant.init = ap (λ o. option_map_or (λ c. c.init) o 0) k.named in
         subst (λ n. EachLeaf AnyValue (Before n) e) (sym rank) (subst (EachLeaf AnyValue (Before k.constant.init)) k.is (by k.constant (global_tree m info k.constant.init) refl))
       where

@@ -2,7 +2,7 @@
 -- operators are those of expressions of sound groups, and what it names is there. A constant that
 -- counts as a zero value is such a tree wherever an expression names it.
 use Rattle.naga_form.proofs.AgreeingUses.{value_is}
-use Rattle.module_meaning.specs.Names.{TypesAreTold}
+use Rattle.module_meaning.specs.Names.{TypesAreDistinguished}
 use Rattle.shader_runs.proofs.Typing.{no_signature}
 use Rattle.naga_form.proofs.Signatures.{either_signature, only_signature}
 use Rattle.std.proofs.Common.{◌≡◌, ℕ, zero, suc, Bool, true, false, List, [], ◌∷◌, refl, sym, ap, ◌∙◌, length, subst}
@@ -44,8 +44,8 @@ use Rattle.module_meaning.specs.ModuleShapes.{module_shape}
 use Rattle.module_meaning.specs.OperatorTable.{Operator, run_word, Splat}
 use Rattle.module_meaning.specs.Ranges.{module_ranges_fit}
 use Rattle.module_meaning.specs.Soundness.{module_is_sound, function_is_sound, entry_point_is_sound, declarations_are_sound, expressions_are_sound}
-use Rattle.module_meaning.specs.Surroundings.{declared_over, constant_over, global_tree, global_tree_within, written_constant}
-use Rattle.module_meaning.specs.Surroundings.{constant_number, override_number, global_types_known, zero_of_type}
+use Rattle.module_meaning.specs.ExpressionContexts.{declared_over, constant_over, global_tree, global_tree_within, written_constant}
+use Rattle.module_meaning.specs.ExpressionContexts.{constant_number, override_number, global_types_known, zero_of_type}
 use Rattle.module_meaning.specs.Types.{type_of_values}
 use Rattle.module_meaning.proofs.ExpressionShapes.{constructor_asks}
 use Rattle.module_meaning.proofs.Lists.{list_all_at}
@@ -54,7 +54,7 @@ use Rattle.naga_form.proofs.AgreeingUses.{value_at}
 use Rattle.naga_form.proofs.LiteralTypes.{literal_typed, literal_is_none}
 use Rattle.naga_form.proofs.NamedConstants.{named_typed, named_within, override_typed, override_within}
 use Rattle.naga_form.proofs.SameValues.{IsFit, values_by_numbers}
-use Rattle.naga_form.proofs.Signatures.{around_group, declared_for, IsCalled, by_constant, by_operator, by_zero, IsOfExpression}
+use Rattle.naga_form.proofs.Signatures.{group_context, declared_for, IsCalled, by_constant, by_operator, by_zero, IsOfExpression}
 
 -- ---- trees
 module _ (m : Module) (info : ModuleInfo) where
@@ -88,7 +88,9 @@ module _ (m : Module) (info : ModuleInfo) where
   trees_found value tree_of are [] ts is = subst (λ us. AreTreesOf [] (trees us)) (same_Some [] ts is) no_trees
   trees_found value tree_of are (h ∷ hs) ts is = by (tree_of h) refl (trees_of tree_of hs) (trees_found value tree_of are hs) is
     where
-      by : (o : Option ConstantTree) → tree_of h ≡ o → (os : Option (List ConstantTree)) → ((us : List ConstantTree) → os ≡ Some us → AreTreesOf (map value hs) (trees us)) → tree_then o os ≡ Some ts → AreTreesOf (value h ∷ map value hs) (trees ts)
+      by : (o : Option ConstantTree) → tree_of h ≡ o → (os : Option (List ConstantTree)) →
+          ((us : List ConstantTree) → os ≡ Some us → AreTreesOf (map value hs) (trees us)) →
+          tree_then o os ≡ Some ts → AreTreesOf (value h ∷ map value hs) (trees ts)
       by None at os more is = absurd cc
       by (Some t) at None more is = absurd cc
       by (Some t) at (Some us) more is =
@@ -111,10 +113,10 @@ module _ (m : Module) (info : ModuleInfo) where
   retyped : (k l : ValueType) (t : ConstantTree) → k ≡ l → IsTreeOf k t → IsTreeOf l t
   retyped k l t e is = record { type = is.type ∙ e; spelled = is.spelled; range = is.range }
 
-  module _ (accepted : IsTrue (is_accepted m info)) (told : TypesAreTold m) where
+  module _ (accepted : IsTrue (is_accepted m info)) (distinguished : TypesAreDistinguished m) where
     -- types that are alike have values of one type
     alike : (a b : TypeResolution) → IsFit m a → IsFit m b → are_alike m.types a b ≡ true → type_of_values m a ≡ type_of_values m b
-    alike a b p q e = values_by_numbers m (types_are_counted m info accepted told) a b p q ((bytes_eq-Decides (type_identity m.types a) (type_identity m.types b)).0 e)
+    alike a b p q e = values_by_numbers m (types_are_counted m info accepted distinguished) a b p q ((bytes_eq-Decides (type_identity m.types a) (type_identity m.types b)).0 e)
 
     -- ---- of expressions that stand together
     module _ (f : Option Function) (g : Group) (is : IsSoundGroup m info f g) (written : ℕ → Option ConstantTree) (constants : ConstantsAre written) where
@@ -125,14 +127,18 @@ module _ (m : Module) (info : ModuleInfo) where
       value = value_at m info g.known
 
       -- an expression is of the type that it has by what it stands for
-      like_wanted : (h : ℕ) (e : Expression) → slice_get g.expressions h ≡ Some e → (r : TypeResolution) → slice_get g.known h ≡ Some r → (s : TypeResolution) → IsFit m s → are_alike m.types r s ≡ true → type_of_values m s ≡ value h
+      like_wanted : (h : ℕ) (e : Expression) → slice_get g.expressions h ≡ Some e →
+          (r : TypeResolution) → slice_get g.known h ≡ Some r → (s : TypeResolution) → IsFit m s →
+          are_alike m.types r s ≡ true → type_of_values m s ≡ value h
       like_wanted h e at r there s fit e1 = sym (alike r s (is.fits h r there) fit e1) ∙ sym (value_is m info g.known h r there)
 
       literal_is : (h : ℕ) (v : _) → slice_get g.expressions h ≡ Some (expression.Literal v) → IsTreeOf (value h) (Fixed (literal_value v))
       literal_is h v at =
           let own = own_known m info f g is h (expression.Literal v) at in
           record {
-            type = literal_typed m v ∙ like_wanted h (expression.Literal v) at own.0 own.1 (Value (inner.Scalar (literal_scalar v))) (refl, tt, refl) (is.typed h (expression.Literal v) own.0 at own.1);
+            type = literal_typed m v ∙ like_wanted h (expression.Literal v) at own.0 own.1
+                (Value (inner.Scalar (literal_scalar v))) (refl, tt, refl)
+                (is.typed h (expression.Literal v) own.0 at own.1);
             spelled = λ x one. absurd (no_signature x one);
             range = literal_is_none v;
           }
@@ -145,7 +151,7 @@ module _ (m : Module) (info : ModuleInfo) where
           spelled : (x : Signature) → IsOneOf x (constant_signatures shape (zero_of_type m k.ty)) → IsOfExpression m info x
           spelled x one =
               subst (IsOfExpression m info)
-              (sym (only_signature x (record { word = Spelled (run_word (constructor (around_group m info g) (Handle k.ty) 0)); operands = []; result = type_of_values m (Handle k.ty) }) one))
+              (sym (only_signature x (record { word = Spelled (run_word (constructor (group_context m info g) (Handle k.ty) 0)); operands = []; result = type_of_values m (Handle k.ty) }) one))
               (record {
                 function = f;
                 group = g;
@@ -193,11 +199,16 @@ module _ (m : Module) (info : ModuleInfo) where
             range = are.range;
           })
         where
-          either : (s : Signature) → IsOfExpression m info s → (xs : List Signature) → ((x : Signature) → IsOneOf x xs → IsOfExpression m info x) → (x : Signature) → IsOneOf x (s ∷ xs) → IsOfExpression m info x
+          either : (s : Signature) → IsOfExpression m info s → (xs : List Signature) →
+              ((x : Signature) → IsOneOf x xs → IsOfExpression m info x) →
+              (x : Signature) → IsOneOf x (s ∷ xs) → IsOfExpression m info x
           either s first xs more x first_of = first
           either s first xs more x (later_of one) = more x one
 
-          spelled : (r : TypeResolution) → slice_get g.known h ≡ Some r → (x : Signature) → IsOneOf x (constant_signatures shape (Constructed (run_word o) (type_of_values m r) (trees ts))) → IsOfExpression m info x
+          spelled : (r : TypeResolution) → slice_get g.known h ≡ Some r →
+              (x : Signature) →
+              IsOneOf x (constant_signatures shape
+              (Constructed (run_word o) (type_of_values m r) (trees ts))) → IsOfExpression m info x
           spelled r there x one =
               either (record { word = Spelled (run_word o); operands = constant_types_of shape (trees ts); result = type_of_values m r }) (record {
                 function = f;
@@ -218,11 +229,11 @@ module _ (m : Module) (info : ModuleInfo) where
       tree_over_is tree_of are h (expression.Constant c) at t found = constant_is h c at t found
       tree_over_is tree_of are h (expression.Override o) at t found = subst (IsTreeOf (value h)) (same_Some (NamedConstant (override_number m o)) t found) (override_is h o at)
       tree_over_is tree_of are h (expression.ZeroValue ty) at t found =
-          built_is h (expression.ZeroValue ty) at (constructor (around_group m info g) (Handle ty) 0) (by_zero ty refl) [] no_trees t found
+          built_is h (expression.ZeroValue ty) at (constructor (group_context m info g) (Handle ty) 0) (by_zero ty refl) [] no_trees t found
       tree_over_is tree_of are h (expression.Compose ty components) at t found =
-          let o = constructor (around_group m info g) (Handle ty) (length components.items) in
+          let o = constructor (group_context m info g) (Handle ty) (length components.items) in
           let parts = then_some (built inside h o) (trees_of tree_of components.items) t found in
-          built_is h (expression.Compose ty components) at o (by_operator o refl (constructor_asks (around_group m info g) (Handle ty) (length components.items))) parts.0
+          built_is h (expression.Compose ty components) at o (by_operator o refl (constructor_asks (group_context m info g) (Handle ty) (length components.items))) parts.0
           (trees_found value tree_of are components.items parts.0 parts.1) t parts.2
       tree_over_is tree_of are h (expression.Splat size v) at t found =
           let parts = then_some (λ u. built inside h (Splat size) (u ∷ [])) (tree_of v) t found in
@@ -263,14 +274,16 @@ module _ (m : Module) (info : ModuleInfo) where
     initialiser_known : (h : ℕ) (c : Constant) → slice_get m.constants h ≡ Some c → value_at m info own c.init ≡ type_of_values m (Handle c.ty)
     initialiser_known h c at = by (slice_get own c.init) refl (list_all_at (constant_is_sound m.types own) m.constants h c constants_sound at)
       where
-        by : (o : Option TypeResolution) → slice_get own c.init ≡ o → option_map_or (λ r. are_alike m.types r (Handle c.ty)) o false ≡ true → value_at m info own c.init ≡ type_of_values m (Handle c.ty)
+        by : (o : Option TypeResolution) → slice_get own c.init ≡ o →
+            option_map_or (λ r. are_alike m.types r (Handle c.ty)) o false ≡ true →
+            value_at m info own c.init ≡ type_of_values m (Handle c.ty)
         by None there same = absurd cc
         by (Some r) there same =
             value_is m info own c.init r there ∙ alike r (Handle c.ty) ((declarations_are m info accepted).fits c.init r there) tt same
 
     -- a constant by its name, or by its initialiser
-    abbrev pub standing_tree : (ℕ → Option ConstantTree) → ℕ → Constant → ConstantTree
-    standing_tree global h c = if is_some c.name then NamedConstant (constant_number m h) else unwrap_or (global c.init) (zero_of_type m c.ty)
+    abbrev pub availability_tree : (ℕ → Option ConstantTree) → ℕ → Constant → ConstantTree
+    availability_tree global h c = if is_some c.name then NamedConstant (constant_number m h) else unwrap_or (global c.init) (zero_of_type m c.ty)
 
     -- each of the module's own expressions has a tree of its type, where it has one
     abbrev GlobalsAre : (ℕ → Option ConstantTree) → Type 0
@@ -278,7 +291,7 @@ module _ (m : Module) (info : ModuleInfo) where
 
     constants_over : (global : ℕ → Option ConstantTree) → GlobalsAre global → ConstantsAre (constant_over m global)
     constants_over global are h c at t found =
-        subst (StandsFor c.ty) (same_Some (standing_tree global h c) t (sym (ap (option_map (standing_tree global h)) at) ∙ found)) (by (is_some c.name) refl)
+        subst (StandsFor c.ty) (same_Some (availability_tree global h c) t (sym (ap (option_map (availability_tree global h)) at) ∙ found)) (by (is_some c.name) refl)
       where
         unnamed : (o : Option ConstantTree) → global c.init ≡ o → StandsFor c.ty (unwrap_or o (zero_of_type m c.ty))
         unnamed None found = OfZero refl
@@ -297,7 +310,9 @@ module _ (m : Module) (info : ModuleInfo) where
     globals_within (suc levels) h t found =
         let global = global_tree_within levels m info in
         let parts = then_some (tree_over (declared_over m (constant_over m global) (global_types_known info)) global h) (slice_get m.global_expressions h) t found in
-        tree_over_is None (own_group m info accepted) (declarations_are m info accepted) (constant_over m global) (constants_over global (globals_within levels)) global (globals_within levels) h parts.0 parts.1 t parts.2
+        tree_over_is None (own_group m info accepted) (declarations_are m info accepted)
+        (constant_over m global) (constants_over global (globals_within levels)) global
+        (globals_within levels) h parts.0 parts.1 t parts.2
 
     -- ---- what is said of constant trees
     globals_are : GlobalsAre (global_tree m info)
@@ -308,7 +323,9 @@ module _ (m : Module) (info : ModuleInfo) where
     constants_are = constants_over (global_tree m info) globals_are
 
     -- a tree of a sound group
-    pub trees_are : (f : Option Function) (g : Group) → IsSoundGroup m info f g → (h : ℕ) (t : ConstantTree) → constant_tree (declared_for m info g) g.expressions h ≡ Some t → IsTreeOf (value_at m info g.known h) t
+    pub trees_are : (f : Option Function) (g : Group) → IsSoundGroup m info f g →
+        (h : ℕ) (t : ConstantTree) → constant_tree (declared_for m info g) g.expressions h ≡
+        Some t → IsTreeOf (value_at m info g.known h) t
     trees_are f g is h t found = within_is f g is (written_constant m info) constants_are (suc h) h t found
 
     -- the initialiser of a constant, if it has a tree

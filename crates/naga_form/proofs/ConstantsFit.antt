@@ -2,7 +2,7 @@
 -- named constants' initialisers are written out, where words and names stand apart; and so does what
 -- is asked of the constants in its functions, of any accepted module.
 use Rattle.module_meaning.specs.Writable.{AreWrittenOut}
-use Rattle.module_meaning.specs.Names.{TypesAreTold}
+use Rattle.module_meaning.specs.Names.{TypesAreDistinguished}
 use Rattle.std.proofs.Common.{◌≡◌, ℕ, ◌<◌, List, Some, slice_get, length}
 use Rattle.std.specs.Prelude.{IsTrue}
 use Rattle.naga_ir.specs.declared.module.Function.{Function}
@@ -22,32 +22,33 @@ use Rattle.naga_form.proofs.ConstantOrder.{constant_rank, constants_within_types
 use Rattle.naga_form.proofs.Leaves.{ConstantsAreTyped}
 use Rattle.naga_form.proofs.WrittenOut.{have_trees, constant_has_tree, constant_named}
 
-pub constants_fit : (m : Module) (info : ModuleInfo) → IsTrue (is_accepted m info) → TypesAreTold m → AreWrittenOut m → (n : ModuleNames) →
+pub constants_fit : (m : Module) (info : ModuleInfo) → IsTrue (is_accepted m info) → TypesAreDistinguished m → AreWrittenOut m → (n : ModuleNames) →
     ((i : ℕ) (e : ConstantTree) → slice_get (module_shape m info).initialisers i ≡ Some e → EachWord (OperatesOutside (module_shape m info) n) e) →
     ((i k : ℕ) → i < length (module_shape m info).constant_types → k < length (module_shape m info).constant_types → n.constant i ≡ n.constant k → i ≡ k) →
     ConstantsFit (module_shape m info) n
-constants_fit m info accepted told out n words distinct = record {
+constants_fit m info accepted distinguished out n words distinct = record {
   counted = constants_within_types m info;
   rank = constant_rank m info;
   initialisers = λ i e at. record {
-    range = initialiser_in_range m info accepted told i e at;
-    type = initialiser_typed m info accepted told (have_trees m info accepted told out) i e at;
+    range = initialiser_in_range m info accepted distinguished i e at;
+    type = initialiser_typed m info accepted distinguished
+        (have_trees m info accepted distinguished out) i e at;
     words = words i e at;
-    before = initialiser_before m info accepted told i e at;
+    before = initialiser_before m info accepted distinguished i e at;
   };
   distinct = distinct;
 }
 
 -- the constants in each function have their types
 pub constants_are_typed : (m : Module) (info : ModuleInfo) → IsTrue (is_accepted m info) →
-    TypesAreTold m → (f : Function) (es : List ExpressionInfo) →
+    TypesAreDistinguished m → (f : Function) (es : List ExpressionInfo) →
     IsSoundGroup m info (Some f) (function_group f es) → ConstantsAreTyped m info f es
-constants_are_typed m info accepted told f es group =
+constants_are_typed m info accepted distinguished f es group =
     let g = function_group f es in
     record {
-      types = tree_typed m info accepted told (Some f) g group;
-      ranges = tree_in_range m info accepted told (Some f) g group;
+      types = tree_typed m info accepted distinguished (Some f) g group;
+      ranges = tree_in_range m info accepted distinguished (Some f) g group;
       written = λ h c at.
           let named = constant_named m info accepted (Some f) g group h c at in
-          constant_has_tree m info accepted told c named.0 named.1;
+          constant_has_tree m info accepted distinguished c named.0 named.1;
     }

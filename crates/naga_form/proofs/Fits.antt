@@ -19,17 +19,17 @@ use Rattle.naga_info.specs.declared.info.ModuleInfo.{ModuleInfo}
 use Rattle.naga_names.specs.Reset.{LabelledItem}
 use Rattle.shader_runs.specs.Value.{ValueType, BooleanType, type_at}
 use Rattle.shader_runs.specs.Program as shapes
-use Rattle.shader_runs.specs.Program.{is_given, from}
-use Rattle.shader_runs.specs.Scope.{given_by_all, given_by_cases, given_after}
-use Rattle.shader_runs.specs.Scope.{given_after_all, given_by}
-use Rattle.module_meaning.specs.ExpressionOperators.{Surroundings, points_to_atomic}
+use Rattle.shader_runs.specs.Program.{is_named, from}
+use Rattle.shader_runs.specs.Scope.{named_by_all, named_by_cases, named_after}
+use Rattle.shader_runs.specs.Scope.{named_after_all, named_by}
+use Rattle.module_meaning.specs.ExpressionOperators.{ExpressionContext, is_atomic_pointer}
 use Rattle.module_meaning.specs.FunctionShapes.{function_shape, statement_shape, statements_shape}
 use Rattle.module_meaning.specs.FunctionShapes.{cases_shape}
-use Rattle.module_meaning.specs.GivenLabels.{block_labels, cases_labels, label_of, labels_in}
-use Rattle.module_meaning.specs.GivenLabels.{labels_of_each}
-use Rattle.module_meaning.specs.Shapes.{given_from}
+use Rattle.module_meaning.specs.ExpressionLabels.{block_labels, cases_labels, label_of, labels_in}
+use Rattle.module_meaning.specs.ExpressionLabels.{labels_of_each}
+use Rattle.module_meaning.specs.Shapes.{named_from}
 use Rattle.module_meaning.specs.StatementShapes.{store_shape}
-use Rattle.module_meaning.specs.Surroundings.{declared, types_known}
+use Rattle.module_meaning.specs.ExpressionContexts.{declared, types_known}
 use Rattle.indexmap.specs.IndexMap.{get, keys}
 use Rattle.naga_names.specs.Naming.{label_or}
 use Rattle.naga_names.specs.declared.key.NameKey.TheVariants as key
@@ -57,17 +57,17 @@ lt_suc a b = by (nat_lt a b) refl
     by false e = let le = ltb-false a b e in le-ltb (suc a) (suc b) (omega (arith, le))
 
 -- a handle of these expressions is given where it is one of these keys
-given_at : (ks : List ℕ) (n : ℕ) (es : List ir.Expression) (h : ℕ) →
-    get_or (given_from ks n es) h false ≡ (nat_lt h (length es) && list_any (nat_eq (n + h)) ks)
-given_at ks n [] h =
+named_at : (ks : List ℕ) (n : ℕ) (es : List ir.Expression) (h : ℕ) →
+    get_or (named_from ks n es) h false ≡ (nat_lt h (length es) && list_any (nat_eq (n + h)) ks)
+named_at ks n [] h =
     sym (ap (λ b. b && list_any (nat_eq (n + h)) ks) (le-ltb h 0 (omega arith)))
-given_at ks n (e ∷ es) zero =
+named_at ks n (e ∷ es) zero =
     let some : 0 < length (e ∷ es) = omega arith in
     ap (λ j. list_any (nat_eq j) ks) (sym (add-zero n))
     ∙ sym (ap (λ b. b && list_any (nat_eq (n + 0)) ks) (lt-ltb 0 (length (e ∷ es)) some))
-given_at ks n (e ∷ es) (suc h) =
+named_at ks n (e ∷ es) (suc h) =
     let same : n + 1 + h ≡ n + suc h = omega arith in
-    given_at ks (n + 1) es h
+    named_at ks (n + 1) es h
     ∙ (λ i. sym (lt_suc h (length es)) i && list_any (nat_eq (same i)) ks)
 
 some_mapped : {X Y : Type 0} (t : X → Y) (o : Option X) → is_some (option_map t o) ≡ is_some o
@@ -86,13 +86,13 @@ module _ (m : Module) (info : ModuleInfo) (f : ir_function.Function) (es : List 
   abbrev own_shape : shapes.Function
   own_shape = function_shape m info f es
 
-  abbrev around : Surroundings
-  around = (declared m info (types_known es)).around
+  abbrev context : ExpressionContext
+  context = (declared m info (types_known es)).context
 
   -- a handle is given a name where it has a label
-  pub given_is : (h : ℕ) → is_given own_shape h ≡ is_some (label_of f h)
-  given_is h =
-      given_at (keys f.named_expressions) 0 f.expressions h
+  pub named_is : (h : ℕ) → is_named own_shape h ≡ is_some (label_of f h)
+  named_is h =
+      named_at (keys f.named_expressions) 0 f.expressions h
       ∙ (ap (λ j. nat_lt h (length f.expressions) && list_any (nat_eq j) (keys f.named_expressions)) (zero-add h)
       ∙ by (nat_lt h (length f.expressions)))
     where
@@ -103,50 +103,50 @@ module _ (m : Module) (info : ModuleInfo) (f : ir_function.Function) (es : List 
       by true = sym found
       by false = refl
 
-  pub given_one : (h k : ℕ) → given_after own_shape h k ≡ k + length (option_to_list (label_of f h))
-  given_one h k = ap (λ b. cond b (suc k) k) (given_is h) ∙ by (label_of f h)
+  pub named_one : (h k : ℕ) → named_after own_shape h k ≡ k + length (option_to_list (label_of f h))
+  named_one h k = ap (λ b. cond b (suc k) k) (named_is h) ∙ by (label_of f h)
     where
       by : (o : Option (List ℕ)) → cond (is_some o) (suc k) k ≡ k + length (option_to_list o)
       by None = sym (add-zero k)
       by (Some label) = sym (add-one k)
 
-  pub given_some : (hs : List ℕ) (k : ℕ) → given_after_all own_shape hs k ≡ k + length (labels_of_each f hs)
-  given_some [] k = sym (add-zero k)
-  given_some (h ∷ hs) k =
-      given_some hs (given_after own_shape h k)
-      ∙ (ap (λ n. n + length (labels_of_each f hs)) (given_one h k)
+  pub named_some : (hs : List ℕ) (k : ℕ) → named_after_all own_shape hs k ≡ k + length (labels_of_each f hs)
+  named_some [] k = sym (add-zero k)
+  named_some (h ∷ hs) k =
+      named_some hs (named_after own_shape h k)
+      ∙ (ap (λ n. n + length (labels_of_each f hs)) (named_one h k)
       ∙ joined k (option_to_list (label_of f h)) (labels_of_each f hs))
 
   mutual
-    pub given_by_is : (st : StatementTree) (k : ℕ) → given_by own_shape (statement_shape around st) k ≡ k + length (labels_in f st)
-    given_by_is (simple (emit first last)) k = given_some (from first (last - first)) k
-    given_by_is (simple (store pointer value)) k = stored (points_to_atomic around pointer)
+    pub named_by_is : (st : StatementTree) (k : ℕ) → named_by own_shape (statement_shape context st) k ≡ k + length (labels_in f st)
+    named_by_is (simple (emit first last)) k = named_some (from first (last - first)) k
+    named_by_is (simple (store pointer value)) k = stored (is_atomic_pointer context pointer)
       where
-        stored : (b : Bool) → given_by own_shape (store_shape b pointer value) k ≡ k + 0
+        stored : (b : Bool) → named_by own_shape (store_shape b pointer value) k ≡ k + 0
         stored true = sym (add-zero k)
         stored false = sym (add-zero k)
-    given_by_is (simple _) k = sym (add-zero k)
-    given_by_is (block b) k = given_by_all_is b k
-    given_by_is (branch condition accept reject) k =
-        given_by_all_is reject (given_by_all own_shape (statements_shape around accept) k)
-        ∙ (ap (λ n. n + length (block_labels f reject)) (given_by_all_is accept k)
+    named_by_is (simple _) k = sym (add-zero k)
+    named_by_is (block b) k = named_by_all_is b k
+    named_by_is (branch condition accept reject) k =
+        named_by_all_is reject (named_by_all own_shape (statements_shape context accept) k)
+        ∙ (ap (λ n. n + length (block_labels f reject)) (named_by_all_is accept k)
         ∙ joined k (block_labels f accept) (block_labels f reject))
-    given_by_is (switch selector cases) k = given_by_cases_is cases k
-    given_by_is (loop body continuing break_if) k =
-        given_by_all_is continuing (given_by_all own_shape (statements_shape around body) k)
-        ∙ (ap (λ n. n + length (block_labels f continuing)) (given_by_all_is body k)
+    named_by_is (switch selector cases) k = named_by_cases_is cases k
+    named_by_is (loop body continuing break_if) k =
+        named_by_all_is continuing (named_by_all own_shape (statements_shape context body) k)
+        ∙ (ap (λ n. n + length (block_labels f continuing)) (named_by_all_is body k)
         ∙ joined k (block_labels f body) (block_labels f continuing))
 
-    pub given_by_all_is : (b : BlockTree) (k : ℕ) → given_by_all own_shape (statements_shape around b) k ≡ k + length (block_labels f b)
-    given_by_all_is no_statements k = sym (add-zero k)
-    given_by_all_is (statement st b) k =
-        given_by_all_is b (given_by own_shape (statement_shape around st) k)
-        ∙ (ap (λ n. n + length (block_labels f b)) (given_by_is st k)
+    pub named_by_all_is : (b : BlockTree) (k : ℕ) → named_by_all own_shape (statements_shape context b) k ≡ k + length (block_labels f b)
+    named_by_all_is no_statements k = sym (add-zero k)
+    named_by_all_is (statement st b) k =
+        named_by_all_is b (named_by own_shape (statement_shape context st) k)
+        ∙ (ap (λ n. n + length (block_labels f b)) (named_by_is st k)
         ∙ joined k (labels_in f st) (block_labels f b))
 
-    given_by_cases_is : (cs : CaseTrees) (k : ℕ) → given_by_cases own_shape (cases_shape around cs) k ≡ k + length (cases_labels f cs)
-    given_by_cases_is no_cases k = sym (add-zero k)
-    given_by_cases_is (case value body falls cs) k =
-        given_by_cases_is cs (given_by_all own_shape (statements_shape around body) k)
-        ∙ (ap (λ n. n + length (cases_labels f cs)) (given_by_all_is body k)
+    named_by_cases_is : (cs : CaseTrees) (k : ℕ) → named_by_cases own_shape (cases_shape context cs) k ≡ k + length (cases_labels f cs)
+    named_by_cases_is no_cases k = sym (add-zero k)
+    named_by_cases_is (case value body falls cs) k =
+        named_by_cases_is cs (named_by_all own_shape (statements_shape context body) k)
+        ∙ (ap (λ n. n + length (cases_labels f cs)) (named_by_all_is body k)
         ∙ joined k (block_labels f body) (cases_labels f cs))

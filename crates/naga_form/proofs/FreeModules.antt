@@ -4,8 +4,8 @@
 --
 -- Acceptance takes modules for which no text is written and which are left out here: those with a
 -- named constant whose initialiser is an operation, or with a case that does something and falls through.
-use Rattle.module_meaning.specs.Writable.{AreWrittenOut, OnlyEmptyFall, only_empty_fall}
-use Rattle.module_meaning.specs.Names.{TypesAreTold}
+use Rattle.module_meaning.specs.Writable.{AreWrittenOut, OnlyEmptyFall}
+use Rattle.module_meaning.specs.Names.{TypesAreDistinguished}
 use Rattle.std.proofs.Common.{◌≡◌, ℕ, true, List, [], ◌∷◌, length, Some}
 use Rattle.std.proofs.Common.{refl, sym, ap, subst, slice_get}
 use Rattle.std.specs.Prelude.{IsTrue}
@@ -18,7 +18,6 @@ use Rattle.module_meaning.specs.FunctionShapes.{function_shape}
 use Rattle.module_meaning.specs.Meanings.{HasTypedWorld}
 use Rattle.module_meaning.specs.ModuleShapes.{module_shape}
 use Rattle.module_meaning.specs.Premises.{EachScopeHolds, ScopesHold}
-use Rattle.module_meaning.proofs.Lists.{list_all_at}
 use Rattle.shader_runs.specs.Program as shapes
 use Rattle.shader_runs.specs.Program.{ConstantTree, function_numbered}
 use Rattle.shader_runs.specs.World.{World, Meaning, Event, Settings}
@@ -31,8 +30,7 @@ use Rattle.shader_runs.specs.Scope.{ModuleNames, Names, Naming}
 use Rattle.shader_runs.specs.ScopeRules.{ScopeHolds}
 use Rattle.shader_runs.proofs.Progress.{runs_are_not_stuck}
 use Rattle.shader_runs.proofs.ScopeRules.{scope_check_is_the_rules}
-use Rattle.shader_runs.proofs.Starts.{has_typed_world}
-use Rattle.naga_form.proofs.AcceptedFunctions.{Numbered, AsFunction, AsEntryPoint, numbered}
+use Rattle.shader_runs.proofs.OneWorld.{has_typed_world}
 use Rattle.naga_form.proofs.AcceptedFunctions.{functions_known, accepted_at, group_at}
 use Rattle.naga_form.proofs.AcceptedGroups.{types_are_counted}
 use Rattle.naga_form.proofs.ConstantInitialisers.{initialiser_of}
@@ -41,13 +39,14 @@ use Rattle.naga_form.proofs.FreeNames.{free_names, free_naming, freely_named, fr
 use Rattle.naga_form.proofs.FreeNames.{free_within, free_distinct, free_functions_distinct}
 use Rattle.naga_form.proofs.FreeNames.{free_constants_distinct, function_not_hidden}
 use Rattle.naga_form.proofs.FreeWords.{free_request}
-use Rattle.naga_form.proofs.FunctionsFit.{AllBehind, IsFree, Tells, all_from, all_told}
+use Rattle.naga_form.proofs.FunctionsFit.{AllBehind, IsFree, Tells, all_from, all_distinguished}
 use Rattle.naga_form.proofs.FunctionsFit.{all_fit_freely, named, shape_numbered}
 use Rattle.naga_form.proofs.Ordered.{ordered}
 use Rattle.naga_form.proofs.ShapeWords.{function_words, initialiser_words_outside, operator_asks}
 use Rattle.naga_form.proofs.WellFormed.{all_well_formed}
+use Rattle.naga_form.proofs.WritableModules.{only_at}
 
-module _ (m : ir_module.Module) (info : ModuleInfo) (accepted : IsTrue (is_accepted m info)) (told : TypesAreTold m) where
+module _ (m : ir_module.Module) (info : ModuleInfo) (accepted : IsTrue (is_accepted m info)) (distinguished : TypesAreDistinguished m) where
   abbrev pub program : shapes.Module
   program = module_shape m info
 
@@ -82,7 +81,7 @@ module _ (m : ir_module.Module) (info : ModuleInfo) (accepted : IsTrue (is_accep
       let count = length callees in
       let shape = function_shape m info f es in
       let own = freely_named free_request count shape in
-      let types = types_are_counted m info accepted told in
+      let types = types_are_counted m info accepted distinguished in
       let this = accepted_at m info accepted k f es at in
       subst (λ own. IsFree true program names callees (named shape own)) (sym is.0)
       (record {
@@ -98,38 +97,27 @@ module _ (m : ir_module.Module) (info : ModuleInfo) (accepted : IsTrue (is_accep
             is.1;
       })
 
-  -- only empty cases fall through in each function that is numbered
-  only_at : OnlyEmptyFall m → (k : ℕ) (f : ir_function.Function) (es : List ExpressionInfo) →
-      slice_get (functions_known m info) k ≡ Some (f, es) → only_empty_fall f.body ≡ true
-  only_at falls k f es at = by (numbered m info accepted k f es at)
-    where
-      by : Numbered m info accepted k f es → only_empty_fall f.body ≡ true
-      by (AsFunction here known) = list_all_at (λ f. only_empty_fall f.body) m.functions k f falls.functions here
-      by (AsEntryPoint j p at here known same) =
-          subst (λ f. only_empty_fall f.body ≡ true) same
-          (list_all_at (λ p. only_empty_fall p.function.body) m.entry_points.items j p falls.entry_points here)
-
   -- ---- constants
   initialiser_operates : (i : ℕ) (e : ConstantTree) → slice_get program.initialisers i ≡ Some e →
       EachWord (OperatesOutside program names) e
   initialiser_operates i e at =
-      let found = initialiser_of m info accepted told i e at in
+      let found = initialiser_of m info accepted distinguished i e at in
       subst (EachWord (OperatesOutside program names)) found.is
-      (initialiser_words_outside m info (types_are_counted m info accepted told) program found.constant)
+      (initialiser_words_outside m info (types_are_counted m info accepted distinguished) program found.constant)
 
   -- ---- the module
   module _ (written : AreWrittenOut m) (falls : OnlyEmptyFall m) (scopes : ScopesHold m info) where
     functions_fit : AllFit program names namings
     functions_fit =
-        all_fit_freely m info accepted told
+        all_fit_freely m info accepted distinguished
         (λ k f es at.
-        constants_are_typed m info accepted told f es
+        constants_are_typed m info accepted distinguished f es
         (group_at m info accepted k f es at))
-        (only_at falls) names namings (free_functions free_request program.functions) true
+        (only_at m info accepted falls) names namings (free_functions free_request program.functions) true
         (λ k f es at. refl)
         (all_from m info accepted IsLeftlyNamed (IsFree true program names) is_left namings
         (subst (Tells (shape_numbered m info accepted))
-        (sym (free_functions free_request program.functions)) (all_told m info accepted))
+        (sym (free_functions free_request program.functions)) (all_distinguished m info accepted))
         (are_freely_named program.functions scopes))
 
     -- under free names it meets what the laws of runs ask
@@ -137,7 +125,7 @@ module _ (m : ir_module.Module) (info : ModuleInfo) (accepted : IsTrue (is_accep
     module_fits_freely = record {
       functions = free_functions free_request program.functions;
       distinct = free_functions_distinct free_request program;
-      constants = constants_fit m info accepted told written names initialiser_operates
+      constants = constants_fit m info accepted distinguished written names initialiser_operates
           (free_constants_distinct free_request program);
       all = functions_fit;
     }

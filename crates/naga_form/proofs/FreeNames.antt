@@ -10,7 +10,7 @@ use Rattle.shader_runs.specs.Program.{Function, Module}
 use Rattle.shader_runs.specs.Scope.{ModuleNames, Names, Naming}
 use Rattle.shader_runs.specs.Form.{functions_of}
 use Rattle.shader_runs.specs.Premises.{ArgumentName, LocalName, ConstantName, GlobalName}
-use Rattle.shader_runs.specs.Premises.{NameKey, FixedKey, NumberedKey, GivenKey, name_at, IsNoName}
+use Rattle.shader_runs.specs.Premises.{NameKey, FixedKey, NumberedKey, NamedKey, name_at, IsNoName}
 use Rattle.shader_runs.specs.Premises.{StandsFree, AsksBy, OperatesBy, AreDistinct, OperatesOutside}
 use Rattle.shader_runs.specs.Premises.{ModuleNamesAreDistinct}
 
@@ -38,7 +38,7 @@ free_within asks earlier = record {
   outer = free_names asks;
   argument = free_name 3;
   local_ = free_name 4;
-  given = free_name 5;
+  named = free_name 5;
   numbered = free_name 6;
   earlier = earlier;
 }
@@ -66,27 +66,29 @@ abbrev key_numbered : (kind number : ℕ) → NameKey
 key_numbered kind i =
     get_or
     (FixedKey (ConstantName i) ∷ FixedKey (GlobalName i) ∷ NumberedKey i
-    ∷ FixedKey (ArgumentName i) ∷ FixedKey (LocalName i) ∷ GivenKey i ∷ [])
+    ∷ FixedKey (ArgumentName i) ∷ FixedKey (LocalName i) ∷ NamedKey i ∷ [])
     kind (NumberedKey i)
 
 abbrev key_of : Bytes → NameKey
 key_of w = key_numbered (get_or w 1 0) (number_of w)
 
-key_told : (asks : Bytes → Bool) (earlier : ℕ) (a : NameKey) → key_of (name_at (free_within asks earlier) a) ≡ a
-key_told asks earlier (FixedKey (ArgumentName i)) = refl
-key_told asks earlier (FixedKey (LocalName i)) = refl
-key_told asks earlier (FixedKey (ConstantName i)) = refl
-key_told asks earlier (FixedKey (GlobalName i)) = refl
-key_told asks earlier (NumberedKey h) = refl
-key_told asks earlier (GivenKey k) = refl
+key_distinguished : (asks : Bytes → Bool) (earlier : ℕ) (a : NameKey) → key_of (name_at (free_within asks earlier) a) ≡ a
+key_distinguished asks earlier (FixedKey (ArgumentName i)) = refl
+key_distinguished asks earlier (FixedKey (LocalName i)) = refl
+key_distinguished asks earlier (FixedKey (ConstantName i)) = refl
+key_distinguished asks earlier (FixedKey (GlobalName i)) = refl
+key_distinguished asks earlier (NumberedKey h) = refl
+key_distinguished asks earlier (NamedKey k) = refl
 
 pub free_distinct : (asks : Bytes → Bool) (p : Module) (earlier : ℕ) (f : Function) → AreDistinct p (freely_named asks earlier f)
-free_distinct asks p earlier f a b is_a is_b e = sym (key_told asks earlier a) ∙ (ap key_of e ∙ key_told asks earlier b)
+free_distinct asks p earlier f a b is_a is_b e = sym (key_distinguished asks earlier a) ∙ (ap key_of e ∙ key_distinguished asks earlier b)
 
 pub free_functions_distinct : (asks : Bytes → Bool) (p : Module) → ModuleNamesAreDistinct p (free_names asks)
 free_functions_distinct asks p = record { functions = λ g k lg lk e. ap number_of e }
 
-pub free_constants_distinct : (asks : Bytes → Bool) (p : Module) (i k : ℕ) → i < length p.constant_types → k < length p.constant_types → (free_names asks).constant i ≡ (free_names asks).constant k → i ≡ k
+pub free_constants_distinct : (asks : Bytes → Bool) (p : Module) (i k : ℕ) →
+    i < length p.constant_types → k < length p.constant_types →
+    (free_names asks).constant i ≡ (free_names asks).constant k → i ≡ k
 free_constants_distinct asks p i k li lk e = ap number_of e
 
 -- ---- no word is a name
@@ -97,7 +99,7 @@ all_begin_free asks earlier (FixedKey (LocalName i)) = refl
 all_begin_free asks earlier (FixedKey (ConstantName i)) = refl
 all_begin_free asks earlier (FixedKey (GlobalName i)) = refl
 all_begin_free asks earlier (NumberedKey h) = refl
-all_begin_free asks earlier (GivenKey k) = refl
+all_begin_free asks earlier (NamedKey k) = refl
 
 -- what begins otherwise is no such name
 apart : (v w : Bytes) → begins_free v ≡ true → begins_free w ≡ false → v ≢ w
@@ -122,7 +124,7 @@ none_is_functions asks earlier (FixedKey (LocalName i)) = refl
 none_is_functions asks earlier (FixedKey (ConstantName i)) = refl
 none_is_functions asks earlier (FixedKey (GlobalName i)) = refl
 none_is_functions asks earlier (NumberedKey h) = refl
-none_is_functions asks earlier (GivenKey k) = refl
+none_is_functions asks earlier (NamedKey k) = refl
 
 pub function_not_hidden : (asks : Bytes → Bool) (p : Module) (earlier : ℕ) (f : Function) (g : ℕ) → IsNoName p (freely_named asks earlier f) ((free_names asks).function g)
 function_not_hidden asks p earlier f g a is e = true≢false (sym (ap is_functions e) ∙ none_is_functions asks earlier a)

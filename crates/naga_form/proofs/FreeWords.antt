@@ -19,8 +19,9 @@ use Rattle.module_meaning.specs.OperatorTable.{Cast, PartAt, ValueOf, MatrixLoad
 use Rattle.module_meaning.specs.OperatorTable.{one_word, asks, is_untyped, SpellsAType, TypeIsSound}
 use Rattle.module_meaning.specs.OperatorTable.{formless_word, formless_asks}
 use Rattle.naga_form.proofs.FreeNames.{begins_free}
-use Rattle.naga_form.proofs.OperatorEvents.{asks_as_told}
-use Rattle.naga_form.proofs.OperatorTable.{mathematical, others, first_with, operator_of, told}
+use Rattle.naga_form.proofs.OperatorEvents.{asks_as_distinguished}
+use Rattle.naga_form.proofs.OperatorTable.{mathematical, others, first_with, operator_of}
+use Rattle.naga_form.proofs.OperatorTable.{distinguished}
 use Rattle.naga_form.proofs.TypedWords.{head_is, no_blank}
 
 -- the words with a blank in front that ask for events, by their second letter: steps and scans, and
@@ -35,7 +36,7 @@ unfoldable pub free_request : List ℕ → Bool
 free_request w = is_request w || own_request w
 
 -- what is said of an operator's word
-pub record WordIsTold (o : Operator) : Type 0 where
+pub record WordIsDistinguished (o : Operator) : Type 0 where
   pub free : begins_free (run_word o) ≡ false
   pub asking : free_request (run_word o) ≡ asks o
 
@@ -51,46 +52,50 @@ alike_is false true e = absurd (false≢true e)
 alike_is false false e = refl
 
 -- the test of the whole table
-is_told : Operator → Bool
-is_told o = not (begins_free (run_word o)) && alike (free_request (run_word o)) (asks o)
+is_distinguished : Operator → Bool
+is_distinguished o = not (begins_free (run_word o)) && alike (free_request (run_word o)) (asks o)
 
-others_told : list_all is_told others ≡ true
-unfolding is_told free_request is_request
-others_told = refl
+others_distinguished : list_all is_distinguished others ≡ true
+unfolding is_distinguished free_request is_request
+others_distinguished = refl
 
-mathematical_told : list_all is_told mathematical ≡ true
-unfolding is_told free_request is_request
-mathematical_told = refl
+mathematical_distinguished : list_all is_distinguished mathematical ≡ true
+unfolding is_distinguished free_request is_request
+mathematical_distinguished = refl
 
 -- what is found by a word has it, and passes the test of all
-found : (w : List ℕ) (os : List Operator) (o : Operator) → list_all is_told os ≡ true → first_with w os ≡ Some o → (w ≡ run_word o) × (is_told o ≡ true)
+found : (w : List ℕ) (os : List Operator) (o : Operator) → list_all is_distinguished os ≡ true → first_with w os ≡ Some o → (w ≡ run_word o) × (is_distinguished o ≡ true)
 found w [] o all e = absurd (cc)
 found w (x ∷ os) o all e =
-    by (bytes_eq w (run_word x)) refl (and_parts (is_told x) (list_all is_told os) all) (found w os o) e
+    by (bytes_eq w (run_word x)) refl (and_parts (is_distinguished x) (list_all is_distinguished os) all) (found w os o) e
   where
-    by : (b : Bool) → bytes_eq w (run_word x) ≡ b → (is_told x ≡ true) × (list_all is_told os ≡ true) → (list_all is_told os ≡ true → first_with w os ≡ Some o → (w ≡ run_word o) × (is_told o ≡ true)) → (if b then Some x else first_with w os) ≡ Some o → (w ≡ run_word o) × (is_told o ≡ true)
+    by : (b : Bool) → bytes_eq w (run_word x) ≡ b → (is_distinguished x ≡ true) ×
+        (list_all is_distinguished os ≡ true) →
+        (list_all is_distinguished os ≡ true → first_with w os ≡ Some o → (w ≡ run_word o) ×
+        (is_distinguished o ≡ true)) → (if b then Some x else first_with w os) ≡ Some o →
+        (w ≡ run_word o) × (is_distinguished o ≡ true)
     by true same parts later e =
         let is = same_Some x o e in
-        ((bytes_eq-Decides w (run_word x)).0 same ∙ ap run_word is, subst (λ y. is_told y ≡ true) is parts.0)
+        ((bytes_eq-Decides w (run_word x)).0 same ∙ ap run_word is, subst (λ y. is_distinguished y ≡ true) is parts.0)
     by false same parts later e = later parts.1 e
 
-found_any : (w : List ℕ) (o : Operator) → operator_of w ≡ Some o → (w ≡ run_word o) × (is_told o ≡ true)
+found_any : (w : List ℕ) (o : Operator) → operator_of w ≡ Some o → (w ≡ run_word o) × (is_distinguished o ≡ true)
 found_any w o e = by (first_with w others) refl e
   where
-    by : (x : Option Operator) → first_with w others ≡ x → option_or x (first_with w mathematical) ≡ Some o → (w ≡ run_word o) × (is_told o ≡ true)
-    by (Some y) is e = found w others o others_told (is ∙ e)
-    by None is e = found w mathematical o mathematical_told e
+    by : (x : Option Operator) → first_with w others ≡ x → option_or x (first_with w mathematical) ≡ Some o → (w ≡ run_word o) × (is_distinguished o ≡ true)
+    by (Some y) is e = found w others o others_distinguished (is ∙ e)
+    by None is e = found w mathematical o mathematical_distinguished e
 
-told_parts : (o : Operator) → is_told o ≡ true → (begins_free (run_word o) ≡ false) × (free_request (run_word o) ≡ asks o)
-unfolding is_told
-told_parts o e =
+distinguished_parts : (o : Operator) → is_distinguished o ≡ true → (begins_free (run_word o) ≡ false) × (free_request (run_word o) ≡ asks o)
+unfolding is_distinguished
+distinguished_parts o e =
     let parts = and_parts (not (begins_free (run_word o))) (alike (free_request (run_word o)) (asks o)) e in
     (not-true (begins_free (run_word o)) parts.0, alike_is (free_request (run_word o)) (asks o) parts.1)
 
-untyped_is_told : (o : Operator) → is_untyped o ≡ true → WordIsTold o
-untyped_is_told o u =
-    let at = found_any (run_word o) (one_word o) (told o u) in
-    let parts = told_parts (one_word o) at.1 in record {
+untyped_is_distinguished : (o : Operator) → is_untyped o ≡ true → WordIsDistinguished o
+untyped_is_distinguished o u =
+    let at = found_any (run_word o) (one_word o) (distinguished o u) in
+    let parts = distinguished_parts (one_word o) at.1 in record {
       free = ap begins_free at.0 ∙ parts.0;
       asking = ap free_request at.0 ∙ (parts.1 ∙ keeps_asking o);
     }
@@ -124,16 +129,17 @@ unfolding free_request
 by_text w true is not_own = λ i. is i || own_request w
 by_text w false is not_own = λ i. is i || not_own i
 
-spelling_is_told : (w : List ℕ) → SpellsAType w → (begins_free w ≡ false) × (free_request w ≡ false)
-spelling_is_told w is =
-    (no_number w (type_begins w is), by_text w false (asks_as_told (Convert w) w is refl) (no_own_request w is))
+spelling_is_distinguished : (w : List ℕ) → SpellsAType w → (begins_free w ≡ false) ×
+    (free_request w ≡ false)
+spelling_is_distinguished w is =
+    (no_number w (type_begins w is), by_text w false (asks_as_distinguished (Convert w) w is refl) (no_own_request w is))
 
-formless_told : (x : Formless) → free_request (formless_word x) ≡ formless_asks x
+formless_distinguished : (x : Formless) → free_request (formless_word x) ≡ formless_asks x
 unfolding free_request is_request
-formless_told (Cast kind width) = refl
-formless_told (PartAt index) = refl
-formless_told (ValueOf numbers components) = refl
-formless_told (MatrixLoad columns rows role row_major) = refl
+formless_distinguished (Cast kind width) = refl
+formless_distinguished (PartAt index) = refl
+formless_distinguished (ValueOf numbers components) = refl
+formless_distinguished (MatrixLoad columns rows role row_major) = refl
 
 formless_is_free : (x : Formless) → begins_free (formless_word x) ≡ false
 formless_is_free (Cast kind width) = refl
@@ -141,27 +147,29 @@ formless_is_free (PartAt index) = refl
 formless_is_free (ValueOf numbers components) = refl
 formless_is_free (MatrixLoad columns rows role row_major) = refl
 
-typed_is_told : (o : Operator) → is_untyped o ≡ false → TypeIsSound o → WordIsTold o
-typed_is_told (Construct w n) u is = let parts = spelling_is_told w is in record { free = parts.0; asking = parts.1 }
-typed_is_told (Convert w) u is = let parts = spelling_is_told w is in record { free = parts.0; asking = parts.1 }
-typed_is_told (Reinterpret w) u is = record {
+typed_is_distinguished : (o : Operator) → is_untyped o ≡ false → TypeIsSound o →
+    WordIsDistinguished o
+typed_is_distinguished (Construct w n) u is = let parts = spelling_is_distinguished w is in record { free = parts.0; asking = parts.1 }
+typed_is_distinguished (Convert w) u is = let parts = spelling_is_distinguished w is in record { free = parts.0; asking = parts.1 }
+typed_is_distinguished (Reinterpret w) u is = record {
   free = refl;
-  asking = by_text (with_type (codes "bitcast") w) false (asks_as_told (Reinterpret w) (with_type (codes "bitcast") w) is refl) refl;
+  asking = by_text (with_type (codes "bitcast") w) false (asks_as_distinguished (Reinterpret w) (with_type (codes "bitcast") w) is refl) refl;
 }
-typed_is_told (CooperativeLoad false w) u is = record {
+typed_is_distinguished (CooperativeLoad false w) u is = record {
   free = refl;
-  asking = by_text (with_type (codes "coopLoad") w) true (asks_as_told (CooperativeLoad false w) (with_type (codes "coopLoad") w) is refl) refl;
+  asking = by_text (with_type (codes "coopLoad") w) true (asks_as_distinguished (CooperativeLoad false w) (with_type (codes "coopLoad") w) is refl) refl;
 }
-typed_is_told (CooperativeLoad true w) u is = record {
+typed_is_distinguished (CooperativeLoad true w) u is = record {
   free = refl;
-  asking = by_text (with_type (codes "coopLoadT") w) true (asks_as_told (CooperativeLoad true w) (with_type (codes "coopLoadT") w) is refl) refl;
+  asking = by_text (with_type (codes "coopLoadT") w) true (asks_as_distinguished (CooperativeLoad true w) (with_type (codes "coopLoadT") w) is refl) refl;
 }
-typed_is_told (WithoutForm x) u is = record { free = formless_is_free x; asking = formless_told x }
-typed_is_told _ u is = absurd (true≢false u)
+typed_is_distinguished (WithoutForm x) u is =
+    record { free = formless_is_free x; asking = formless_distinguished x }
+typed_is_distinguished _ u is = absurd (true≢false u)
 
-pub word_is_told : (o : Operator) → TypeIsSound o → WordIsTold o
-word_is_told o is = by (is_untyped o) refl
+pub word_is_distinguished : (o : Operator) → TypeIsSound o → WordIsDistinguished o
+word_is_distinguished o is = by (is_untyped o) refl
   where
-    by : (b : Bool) → is_untyped o ≡ b → WordIsTold o
-    by true u = untyped_is_told o u
-    by false u = typed_is_told o u is
+    by : (b : Bool) → is_untyped o ≡ b → WordIsDistinguished o
+    by true u = untyped_is_distinguished o u
+    by false u = typed_is_distinguished o u is

@@ -1,8 +1,9 @@
 -- What the law of runs asks of the functions of every accepted module, as far as acceptance gives it:
 -- their operands stand before, leaves have their types and statements are regular. What is left is
 -- said of names, words, constants and scope.
+use Rattle.module_meaning.specs.StatementForms.{block_has_forms}
 use Rattle.module_meaning.specs.Writable.{only_empty_fall}
-use Rattle.module_meaning.specs.Names.{TypesAreTold}
+use Rattle.module_meaning.specs.Names.{TypesAreDistinguished}
 use Rattle.std.proofs.Common.{◌≡◌, ℕ, suc, ◌<◌, ◌≤◌, ◌+◌, ◌||◌, Bool, true, false, List, [], ◌∷◌}
 use Rattle.std.proofs.Common.{Option, Some, refl, sym, ap, ◌∙◌, subst, slice_get, length, map}
 use Rattle.std.proofs.Common.{arith, nat_eq, cond}
@@ -19,7 +20,7 @@ use Rattle.naga_info.specs.declared.info.ModuleInfo.{ModuleInfo}
 use Rattle.module_meaning.specs.Accepted.{is_accepted}
 use Rattle.module_meaning.specs.FunctionShapes.{function_shape}
 use Rattle.module_meaning.specs.ModuleShapes.{module_shape}
-use Rattle.module_meaning.specs.Surroundings.{declared, types_known}
+use Rattle.module_meaning.specs.ExpressionContexts.{declared, types_known}
 use Rattle.shader_runs.specs.Form.{functions_of}
 use Rattle.shader_runs.specs.Premises.{FunctionFits, AllFit, WordFits, AreDistinct, AreRegular}
 use Rattle.shader_runs.specs.Program as shapes
@@ -31,7 +32,7 @@ use Rattle.naga_form.proofs.AcceptedGroups.{types_are_counted}
 use Rattle.naga_form.proofs.Leaves.{ConstantsAreTyped, leaves}
 use Rattle.naga_form.proofs.Ordered.{ordered}
 use Rattle.naga_form.proofs.Regular.{AreWorded, StandBehind, regular}
-use Rattle.naga_form.proofs.Worded.{AsksFreely, block_has_words, worded}
+use Rattle.naga_form.proofs.Worded.{AsksFreely, worded}
 
 -- ---- functions by their numbers
 -- each of these has its number
@@ -61,15 +62,15 @@ turned at (f ∷ xs) behind tells each =
     (λ i g there. let same : suc (length behind) + i ≡ length behind + suc i = omega arith in
     ap at same ∙ each (suc i) g there)
 
-pub first_told : (at : ℕ → Option shapes.Function) (f : shapes.Function) (fs : List shapes.Function) →
+pub first_distinguished : (at : ℕ → Option shapes.Function) (f : shapes.Function) (fs : List shapes.Function) →
     Tells at (f ∷ fs) → at (length fs) ≡ Some f
-first_told at f fs tells =
+first_distinguished at f fs tells =
     sym (tells (length fs) (omega arith)) ∙
     ap (λ b. cond b (Some f) (function_numbered fs (length fs))) (eq-eqb (length fs) (length fs) refl)
 
-pub rest_told : (at : ℕ → Option shapes.Function) (f : shapes.Function) (fs : List shapes.Function) →
+pub rest_distinguished : (at : ℕ → Option shapes.Function) (f : shapes.Function) (fs : List shapes.Function) →
     Tells at (f ∷ fs) → Tells at fs
-rest_told at f fs tells g lt =
+rest_distinguished at f fs tells g lt =
     ap (λ b. cond b (Some f) (function_numbered fs g)) (sym (by (nat_eq g (length fs)) refl)) ∙
     tells g (omega (arith, lt))
   where
@@ -88,7 +89,7 @@ pub record IsLeft (p : shapes.Module) (n : ModuleNames) (callees : List shapes.F
   pub distinct : AreDistinct p f
   pub scope : IsTrue (fits_function f)
 
--- the same where each statement has a word of WGSL, or `all` words ask
+-- the same where each statement has a form, or `all` words ask
 pub record IsFree (all : Bool) (p : shapes.Module) (n : ModuleNames) (callees : List shapes.Function)
     (f : Naming) : Type 0 where
   pub outer : f.names.outer ≡ n
@@ -115,8 +116,8 @@ module _ (m : Module) (info : ModuleInfo) (accepted : IsTrue (is_accepted m info
   shape_numbered g =
       slice_get (map (λ p. function_shape m info p.0 p.1) (functions_known m info)) g
 
-  pub all_told : Tells shape_numbered p.functions
-  all_told =
+  pub all_distinguished : Tells shape_numbered p.functions
+  all_distinguished =
       turned shape_numbered (map (λ p. function_shape m info p.0 p.1) (functions_known m info)) []
       (λ g lt. absurd (omega (arith, lt)))
       (λ i f there. let at : 0 + i ≡ i = omega arith in ap shape_numbered at ∙ there)
@@ -135,43 +136,44 @@ module _ (m : Module) (info : ModuleInfo) (accepted : IsTrue (is_accepted m info
   }
 
   -- ---- one function, behind those before it
-  -- its words ask for events, where each statement has one or all words ask
+  -- its words ask for events, where each statement has a form or all words ask
   pub worded_at : (all : Bool) (k : ℕ) (f : Function) (es : List ExpressionInfo) →
       slice_get (functions_known m info) k ≡ Some (f, es) → (names : Names) → k ≤ names.earlier →
       let own = named (function_shape m info f es) names in
-      AsksFreely all p own → (all || block_has_words f.body) ≡ true →
+      AsksFreely all p own → (all || block_has_forms f.body) ≡ true →
       AreWorded p own own.function.body
   worded_at all k f es at names earlier free has =
       let is = accepted_at m info accepted k f es at in
       let before = is.before in
       worded all p (named (function_shape m info f es) names) free
-      (declared m info (types_known es)).around is.callees (length f.expressions)
+      (declared m info (types_known es)).context is.callees (length f.expressions)
       (omega (arith, before, earlier)) f.body (ranges_are m is.callees f is.ranges).1 has
 
   -- its statements are regular
-  pub regular_at : TypesAreTold m → (k : ℕ) (f : Function) (es : List ExpressionInfo) →
+  pub regular_at : TypesAreDistinguished m → (k : ℕ) (f : Function) (es : List ExpressionInfo) →
       slice_get (functions_known m info) k ≡ Some (f, es) → only_empty_fall f.body ≡ true →
       (names : Names) (callees : List shapes.Function) → length callees ≡ k →
       Tells shape_numbered callees → names.earlier ≡ length callees →
       let own = named (function_shape m info f es) names in
       AreWorded p own own.function.body → AreRegular p callees own own.function.body
-  regular_at told k f es at only names callees number tells earlier words =
+  regular_at distinguished k f es at only names callees number tells earlier words =
       let is = accepted_at m info accepted k f es at in
       let group = group_at m info accepted k f es at in
       let before = is.before in
-      regular m info f es (types_are_counted m info accepted told) group names is.callees callees
+      regular m info f es (types_are_counted m info accepted distinguished) group names is.callees
+      callees
       (stand_behind is.callees callees (omega (arith, before, number)) tells)
       (omega (arith, before, number, earlier)) (ranges_are m is.callees f is.ranges).1
       (soundness_is m f es is.sound).1 only words
 
   -- all that is asked of it
-  pub function_fits : TypesAreTold m → (k : ℕ) (f : Function) (es : List ExpressionInfo) →
+  pub function_fits : TypesAreDistinguished m → (k : ℕ) (f : Function) (es : List ExpressionInfo) →
       slice_get (functions_known m info) k ≡ Some (f, es) → ConstantsAreTyped m info f es →
       only_empty_fall f.body ≡ true → (n : ModuleNames) (names : Names) (callees : List shapes.Function) →
       length callees ≡ k → Tells shape_numbered callees →
       IsLeft p n callees (named (function_shape m info f es) names) →
       FunctionFits p n callees (named (function_shape m info f es) names)
-  function_fits told k f es at constants only n names callees number tells left =
+  function_fits distinguished k f es at constants only n names callees number tells left =
       let is = accepted_at m info accepted k f es at in
       let group = group_at m info accepted k f es at in
       record {
@@ -179,8 +181,9 @@ module _ (m : Module) (info : ModuleInfo) (accepted : IsTrue (is_accepted m info
         earlier = left.earlier;
         ordered = ordered m info is.callees f es is.ranges;
         words = left.words;
-        leaves = leaves m info f es (types_are_counted m info accepted told) group constants;
-        regular = regular_at told k f es at only names callees number tells left.earlier left.worded;
+        leaves = leaves m info f es (types_are_counted m info accepted distinguished) group
+            constants;
+        regular = regular_at distinguished k f es at only names callees number tells left.earlier left.worded;
         distinct = left.distinct;
         scope = left.scope;
       }
@@ -196,7 +199,7 @@ module _ (m : Module) (info : ModuleInfo) (accepted : IsTrue (is_accepted m info
       (fs : List Naming) → Tells shape_numbered (functions_of fs) → AllBehind L fs → AllBehind F fs
   all_from L F each [] tells left = tt
   all_from L F each (f ∷ fs) tells left =
-      (here, all_from L F each fs (rest_told shape_numbered f.function (functions_of fs) tells) left.1)
+      (here, all_from L F each fs (rest_distinguished shape_numbered f.function (functions_of fs) tells) left.1)
     where
       here : F (functions_of fs) f
       here =
@@ -206,10 +209,10 @@ module _ (m : Module) (info : ModuleInfo) (accepted : IsTrue (is_accepted m info
           map_some (λ p. function_shape m info p.0 p.1) (slice_get (functions_known m info) k)
           f.function
           (sym (slice_get-map (λ p. function_shape m info p.0 p.1) (functions_known m info) k) ∙
-          first_told shape_numbered f.function callees tells) in
+          first_distinguished shape_numbered f.function callees tells) in
           subst (λ g. F callees (named g f.names)) found.2
           (each k found.0.0 found.0.1 found.1 f.names callees refl
-          (rest_told shape_numbered f.function callees tells)
+          (rest_distinguished shape_numbered f.function callees tells)
           (subst (λ g. L callees (named g f.names)) (sym found.2) left.0))
 
   all_are : (p : shapes.Module) (n : ModuleNames) (fs : List Naming) →
@@ -218,7 +221,7 @@ module _ (m : Module) (info : ModuleInfo) (accepted : IsTrue (is_accepted m info
   all_are p n (f ∷ fs) all = (all.0, all_are p n fs all.1)
 
   -- what is asked beside acceptance of the constants and cases of each
-  module _ (told : TypesAreTold m)
+  module _ (distinguished : TypesAreDistinguished m)
       (constants : (k : ℕ) (f : Function) (es : List ExpressionInfo) →
       slice_get (functions_known m info) k ≡ Some (f, es) → ConstantsAreTyped m info f es)
       (only : (k : ℕ) (f : Function) (es : List ExpressionInfo) →
@@ -231,14 +234,14 @@ module _ (m : Module) (info : ModuleInfo) (accepted : IsTrue (is_accepted m info
         all_are p n fs
         (all_from (IsLeft p n) (FunctionFits p n)
         (λ k f es at names callees number tells left.
-        function_fits told k f es at (constants k f es at) (only k f es at) n names callees number tells
+        function_fits distinguished k f es at (constants k f es at) (only k f es at) n names callees number tells
         left)
-        fs (subst (Tells shape_numbered) (sym same) all_told) left)
+        fs (subst (Tells shape_numbered) (sym same) all_distinguished) left)
 
-    -- the same where each statement has a word, or all words ask
+    -- the same where each statement has a form, or all words ask
     pub all_fit_freely : (all : Bool) → ((k : ℕ) (f : Function) (es : List ExpressionInfo) →
         slice_get (functions_known m info) k ≡ Some (f, es) →
-        (all || block_has_words f.body) ≡ true) →
+        (all || block_has_forms f.body) ≡ true) →
         AllBehind (IsFree all p n) fs → AllFit p n fs
     all_fit_freely all has free =
         all_fit
@@ -254,4 +257,4 @@ module _ (m : Module) (info : ModuleInfo) (accepted : IsTrue (is_accepted m info
           distinct = free.distinct;
           scope = free.scope;
         })
-        fs (subst (Tells shape_numbered) (sym same) all_told) free)
+        fs (subst (Tells shape_numbered) (sym same) all_distinguished) free)

@@ -23,7 +23,7 @@ use Rattle.wgsl_text.specs.Reading.{type_layout}
 use Rattle.wgsl_text.specs.Types.{TypeSpecifier, Named}
 use Rattle.module_meaning.specs.Namings.{function_naming}
 use Rattle.naga_form.specs.Expressions.{Source, function_source}
-use Rattle.module_meaning.specs.Names.{given_name, module_names}
+use Rattle.module_meaning.specs.Names.{expression_name, module_names}
 use Rattle.naga_form.specs.Declarations.{written_program}
 use Rattle.naga_form.specs.Functions.{locals_form, parameters_form, result_form, function_form}
 use Rattle.naga_form.specs.Functions.{functions_form}
@@ -48,7 +48,9 @@ form_passed t ty = record { attributes = []; type = type_layout (type_form t ty)
 passed_is : (t : TypeNames) (ty : ℕ) → form_passed t ty ≡ passed_of_type t ty
 passed_is t ty = ap (λ w. record { attributes = []; type = w }) (spelled_form t ty)
 
-parameters_passed : (names : NameMap) (types : List Type_) (g n : ℕ) (args : List FunctionArgument) → map parameter_read (parameters_form names types g n args) ≡ map (λ a. passed_of_type (names_of types names) a.ty) args
+parameters_passed : (names : NameMap) (types : List Type_) (g n : ℕ)
+    (args : List FunctionArgument) → map parameter_read (parameters_form names types g n args) ≡
+    map (λ a. passed_of_type (names_of types names) a.ty) args
 parameters_passed names types g n [] = refl
 parameters_passed names types g n (a ∷ more) = λ i. passed_is (names_of types names) a.ty i ∷ parameters_passed names types g (n + 1) more i
 
@@ -60,19 +62,28 @@ locals_declared : (n : Naming) (t : TypeNames) (source : Source) (l : ℕ) (vs :
 locals_declared n t source l [] = refl
 locals_declared n t source l (v ∷ more) = λ i. spelled_form t v.ty i ∷ locals_declared n t source (l + 1) more i
 
-function_interface_form : (explicit : Bool) (names : NameMap) (given : ℕ → List ℕ) (m : Module) (info : ModuleInfo) (g : ℕ) (f : ir_function.Function) (es : List ExpressionInfo) → function_interface_read (function_form explicit names given m info g f es) ≡ function_interface names m.types g f
-function_interface_form explicit names given m info g f es = λ i. record {
+function_interface_form : (explicit : Bool) (names : NameMap) (named : ℕ → List ℕ) (m : Module)
+    (info : ModuleInfo) (g : ℕ) (f : ir_function.Function) (es : List ExpressionInfo) →
+    function_interface_read (function_form explicit names named m info g f es) ≡
+    function_interface names m.types g f
+function_interface_form explicit names named m info g f es = λ i. record {
   name = (function_interface names m.types g f).name;
   arguments = parameters_passed names m.types g 0 f.arguments.items i;
   result = results_passed (names_of m.types names) f.result i;
-  locals = locals_declared (function_naming names given m info g f es) (names_of m.types names) (function_source m info f es) 0 f.local_variables i;
+  locals = locals_declared (function_naming names named m info g f es) (names_of m.types names) (function_source m info f es) 0 f.local_variables i;
 }
 
-function_interfaces_form : (explicit : Bool) (names : NameMap) (m : Module) (info : ModuleInfo) (g : ℕ) (fs : List ir_function.Function) (ess : List (List ExpressionInfo)) → length fs ≡ length ess → map function_interface_read (functions_form explicit names m info g fs ess) ≡ function_interfaces names m.types g fs
+function_interfaces_form : (explicit : Bool) (names : NameMap) (m : Module) (info : ModuleInfo)
+    (g : ℕ) (fs : List ir_function.Function) (ess : List (List ExpressionInfo)) →
+    length fs ≡ length ess →
+    map function_interface_read (functions_form explicit names m info g fs ess) ≡
+    function_interfaces names m.types g fs
 function_interfaces_form explicit names m info g [] [] size = refl
 function_interfaces_form explicit names m info g [] (es ∷ ess) size = refl
 function_interfaces_form explicit names m info g (f ∷ fs) [] size = absurd (cc)
-function_interfaces_form explicit names m info g (f ∷ fs) (es ∷ ess) size = λ i. function_interface_form explicit names (given_name m g) m info g f es i ∷ function_interfaces_form explicit names m info (g + 1) fs ess (ap pred size) i
+function_interfaces_form explicit names m info g (f ∷ fs) (es ∷ ess) size =
+    λ i. function_interface_form explicit names (expression_name m g) m info g f es i ∷
+    function_interfaces_form explicit names m info (g + 1) fs ess (ap pred size) i
 
 pub has_interface : (m : Module) (info : ModuleInfo) (explicit : Bool) → length m.functions ≡ length info.functions.items → HasInterfaceOf m (written_program m info explicit)
 has_interface m info explicit size = λ i. record {

@@ -19,7 +19,7 @@ use Rattle.naga_ir.specs.declared.types.ArraySize.TheVariants as size
 use Rattle.naga_ir.specs.declared.types.ScalarKind.TheVariants as kind
 use Rattle.naga_ir.specs.declared.types.TypeInner.TheVariants as inner
 use Rattle.naga_ir.specs.declared.types.Type_.{Type_}
-use Rattle.module_meaning.specs.ExpressionOperators.{Surroundings}
+use Rattle.module_meaning.specs.ExpressionOperators.{ExpressionContext}
 use Rattle.module_meaning.specs.ExpressionShapes.{Declared}
 use Rattle.module_meaning.specs.Names.{constant_name, module_names}
 use Rattle.module_meaning.specs.Types.{type_names}
@@ -55,21 +55,12 @@ type_words = record {
   override_name = λ h. codes "scale";
 }
 
-abbrev around : Surroundings
-around = record {
+abbrev context : ExpressionContext
+context = record {
   types = types;
   spelled = λ r. None;
   numbers = λ r. [];
   known = λ h. option_map (λ t. Handle h) (slice_get types h);
-}
-
-abbrev declared : Declared
-declared = record {
-  around = around;
-  value_type = λ r. OtherType (codes "T");
-  constant_tree = λ h. Some (NamedConstant h);
-  override_tree = λ h. NamedConstant h;
-  member = λ h index. codes "member";
 }
 
 -- the second of two
@@ -78,13 +69,22 @@ second first other zero = first
 second first other (suc h) = other
 
 -- the second variable stands in the handle space
+abbrev declared : Declared
+declared = record {
+  context = context;
+  value_type = λ r. OtherType (codes "T");
+  constant_tree = λ h. Some (NamedConstant h);
+  override_tree = λ h. NamedConstant h;
+  is_held = second false true;
+  member = λ h index. codes "member";
+}
+
 abbrev source : Source
 source = record {
   expressions = expressions;
   declared = declared;
   type_names = type_words;
   constant = λ h. Name (codes "limit");
-  is_held = second false true;
 }
 
 module _ (f : Function) where
@@ -100,7 +100,7 @@ module _ (f : Function) where
       };
       argument = second (codes "index") (codes "target");
       local_ = λ h. codes "sum";
-      given = λ k. [];
+      named = λ k. [];
       numbered = λ h. [];
       earlier = 0;
     };
@@ -129,11 +129,11 @@ module _ (f : Function) where
   variable_reference = refl
 
   -- one in the handle space is a value
-  held_value : value 3 ≡ codes "linear"
-  held_value = refl
+  handle_variable_value : value 3 ≡ codes "linear"
+  handle_variable_value = refl
 
-  held_reference : reference 3 ≡ codes "(*linear)"
-  held_reference = refl
+  handle_variable_reference : reference 3 ≡ codes "(*linear)"
+  handle_variable_reference = refl
 
   -- ---- of the function
   argument_value : value 4 ≡ codes "index"

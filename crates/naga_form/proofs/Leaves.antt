@@ -1,8 +1,8 @@
 -- Leaves of every accepted function have the types of what they stand for: arguments, locals and
 -- variables of the module. What is said of constants is asked.
 use Rattle.std.proofs.Common.{◌≡◌, ℕ, ◌<◌, Bool, true, false, List, [], ◌∷◌, ◌++◌, Option, Some, None}
-use Rattle.std.proofs.Common.{refl, sym, ap, ◌∙◌, subst, slice_get, length, map, if◌then◌else◌}
-use Rattle.std.specs.Option.{option_to_list, option_and_then, option_map}
+use Rattle.std.proofs.Common.{refl, sym, ap, ◌∙◌, subst, slice_get, map, if◌then◌else◌}
+use Rattle.std.specs.Option.{option_to_list, option_and_then, option_map, option_map_or}
 use Rattle.std.proofs.lemmas.Option.{slice_get_within}
 use Rattle.std.proofs.lemmas.Slice.Eq.{bytes_eq-Decides}
 use Rattle.naga_info.proofs.Options.{map_some, then_some}
@@ -12,6 +12,7 @@ use Rattle.naga_ir.specs.declared.expression.SampleLevel.{SampleLevel}
 use Rattle.naga_ir.specs.declared.expression.SampleLevel.TheVariants as level
 use Rattle.naga_ir.specs.declared.expression.SwizzleComponent.{SwizzleComponent}
 use Rattle.naga_ir.specs.declared.module.Function.{Function}
+use Rattle.naga_ir.specs.declared.module.GlobalVariable.{GlobalVariable}
 use Rattle.naga_ir.specs.declared.module.Module.{Module}
 use Rattle.naga_ir.specs.declared.types.AddressSpace.{AddressSpace}
 use Rattle.naga_ir.specs.declared.types.AddressSpace.TheVariants as space
@@ -24,7 +25,7 @@ use Rattle.naga_info.specs.declared.info.TypeResolution.{TypeResolution}
 use Rattle.naga_info.specs.declared.info.TypeResolution.TheVariants.{Handle, Value}
 use Rattle.module_meaning.specs.AgreeingOperators.{function_group}
 use Rattle.module_meaning.specs.AlikeTypes.{are_alike, type_identity}
-use Rattle.module_meaning.specs.ExpressionOperators.{points_to_atomic, constructor}
+use Rattle.module_meaning.specs.ExpressionOperators.{is_atomic_pointer, constructor}
 use Rattle.module_meaning.specs.ExpressionShapes.{Declared, shape_of, applied_shape, applied_or}
 use Rattle.module_meaning.specs.ExpressionShapes.{part_shape, part_selector, constant_tree, trees}
 use Rattle.module_meaning.specs.ExpressionShapes.{written_zero, constant_shape, tree_over, tree_within}
@@ -33,19 +34,20 @@ use Rattle.module_meaning.specs.Literals.{literal_value}
 use Rattle.module_meaning.specs.ExpressionTypes.{expression_type_fits, is_wanted, only, global_type}
 use Rattle.module_meaning.specs.ExpressionTypes.{argument_type, local_type, variable_type}
 use Rattle.module_meaning.specs.FunctionShapes.{function_shape}
-use Rattle.module_meaning.specs.ModuleShapes.{module_shape}
+use Rattle.module_meaning.specs.InfoSizes.{is_handle_space}
+use Rattle.module_meaning.specs.ModuleShapes.{module_shape, variable_shape}
 use Rattle.module_meaning.specs.OperandDemands.{is_swizzled}
 use Rattle.module_meaning.specs.OperatorTable.{Operator, AtomicLoad, BinarySign, run_word}
-use Rattle.module_meaning.specs.Surroundings.{declared, types_known}
-use Rattle.module_meaning.specs.Types.{type_of_values, word_of_values}
-use Rattle.module_meaning.specs.Surroundings.{written_constant}
+use Rattle.module_meaning.specs.ExpressionContexts.{declared, types_known, is_handle_variable}
+use Rattle.module_meaning.specs.Types.{declared_type, type_of_values, word_of_values}
+use Rattle.module_meaning.specs.ExpressionContexts.{written_constant}
 use Rattle.module_meaning.specs.Types.{values_of}
 use Rattle.shader_runs.specs.Premises.{LeafFits, ConstantInRange, ConstantsInRange, IsNoPointer}
 use Rattle.shader_runs.specs.Premises.{constant_type as constant_tree_type}
 use Rattle.shader_runs.specs.Program as shapes
 use Rattle.shader_runs.specs.Program.{Constant, ConstantTree, expression_of, handle_type, Load}
-use Rattle.shader_runs.specs.Program.{Fixed, Constructed, no_constant}
-use Rattle.shader_runs.specs.Value.{Selector, PointerType, type_at}
+use Rattle.shader_runs.specs.Program.{Fixed, Constructed, no_constant, Held, AtPlace, is_held}
+use Rattle.shader_runs.specs.Value.{Selector, BooleanType, PointerType, type_at}
 use Rattle.naga_form.proofs.AcceptedGroups.{IsSoundGroup, own_known}
 use Rattle.naga_form.proofs.AgreeingUses.{value_at}
 use Rattle.naga_form.proofs.Fits.{mapped_at, type_at_mapped, mapped_length}
@@ -71,6 +73,22 @@ only_alike m (Some s) r wanted = (s, refl, wanted)
 -- a pointer to a local is fit, and so is a variable
 pub local_fit : (m : Module) (ty : ℕ) → IsFit m (Value (inner.Pointer ty space.Function))
 local_fit m ty = (refl, tt, refl)
+
+-- a variable is held just where it is in the handle space, and its name has the type that is known
+held_by_space : (m : Module) (g : GlobalVariable) → is_handle_space g.space ≡ is_held (variable_shape m g)
+held_by_space m g = by (is_handle_space g.space)
+  where
+    by : (b : Bool) → b ≡ is_held (if b then Held (declared_type m g.ty) else AtPlace (word_of_values m (variable_type g.space g.ty)))
+    by true = refl
+    by false = refl
+
+typed_by_space : (m : Module) (g : GlobalVariable) → type_of_values m (variable_type g.space g.ty) ≡ shapes.variable_type (variable_shape m g)
+typed_by_space m g = by g.space
+  where
+    by : (at : AddressSpace) → type_of_values m (variable_type at g.ty) ≡ shapes.variable_type
+        (if is_handle_space at then Held (declared_type m g.ty) else AtPlace (word_of_values m (variable_type at g.ty)))
+    by space.Handle = refl
+    by _ = refl
 
 pub variable_fit : (m : Module) (at : AddressSpace) (ty : ℕ) → IsFit m (variable_type at ty)
 variable_fit m space.Handle ty = tt
@@ -118,8 +136,8 @@ module _ (m : Module) (info : ModuleInfo) (f : Function) (es : List ExpressionIn
   abbrev known : List TypeResolution
   known = map (λ e. e.ty) es
 
-  abbrev around : Declared
-  around = declared m info (types_known es)
+  abbrev context : Declared
+  context = declared m info (types_known es)
 
   -- an expression that has only one type
   pub typed_only : (h : ℕ) (e : ir.Expression) → slice_get f.expressions h ≡ Some e →
@@ -158,16 +176,18 @@ module _ (m : Module) (info : ModuleInfo) (f : Function) (es : List ExpressionIn
       ap PointerType (sym (mapped_at (λ l. word_of_values m (Value (inner.Pointer l.ty space.Function))) [] f.local_variables n found.0 found.1)))
 
   global_at : (h n : ℕ) → slice_get f.expressions h ≡ Some (expression.GlobalVariable n) →
-      (n < length (module_shape m info).global_types) × (handle_type shape h ≡ type_at (module_shape m info).global_types n)
+      LeafFits (module_shape m info) shape (handle_type shape h) (Some (shapes.Global (is_handle_variable m n) n))
   global_at h n at =
       let one =
       typed_only h (expression.GlobalVariable n) at (global_type m n) (λ r fits. fits)
       (λ s is. let found = map_some (λ g. variable_type g.space g.ty) (slice_get m.global_variables n) s is in subst (IsFit m) found.2 (variable_fit m found.0.space found.0.ty)) in
       let found = map_some (λ g. variable_type g.space g.ty) (slice_get m.global_variables n) one.0 one.1 in
-      let counted = mapped_length (λ g. type_of_values m (variable_type g.space g.ty)) m.global_variables in (
+      let counted = mapped_length (variable_shape m) m.global_variables in
+      let here = sym (mapped_at (variable_shape m) (Held BooleanType) m.global_variables n found.0 found.1) in (
         subst (λ k. n < k) (sym counted) (slice_get_within m.global_variables n found.0 found.1),
-        one.2 ∙ (ap (type_of_values m) (sym found.2) ∙
-            sym (type_at_mapped (λ g. type_of_values m (variable_type g.space g.ty)) m.global_variables n found.0 found.1)),
+        ap (λ o. option_map_or (λ g. is_handle_space g.space) o false) found.1 ∙
+            (held_by_space m found.0 ∙ ap is_held here),
+        one.2 ∙ (ap (type_of_values m) (sym found.2) ∙ (typed_by_space m found.0 ∙ ap shapes.variable_type here)),
       )
 
   swizzled_at : (h : ℕ) (n : VectorSize) (v : ℕ) (letters : List SwizzleComponent) →
@@ -187,11 +207,11 @@ module _ (m : Module) (info : ModuleInfo) (f : Function) (es : List ExpressionIn
 
     -- what is written as a tree
     tree_fits : (h : ℕ) (e : ir.Expression) (t : ConstantTree) → slice_get f.expressions h ≡ Some e →
-        tree_over around (tree_within h around f.expressions) h e ≡ Some t → Fits h (Constant t)
+        tree_over context (tree_within h context f.expressions) h e ≡ Some t → Fits h (Constant t)
     tree_fits h e t at is =
         let own = own_known m info (Some f) (function_group f es) group h e at in
-        let tree : constant_tree around f.expressions h ≡ Some t =
-        ap (option_and_then (tree_over around (tree_within h around f.expressions) h)) at ∙ is in (
+        let tree : constant_tree context f.expressions h ≡ Some t =
+        ap (option_and_then (tree_over context (tree_within h context f.expressions) h)) at ∙ is in (
           constants.ranges h t tree,
           typed_known m info f es h own.0 own.1 ∙
               (sym (type_at_mapped (type_of_values m) known h own.0 own.1) ∙
@@ -199,7 +219,7 @@ module _ (m : Module) (info : ModuleInfo) (f : Function) (es : List ExpressionIn
         )
 
     leaf_at : (h : ℕ) (e : ir.Expression) → slice_get f.expressions h ≡ Some e →
-        Fits h (shape_of around f.expressions h e)
+        Fits h (shape_of context f.expressions h e)
     leaf_at h (expression.Literal value) at =
         tree_fits h (expression.Literal value) (Fixed (literal_value value)) at refl
     leaf_at h (expression.Constant handle) at =
@@ -207,17 +227,17 @@ module _ (m : Module) (info : ModuleInfo) (f : Function) (es : List ExpressionIn
         subst (λ o. Fits h (constant_shape o)) (sym w.1)
         (tree_fits h (expression.Constant handle) w.0 at w.1)
     leaf_at h (expression.Override handle) at =
-        tree_fits h (expression.Override handle) (around.override_tree handle) at refl
+        tree_fits h (expression.Override handle) (context.override_tree handle) at refl
     leaf_at h (expression.ZeroValue ty) at =
         let own = own_known m info (Some f) (function_group f es) group h (expression.ZeroValue ty) at in
-        let operator = constructor around.around (Handle ty) 0 in
+        let operator = constructor context.context (Handle ty) 0 in
         let t = Constructed (run_word operator) (type_of_values m own.0) no_constant in
-        let is : built around h operator [] ≡ Some t =
+        let is : built context h operator [] ≡ Some t =
         ap (option_map (λ r. Constructed (run_word operator) (type_of_values m r) no_constant)) own.1 in
         subst (λ o. Fits h (constant_shape o)) (sym is)
         (tree_fits h (expression.ZeroValue ty) t at is)
     leaf_at h (expression.Compose ty components) at = applied_fits h _ _
-    leaf_at h (expression.AccessIndex base index) at = by (part_selector around base index)
+    leaf_at h (expression.AccessIndex base index) at = by (part_selector context base index)
       where
         by : (s : Option Selector) → Fits h (part_shape base index s)
         by None = tt
@@ -226,7 +246,7 @@ module _ (m : Module) (info : ModuleInfo) (f : Function) (es : List ExpressionIn
     leaf_at h (expression.FunctionArgument number) at = argument_at h number at
     leaf_at h (expression.GlobalVariable handle) at = global_at h handle at
     leaf_at h (expression.LocalVariable handle) at = local_at h handle at
-    leaf_at h (expression.Load pointer) at = by (points_to_atomic around.around pointer)
+    leaf_at h (expression.Load pointer) at = by (is_atomic_pointer context.context pointer)
       where
         by : (atomic : Bool) →
             Fits h (applied_or (Load pointer) (pointer ∷ []) (if atomic then Some AtomicLoad else None))
@@ -236,8 +256,8 @@ module _ (m : Module) (info : ModuleInfo) (f : Function) (es : List ExpressionIn
         (expression.ImageSample
         image sampler gather coordinate array_index offset level depth_ref clamp) at =
         zero_in_range (module_shape m info) level _ _
-        (offset_in_range (module_shape m info) (option_and_then (constant_tree around f.expressions) offset)
-        (λ t is. let found = then_some (constant_tree around f.expressions) offset t is in constants.ranges found.0 t found.2))
+        (offset_in_range (module_shape m info) (option_and_then (constant_tree context f.expressions) offset)
+        (λ t is. let found = then_some (constant_tree context f.expressions) offset t is in constants.ranges found.0 t found.2))
     leaf_at h (expression.ImageQuery image query) at = applied_fits h _ _
     leaf_at h (expression.Binary op left right) at = applied_fits h (BinarySign op) _
     leaf_at h (expression.As expr kind convert) at = applied_fits h _ _

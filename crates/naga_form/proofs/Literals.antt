@@ -8,7 +8,7 @@ use Rattle.naga_ir.specs.declared.expression.Literal.{Literal}
 use Rattle.naga_ir.specs.declared.expression.Literal as ir_literal
 use Rattle.naga_ir.specs.declared.expression.Literal.TheVariants as literal
 use Rattle.module_meaning.specs.Literals.{literal_is_within}
-use Rattle.module_meaning.specs.Part.{is_written_literal}
+use Rattle.module_meaning.specs.WrittenSoFar.{is_written_literal}
 use Rattle.wgsl_text.specs.Literals.{Suffixed, LeastInteger, LeastLong, IsLiteral}
 use Rattle.wgsl_text.specs.Token.{SuffixI, SuffixLi}
 use Rattle.shader_runs.specs.Value.{Whole, Value, Truth, Opaque}
@@ -70,12 +70,12 @@ literal_is _ w e = absurd (cc)
 abbrev integer_of : ℕ → ℤ
 integer_of n = if n % 2 == 0 then pos (n / 2) else negsuc (n / 2)
 
-integer_told : (z : ℤ) → integer_of (integer_payload z) ≡ z
-integer_told (pos n) =
+integer_distinguished : (z : ℤ) → integer_of (integer_payload z) ≡ z
+integer_distinguished (pos n) =
     let even : (2 * n) % 2 ≡ 0 = omega arith in
     let half : (2 * n) / 2 ≡ n = omega arith in
     λ i. if even i == 0 then pos (half i) else negsuc (half i)
-integer_told (negsuc n) =
+integer_distinguished (negsuc n) =
     let odd : (2 * n + 1) % 2 ≡ 1 = omega arith in
     let half : (2 * n + 1) / 2 ≡ n = omega arith in
     λ i. if odd i == 0 then pos (half i) else negsuc (half i)
@@ -100,9 +100,9 @@ literal_of (Opaque w n) =
 literal_of (Truth b) = literal.Bool b
 literal_of _ = literal.U32 0
 
-literal_told : (v : Literal) → literal_of (literal_value v) ≡ v
-literal_told (literal.AbstractInt z) = ap literal.AbstractInt (integer_told z)
-literal_told _ = refl
+literal_distinguished : (v : Literal) → literal_of (literal_value v) ≡ v
+literal_distinguished (literal.AbstractInt z) = ap literal.AbstractInt (integer_distinguished z)
+literal_distinguished _ = refl
 
 pub values_apart : (a b : Literal) → literal_value a ≡ literal_value b → a ≡ b
-values_apart a b e = sym (literal_told a) ∙ (ap literal_of e ∙ literal_told b)
+values_apart a b e = sym (literal_distinguished a) ∙ (ap literal_of e ∙ literal_distinguished b)

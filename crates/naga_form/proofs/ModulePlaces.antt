@@ -1,6 +1,6 @@
 -- Where each function of the program of shapes of an accepted module comes from, and what stands at
 -- its handles: the shapes of the expressions, and the types of their values.
-use Rattle.module_meaning.specs.Names.{TypesAreTold}
+use Rattle.module_meaning.specs.Names.{TypesAreDistinguished}
 use Rattle.module_meaning.proofs.SideBySide.{zip_parts}
 use Rattle.std.proofs.Common.{◌≡◌, ℕ, zero, suc, ◌+◌, List, [], ◌∷◌, ◌++◌, refl, sym, ap, ◌∙◌, map, length}
 use Rattle.std.proofs.Common.{Some, None, slice_get, arith, ◌⊎◌, inl, inr}
@@ -19,7 +19,7 @@ use Rattle.module_meaning.specs.AgreeingOperators.{function_group}
 use Rattle.module_meaning.specs.ExpressionShapes.{Declared, shape_of}
 use Rattle.module_meaning.specs.FunctionShapes.{function_shape, shapes_from}
 use Rattle.module_meaning.specs.ModuleShapes.{module_shape}
-use Rattle.module_meaning.specs.Surroundings.{declared, types_known}
+use Rattle.module_meaning.specs.ExpressionContexts.{declared, types_known}
 use Rattle.module_meaning.specs.Types.{type_of_values}
 use Rattle.shader_runs.specs.Premises.{handle_types}
 use Rattle.shader_runs.specs.Program.{Function, expression_of, handle_type}
@@ -78,7 +78,7 @@ pub record IsShapeOf (m : ir_module.Module) (info : ModuleInfo) (f : Function) :
   pub sound : IsSoundGroup m info (Some function) (function_group function known)
   pub same : f ≡ function_shape m info function known
 
-module _ (m : ir_module.Module) (info : ModuleInfo) (accepted : IsTrue (is_accepted m info)) (told : TypesAreTold m) where
+module _ (m : ir_module.Module) (info : ModuleInfo) (accepted : IsTrue (is_accepted m info)) (distinguished : TypesAreDistinguished m) where
   abbrev functions : List (ir_function.Function × List ExpressionInfo)
   functions = zip m.functions info.functions.items
 

@@ -18,7 +18,7 @@ use Rattle.module_meaning.specs.ModuleShapes.{module_shape, named_constants}
 use Rattle.module_meaning.specs.Names.{constant_name, name_in, override_name}
 use Rattle.module_meaning.specs.Namings.{named_handles, outer_names}
 use Rattle.module_meaning.specs.OperatorTable.{if_there}
-use Rattle.module_meaning.specs.Surroundings.{named_count, constant_number, override_number}
+use Rattle.module_meaning.specs.ExpressionContexts.{named_count, constant_number, override_number}
 use Rattle.module_meaning.specs.Types.{type_of_values}
 use Rattle.shader_runs.specs.Value.{ValueType, BooleanType, type_at}
 
@@ -36,7 +36,9 @@ named_at (d ∷ cs) zero c here named = by (is_named d) refl
     by false at = absurd cc
 named_at (d ∷ cs) (suc h) c here named = by (named_at cs h c here named) (is_named d)
   where
-    by : slice_get (filter is_named cs) (named_count (take h cs)) ≡ Some c → (b : Bool) → slice_get (if b then d ∷ filter is_named cs else filter is_named cs) (if_there b + named_count (take h cs)) ≡ Some c
+    by : slice_get (filter is_named cs) (named_count (take h cs)) ≡ Some c →
+        (b : Bool) → slice_get (if b then d ∷ filter is_named cs else filter is_named cs)
+        (if_there b + named_count (take h cs)) ≡ Some c
     by rest true = let at : 1 + named_count (take h cs) ≡ suc (named_count (take h cs)) = omega arith in
         ap (slice_get (d ∷ filter is_named cs)) at ∙ rest
     by rest false = let at : 0 + named_count (take h cs) ≡ named_count (take h cs) = omega arith in
@@ -68,7 +70,10 @@ handle_at k (d ∷ cs) (suc h) c here named = by (handle_at (suc k) cs h c here 
     next : suc k + h ≡ k + suc h
     next = omega arith
 
-    by : slice_get (named_handles (suc k) cs) (named_count (take h cs)) ≡ Some (suc k + h) → (b : Bool) → slice_get (if b then k ∷ named_handles (suc k) cs else named_handles (suc k) cs) (if_there b + named_count (take h cs)) ≡ Some (k + suc h)
+    by : slice_get (named_handles (suc k) cs) (named_count (take h cs)) ≡ Some (suc k + h) →
+        (b : Bool) →
+        slice_get (if b then k ∷ named_handles (suc k) cs else named_handles (suc k) cs)
+        (if_there b + named_count (take h cs)) ≡ Some (k + suc h)
     by rest true = let at : 1 + named_count (take h cs) ≡ suc (named_count (take h cs)) = omega arith in
         ap (slice_get (k ∷ named_handles (suc k) cs)) at ∙ (rest ∙ ap Some next)
     by rest false = let at : 0 + named_count (take h cs) ≡ named_count (take h cs) = omega arith in

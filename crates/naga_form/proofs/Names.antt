@@ -50,7 +50,10 @@ byte_of false false false false e = e
 all_bytes : (w : List ℕ) → list_all is_identifier_char w ≡ true → all_word_bytes w ≡ true
 all_bytes [] e = refl
 all_bytes (c ∷ w) e =
-    and_from (is_word_byte c) (all_word_bytes w) (byte_of (is_ascii_digit c) (is_ascii_uppercase c) (is_ascii_lowercase c) (c == 95) (and_left (is_identifier_char c) (list_all is_identifier_char w) e)) (all_bytes w (and_right (is_identifier_char c) (list_all is_identifier_char w) e))
+    and_from (is_word_byte c) (all_word_bytes w)
+    (byte_of (is_ascii_digit c) (is_ascii_uppercase c) (is_ascii_lowercase c) (c == 95)
+    (and_left (is_identifier_char c) (list_all is_identifier_char w) e))
+    (all_bytes w (and_right (is_identifier_char c) (list_all is_identifier_char w) e))
 
 word_text : (w : List ℕ) → is_word w ≡ true → is_word_text w ≡ true
 word_text [] e = absurd (cc)
@@ -58,7 +61,9 @@ word_text (c ∷ w) e =
     let chars = list_all is_identifier_char (c ∷ w) in
     let each = and_left chars (not (is_ascii_digit c)) e in
     and_from (is_letter c) (all_word_bytes w)
-    (letter_of (is_ascii_digit c) (is_ascii_uppercase c) (is_ascii_lowercase c) (c == 95) (and_left (is_identifier_char c) (list_all is_identifier_char w) each) (and_right chars (not (is_ascii_digit c)) e))
+    (letter_of (is_ascii_digit c) (is_ascii_uppercase c) (is_ascii_lowercase c) (c == 95)
+    (and_left (is_identifier_char c) (list_all is_identifier_char w) each)
+    (and_right chars (not (is_ascii_digit c)) e))
     (all_bytes w (and_right (is_identifier_char c) (list_all is_identifier_char w) each))
 
 -- ---- the two tables
@@ -139,10 +144,14 @@ module _ (m : Module) where
   puts = record { finds = λ key. refl }
 
   -- an item's name is that of its label after those before it
-  pub name_there : (item : LabelledItem) (s : Stands (labelled_items wgsl_names m) item) → module_names m item.0 ≡ Some (name_after wgsl_names (labels_of (take s.place (labelled_items wgsl_names m))) item.1)
+  pub name_there : (item : LabelledItem) (s : Stands (labelled_items wgsl_names m) item) →
+      module_names m item.0 ≡
+      Some (name_after wgsl_names (labels_of (take s.place (labelled_items wgsl_names m))) item.1)
   name_there item s = put_at wgsl_names (λ _. None) (module_names m) (labelled_items wgsl_names m) puts (items_apart wgsl_names m) s.place item s.there s.outside
 
-  pub name_is : (item : LabelledItem) (s : Stands (labelled_items wgsl_names m) item) → name_in (module_names m) item.0 ≡ name_after wgsl_names (labels_of (take s.place (labelled_items wgsl_names m))) item.1
+  pub name_is : (item : LabelledItem) (s : Stands (labelled_items wgsl_names m) item) →
+      name_in (module_names m) item.0 ≡ name_after wgsl_names
+      (labels_of (take s.place (labelled_items wgsl_names m))) item.1
   name_is item s = ap (λ o. unwrap_or o []) (name_there item s)
 
   pub item_is_identifier : (item : LabelledItem) → Stands (labelled_items wgsl_names m) item → IsIdentifier (name_in (module_names m) item.0)
@@ -168,5 +177,7 @@ module _ (m : Module) where
   pub function_there : (g : ℕ) (f : ir_function.Function) → slice_get m.functions g ≡ Some f → Stands (labelled_items wgsl_names m) (function_item g f)
   function_there g f e = function_stands wgsl_names m g f e
 
-  pub argument_there : (g : ℕ) (f : ir_function.Function) (n : ℕ) (a : FunctionArgument) → slice_get m.functions g ≡ Some f → slice_get f.arguments.items n ≡ Some a → Stands (labelled_items wgsl_names m) (argument_item g n a)
+  pub argument_there : (g : ℕ) (f : ir_function.Function) (n : ℕ) (a : FunctionArgument) →
+      slice_get m.functions g ≡ Some f → slice_get f.arguments.items n ≡ Some a →
+      Stands (labelled_items wgsl_names m) (argument_item g n a)
   argument_there g f n a e there = argument_stands wgsl_names m g f n a e there

@@ -16,7 +16,11 @@ use Rattle.wgsl_text.specs.Words.{all_word_bytes, is_reserved}
 
 digits_are_bytes : (w : List ℕ) → list_all is_ascii_digit w ≡ true → all_word_bytes w ≡ true
 digits_are_bytes [] e = refl
-digits_are_bytes (c ∷ w) e = and_from (is_word_byte c) (all_word_bytes w) (or_right (is_letter c) (is_ascii_digit c) (and_left (is_ascii_digit c) (list_all is_ascii_digit w) e)) (digits_are_bytes w (and_right (is_ascii_digit c) (list_all is_ascii_digit w) e))
+digits_are_bytes (c ∷ w) e =
+    and_from (is_word_byte c) (all_word_bytes w)
+    (or_right (is_letter c) (is_ascii_digit c)
+    (and_left (is_ascii_digit c) (list_all is_ascii_digit w) e))
+    (digits_are_bytes w (and_right (is_ascii_digit c) (list_all is_ascii_digit w) e))
 
 -- a word that begins with `_e`
 abbrev begins_numbered : List ℕ → Bool
@@ -25,7 +29,10 @@ begins_numbered w = nat_eq (get_or w 0 0) 95 && nat_eq (get_or w 1 0) 101
 none_begins : (ws : List (List ℕ)) (d : List ℕ) → list_all (λ w. not (begins_numbered w)) ws ≡ true → stands_in ws (codes "_e" ++ d) ≡ false
 none_begins [] d e = refl
 none_begins (w ∷ ws) d e =
-    neither (bytes_eq w (codes "_e" ++ d)) (stands_in ws (codes "_e" ++ d)) (other (bytes_eq w (codes "_e" ++ d)) refl) (none_begins ws d (and_right (not (begins_numbered w)) (list_all (λ w. not (begins_numbered w)) ws) e))
+    neither (bytes_eq w (codes "_e" ++ d)) (stands_in ws (codes "_e" ++ d))
+    (other (bytes_eq w (codes "_e" ++ d)) refl)
+    (none_begins ws d
+    (and_right (not (begins_numbered w)) (list_all (λ w. not (begins_numbered w)) ws) e))
   where
     neither : (a b : Bool) → a ≡ false → b ≡ false → (a || b) ≡ false
     neither true b e f = e
@@ -33,7 +40,10 @@ none_begins (w ∷ ws) d e =
 
     other : (b : Bool) → bytes_eq w (codes "_e" ++ d) ≡ b → b ≡ false
     other false is = refl
-    other true is = absurd (true≢false (sym (and_left (not (begins_numbered w)) (list_all (λ w. not (begins_numbered w)) ws) e) ∙ ap (λ w. not (begins_numbered w)) ((bytes_eq-Decides w (codes "_e" ++ d)).0 is)))
+    other true is =
+        absurd (true≢false
+        (sym (and_left (not (begins_numbered w)) (list_all (λ w. not (begins_numbered w)) ws) e)
+        ∙ ap (λ w. not (begins_numbered w)) ((bytes_eq-Decides w (codes "_e" ++ d)).0 is)))
 
 not_reserved : (d : List ℕ) → is_reserved (codes "_e" ++ d) ≡ false
 unfolding is_reserved reserved_words

@@ -1,12 +1,14 @@
 -- Words of operators that no name hides: the signs, words and types of the operators that are written
 -- so far.
-use Rattle.std.proofs.Common.{◌≡◌, ℕ, Bool, true, false, List, [], ◌∷◌, refl, nat_eq}
+use Rattle.std.proofs.Common.{◌≡◌, ℕ, Bool, true, false, List, [], ◌∷◌, refl, nat_eq, sym, ap, ◌∙◌}
 use Rattle.std.proofs.Common.{codes, ◌++◌}
-use Rattle.std.specs.List.{AllByRecursion}
+use Rattle.std.specs.Char.{is_ascii_digit}
+use Rattle.std.specs.List.{AllByRecursion, list_all}
 use Rattle.std.specs.Prelude.{◌&&◌, ◌||◌, if◌then◌else◌, not}
 use Rattle.std.specs.Option.{option_map_or}
-use Rattle.module_meaning.specs.OperatorTable.{BinarySign, UnarySign, Choice, Mathematical}
-use Rattle.module_meaning.specs.OperatorTable.{Relation, Splat, run_word}
+use Rattle.std.proofs.lemmas.Bool.{and_from, and_parts, eqb-true, false≢true, or_parts}
+use Rattle.module_meaning.specs.OperatorTable.{BinarySign, UnarySign, Select, Math}
+use Rattle.module_meaning.specs.OperatorTable.{Relational, Splat, run_word}
 use Rattle.module_meaning.specs.OperatorTable.{Derivative, with_type, Formless, Cast, PartAt}
 use Rattle.module_meaning.specs.OperatorTable.{ValueOf, MatrixLoad, WithoutForm}
 use Rattle.module_meaning.specs.OperatorTable.{ArrayLength, Automatic}
@@ -15,7 +17,7 @@ use Rattle.module_meaning.specs.OperatorTable.{Level, Sample, Texel, Zero, Atomi
 use Rattle.module_meaning.specs.OperatorTable.{CooperativeLoad, RayIntersection, RayCorners}
 use Rattle.module_meaning.specs.OperatorTable.{formless_asks}
 use Rattle.module_meaning.specs.ExpressionOperators.{query_operator, sample_operator, texel_of}
-use Rattle.module_meaning.specs.ExpressionOperators.{Surroundings, matrix_load}
+use Rattle.module_meaning.specs.ExpressionOperators.{ExpressionContext, matrix_load}
 use Rattle.naga_ir.specs.declared.expression.CooperativeData.{CooperativeData}
 use Rattle.naga_ir.specs.declared.expression.ImageQuery.{ImageQuery}
 use Rattle.naga_ir.specs.declared.expression.ImageQuery.TheVariants as query
@@ -38,13 +40,13 @@ use Rattle.naga_ir.specs.declared.types.CooperativeRole.{CooperativeRole}
 use Rattle.naga_ir.specs.declared.types.CooperativeSize.{CooperativeSize}
 use Rattle.naga_ir.specs.declared.types.VectorSize.{VectorSize}
 use Rattle.naga_ir.specs.declared.types.VectorSize.TheVariants.{Bi, Tri, Quad}
-use Rattle.naga_keywords.specs.Plain.{is_word}
-use Rattle.wgsl_text.proofs.Words.{all_words}
+use Rattle.naga_keywords.specs.Plain.{is_identifier_char, is_word}
+use Rattle.wgsl_text.proofs.Words.{all_words, passes}
 use Rattle.wgsl_text.specs.Keywords.{builtin_words}
 use Rattle.wgsl_text.specs.Reading.{type_layout}
-use Rattle.wgsl_text.specs.Requests.{is_request}
+use Rattle.wgsl_text.specs.Requests.{head_word, is_request, request_words}
 use Rattle.wgsl_text.specs.Types.{Named, plain_type_words, type_templates}
-use Rattle.wgsl_text.specs.Words.{is_builtin}
+use Rattle.wgsl_text.specs.Words.{is_builtin, stands_in}
 
 -- it has another sign than blanks
 abbrev pub is_signed : List ℕ → Bool
@@ -93,7 +95,7 @@ binary_free operator.LogicalOr = refl
 binary_free operator.ShiftLeft = refl
 binary_free operator.ShiftRight = refl
 
-pub choice_free : operates_freely (run_word Choice) ≡ true
+pub choice_free : operates_freely (run_word Select) ≡ true
 unfolding is_request is_builtin builtin_words
 choice_free = refl
 
@@ -105,12 +107,12 @@ splat_free Quad = refl
 
 -- as are the words of functions of mathematics and of relations, and what stands for one that has
 -- no word
-pub math_free : (fun : MathFunction) → operates_freely (run_word (Mathematical fun)) ≡ true
+pub math_free : (fun : MathFunction) → operates_freely (run_word (Math fun)) ≡ true
 unfolding is_request is_builtin builtin_words
 math_free math.Abs = refl
 math_free _ = refl
 
-pub relation_free : (fun : RelationalFunction) → operates_freely (run_word (Relation fun)) ≡ true
+pub relation_free : (fun : RelationalFunction) → operates_freely (run_word (Relational fun)) ≡ true
 unfolding is_request is_builtin builtin_words
 relation_free relational.All = refl
 relation_free _ = refl
@@ -336,7 +338,8 @@ load_among_free columns rows role true (Some w) = refl
 load_among_free columns rows role false (Some w) = refl
 load_among_free columns rows role row_major None = refl
 
-pub matrix_load_free : (a : Surroundings) (columns rows : CooperativeSize) (role : CooperativeRole)
+pub matrix_load_free : (a : ExpressionContext) (columns rows : CooperativeSize)
+    (role : CooperativeRole)
     (place : CooperativeData) → asks_freely (run_word (matrix_load a columns rows role place)) ≡ true
 matrix_load_free a columns rows role place = load_among_free columns rows role place.row_major _
 
@@ -352,3 +355,58 @@ pub templates_free : (rest : List ℕ) →
 unfolding is_request is_builtin builtin_words
 templates_free rest =
     (refl, (refl, (refl, (refl, (refl, (refl, (refl, (refl, (refl, tt)))))))))
+
+-- ---- all words that ask
+-- a word of letters, digits and `_` has no parts
+goes_on : (b : ℕ) → is_identifier_char b ≡ true → (nat_eq b 60 || nat_eq b 32) ≡ false
+goes_on b is = by (nat_eq b 60) refl (nat_eq b 32) refl
+  where
+    by : (x : Bool) → nat_eq b 60 ≡ x → (y : Bool) → nat_eq b 32 ≡ y → (x || y) ≡ false
+    by true less y blank = absurd (false≢true (sym (ap is_identifier_char (eqb-true b 60 less)) ∙ is))
+    by false less true blank = absurd (false≢true (sym (ap is_identifier_char (eqb-true b 32 blank)) ∙ is))
+    by false less false blank = refl
+
+head_whole : (w : List ℕ) → list_all is_identifier_char w ≡ true → head_word w ≡ w
+head_whole [] all = refl
+head_whole (b ∷ bytes) all =
+    let parts = and_parts (is_identifier_char b) (list_all is_identifier_char bytes) all in
+    ap (λ t. if t then [] else b ∷ head_word bytes) (goes_on b parts.0) ∙ ap (λ bs. b ∷ bs) (head_whole bytes parts.1)
+
+-- each is a built-in word that begins with no `_`
+abbrev begins_plainly : List ℕ → Bool
+begins_plainly [] = false
+begins_plainly (c ∷ rest) = not (nat_eq c 95)
+
+plain_requests : all_words (λ w. begins_plainly w && is_builtin w) request_words ≡ true
+unfolding is_builtin builtin_words
+plain_requests = refl
+
+-- so that it is no name, whatever its parts are
+head_free : (w : List ℕ) → stands_in request_words (head_word w) ≡ true → names_no_item w ≡ true
+head_free [] stands = absurd (false≢true stands)
+head_free (c ∷ rest) stands = by (nat_eq c 60 || nat_eq c 32) refl stands
+  where
+    whole : (a : Bool) → is_word (c ∷ rest) ≡ a → (not a || is_builtin (c ∷ rest)) ≡ true
+    whole false word = refl
+    whole true word =
+        let all = (and_parts (list_all is_identifier_char (c ∷ rest)) (not (is_ascii_digit c)) word).0 in
+        let at = ap (stands_in request_words) (sym (head_whole (c ∷ rest) all)) ∙ stands in
+        (and_parts (begins_plainly (c ∷ rest)) (is_builtin (c ∷ rest))
+        (passes (λ w. begins_plainly w && is_builtin w) request_words (c ∷ rest) plain_requests at)).1
+
+    by : (parted : Bool) → (nat_eq c 60 || nat_eq c 32) ≡ parted →
+        stands_in request_words (if parted then [] else c ∷ head_word rest) ≡ true →
+        (not (nat_eq c 95) &&
+        (is_signed (c ∷ rest) && (not (is_word (c ∷ rest)) || is_builtin (c ∷ rest)))) ≡ true
+    by true at stands = absurd (false≢true stands)
+    by false at stands =
+        let passed = passes (λ w. begins_plainly w && is_builtin w) request_words (c ∷ head_word rest) plain_requests stands in
+        let plain = (and_parts (not (nat_eq c 95)) (is_builtin (c ∷ head_word rest)) passed).0 in
+        and_from (not (nat_eq c 95)) _ plain
+        (and_from (is_signed (c ∷ rest)) _
+        (ap (λ b. not b || is_signed rest) (or_parts (nat_eq c 60) (nat_eq c 32) at).1)
+        (whole (is_word (c ∷ rest)) refl))
+
+pub request_free : (w : List ℕ) → is_request w ≡ true → names_no_item w ≡ true
+unfolding is_request
+request_free w is = head_free w is

@@ -9,10 +9,12 @@ use Rattle.std.proofs.lemmas.Bool.{false≢true, true≢false, and_parts, not-tr
 use Rattle.std.proofs.lemmas.Option.{same_Some}
 use Rattle.naga_ir.specs.declared.operators.UnaryOperator.TheVariants as unary
 use Rattle.wgsl_text.specs.Words.{stands_in, is_builtin}
-use Rattle.wgsl_text.specs.Types.{TypeSpecifier, Named, is_type, PartsRule, TakesNone, rule_among}
+use Rattle.wgsl_text.specs.Types.{TypeSpecifier, Named, is_type, TemplateRule, TakesNone}
+use Rattle.wgsl_text.specs.Types.{rule_among}
 use Rattle.wgsl_text.specs.Types.{type_templates, IsType}
 use Rattle.wgsl_text.proofs.Words.{all_words, passes}
-use Rattle.naga_form.proofs.OperatorTable.{mathematical, others, first_with, operator_of, told}
+use Rattle.naga_form.proofs.OperatorTable.{mathematical, others, first_with, operator_of}
+use Rattle.naga_form.proofs.OperatorTable.{distinguished}
 use Rattle.wgsl_text.specs.Reading.{type_layout}
 use Rattle.wgsl_text.specs.Requests.{request_words, is_request}
 use Rattle.module_meaning.specs.OperatorTable.{Operator, UnarySign, Sample, Gather, Texel}
@@ -80,7 +82,9 @@ found_passes w [] o all e = absurd (cc)
 found_passes w (x ∷ os) o all e =
     by (bytes_eq w (run_word x)) (and_parts (asks_alike x) (list_all asks_alike os) all) (found_passes w os o) e
   where
-    by : (b : Bool) → (asks_alike x ≡ true) × (list_all asks_alike os ≡ true) → (list_all asks_alike os ≡ true → first_with w os ≡ Some o → asks_alike o ≡ true) → (if b then Some x else first_with w os) ≡ Some o → asks_alike o ≡ true
+    by : (b : Bool) → (asks_alike x ≡ true) × (list_all asks_alike os ≡ true) →
+        (list_all asks_alike os ≡ true → first_with w os ≡ Some o → asks_alike o ≡ true) →
+        (if b then Some x else first_with w os) ≡ Some o → asks_alike o ≡ true
     by true parts later e = subst (λ y. asks_alike y ≡ true) (same_Some x o e) parts.0
     by false parts later e = later parts.1 e
 
@@ -99,14 +103,14 @@ untyped_stands o w e holds =
 
 untyped_asks : (o : Operator) (w : List ℕ) → is_untyped o ≡ true → operator_word o ≡ Some w → is_request w ≡ asks o
 untyped_asks o w u e =
-    same_is (is_request w) (asks o) (untyped_stands o w e (operator_passes (run_word o) (one_word o) (told o u)))
+    same_is (is_request w) (asks o) (untyped_stands o w e (operator_passes (run_word o) (one_word o) (distinguished o u)))
 
 -- ---- types
-abbrev takes_none : PartsRule → Bool
+abbrev takes_none : TemplateRule → Bool
 takes_none TakesNone = true
 takes_none _ = false
 
-none_taken : (r : PartsRule) → takes_none r ≡ true → r ≡ TakesNone
+none_taken : (r : TemplateRule) → takes_none r ≡ true → r ≡ TakesNone
 none_taken TakesNone e = refl
 none_taken _ e = absurd (false≢true e)
 
@@ -161,8 +165,8 @@ typed_asks (Reinterpret x) w u is e = reinterpret_asks x
 typed_asks (WithoutForm x) w u is e = absurd (cc)
 typed_asks _ w u is e = absurd (true≢false u)
 
-pub asks_as_told : (o : Operator) (w : List ℕ) → TypeIsSound o → operator_word o ≡ Some w → is_request w ≡ asks o
-asks_as_told o w is e = by (is_untyped o) refl
+pub asks_as_distinguished : (o : Operator) (w : List ℕ) → TypeIsSound o → operator_word o ≡ Some w → is_request w ≡ asks o
+asks_as_distinguished o w is e = by (is_untyped o) refl
   where
     by : (b : Bool) → is_untyped o ≡ b → is_request w ≡ asks o
     by true u = untyped_asks o w u e

@@ -23,11 +23,16 @@ use Rattle.naga_info.specs.declared.info.TypeResolution.TheVariants.{Handle, Val
 use Rattle.wgsl_text.specs.Reading.{type_layout}
 use Rattle.wgsl_text.specs.Types.{TypeSpecifier}
 use Rattle.module_meaning.specs.AgreeingOperators.{operator_key, one_key, typed_key, formless_key, constructor_key, conversion_key, target_key}
-use Rattle.module_meaning.specs.AlikeTypes.{type_form, has_form}
+use Rattle.module_meaning.specs.AlikeTypes.{type_key, is_spelled}
 use Rattle.module_meaning.specs.Conversions.{converted_scalar}
-use Rattle.module_meaning.specs.ExpressionOperators.{Surroundings, applied_operator, constructor, cast, cast_to}
-use Rattle.module_meaning.specs.OperatorTable.{Operator, BinarySign, UnarySign, Choice, Mathematical, Relation, ArrayLength, CooperativeMultiplyAdd, RayIntersection, RayCorners, Construct, Splat, Convert, Reinterpret, WithoutForm, Cast, PartAt, ValueOf, CooperativeLoad, run_word, one_word, TypeIsSound, SpellsAType}
-use Rattle.module_meaning.specs.Surroundings.{surroundings}
+use Rattle.module_meaning.specs.ExpressionOperators.{ExpressionContext, applied_operator, constructor, cast, cast_to}
+use Rattle.module_meaning.specs.OperatorTable.{Operator, BinarySign, UnarySign, Select, Math}
+use Rattle.module_meaning.specs.OperatorTable.{Relational, ArrayLength, CooperativeMultiplyAdd}
+use Rattle.module_meaning.specs.OperatorTable.{RayIntersection, RayCorners, Construct, Splat}
+use Rattle.module_meaning.specs.OperatorTable.{Convert, Reinterpret, WithoutForm, Cast, PartAt}
+use Rattle.module_meaning.specs.OperatorTable.{ValueOf, CooperativeLoad, run_word, one_word}
+use Rattle.module_meaning.specs.OperatorTable.{TypeIsSound, SpellsAType}
+use Rattle.module_meaning.specs.ExpressionContexts.{expression_context}
 use Rattle.module_meaning.specs.Types.{word_of_values}
 use Rattle.module_meaning.specs.TypeIdentity.{vector_number, truth_number, word_of_unspelled_type, identity, identity_code}
 use Rattle.std.specs.Prelude.{unwrap_or}
@@ -50,9 +55,9 @@ module _ (m : Module) (are : TypesAreCounted m) where
   abbrev pub KeyIn : Operator → (count : ℕ) → List ℕ → Type 0
   KeyIn (BinarySign op) n x = (n ≡ 2) × (x ≡ one_key 7 (tag_of binary_operators op))
   KeyIn (UnarySign op) n x = x ≡ one_key 6 (tag_of unary_operators op)
-  KeyIn Choice n x = x ≡ one_key 8 0
-  KeyIn (Mathematical fun) n x = x ≡ one_key 10 (tag_of math_functions fun)
-  KeyIn (Relation fun) n x = x ≡ one_key 9 (tag_of relations fun)
+  KeyIn Select n x = x ≡ one_key 8 0
+  KeyIn (Math fun) n x = x ≡ one_key 10 (tag_of math_functions fun)
+  KeyIn (Relational fun) n x = x ≡ one_key 9 (tag_of relations fun)
   KeyIn ArrayLength n x = x ≡ one_key 11 0
   KeyIn CooperativeMultiplyAdd n x = x ≡ one_key 12 0
   KeyIn (RayIntersection committed) n x = x ≡ one_key 13 (truth_number committed)
@@ -82,9 +87,9 @@ module _ (m : Module) (are : TypesAreCounted m) where
   key_once (Construct w components) n x y a b = typed_once w false x y a b
   key_once (Reinterpret w) n x y a b = typed_once w true x y a b
   key_once (UnarySign op) n x y a b = a ∙ sym b
-  key_once Choice n x y a b = a ∙ sym b
-  key_once (Mathematical fun) n x y a b = a ∙ sym b
-  key_once (Relation fun) n x y a b = a ∙ sym b
+  key_once Select n x y a b = a ∙ sym b
+  key_once (Math fun) n x y a b = a ∙ sym b
+  key_once (Relational fun) n x y a b = a ∙ sym b
   key_once ArrayLength n x y a b = a ∙ sym b
   key_once CooperativeMultiplyAdd n x y a b = a ∙ sym b
   key_once (RayIntersection committed) n x y a b = a ∙ sym b
@@ -113,21 +118,21 @@ module _ (m : Module) (are : TypesAreCounted m) where
   known_of known h = slice_get known h
 
   -- a type has a form where it is spelled
-  pub form_spelled : (r : TypeResolution) → is_some (spelled_resolution (type_names m) r) ≡ has_form m.types r
-  form_spelled r = ap is_some (spelling_of m are r ∙ ap (option_map type_layout) (tree_of m are r)) ∙ by (type_form m.types r)
+  pub form_spelled : (r : TypeResolution) → is_some (spelled_resolution (type_names m) r) ≡ is_spelled m.types r
+  form_spelled r = ap is_some (spelling_of m are r ∙ ap (option_map type_layout) (tree_of m are r)) ∙ by (type_key m.types r)
     where
       by : (o : Option (List ℕ)) → is_some (option_map type_layout (option_map (form_read (type_names m)) o)) ≡ is_some o
       by None = refl
       by (Some w) = refl
 
-  spelled_some : (r : TypeResolution) → has_form m.types r ≡ true → (w : List ℕ) × (spelled_resolution (type_names m) r ≡ Some w)
+  spelled_some : (r : TypeResolution) → is_spelled m.types r ≡ true → (w : List ℕ) × (spelled_resolution (type_names m) r ≡ Some w)
   spelled_some r has = by (spelled_resolution (type_names m) r) refl (form_spelled r ∙ has)
     where
       by : (o : Option (List ℕ)) → spelled_resolution (type_names m) r ≡ o → is_some o ≡ true → (w : List ℕ) × (spelled_resolution (type_names m) r ≡ Some w)
       by (Some w) at is = (w, at)
       by None at is = absurd (cc)
 
-  spelled_none : (r : TypeResolution) → has_form m.types r ≡ false → spelled_resolution (type_names m) r ≡ None
+  spelled_none : (r : TypeResolution) → is_spelled m.types r ≡ false → spelled_resolution (type_names m) r ≡ None
   spelled_none r has = by (spelled_resolution (type_names m) r) refl (form_spelled r ∙ has)
     where
       by : (o : Option (List ℕ)) → spelled_resolution (type_names m) r ≡ o → is_some o ≡ false → spelled_resolution (type_names m) r ≡ None
@@ -143,23 +148,31 @@ module _ (m : Module) (are : TypesAreCounted m) where
       by None is e = absurd (cc)
 
   -- what a conversion is to, or what it is where that has no form
-  target_keyed : (it : TypeInner) → IsFit m (Value it) → (bits : Bool) (kind : ScalarKind) (convert : Option ℕ) → IsKeyed (option_map_or (cast_to bits) (spelled_resolution (type_names m) (Value it)) (WithoutForm (Cast kind convert))) 1 (target_key m.types kind convert bits it)
-  target_keyed it fit bits kind convert = by (spelled_resolution (type_names m) (Value it)) refl (has_form m.types (Value it)) (form_spelled (Value it))
+  target_keyed : (it : TypeInner) → IsFit m (Value it) →
+      (bits : Bool) (kind : ScalarKind) (convert : Option ℕ) →
+      IsKeyed (option_map_or (cast_to bits) (spelled_resolution (type_names m) (Value it))
+      (WithoutForm (Cast kind convert))) 1 (target_key m.types kind convert bits it)
+  target_keyed it fit bits kind convert = by (spelled_resolution (type_names m) (Value it)) refl (is_spelled m.types (Value it)) (form_spelled (Value it))
     where
       typed : (b : Bool) (w : List ℕ) → spelled_resolution (type_names m) (Value it) ≡ Some w → IsKeyed (cast_to b w) 1 (typed_key m.types b (Value it))
       typed false w at = Keyed (record { typed = Value it; fit = fit; spelled = at; key = refl })
       typed true w at = Keyed (record { typed = Value it; fit = fit; spelled = at; key = refl })
 
-      by : (o : Option (List ℕ)) → spelled_resolution (type_names m) (Value it) ≡ o → (f : Bool) → is_some o ≡ f → IsKeyed (option_map_or (cast_to bits) o (WithoutForm (Cast kind convert))) 1 (if f then typed_key m.types bits (Value it) else formless_key kind convert)
+      by : (o : Option (List ℕ)) → spelled_resolution (type_names m) (Value it) ≡ o →
+          (f : Bool) → is_some o ≡ f →
+          IsKeyed (option_map_or (cast_to bits) o (WithoutForm (Cast kind convert))) 1
+          (if f then typed_key m.types bits (Value it) else formless_key kind convert)
       by (Some w) at true is = typed bits w at
       by (Some w) at false is = absurd (cc)
       by None at true is = absurd (cc)
       by None at false is = Keyed refl
 
-  abbrev around : List TypeResolution → Surroundings
-  around known = surroundings m (λ h. slice_get known h)
+  abbrev context : List TypeResolution → ExpressionContext
+  context known = expression_context m (λ h. slice_get known h)
 
-  cast_keyed : (known : List TypeResolution) (kind : ScalarKind) (convert : Option ℕ) (it : Option TypeInner) → IsKeyed (cast (around known) kind convert it) 1 (conversion_key m.types kind convert it)
+  cast_keyed : (known : List TypeResolution) (kind : ScalarKind) (convert : Option ℕ)
+      (it : Option TypeInner) →
+      IsKeyed (cast (context known) kind convert it) 1 (conversion_key m.types kind convert it)
   cast_keyed known kind None (Some (inner.Scalar s)) = target_keyed (inner.Scalar (converted_scalar s kind None)) (refl, tt, refl) true kind None
   cast_keyed known kind (Some width) (Some (inner.Scalar s)) = target_keyed (inner.Scalar (converted_scalar s kind (Some width))) (refl, tt, refl) false kind (Some width)
   cast_keyed known kind None (Some (inner.Vector n s)) = target_keyed (inner.Vector n (converted_scalar s kind None)) (refl, tt, refl) true kind None
@@ -169,15 +182,20 @@ module _ (m : Module) (are : TypesAreCounted m) where
   cast_keyed known kind convert _ = Keyed refl
 
   -- a constructor of a type with a form
-  constructor_keyed : (known : List TypeResolution) (ty components : ℕ) → has_form m.types (Handle ty) ≡ true → IsKeyed (constructor (around known) (Handle ty) components) components (constructor_key m.types ty)
+  constructor_keyed : (known : List TypeResolution) (ty components : ℕ) →
+      is_spelled m.types (Handle ty) ≡ true →
+      IsKeyed (constructor (context known) (Handle ty) components) components
+      (constructor_key m.types ty)
   constructor_keyed known ty components has =
       let w = spelled_some (Handle ty) has in
-      subst (λ o. IsKeyed (option_map_or (λ spelling. Construct spelling components) o (WithoutForm (ValueOf (identity_code (identity m.types (Handle ty))) components))) components (constructor_key m.types ty)) (sym w.1)
+      subst (λ o. IsKeyed (option_map_or (λ spelling. Construct spelling components) o
+      (WithoutForm (ValueOf (identity_code (identity m.types (Handle ty))) components)))
+      components (constructor_key m.types ty)) (sym w.1)
       (Keyed (record { typed = Handle ty; fit = tt; spelled = w.1; key = ap (λ b. if b then typed_key m.types false (Handle ty) else one_key 0 ty) has }))
 
   -- what is composed has a form
   abbrev pub IsFormed : Expression → Type 0
-  IsFormed (expression.Compose ty parts) = has_form m.types (Handle ty) ≡ true
+  IsFormed (expression.Compose ty parts) = is_spelled m.types (Handle ty) ≡ true
   IsFormed _ = Unit {0}
 
   same_keyed : (o p : Operator) (n : ℕ) (x y : List ℕ) → IsKeyed o n x → Some x ≡ Some y → Some o ≡ Some p → IsKeyed p n y
@@ -193,7 +211,9 @@ module _ (m : Module) (are : TypesAreCounted m) where
   unary_keyed unary.BitwiseNot = Keyed refl
 
   -- the key of an expression is that of the operator that it applies
-  pub keyed : (known : List TypeResolution) (e : Expression) (x : List ℕ) (o : Operator) → operator_key m.types known e ≡ Some x → applied_operator (around known) e ≡ Some o → IsFormed e → IsKeyed o (length (expression_operands e)) x
+  pub keyed : (known : List TypeResolution) (e : Expression) (x : List ℕ) (o : Operator) →
+      operator_key m.types known e ≡ Some x → applied_operator (context known) e ≡ Some o →
+      IsFormed e → IsKeyed o (length (expression_operands e)) x
   keyed known (expression.Compose ty parts) x o k a is = same_keyed _ o _ _ x (constructor_keyed known ty (length parts.items) is) k a
   keyed known (expression.As operand kind convert) x o k a is = same_keyed _ o _ _ x (cast_keyed known kind convert (known_inner m.types known operand)) k a
   keyed known (expression.Splat size value) x o k a is = same_keyed (Splat size) o 1 _ x (Keyed refl) k a
@@ -204,9 +224,9 @@ module _ (m : Module) (are : TypesAreCounted m) where
       by false a = same_keyed (WithoutForm (PartAt index)) o 1 (one_key 4 index) x (Keyed refl) k a
   keyed known (expression.Unary op operand) x o k a is = same_keyed (UnarySign op) o 1 _ x (unary_keyed op) k a
   keyed known (expression.Binary op left right) x o k a is = same_keyed (BinarySign op) o 2 _ x (Keyed (refl, refl)) k a
-  keyed known (expression.Select condition accept reject) x o k a is = same_keyed Choice o _ _ x (Keyed refl) k a
-  keyed known (expression.Relational fun argument) x o k a is = same_keyed (Relation fun) o _ _ x (Keyed refl) k a
-  keyed known (expression.Math fun arg arg1 arg2 arg3) x o k a is = same_keyed (Mathematical fun) o _ _ x (Keyed refl) k a
+  keyed known (expression.Select condition accept reject) x o k a is = same_keyed Select o _ _ x (Keyed refl) k a
+  keyed known (expression.Relational fun argument) x o k a is = same_keyed (Relational fun) o _ _ x (Keyed refl) k a
+  keyed known (expression.Math fun arg arg1 arg2 arg3) x o k a is = same_keyed (Math fun) o _ _ x (Keyed refl) k a
   keyed known (expression.ArrayLength array) x o k a is = same_keyed ArrayLength o _ _ x (Keyed refl) k a
   keyed known (expression.CooperativeMultiplyAdd p q r) x o k a is = same_keyed CooperativeMultiplyAdd o _ _ x (Keyed refl) k a
   keyed known (expression.RayQueryGetIntersection query committed) x o k a is = same_keyed (RayIntersection committed) o _ _ x (Keyed refl) k a

@@ -27,8 +27,8 @@ use Rattle.naga_ir.specs.declared.operators.SubgroupOperation.TheVariants as sub
 use Rattle.naga_ir.specs.declared.operators.CollectiveOperation.{CollectiveOperation}
 use Rattle.naga_ir.specs.declared.operators.CollectiveOperation.TheVariants as collective
 use Rattle.naga_ir.specs.declared.operators.Direction.TheVariants as direction
-use Rattle.module_meaning.specs.OperatorTable.{Operator, BinarySign, UnarySign, Choice}
-use Rattle.module_meaning.specs.OperatorTable.{Mathematical, Relation, Derivative, ArrayLength}
+use Rattle.module_meaning.specs.OperatorTable.{Operator, BinarySign, UnarySign, Select}
+use Rattle.module_meaning.specs.OperatorTable.{Math, Relational, Derivative, ArrayLength}
 use Rattle.module_meaning.specs.OperatorTable.{Sample, Gather, Texel, TexelStore, TexelChange}
 use Rattle.module_meaning.specs.OperatorTable.{ImageSize, CountOf, AtomicLoad, AtomicStore}
 use Rattle.module_meaning.specs.OperatorTable.{AtomicChange, UniformLoad, Ballot, Collective}
@@ -44,11 +44,11 @@ use Rattle.module_meaning.specs.OperatorTable.{Indexed, Shuffled, ShuffledDown, 
 use Rattle.module_meaning.specs.OperatorTable.{ShuffledXor, QuadIndexed, QuadSwapped, BarrierMemory}
 use Rattle.module_meaning.specs.OperatorTable.{StorageKept, WorkgroupKept, SubgroupKept}
 use Rattle.module_meaning.specs.OperatorTable.{TextureKept, run_word, operand_count, one_word}
-use Rattle.module_meaning.specs.OperatorTable.{is_told, is_untyped, WithoutForm, ValueOf}
+use Rattle.module_meaning.specs.OperatorTable.{is_distinguished, is_untyped, WithoutForm, ValueOf}
 
 -- the operators of different words that take no type
 abbrev pub mathematical : List Operator
-mathematical = map Mathematical (
+mathematical = map Math (
     math.Abs ∷ math.Min ∷ math.Max ∷ math.Clamp ∷ math.Saturate ∷ math.Cos ∷ math.Sin ∷ math.Tan ∷ math.Acos ∷
     math.Asin ∷ math.Atan ∷ math.Cosh ∷ math.Sinh ∷ math.Tanh ∷ math.Acosh ∷ math.Asinh ∷ math.Atanh ∷
     math.Atan2 ∷ math.Radians ∷ math.Degrees ∷ math.Ceil ∷ math.Floor ∷ math.Round ∷ math.Fract ∷ math.Trunc ∷
@@ -71,8 +71,8 @@ others =
     BinarySign binary.Greater ∷ BinarySign binary.GreaterEqual ∷ BinarySign binary.And ∷
     BinarySign binary.ExclusiveOr ∷ BinarySign binary.InclusiveOr ∷ BinarySign binary.LogicalAnd ∷
     BinarySign binary.LogicalOr ∷ BinarySign binary.ShiftLeft ∷ BinarySign binary.ShiftRight ∷
-    UnarySign unary.LogicalNot ∷ UnarySign unary.BitwiseNot ∷ Choice ∷ Relation relational.All ∷
-    Relation relational.Any ∷ Derivative axis.X control.Coarse ∷ Derivative axis.X control.Fine ∷
+    UnarySign unary.LogicalNot ∷ UnarySign unary.BitwiseNot ∷ Select ∷ Relational relational.All ∷
+    Relational relational.Any ∷ Derivative axis.X control.Coarse ∷ Derivative axis.X control.Fine ∷
     Derivative axis.X control.None ∷ Derivative axis.Y control.Coarse ∷ Derivative axis.Y control.Fine ∷
     Derivative axis.Y control.None ∷ Derivative axis.Width control.Coarse ∷
     Derivative axis.Width control.Fine ∷ Derivative axis.Width control.None ∷ ArrayLength ∷
@@ -107,8 +107,8 @@ others =
     FromSubgroup ShuffledUp ∷ FromSubgroup ShuffledXor ∷ FromSubgroup QuadIndexed ∷
     FromSubgroup (QuadSwapped direction.X) ∷ FromSubgroup (QuadSwapped direction.Y) ∷
     FromSubgroup (QuadSwapped direction.Diagonal) ∷ Barrier true StorageKept ∷ Barrier true WorkgroupKept ∷
-    Barrier true SubgroupKept ∷ Barrier true TextureKept ∷ Mathematical math.Inverse ∷
-    Mathematical math.Outer ∷ Relation relational.IsNan ∷ Relation relational.IsInf ∷ Texel false BothTexel ∷
+    Barrier true SubgroupKept ∷ Barrier true TextureKept ∷ Math math.Inverse ∷
+    Math math.Outer ∷ Relational relational.IsNan ∷ Relational relational.IsInf ∷ Texel false BothTexel ∷
     TexelChange CompareExchange false ∷ Collective subgroup.All collective.InclusiveScan ∷
     Collective subgroup.Any collective.InclusiveScan ∷ Collective subgroup.Min collective.InclusiveScan ∷
     Collective subgroup.Max collective.InclusiveScan ∷ Collective subgroup.And collective.InclusiveScan ∷
@@ -207,206 +207,210 @@ abbrev pub operator_of : List ℕ → Option Operator
 operator_of w = option_or (first_with w others) (first_with w mathematical)
 
 -- its word tells the operator that stands for it
-abbrev IsToldBy : Operator → Type 0
-IsToldBy o = operator_of (run_word o) ≡ Some (one_word o)
+abbrev IsDistinguishedBy : Operator → Type 0
+IsDistinguishedBy o = operator_of (run_word o) ≡ Some (one_word o)
 
-binary_told : (op : BinaryOperator) → IsToldBy (BinarySign op)
-binary_told binary.Add = refl
-binary_told _ = refl
+binary_distinguished : (op : BinaryOperator) → IsDistinguishedBy (BinarySign op)
+binary_distinguished binary.Add = refl
+binary_distinguished _ = refl
 
-math_told : (f : MathFunction) → IsToldBy (Mathematical f)
-math_told math.Abs = refl
-math_told _ = refl
+math_distinguished : (f : MathFunction) → IsDistinguishedBy (Math f)
+math_distinguished math.Abs = refl
+math_distinguished _ = refl
 
-unary_told : (op : UnaryOperator) → IsToldBy (UnarySign op)
-unary_told unary.Negate = refl
-unary_told _ = refl
+unary_distinguished : (op : UnaryOperator) → IsDistinguishedBy (UnarySign op)
+unary_distinguished unary.Negate = refl
+unary_distinguished _ = refl
 
-relation_told : (f : RelationalFunction) → IsToldBy (Relation f)
-relation_told relational.All = refl
-relation_told _ = refl
+relation_distinguished : (f : RelationalFunction) → IsDistinguishedBy (Relational f)
+relation_distinguished relational.All = refl
+relation_distinguished _ = refl
 
-derivative_told : (a : DerivativeAxis) (c : DerivativeControl) → IsToldBy (Derivative a c)
-derivative_told axis.X control.Coarse = refl
-derivative_told axis.X _ = refl
-derivative_told axis.Y control.Coarse = refl
-derivative_told axis.Y _ = refl
-derivative_told axis.Width control.Coarse = refl
-derivative_told axis.Width _ = refl
+derivative_distinguished : (a : DerivativeAxis) (c : DerivativeControl) →
+    IsDistinguishedBy (Derivative a c)
+derivative_distinguished axis.X control.Coarse = refl
+derivative_distinguished axis.X _ = refl
+derivative_distinguished axis.Y control.Coarse = refl
+derivative_distinguished axis.Y _ = refl
+derivative_distinguished axis.Width control.Coarse = refl
+derivative_distinguished axis.Width _ = refl
 
 -- with an array index or an offset or without
-sample_told : (l : Level) (compares clamped arrayed offset : Bool) → IsToldBy (Sample l compares clamped arrayed offset)
-sample_told Automatic true true arrayed offset = refl
-sample_told Automatic true false arrayed offset = refl
-sample_told Automatic false true arrayed offset = refl
-sample_told Automatic false false arrayed offset = refl
-sample_told Zero true true arrayed offset = refl
-sample_told Zero true false arrayed offset = refl
-sample_told Zero false true arrayed offset = refl
-sample_told Zero false false arrayed offset = refl
-sample_told Exact true true arrayed offset = refl
-sample_told Exact true false arrayed offset = refl
-sample_told Exact false true arrayed offset = refl
-sample_told Exact false false arrayed offset = refl
-sample_told Biased true true arrayed offset = refl
-sample_told Biased true false arrayed offset = refl
-sample_told Biased false true arrayed offset = refl
-sample_told Biased false false arrayed offset = refl
-sample_told Graded true true arrayed offset = refl
-sample_told Graded true false arrayed offset = refl
-sample_told Graded false true arrayed offset = refl
-sample_told Graded false false arrayed offset = refl
+sample_distinguished : (l : Level) (compares clamped arrayed offset : Bool) → IsDistinguishedBy (Sample l compares clamped arrayed offset)
+sample_distinguished Automatic true true arrayed offset = refl
+sample_distinguished Automatic true false arrayed offset = refl
+sample_distinguished Automatic false true arrayed offset = refl
+sample_distinguished Automatic false false arrayed offset = refl
+sample_distinguished Zero true true arrayed offset = refl
+sample_distinguished Zero true false arrayed offset = refl
+sample_distinguished Zero false true arrayed offset = refl
+sample_distinguished Zero false false arrayed offset = refl
+sample_distinguished Exact true true arrayed offset = refl
+sample_distinguished Exact true false arrayed offset = refl
+sample_distinguished Exact false true arrayed offset = refl
+sample_distinguished Exact false false arrayed offset = refl
+sample_distinguished Biased true true arrayed offset = refl
+sample_distinguished Biased true false arrayed offset = refl
+sample_distinguished Biased false true arrayed offset = refl
+sample_distinguished Biased false false arrayed offset = refl
+sample_distinguished Graded true true arrayed offset = refl
+sample_distinguished Graded true false arrayed offset = refl
+sample_distinguished Graded false true arrayed offset = refl
+sample_distinguished Graded false false arrayed offset = refl
 
-gather_told : (l : Level) (compares clamped arrayed offset : Bool) (c : Option SwizzleComponent) → IsToldBy (Gather c l compares clamped arrayed offset)
-gather_told Automatic true true arrayed offset None = refl
-gather_told Automatic true true arrayed offset (Some component.X) = refl
-gather_told Automatic true true arrayed offset (Some _) = refl
-gather_told Automatic true false arrayed offset None = refl
-gather_told Automatic true false arrayed offset (Some component.X) = refl
-gather_told Automatic true false arrayed offset (Some _) = refl
-gather_told Automatic false true arrayed offset None = refl
-gather_told Automatic false true arrayed offset (Some component.X) = refl
-gather_told Automatic false true arrayed offset (Some _) = refl
-gather_told Automatic false false arrayed offset None = refl
-gather_told Automatic false false arrayed offset (Some component.X) = refl
-gather_told Automatic false false arrayed offset (Some _) = refl
-gather_told Zero true true arrayed offset None = refl
-gather_told Zero true true arrayed offset (Some component.X) = refl
-gather_told Zero true true arrayed offset (Some _) = refl
-gather_told Zero true false arrayed offset None = refl
-gather_told Zero true false arrayed offset (Some component.X) = refl
-gather_told Zero true false arrayed offset (Some _) = refl
-gather_told Zero false true arrayed offset None = refl
-gather_told Zero false true arrayed offset (Some component.X) = refl
-gather_told Zero false true arrayed offset (Some _) = refl
-gather_told Zero false false arrayed offset None = refl
-gather_told Zero false false arrayed offset (Some component.X) = refl
-gather_told Zero false false arrayed offset (Some _) = refl
-gather_told Exact true true arrayed offset None = refl
-gather_told Exact true true arrayed offset (Some component.X) = refl
-gather_told Exact true true arrayed offset (Some _) = refl
-gather_told Exact true false arrayed offset None = refl
-gather_told Exact true false arrayed offset (Some component.X) = refl
-gather_told Exact true false arrayed offset (Some _) = refl
-gather_told Exact false true arrayed offset None = refl
-gather_told Exact false true arrayed offset (Some component.X) = refl
-gather_told Exact false true arrayed offset (Some _) = refl
-gather_told Exact false false arrayed offset None = refl
-gather_told Exact false false arrayed offset (Some component.X) = refl
-gather_told Exact false false arrayed offset (Some _) = refl
-gather_told Biased true true arrayed offset None = refl
-gather_told Biased true true arrayed offset (Some component.X) = refl
-gather_told Biased true true arrayed offset (Some _) = refl
-gather_told Biased true false arrayed offset None = refl
-gather_told Biased true false arrayed offset (Some component.X) = refl
-gather_told Biased true false arrayed offset (Some _) = refl
-gather_told Biased false true arrayed offset None = refl
-gather_told Biased false true arrayed offset (Some component.X) = refl
-gather_told Biased false true arrayed offset (Some _) = refl
-gather_told Biased false false arrayed offset None = refl
-gather_told Biased false false arrayed offset (Some component.X) = refl
-gather_told Biased false false arrayed offset (Some _) = refl
-gather_told Graded true true arrayed offset None = refl
-gather_told Graded true true arrayed offset (Some component.X) = refl
-gather_told Graded true true arrayed offset (Some _) = refl
-gather_told Graded true false arrayed offset None = refl
-gather_told Graded true false arrayed offset (Some component.X) = refl
-gather_told Graded true false arrayed offset (Some _) = refl
-gather_told Graded false true arrayed offset None = refl
-gather_told Graded false true arrayed offset (Some component.X) = refl
-gather_told Graded false true arrayed offset (Some _) = refl
-gather_told Graded false false arrayed offset None = refl
-gather_told Graded false false arrayed offset (Some component.X) = refl
-gather_told Graded false false arrayed offset (Some _) = refl
+gather_distinguished : (l : Level) (compares clamped arrayed offset : Bool) (c : Option SwizzleComponent) → IsDistinguishedBy (Gather c l compares clamped arrayed offset)
+gather_distinguished Automatic true true arrayed offset None = refl
+gather_distinguished Automatic true true arrayed offset (Some component.X) = refl
+gather_distinguished Automatic true true arrayed offset (Some _) = refl
+gather_distinguished Automatic true false arrayed offset None = refl
+gather_distinguished Automatic true false arrayed offset (Some component.X) = refl
+gather_distinguished Automatic true false arrayed offset (Some _) = refl
+gather_distinguished Automatic false true arrayed offset None = refl
+gather_distinguished Automatic false true arrayed offset (Some component.X) = refl
+gather_distinguished Automatic false true arrayed offset (Some _) = refl
+gather_distinguished Automatic false false arrayed offset None = refl
+gather_distinguished Automatic false false arrayed offset (Some component.X) = refl
+gather_distinguished Automatic false false arrayed offset (Some _) = refl
+gather_distinguished Zero true true arrayed offset None = refl
+gather_distinguished Zero true true arrayed offset (Some component.X) = refl
+gather_distinguished Zero true true arrayed offset (Some _) = refl
+gather_distinguished Zero true false arrayed offset None = refl
+gather_distinguished Zero true false arrayed offset (Some component.X) = refl
+gather_distinguished Zero true false arrayed offset (Some _) = refl
+gather_distinguished Zero false true arrayed offset None = refl
+gather_distinguished Zero false true arrayed offset (Some component.X) = refl
+gather_distinguished Zero false true arrayed offset (Some _) = refl
+gather_distinguished Zero false false arrayed offset None = refl
+gather_distinguished Zero false false arrayed offset (Some component.X) = refl
+gather_distinguished Zero false false arrayed offset (Some _) = refl
+gather_distinguished Exact true true arrayed offset None = refl
+gather_distinguished Exact true true arrayed offset (Some component.X) = refl
+gather_distinguished Exact true true arrayed offset (Some _) = refl
+gather_distinguished Exact true false arrayed offset None = refl
+gather_distinguished Exact true false arrayed offset (Some component.X) = refl
+gather_distinguished Exact true false arrayed offset (Some _) = refl
+gather_distinguished Exact false true arrayed offset None = refl
+gather_distinguished Exact false true arrayed offset (Some component.X) = refl
+gather_distinguished Exact false true arrayed offset (Some _) = refl
+gather_distinguished Exact false false arrayed offset None = refl
+gather_distinguished Exact false false arrayed offset (Some component.X) = refl
+gather_distinguished Exact false false arrayed offset (Some _) = refl
+gather_distinguished Biased true true arrayed offset None = refl
+gather_distinguished Biased true true arrayed offset (Some component.X) = refl
+gather_distinguished Biased true true arrayed offset (Some _) = refl
+gather_distinguished Biased true false arrayed offset None = refl
+gather_distinguished Biased true false arrayed offset (Some component.X) = refl
+gather_distinguished Biased true false arrayed offset (Some _) = refl
+gather_distinguished Biased false true arrayed offset None = refl
+gather_distinguished Biased false true arrayed offset (Some component.X) = refl
+gather_distinguished Biased false true arrayed offset (Some _) = refl
+gather_distinguished Biased false false arrayed offset None = refl
+gather_distinguished Biased false false arrayed offset (Some component.X) = refl
+gather_distinguished Biased false false arrayed offset (Some _) = refl
+gather_distinguished Graded true true arrayed offset None = refl
+gather_distinguished Graded true true arrayed offset (Some component.X) = refl
+gather_distinguished Graded true true arrayed offset (Some _) = refl
+gather_distinguished Graded true false arrayed offset None = refl
+gather_distinguished Graded true false arrayed offset (Some component.X) = refl
+gather_distinguished Graded true false arrayed offset (Some _) = refl
+gather_distinguished Graded false true arrayed offset None = refl
+gather_distinguished Graded false true arrayed offset (Some component.X) = refl
+gather_distinguished Graded false true arrayed offset (Some _) = refl
+gather_distinguished Graded false false arrayed offset None = refl
+gather_distinguished Graded false false arrayed offset (Some component.X) = refl
+gather_distinguished Graded false false arrayed offset (Some _) = refl
 
-texel_change_told : (c : Change) (arrayed : Bool) → IsToldBy (TexelChange c arrayed)
-texel_change_told AddTo arrayed = refl
-texel_change_told _ arrayed = refl
+texel_change_distinguished : (c : Change) (arrayed : Bool) →
+    IsDistinguishedBy (TexelChange c arrayed)
+texel_change_distinguished AddTo arrayed = refl
+texel_change_distinguished _ arrayed = refl
 
-count_told : (c : ImageCount) → IsToldBy (CountOf c)
-count_told Levels = refl
-count_told _ = refl
+count_distinguished : (c : ImageCount) → IsDistinguishedBy (CountOf c)
+count_distinguished Levels = refl
+count_distinguished _ = refl
 
-change_told : (c : Change) → IsToldBy (AtomicChange c)
-change_told AddTo = refl
-change_told _ = refl
+change_distinguished : (c : Change) → IsDistinguishedBy (AtomicChange c)
+change_distinguished AddTo = refl
+change_distinguished _ = refl
 
-collective_told : (o : SubgroupOperation) (c : CollectiveOperation) → IsToldBy (Collective o c)
-collective_told subgroup.All collective.Reduce = refl
-collective_told subgroup.All _ = refl
-collective_told subgroup.Any collective.Reduce = refl
-collective_told subgroup.Any _ = refl
-collective_told subgroup.Add collective.Reduce = refl
-collective_told subgroup.Add _ = refl
-collective_told subgroup.Mul collective.Reduce = refl
-collective_told subgroup.Mul _ = refl
-collective_told subgroup.Min collective.Reduce = refl
-collective_told subgroup.Min _ = refl
-collective_told subgroup.Max collective.Reduce = refl
-collective_told subgroup.Max _ = refl
-collective_told subgroup.And collective.Reduce = refl
-collective_told subgroup.And _ = refl
-collective_told subgroup.Or collective.Reduce = refl
-collective_told subgroup.Or _ = refl
-collective_told subgroup.Xor collective.Reduce = refl
-collective_told subgroup.Xor _ = refl
+collective_distinguished : (o : SubgroupOperation) (c : CollectiveOperation) →
+    IsDistinguishedBy (Collective o c)
+collective_distinguished subgroup.All collective.Reduce = refl
+collective_distinguished subgroup.All _ = refl
+collective_distinguished subgroup.Any collective.Reduce = refl
+collective_distinguished subgroup.Any _ = refl
+collective_distinguished subgroup.Add collective.Reduce = refl
+collective_distinguished subgroup.Add _ = refl
+collective_distinguished subgroup.Mul collective.Reduce = refl
+collective_distinguished subgroup.Mul _ = refl
+collective_distinguished subgroup.Min collective.Reduce = refl
+collective_distinguished subgroup.Min _ = refl
+collective_distinguished subgroup.Max collective.Reduce = refl
+collective_distinguished subgroup.Max _ = refl
+collective_distinguished subgroup.And collective.Reduce = refl
+collective_distinguished subgroup.And _ = refl
+collective_distinguished subgroup.Or collective.Reduce = refl
+collective_distinguished subgroup.Or _ = refl
+collective_distinguished subgroup.Xor collective.Reduce = refl
+collective_distinguished subgroup.Xor _ = refl
 
-source_told : (s : Source) → IsToldBy (FromSubgroup s)
-source_told (QuadSwapped direction.X) = refl
-source_told (QuadSwapped _) = refl
-source_told _ = refl
+source_distinguished : (s : Source) → IsDistinguishedBy (FromSubgroup s)
+source_distinguished (QuadSwapped direction.X) = refl
+source_distinguished (QuadSwapped _) = refl
+source_distinguished _ = refl
 
-barrier_told : (control : Bool) (k : BarrierMemory) → IsToldBy (Barrier control k)
-barrier_told control StorageKept = refl
-barrier_told control _ = refl
+barrier_distinguished : (control : Bool) (k : BarrierMemory) → IsDistinguishedBy (Barrier control k)
+barrier_distinguished control StorageKept = refl
+barrier_distinguished control _ = refl
 
-splat_told : (n : VectorSize) → IsToldBy (Splat n)
-splat_told vector.Bi = refl
-splat_told _ = refl
+splat_distinguished : (n : VectorSize) → IsDistinguishedBy (Splat n)
+splat_distinguished vector.Bi = refl
+splat_distinguished _ = refl
 
-pub told : (o : Operator) → is_untyped o ≡ true → IsToldBy o
-told (BinarySign op) u = binary_told op
-told (UnarySign op) u = unary_told op
-told Choice u = refl
-told (Mathematical f) u = math_told f
-told (Relation f) u = relation_told f
-told (Derivative a c) u = derivative_told a c
-told ArrayLength u = refl
-told (Sample l compares clamped arrayed offset) u = sample_told l compares clamped arrayed offset
-told (Gather c l compares clamped arrayed offset) u = gather_told l compares clamped arrayed offset c
-told (Texel arrayed OnlyTexel) u = refl
-told (Texel arrayed _) u = refl
-told (TexelStore arrayed) u = refl
-told (TexelChange c arrayed) u = texel_change_told c arrayed
-told (ImageSize of_level) u = refl
-told (CountOf c) u = count_told c
-told AtomicLoad u = refl
-told AtomicStore u = refl
-told (AtomicChange c) u = change_told c
-told UniformLoad u = refl
-told (Ballot predicate) u = refl
-told (Collective o c) u = collective_told o c
-told (FromSubgroup s) u = source_told s
-told (Barrier control k) u = barrier_told control k
-told (CooperativeLoad row_major t) u = absurd (false≢true u)
-told (CooperativeStore true) u = refl
-told (CooperativeStore false) u = refl
-told CooperativeMultiplyAdd u = refl
-told TraceRay u = refl
-told RayStep u = refl
-told (RayIntersection true) u = refl
-told (RayIntersection false) u = refl
-told (RayCorners true) u = refl
-told (RayCorners false) u = refl
-told (Construct t n) u = absurd (false≢true u)
-told (Splat n) u = splat_told n
-told (Convert t) u = absurd (false≢true u)
-told (Reinterpret t) u = absurd (false≢true u)
-told (WithoutForm x) u = absurd (false≢true u)
+pub distinguished : (o : Operator) → is_untyped o ≡ true → IsDistinguishedBy o
+distinguished (BinarySign op) u = binary_distinguished op
+distinguished (UnarySign op) u = unary_distinguished op
+distinguished Select u = refl
+distinguished (Math f) u = math_distinguished f
+distinguished (Relational f) u = relation_distinguished f
+distinguished (Derivative a c) u = derivative_distinguished a c
+distinguished ArrayLength u = refl
+distinguished (Sample l compares clamped arrayed offset) u =
+    sample_distinguished l compares clamped arrayed offset
+distinguished (Gather c l compares clamped arrayed offset) u = gather_distinguished l compares clamped arrayed offset c
+distinguished (Texel arrayed OnlyTexel) u = refl
+distinguished (Texel arrayed _) u = refl
+distinguished (TexelStore arrayed) u = refl
+distinguished (TexelChange c arrayed) u = texel_change_distinguished c arrayed
+distinguished (ImageSize of_level) u = refl
+distinguished (CountOf c) u = count_distinguished c
+distinguished AtomicLoad u = refl
+distinguished AtomicStore u = refl
+distinguished (AtomicChange c) u = change_distinguished c
+distinguished UniformLoad u = refl
+distinguished (Ballot predicate) u = refl
+distinguished (Collective o c) u = collective_distinguished o c
+distinguished (FromSubgroup s) u = source_distinguished s
+distinguished (Barrier control k) u = barrier_distinguished control k
+distinguished (CooperativeLoad row_major t) u = absurd (false≢true u)
+distinguished (CooperativeStore true) u = refl
+distinguished (CooperativeStore false) u = refl
+distinguished CooperativeMultiplyAdd u = refl
+distinguished TraceRay u = refl
+distinguished RayStep u = refl
+distinguished (RayIntersection true) u = refl
+distinguished (RayIntersection false) u = refl
+distinguished (RayCorners true) u = refl
+distinguished (RayCorners false) u = refl
+distinguished (Construct t n) u = absurd (false≢true u)
+distinguished (Splat n) u = splat_distinguished n
+distinguished (Convert t) u = absurd (false≢true u)
+distinguished (Reinterpret t) u = absurd (false≢true u)
+distinguished (WithoutForm x) u = absurd (false≢true u)
 
 -- two that take no type, and have one word, have one operator that stands for them
 pub untyped_share : (a b : Operator) → is_untyped a ≡ true → is_untyped b ≡ true → run_word a ≡ run_word b → one_word a ≡ one_word b
-untyped_share a b ua ub e = same_Some (one_word a) (one_word b) (sym (told a ua) ∙ (ap operator_of e ∙ told b ub))
+untyped_share a b ua ub e = same_Some (one_word a) (one_word b) (sym (distinguished a ua) ∙ (ap operator_of e ∙ distinguished b ub))
 
 -- ---- with the number of operands
 -- the operator with this word's and this number of operands
@@ -420,29 +424,30 @@ by_count (Construct t components) n = Construct t n
 by_count (WithoutForm (ValueOf numbers components)) n = WithoutForm (ValueOf numbers n)
 by_count o n = o
 
-told_by_count : (o : Operator) → is_told o ≡ true → by_count (one_word o) (operand_count o) ≡ o
-told_by_count (UnarySign unary.Negate) t = refl
-told_by_count (UnarySign _) t = refl
-told_by_count (Sample l compares clamped arrayed offset) t = absurd (false≢true t)
-told_by_count (Gather c l compares clamped arrayed offset) t = absurd (false≢true t)
-told_by_count (Texel arrayed of_) t = absurd (false≢true t)
-told_by_count (Convert u) t = absurd (false≢true t)
-told_by_count (Barrier control k) t = absurd (false≢true t)
-told_by_count (TexelStore true) t = refl
-told_by_count (TexelStore false) t = refl
-told_by_count (TexelChange c true) t = refl
-told_by_count (TexelChange c false) t = refl
-told_by_count (ImageSize true) t = refl
-told_by_count (ImageSize false) t = refl
-told_by_count (Ballot true) t = refl
-told_by_count (Ballot false) t = refl
-told_by_count (WithoutForm (ValueOf numbers components)) t = refl
-told_by_count (WithoutForm _) t = refl
-told_by_count _ t = refl
+distinguished_by_count : (o : Operator) → is_distinguished o ≡ true →
+    by_count (one_word o) (operand_count o) ≡ o
+distinguished_by_count (UnarySign unary.Negate) t = refl
+distinguished_by_count (UnarySign _) t = refl
+distinguished_by_count (Sample l compares clamped arrayed offset) t = absurd (false≢true t)
+distinguished_by_count (Gather c l compares clamped arrayed offset) t = absurd (false≢true t)
+distinguished_by_count (Texel arrayed of_) t = absurd (false≢true t)
+distinguished_by_count (Convert u) t = absurd (false≢true t)
+distinguished_by_count (Barrier control k) t = absurd (false≢true t)
+distinguished_by_count (TexelStore true) t = refl
+distinguished_by_count (TexelStore false) t = refl
+distinguished_by_count (TexelChange c true) t = refl
+distinguished_by_count (TexelChange c false) t = refl
+distinguished_by_count (ImageSize true) t = refl
+distinguished_by_count (ImageSize false) t = refl
+distinguished_by_count (Ballot true) t = refl
+distinguished_by_count (Ballot false) t = refl
+distinguished_by_count (WithoutForm (ValueOf numbers components)) t = refl
+distinguished_by_count (WithoutForm _) t = refl
+distinguished_by_count _ t = refl
 
-pub counted_apart : (a b : Operator) → is_told a ≡ true → is_told b ≡ true → one_word a ≡ one_word b → operand_count a ≡ operand_count b → a ≡ b
+pub counted_apart : (a b : Operator) → is_distinguished a ≡ true → is_distinguished b ≡ true → one_word a ≡ one_word b → operand_count a ≡ operand_count b → a ≡ b
 counted_apart a b ta tb e n =
-    sym (told_by_count a ta) ∙ ((λ i. by_count (e i) (n i)) ∙ told_by_count b tb)
+    sym (distinguished_by_count a ta) ∙ ((λ i. by_count (e i) (n i)) ∙ distinguished_by_count b tb)
 
 -- what stands for an operator has its word
 pub keeps_word : (o : Operator) → run_word (one_word o) ≡ run_word o

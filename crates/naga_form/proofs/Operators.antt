@@ -14,9 +14,10 @@ use Rattle.naga_ir.specs.declared.operators.RelationalFunction.TheVariants as re
 use Rattle.naga_ir.specs.declared.operators.UnaryOperator.{UnaryOperator}
 use Rattle.naga_ir.specs.declared.operators.UnaryOperator.TheVariants as unary
 use Rattle.module_meaning.specs.Conversions.{conversion_target, keeps_bits}
-use Rattle.module_meaning.specs.ExpressionOperators.{Surroundings, applied_operator, cast, cast_to}
+use Rattle.module_meaning.specs.ExpressionOperators.{ExpressionContext, applied_operator, cast}
+use Rattle.module_meaning.specs.ExpressionOperators.{cast_to}
 use Rattle.module_meaning.specs.ExpressionOperators.{type_known}
-use Rattle.module_meaning.specs.ExpressionOperators.{points_to_atomic, constructor, load_operator}
+use Rattle.module_meaning.specs.ExpressionOperators.{is_atomic_pointer, constructor, load_operator}
 use Rattle.module_meaning.specs.ExpressionOperators.{matrix_load}
 use Rattle.naga_info.specs.declared.info.TypeResolution.{TypeResolution}
 use Rattle.naga_info.specs.declared.info.TypeResolution.TheVariants.{Handle, Value}
@@ -32,7 +33,7 @@ use Rattle.naga_ir.specs.declared.types.TypeInner.{TypeInner}
 use Rattle.naga_ir.specs.declared.types.TypeInner.TheVariants as inner
 use Rattle.naga_ir.specs.declared.operators.RelationalFunction.{RelationalFunction}
 use Rattle.naga_ir.specs.declared.types.VectorSize.{VectorSize}
-use Rattle.module_meaning.specs.OperatorTable.{Choice, Splat, Relation, Mathematical, Construct}
+use Rattle.module_meaning.specs.OperatorTable.{Select, Splat, Relational, Math, Construct}
 use Rattle.module_meaning.specs.OperatorTable.{WithoutForm, ValueOf, relational_word, Cast}
 use Rattle.module_meaning.specs.OperatorTable.{Derivative, with_type, ArrayLength}
 use Rattle.module_meaning.specs.OperatorTable.{CooperativeMultiplyAdd, Texel, OnlyTexel, SampleTexel}
@@ -50,13 +51,13 @@ use Rattle.module_meaning.specs.ExpressionShapes.{applied_shape, asking}
 use Rattle.module_meaning.specs.OperatorTable.{Operator, BinarySign, UnarySign, AtomicLoad, asks}
 use Rattle.module_meaning.specs.OperatorTable.{AtomicStore, CooperativeLoad, MatrixLoad}
 use Rattle.module_meaning.specs.OperatorTable.{own_math_word, run_word}
-use Rattle.module_meaning.specs.Part.{expression_is_written}
+use Rattle.module_meaning.specs.WrittenSoFar.{expression_is_written}
 use Rattle.naga_ir.specs.declared.module.Module.{Module}
 use Rattle.naga_info.specs.declared.info.ExpressionInfo.{ExpressionInfo}
 use Rattle.module_meaning.specs.Shapes.{operator_shape}
 use Rattle.naga_ir.specs.Operands.{cooperative_operands, expression_operands, query_operands}
 use Rattle.naga_ir.specs.declared.types.VectorSize.TheVariants.{Bi, Tri, Quad}
-use Rattle.wgsl_text.specs.Types.{TypeSpecifier, Named, NoParts, has_gaps, of_one}
+use Rattle.wgsl_text.specs.Types.{TypeSpecifier, Named, NoTemplateArguments, has_gaps, of_one}
 use Rattle.wgsl_text.specs.Expressions.{Call, operands, binary_pieces, unary_mark, IsExpression}
 use Rattle.wgsl_text.specs.Expressions.{Expression}
 use Rattle.naga_form.specs.Expressions.{PlainForm, as_value, value_forms}
@@ -70,8 +71,8 @@ use Rattle.shader_runs.specs.Form as runs
 use Rattle.shader_runs.specs.Program.{Request, no_constant}
 use Rattle.shader_runs.specs.Text.{more, no_more, Apply, LogicalOf}
 use Rattle.shader_runs.specs.Scope.{Naming}
-use Rattle.shader_runs.specs.Value.{ValueType, ShortCircuitAnd, ShortCircuitOr}
-use Rattle.text_meaning.specs.Abstraction.{expression_read, arguments_read}
+use Rattle.shader_runs.specs.Value.{ShortCircuitAnd, ShortCircuitOr}
+use Rattle.text_meaning.specs.Abstraction.{expression_read, arguments_read, called_word as word_read}
 use Rattle.wgsl_text.specs.Reading.{type_layout}
 use Rattle.wgsl_text.specs.Text.{text, mark_text}
 use Rattle.wgsl_text.specs.Keywords.{builtin_words}
@@ -131,7 +132,7 @@ callee_word type (UnarySign op) spelled =
 callee_word type op spelled = called_word type op spelled
 
 -- types are spelled as their trees are
-abbrev pub SpellsTypes : Surroundings → TypeNames → Type 0
+abbrev pub SpellsTypes : ExpressionContext → TypeNames → Type 0
 SpellsTypes a t = (r : TypeResolution) → a.spelled r ≡ option_map type_layout (resolution_tree t r)
 
 -- what is spelled by a type is spelled by the tree of that
@@ -145,7 +146,7 @@ spelled_by spelled other callee_of row o (Some t) e =
     row t ∙ sym (ap (λ o. run_word (option_map_or spelled o other)) e)
 
 -- a value of a type is made by what spells the type
-pub constructor_spelled : (a : Surroundings) (r : TypeResolution) (components : ℕ) →
+pub constructor_spelled : (a : ExpressionContext) (r : TypeResolution) (components : ℕ) →
     (type : Option TypeSpecifier) → a.spelled r ≡ option_map type_layout type →
     Spells type (constructor a r components)
 constructor_spelled a r components None e = tt
@@ -156,7 +157,8 @@ constructor_spelled a r components (Some t) e =
 -- a function that takes a type is spelled by its word and the type
 pub taking_text : (v : List ℕ) (t : TypeSpecifier) →
     type_layout (of_one v t) ≡ with_type v (type_layout t)
-taking_text v t = ap (λ w. v ++ (codes "<" ++ w)) (type_part_text t NoParts (has_gaps v))
+taking_text v t =
+    ap (λ w. v ++ (codes "<" ++ w)) (type_part_text t NoTemplateArguments (has_gaps v))
 
 pub bits_text : (t : TypeSpecifier) →
     type_layout (of_one (codes "bitcast") t) ≡ with_type (codes "bitcast") (type_layout t)
@@ -172,7 +174,7 @@ cast_text : (bits : Bool) (t : TypeSpecifier) →
 cast_text false t = refl
 cast_text true t = bits_text t
 
-cast_spelled : (a : Surroundings) (t : TypeNames) → SpellsTypes a t → (kind : ScalarKind)
+cast_spelled : (a : ExpressionContext) (t : TypeNames) → SpellsTypes a t → (kind : ScalarKind)
     (convert : Option ℕ) (operand : Option TypeInner) →
     Spells (option_and_then (conversion_tree t kind convert) operand) (cast a kind convert operand)
 cast_spelled a t spells kind convert None = tt
@@ -190,7 +192,7 @@ cast_spelled a t spells kind convert (Some it) = by (conversion_target it kind c
         spelled_by (cast_to bits) (WithoutForm (Cast kind convert)) (cast_tree bits)
         (cast_text bits) (a.spelled (Value new)) (inner_tree t new) (spells (Value new))
 
-matrix_spelled : (a : Surroundings) (t : TypeNames) → SpellsTypes a t →
+matrix_spelled : (a : ExpressionContext) (t : TypeNames) → SpellsTypes a t →
     (columns rows : CooperativeSize) (role : CooperativeRole) (place : CooperativeData) →
     Spells (matrix_tree t columns rows role place.row_major (scalar_pointed a place.pointer))
     (matrix_load a columns rows role place)
@@ -214,7 +216,8 @@ pub untyped : (o : Option Operator) → SpellsIf None o
 untyped None = tt
 untyped (Some op) = tt
 
-pub operator_spelled : (a : Surroundings) (t : TypeNames) → SpellsTypes a t → (e : ir.Expression) →
+pub operator_spelled : (a : ExpressionContext) (t : TypeNames) → SpellsTypes a t →
+    (e : ir.Expression) →
     SpellsIf (operator_type a t e) (applied_operator a e)
 operator_spelled a t spells (expression.Compose ty components) =
     constructor_spelled a (Handle ty) (length components.items) (type_tree t ty) (spells (Handle ty))
@@ -234,16 +237,21 @@ module _ (operand : ℕ → PlainForm) (like : ℕ → runs.Plain) where
   abbrev pub AllReadLike : List ℕ → Type 0
   AllReadLike hs = AllByRecursion ReadsLike hs
 
-  operands_read : (hs : List ℕ) → AllReadLike hs →
+  pub operands_read : (hs : List ℕ) → AllReadLike hs →
       arguments_read (operands (value_forms operand hs)) ≡ runs.value_forms like hs
   operands_read [] same = refl
   operands_read (h ∷ hs) same = λ i. more (same.0 i) (operands_read hs same.1 i)
 
+  -- the word of a call is what is called: no number is among the operands
+  pub word_called : (t : TypeSpecifier) (hs : List ℕ) →
+      word_read t (operands (value_forms operand hs)) ≡ type_layout t
+  word_called t [] = refl
+  word_called t (h ∷ hs) = refl
+
   call_read : (t : TypeSpecifier) (hs : List ℕ) → AllReadLike hs →
       expression_read (Call t (operands (value_forms operand hs))) ≡
       Apply (type_layout t) (runs.value_forms like hs)
-  call_read t [] same = refl
-  call_read t (h ∷ hs) same = ap (Apply (type_layout t)) (operands_read (h ∷ hs) same)
+  call_read t hs same = λ i. Apply (word_called t hs i) (operands_read hs same i)
 
   -- an operator in its notation is read as the operator over its operands
   called_read : (type : Option TypeSpecifier) (op : Operator) → Spells type op → (hs : List ℕ) →
@@ -254,20 +262,20 @@ module _ (operand : ℕ → PlainForm) (like : ℕ → runs.Plain) where
       call_read (callee (notation type op)) hs same
       ∙ ap (λ w. Apply w (runs.value_forms like hs)) (callee_word type op spelled)
 
-  operator_read : (n : Naming) (k : ValueType) (type : Option TypeSpecifier) (op : Operator) →
+  operator_read : (n : Naming) (type : Option TypeSpecifier) (op : Operator) →
       Spells type op → (hs : List ℕ) → AllReadLike hs →
       runs.AsValue (expression_read (applied_form (notation type op) (value_forms operand hs))) ≡
-      runs.own_form n like k (Some (operator_shape op hs))
-  operator_read n k type (BinarySign operator.LogicalAnd) spelled (l ∷ r ∷ []) same =
+      runs.own_form n like (Some (operator_shape op hs))
+  operator_read n type (BinarySign operator.LogicalAnd) spelled (l ∷ r ∷ []) same =
       λ i. runs.AsValue (LogicalOf ShortCircuitAnd (same.0 i) (same.1.0 i))
-  operator_read n k type (BinarySign operator.LogicalOr) spelled (l ∷ r ∷ []) same =
+  operator_read n type (BinarySign operator.LogicalOr) spelled (l ∷ r ∷ []) same =
       λ i. runs.AsValue (LogicalOf ShortCircuitOr (same.0 i) (same.1.0 i))
-  operator_read n k type (BinarySign op) spelled (l ∷ r ∷ []) same =
+  operator_read n type (BinarySign op) spelled (l ∷ r ∷ []) same =
       λ i. runs.AsValue
       (Apply (sym (operator_row op) i) (more (same.0 i) (more (same.1.0 i) no_more)))
-  operator_read n k type (UnarySign op) spelled (h ∷ []) same =
+  operator_read n type (UnarySign op) spelled (h ∷ []) same =
       λ i. runs.AsValue (Apply (sym (unary_row op) i) (more (same.0 i) no_more))
-  operator_read n k type op spelled hs same =
+  operator_read n type op spelled hs same =
       ap runs.AsValue (called_read type op spelled hs same)
 
   -- no constants behind the operands
@@ -286,20 +294,20 @@ module _ (operand : ℕ → PlainForm) (like : ℕ → runs.Plain) where
       (called_read type op spelled hs same ∙ ap (Apply (run_word op)) (none_behind hs))
 
   -- so is one that asks for an event
-  pub applied_read : (n : Naming) (k : ValueType) (type : Option TypeSpecifier) (op : Operator) →
+  pub applied_read : (n : Naming) (type : Option TypeSpecifier) (op : Operator) →
       Spells type op → (hs : List ℕ) → AllReadLike hs →
       runs.AsValue (expression_read (applied_form (notation type op) (value_forms operand hs))) ≡
-      runs.own_form n like k (Some (applied_shape op hs))
-  applied_read n k type op spelled hs same = by (asks op) refl
+      runs.own_form n like (Some (applied_shape op hs))
+  applied_read n type op spelled hs same = by (asks op) refl
     where
       by : (b : Bool) → asks op ≡ b →
           runs.AsValue
           (expression_read (applied_form (notation type op) (value_forms operand hs))) ≡
-          runs.own_form n like k
+          runs.own_form n like
           (Some
           (if b then Request (asking op) (run_word op) hs no_constant else operator_shape op hs))
       by true is = request_read type op spelled hs same is
-      by false is = operator_read n k type op spelled hs same
+      by false is = operator_read n type op spelled hs same
 
   -- a zero value is called without operands
   pub zero_read : (type : Option TypeSpecifier) (op : Operator) → Spells type op →
@@ -338,13 +346,13 @@ either_called : (spelled : List ℕ → Operator) (other : Operator) →
 either_called spelled other called alone (Some w) = called w
 either_called spelled other called alone None = alone
 
-pub constructor_called : (a : Surroundings) (r : TypeResolution) (components : ℕ) →
+pub constructor_called : (a : ExpressionContext) (r : TypeResolution) (components : ℕ) →
     IsCalled (constructor a r components)
 constructor_called a r components =
     either_called (λ spelling. Construct spelling components)
     (WithoutForm (ValueOf (a.numbers r) components)) (λ w type. refl) (λ type. refl) (a.spelled r)
 
-pub cast_called : (a : Surroundings) (kind : ScalarKind) (convert : Option ℕ)
+pub cast_called : (a : ExpressionContext) (kind : ScalarKind) (convert : Option ℕ)
     (operand : Option TypeInner) → IsCalled (cast a kind convert operand)
 cast_called a kind convert operand =
     either_called (cast_to bits) (WithoutForm (Cast kind convert)) (by bits) (λ type. refl)
@@ -358,7 +366,7 @@ cast_called a kind convert operand =
     by true w type = refl
     by false w type = refl
 
-pub load_called : (a : Surroundings) (columns rows : CooperativeSize) (role : CooperativeRole)
+pub load_called : (a : ExpressionContext) (columns rows : CooperativeSize) (role : CooperativeRole)
     (place : CooperativeData) → IsCalled (matrix_load a columns rows role place)
 load_called a columns rows role place =
     either_called (CooperativeLoad place.row_major)
@@ -388,7 +396,8 @@ called_applied op called type spelled es =
     by t (e ∷ es) = refl
 
 -- a value of a type that has a form
-pub constructor_notated : (a : Surroundings) (r : TypeResolution) (components : ℕ) (hs : List ℕ) →
+pub constructor_notated : (a : ExpressionContext) (r : TypeResolution) (components : ℕ)
+    (hs : List ℕ) →
     (type : Option TypeSpecifier) (t : TypeSpecifier) → type ≡ Some t → IsType t →
     NotationFits (notation type (constructor a r components)) hs
 constructor_notated a r components hs type t is well =
@@ -396,7 +405,7 @@ constructor_notated a r components hs type t is well =
     (sym (typed_notation _ (constructor_called a r components) type t is)) (called_words.type t well)
 
 -- what a conversion is called by, where its type is known and has this tree
-pub conversion_is : (a : Surroundings) (t : TypeNames) (operand : ℕ) (kind : ScalarKind)
+pub conversion_is : (a : ExpressionContext) (t : TypeNames) (operand : ℕ) (kind : ScalarKind)
     (convert : Option ℕ) (from to : TypeInner) (tree : TypeSpecifier) →
     type_known a operand ≡ Some from → conversion_target from kind convert ≡ Some to →
     inner_tree t to ≡ Some tree →
@@ -408,7 +417,7 @@ conversion_is a t operand kind convert from to tree known target is =
     (ap (option_and_then (inner_tree t)) target ∙ is)
 
 -- what loads a matrix of scalars that are known is called by, where the type has this tree
-pub matrix_is : (a : Surroundings) (t : TypeNames) (columns rows : CooperativeSize)
+pub matrix_is : (a : ExpressionContext) (t : TypeNames) (columns rows : CooperativeSize)
     (role : CooperativeRole) (place : CooperativeData) (s : Scalar) (tree : TypeSpecifier) →
     scalar_pointed a place.pointer ≡ Some s →
     inner_tree t (inner.CooperativeMatrix columns rows s role) ≡ Some tree →
@@ -433,9 +442,9 @@ load_callee true t is = called_words.taking_type (codes "coopLoadT") t refl is
 pub callee_of : (w : List ℕ) → is_builtin w ≡ true → IsCallee (Named w)
 callee_of w is = called_words.builtin w is
 
-choice_called : IsCallee (Named (run_word Choice))
+choice_called : IsCallee (Named (run_word Select))
 unfolding is_builtin builtin_words
-choice_called = callee_of (run_word Choice) refl
+choice_called = callee_of (run_word Select) refl
 
 pub splat_called : (size : VectorSize) → IsCallee (Named (run_word (Splat size)))
 unfolding is_builtin builtin_words
@@ -444,10 +453,10 @@ splat_called Tri = callee_of (run_word (Splat Tri)) refl
 splat_called Quad = callee_of (run_word (Splat Quad)) refl
 
 relation_called : (fun : RelationalFunction) → is_some (relational_word fun) ≡ true →
-    IsCallee (Named (run_word (Relation fun)))
+    IsCallee (Named (run_word (Relational fun)))
 unfolding is_builtin builtin_words
-relation_called relational.All written = callee_of (run_word (Relation relational.All)) refl
-relation_called relational.Any written = callee_of (run_word (Relation relational.Any)) refl
+relation_called relational.All written = callee_of (run_word (Relational relational.All)) refl
+relation_called relational.Any written = callee_of (run_word (Relational relational.Any)) refl
 relation_called _ written = absurd cc
 
 derivative_called : (along : DerivativeAxis) (how : DerivativeControl) →
@@ -501,9 +510,9 @@ unfolding is_builtin builtin_words
 atomic_called = callee_of (run_word AtomicLoad) refl
 
 -- so may the load of an atomic
-pub load_notated : (a : Surroundings) (pointer : ℕ) →
+pub load_notated : (a : ExpressionContext) (pointer : ℕ) →
     IsNotated None (pointer ∷ []) (load_operator a pointer)
-load_notated a pointer = by (points_to_atomic a pointer)
+load_notated a pointer = by (is_atomic_pointer a pointer)
   where
     by : (b : Bool) → IsNotated None (pointer ∷ []) (if b then Some AtomicLoad else None)
     by true = atomic_called
@@ -519,7 +528,7 @@ abbrev pub HasFormAt : TypeNames → (ty : ℕ) → Type 0
 HasFormAt t ty = (tree : TypeSpecifier) × (type_tree t ty ≡ Some tree) × IsType tree
 
 -- what an operator that is spelled by a type is called by is a callee of the grammar
-abbrev pub TypeIsFormed : Surroundings → TypeNames → ir.Expression → Type 0
+abbrev pub TypeIsFormed : ExpressionContext → TypeNames → ir.Expression → Type 0
 TypeIsFormed a t (expression.ZeroValue ty) = HasFormAt t ty
 TypeIsFormed a t (expression.Compose ty components) = HasFormAt t ty
 TypeIsFormed a t (expression.As operand kind convert) =
@@ -542,7 +551,7 @@ HasNotation
 HasNotation e = Unit {0}
 
 -- each expression that is written and applies an operator has its operands
-pub notated : (a : Surroundings) (t : TypeNames) (m : Module) (es : List ExpressionInfo) →
+pub notated : (a : ExpressionContext) (t : TypeNames) (m : Module) (es : List ExpressionInfo) →
     (e : ir.Expression) → expression_is_written m es e ≡ true → HasNotation e → TypeIsFormed a t e →
     IsNotated (operator_type a t e) (expression_operands e) (applied_operator a e)
 notated a t m es (expression.Unary op expr) written has formed = tt
@@ -550,7 +559,7 @@ notated a t m es (expression.Binary op left right) written has formed = tt
 notated a t m es (expression.Select condition accept reject) written has formed = choice_called
 notated a t m es (expression.Splat size value) written has formed = splat_called size
 notated a t m es (expression.Math fun arg arg1 arg2 arg3) written has formed =
-    callee_of (run_word (Mathematical fun))
+    callee_of (run_word (Math fun))
     (word_is_builtin (math_word fun) (own_math_word fun) (value_words.functions fun) written)
 notated a t m es (expression.Relational fun argument) written has formed = relation_called fun written
 notated a t m es (expression.Compose ty parts) written has formed =
@@ -591,6 +600,11 @@ notated a t m es (expression.GlobalVariable handle) written has formed = tt
 notated a t m es (expression.LocalVariable handle) written has formed = tt
 notated a t m es (expression.Load pointer) written has formed = load_notated a pointer
 notated a t m es (expression.AccessIndex base index) written has formed = absurd has
+notated a t m es (expression.CallResult function) written has formed = tt
+notated a t m es (expression.AtomicResult ty comparison) written has formed = tt
+notated a t m es (expression.WorkGroupUniformLoadResult ty) written has formed = tt
+notated a t m es (expression.SubgroupOperationResult ty) written has formed = tt
+notated a t m es expression.SubgroupBallotResult written has formed = tt
 notated a t m es _ written has formed = absurd cc
 
 module _ (operand : ℕ → PlainForm) where

@@ -15,7 +15,7 @@ use Rattle.module_meaning.specs.FunctionShapes.{function_shape}
 use Rattle.module_meaning.specs.Ranges.{all_below, function_in_range}
 use Rattle.module_meaning.specs.Ranges.{expression_in_range, names_in_range}
 use Rattle.module_meaning.specs.Premises.{OperandsStandBefore}
-use Rattle.module_meaning.specs.Surroundings.{declared, types_known}
+use Rattle.module_meaning.specs.ExpressionContexts.{declared, types_known}
 use Rattle.module_meaning.proofs.ExpressionShapes.{shape_operands}
 use Rattle.module_meaning.proofs.Lists.{placed_at}
 use Rattle.shader_runs.specs.Premises.{AllBelow}
@@ -64,9 +64,9 @@ pub operands_below : (m : Module) (callees : ℕ) (f : Function) → function_in
 operands_below m callees f ranges h e at =
     let from : 0 + h ≡ h = omega arith in
     let test =
-    expression_in_range m callees (length f.arguments.items) (length f.local_variables) in
+    expression_in_range m (length f.arguments.items) (length f.local_variables) in
     (and_parts (all_below h (expression_operands e))
-    (names_in_range m callees (length f.arguments.items) (length f.local_variables) e)
+    (names_in_range m (length f.arguments.items) (length f.local_variables) e)
     (sym (ap (λ n. test n e) from) ∙ placed_at test 0 f.expressions h e (ranges_are m callees f ranges).0 at)).0
 
 -- so do those of its shape

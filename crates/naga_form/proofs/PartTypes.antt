@@ -1,4 +1,4 @@
--- The types of an accepted module of the part: their parts stand before them, they name no override,
+-- The types of an accepted module that is written so far: their parts stand before them, they name no override,
 -- and structs by the module's names.
 use Rattle.std.proofs.Common.{◌≡◌, ℕ, ◌≤◌, ◌+◌, true, length, Option}
 use Rattle.std.proofs.Common.{Some, None, refl, sym, ap, subst, ◌∙◌, slice_get, arith}
@@ -20,11 +20,11 @@ use Rattle.naga_names.specs.declared.key.NameKey.TheVariants as key
 use Rattle.naga_words.specs.Contexts.{name_or_nothing}
 use Rattle.naga_words.specs.Spelling.{end_of_base, length_within}
 use Rattle.module_meaning.proofs.Lists.{placed_at}
-use Rattle.module_meaning.proofs.Part.{written_so_far_parts}
+use Rattle.module_meaning.proofs.WrittenSoFar.{written_so_far_parts}
 use Rattle.module_meaning.specs.Accepted.{is_accepted}
 use Rattle.module_meaning.specs.InfoSizes.{resolution_is_fit}
 use Rattle.module_meaning.specs.Names.{HasNamesOf, module_names}
-use Rattle.module_meaning.specs.Part.{is_written_so_far}
+use Rattle.module_meaning.specs.WrittenSoFar.{is_written_so_far}
 use Rattle.module_meaning.specs.Ranges.{parts_before}
 use Rattle.module_meaning.specs.Ranges.{numbers_in_range, parts_stand_before, resolution_fits}
 use Rattle.naga_form.proofs.AcceptedGroups.{types_are_fit, types_range}
@@ -84,10 +84,10 @@ module _ (m : Module) (info : ModuleInfo) (accepted : IsTrue (is_accepted m info
           let two = and_parts (parts_before (length m.types) it) (numbers_in_range (length m.overrides) it) one.1 in
           (and_parts (length_within (length m.overrides) it) _ two.1).0
 
-  module _ (of_part : IsTrue (is_written_so_far m)) where
+  module _ (is_supported : IsTrue (is_written_so_far m)) where
     pub no_overrides : length m.overrides ≡ 0
     no_overrides =
-        let one = and_parts (list_all (λ c. is_none c.name) m.constants) _ (written_so_far_parts m of_part).0 in
+        let one = and_parts (list_all (λ c. is_none c.name) m.constants) _ (written_so_far_parts m is_supported).0 in
         let two = and_parts (length m.overrides == 0) _ one.1 in
         eqb-true (length m.overrides) 0 two.0
 

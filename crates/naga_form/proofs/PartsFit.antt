@@ -2,10 +2,10 @@
 -- is a pointer to the part, as the program's table of parts spells it, and `&&` and `||` on `bool`
 -- give `bool`.
 use Rattle.naga_form.proofs.AgreeingUses.{value_is}
-use Rattle.module_meaning.specs.Names.{ItemsAreTold}
+use Rattle.module_meaning.specs.Names.{ItemsAreDistinguished}
 use Rattle.std.proofs.Common.{◌≡◌, ℕ, Bool, true, false, List, [], ◌∷◌, refl, sym, ap, ◌∙◌, subst, length}
-use Rattle.std.proofs.Common.{Option, Some, None, slice_get, if◌then◌else◌, arith, eqb-true, codes, ◌==◌, get_or}
-use Rattle.std.specs.Prelude.{IsTrue, ◌||◌, unwrap_or}
+use Rattle.std.proofs.Common.{Option, Some, None, slice_get, if◌then◌else◌, arith, get_or}
+use Rattle.std.specs.Prelude.{IsTrue, unwrap_or}
 use Rattle.std.specs.Option.{option_map, option_map_or, option_and_then, is_some}
 use Rattle.std.proofs.lemmas.Bool.{and_parts}
 use Rattle.std.proofs.lemmas.Option.{same_Some}
@@ -29,7 +29,7 @@ use Rattle.naga_info.specs.declared.info.ExpressionInfo.{ExpressionInfo}
 use Rattle.naga_info.specs.declared.info.ModuleInfo.{ModuleInfo}
 use Rattle.naga_info.specs.declared.info.TypeResolution.{TypeResolution}
 use Rattle.naga_info.specs.declared.info.TypeResolution.TheVariants.{Handle, Value}
-use Rattle.wgsl_words.specs.Words.{scalar_word, scalar_word_of}
+use Rattle.wgsl_words.specs.Words.{scalar_word}
 use Rattle.shader_runs.specs.Program.{Expression, Function, Load, Request, Result, no_constant, expression_of, handle_type}
 use Rattle.shader_runs.specs.Typing.{AccessFits, AccessIndexFits, LogicalFits, PartsFit}
 use Rattle.shader_runs.specs.Value.{Bytes, Selector, Step, At, step_of, same_type, PartTypes}
@@ -37,17 +37,17 @@ use Rattle.shader_runs.specs.Value.{ValueType, BooleanType, IntegerType, Pointer
 use Rattle.shader_runs.proofs.Update.{same_type_self}
 use Rattle.module_meaning.specs.Accepted.{is_accepted}
 use Rattle.module_meaning.specs.AgreeingOperators.{Group, function_group}
-use Rattle.module_meaning.specs.AlikeTypes.{type_form, type_identity, handle_form, inner_form, form_within, found_form_by, named_form_by, scalar_form}
-use Rattle.module_meaning.specs.ExpressionOperators.{constructor, cast, cast_to, type_known, points_to_atomic, matrix_load, query_operator}
+use Rattle.module_meaning.specs.AlikeTypes.{type_key, type_identity, handle_key, inner_key, key_within, found_key_by, named_key_by, scalar_key}
+use Rattle.module_meaning.specs.ExpressionOperators.{constructor, cast, cast_to, type_known, is_atomic_pointer, matrix_load, query_operator}
 use Rattle.module_meaning.specs.ExpressionShapes.{part_selector, part_shape, shape_of, applied_or, asking}
 use Rattle.naga_ir.specs.Literals.{scalar_of}
 use Rattle.module_meaning.specs.ExpressionTypes.{is_bool, is_bool_of, logical_type, binary_type, wanted_type, Anything, LikeThis, is_wanted}
 use Rattle.module_meaning.specs.FunctionShapes.{function_shape}
-use Rattle.module_meaning.specs.OperandDemands.{operand_is, is_integer, is_integer_of}
+use Rattle.module_meaning.specs.OperandDemands.{operand_is, is_integer, is_integer_kind}
 use Rattle.module_meaning.specs.OperatorTable.{Operator as TableOperator, BinarySign, WithoutForm, Formless, ValueOf, Construct, CooperativeLoad, AtomicLoad, asks, run_word}
 use Rattle.module_meaning.specs.Shapes.{operator_shape}
-use Rattle.module_meaning.specs.Surroundings.{declared, surroundings, types_known}
-use Rattle.module_meaning.specs.Types.{type_of_values, word_of_values, values_of}
+use Rattle.module_meaning.specs.ExpressionContexts.{declared, expression_context, types_known}
+use Rattle.module_meaning.specs.Types.{scalar_values, type_of_values, word_of_values, values_of}
 use Rattle.module_meaning.specs.TypeIdentity.{identity, identity_code, word_of_unspelled_type, level, kind_number}
 use Rattle.module_meaning.specs.TypeParts.{known_inner, has_computed_parts}
 use Rattle.module_meaning.specs.Types.{spelled_resolution, type_names}
@@ -58,62 +58,38 @@ use Rattle.std.proofs.lemmas.Bool.{and_from}
 use Rattle.module_meaning.specs.ModuleShapes.{module_shape, same_step, part_words, takes_part, points_so}
 use Rattle.naga_form.proofs.PointerParts.{same_step_self}
 use Rattle.naga_form.proofs.TakenParts.{taken_spelled}
+use Rattle.naga_form.proofs.WellFormed.{values_are}
 
 -- ---- scalars
 module _ (m : ir_module.Module) where
   -- a scalar has one form wherever it stands
-  scalar_told : (r : TypeResolution) (s : Scalar) → inner_of r m.types ≡ Some (inner.Scalar s) → type_form m.types r ≡ scalar_form s
-  unfolding handle_form
-  scalar_told (Value it) s is = ap (inner_form m.types) (same_Some _ _ is)
-  scalar_told (Handle h) s is = by (slice_get m.types h) refl is
+  scalar_distinguished : (r : TypeResolution) (s : Scalar) → inner_of r m.types ≡ Some (inner.Scalar s) → type_key m.types r ≡ scalar_key s
+  unfolding handle_key
+  scalar_distinguished (Value it) s is = ap (inner_key m.types) (same_Some _ _ is)
+  scalar_distinguished (Handle h) s is = by (slice_get m.types h) refl is
     where
-      by : (o : Option Type_) → slice_get m.types h ≡ o → option_map (λ t. t.inner) o ≡ Some (inner.Scalar s) → type_form m.types (Handle h) ≡ scalar_form s
+      by : (o : Option Type_) → slice_get m.types h ≡ o → option_map (λ t. t.inner) o ≡ Some (inner.Scalar s) → type_key m.types (Handle h) ≡ scalar_key s
       by None at is = absurd cc
-      by (Some t) at is = ap (found_form_by (form_within h m.types) h) at ∙ ap (named_form_by (form_within h m.types) h) (same_Some _ _ is)
+      by (Some t) at is = ap (found_key_by (key_within h m.types) h) at ∙ ap (named_key_by (key_within h m.types) h) (same_Some _ _ is)
 
-  abbrev told_by : Option (List ℕ) → TypeResolution → List ℕ
-  told_by form r = unwrap_or form (word_of_unspelled_type (identity m.types r))
+  abbrev distinguished_by : Option (List ℕ) → TypeResolution → List ℕ
+  distinguished_by form r = unwrap_or form (word_of_unspelled_type (identity m.types r))
 
-  -- each integer that an index may be has a word of an integer
-  record IsIntegerOf (kind : ScalarKind) (width : ℕ) : Type 0 where
-    word : Bytes
-    values : type_of_values m (Value (inner.Scalar (scalar_of kind width))) ≡ IntegerType word
-    spelled : is_some (scalar_word_of kind width) ≡ true
+  integer_of : (k : ScalarKind) (w : Bytes) → is_integer_kind k ≡ true → scalar_values k w ≡ IntegerType w
+  integer_of kind.Sint w is = refl
+  integer_of kind.Uint w is = refl
+  integer_of _ w is = absurd cc
 
-  integer_of : (kind : ScalarKind) (width : ℕ) → is_integer_of kind width ≡ true → IsIntegerOf kind width
-  integer_of kind.Sint width is = by (width == 2) refl (width == 4) refl (width == 8) refl is
+  -- an index is an integer
+  integer_values : (r : TypeResolution) → option_map_or is_integer (inner_of r m.types) false ≡ true → (w : Bytes) × (type_of_values m r ≡ IntegerType w)
+  integer_values r is = by (inner_of r m.types) refl is
     where
-      by : (a : Bool) → (width == 2) ≡ a → (b : Bool) → (width == 4) ≡ b → (c : Bool) → (width == 8) ≡ c → (a || (b || c)) ≡ true → IsIntegerOf kind.Sint width
-      by true x b y c z is = subst (IsIntegerOf kind.Sint) (sym (eqb-true width 2 x)) (record { word = codes "i16"; values = refl; spelled = refl })
-      by false x true y c z is = subst (IsIntegerOf kind.Sint) (sym (eqb-true width 4 y)) (record { word = codes "i32"; values = refl; spelled = refl })
-      by false x false y true z is = subst (IsIntegerOf kind.Sint) (sym (eqb-true width 8 z)) (record { word = codes "i64"; values = refl; spelled = refl })
-      by false x false y false z is = absurd cc
-  integer_of kind.Uint width is = by (width == 2) refl (width == 4) refl (width == 8) refl is
-    where
-      by : (a : Bool) → (width == 2) ≡ a → (b : Bool) → (width == 4) ≡ b → (c : Bool) → (width == 8) ≡ c → (a || (b || c)) ≡ true → IsIntegerOf kind.Uint width
-      by true x b y c z is = subst (IsIntegerOf kind.Uint) (sym (eqb-true width 2 x)) (record { word = codes "u16"; values = refl; spelled = refl })
-      by false x true y c z is = subst (IsIntegerOf kind.Uint) (sym (eqb-true width 4 y)) (record { word = codes "u32"; values = refl; spelled = refl })
-      by false x false y true z is = subst (IsIntegerOf kind.Uint) (sym (eqb-true width 8 z)) (record { word = codes "u64"; values = refl; spelled = refl })
-      by false x false y false z is = absurd cc
-  integer_of _ width is = absurd cc
+      by : (o : Option TypeInner) → inner_of r m.types ≡ o → option_map_or is_integer o false ≡ true → (w : Bytes) × (type_of_values m r ≡ IntegerType w)
+      by None at is = absurd cc
+      by (Some (inner.Scalar s)) at is = (word_of_values m r, values_are m r (inner.Scalar s) at ∙ integer_of s.kind (word_of_values m r) is)
+      by (Some _) at is = absurd cc
 
   module _ (are : TypesAreCounted m) where
-    -- an index is an integer
-    integer_values : (r : TypeResolution) → IsFit m r → option_map_or is_integer (inner_of r m.types) false ≡ true → (w : Bytes) × (type_of_values m r ≡ IntegerType w)
-    integer_values r fit is = by (inner_of r m.types) refl is
-      where
-        by : (o : Option TypeInner) → inner_of r m.types ≡ o → option_map_or is_integer o false ≡ true → (w : Bytes) × (type_of_values m r ≡ IntegerType w)
-        by None at is = absurd cc
-        by (Some (inner.Scalar s)) at is =
-            let k = integer_of s.kind s.width is in (
-              k.word,
-              values_by_numbers m are r (Value (inner.Scalar s)) fit (refl, tt, refl)
-                  (ap (λ form. told_by form r) (scalar_told r s at ∙ ap (λ b. if b then Some (level 0 (kind_number s.kind) s.width 0 0 0) else None) k.spelled)
-                  ∙ sym (ap (λ b. told_by (if b then Some (level 0 (kind_number s.kind) s.width 0 0 0) else None) (Value (inner.Scalar s))) k.spelled))
-                  ∙ k.values,
-            )
-        by (Some _) at is = absurd cc
-
     -- what has truth values is `bool`: its numbers are those of `bool`
     boolean_kind : (k : ScalarKind) → kind_number k ≡ 3 → k ≡ kind.Bool
     boolean_kind kind.Bool is = refl
@@ -125,9 +101,12 @@ module _ (m : ir_module.Module) where
 
     boolean_scalar : (r : TypeResolution) (s : Scalar) → inner_of r m.types ≡ Some (inner.Scalar s) → IsFit m r → type_of_values m r ≡ BooleanType → is_bool_of s.kind s.width ≡ true
     boolean_scalar r s at fit values =
-        by (is_some (scalar_word s)) (sym (ap (λ form. told_by form r) (scalar_told r s at)) ∙ numbers_by_values m are r (Value (inner.Scalar (scalar_of kind.Bool 1))) fit (refl, tt, refl) values)
+        by (is_some (scalar_word s))
+        (sym (ap (λ form. distinguished_by form r) (scalar_distinguished r s at))
+        ∙ numbers_by_values m are r (Value (inner.Scalar (scalar_of kind.Bool 1))) fit
+        (refl, tt, refl) values)
       where
-        by : (b : Bool) → told_by (if b then Some (level 0 (kind_number s.kind) s.width 0 0 0) else None) r ≡ level 0 3 1 0 0 0 → is_bool_of s.kind s.width ≡ true
+        by : (b : Bool) → distinguished_by (if b then Some (level 0 (kind_number s.kind) s.width 0 0 0) else None) r ≡ level 0 3 1 0 0 0 → is_bool_of s.kind s.width ≡ true
         by true e =
             ap (λ k. is_bool_of k s.width) (boolean_kind s.kind (ap (λ xs. get_or xs 1 0) e)) ∙ ap (λ w. is_bool_of kind.Bool w) (ap (λ xs. get_or xs 2 0) e)
         by false e = let blank : 32 ≡ 0 = ap (λ xs. get_or xs 0 0) e in absurd (omega (arith, blank))
@@ -135,14 +114,16 @@ module _ (m : ir_module.Module) where
     boolean_values : (r : TypeResolution) → IsFit m r → type_of_values m r ≡ BooleanType → option_map_or is_bool (inner_of r m.types) false ≡ true
     boolean_values r fit values = by (inner_of r m.types) refl values
       where
-        by : (o : Option TypeInner) → inner_of r m.types ≡ o → option_map_or (λ it. values_of it (word_of_values m r)) o (OtherType (word_of_values m r)) ≡ BooleanType → option_map_or is_bool o false ≡ true
+        by : (o : Option TypeInner) → inner_of r m.types ≡ o →
+            option_map_or (λ it. values_of it (word_of_values m r)) o
+            (OtherType (word_of_values m r)) ≡ BooleanType → option_map_or is_bool o false ≡ true
         by None at e = absurd cc
         by (Some (inner.Scalar s)) at e = boolean_scalar r s at fit values
         by (Some _) at e = absurd cc
 
-module _ (m : ir_module.Module) (info : ModuleInfo) (accepted : IsTrue (is_accepted m info)) (told : ItemsAreTold m) where
+module _ (m : ir_module.Module) (info : ModuleInfo) (accepted : IsTrue (is_accepted m info)) (distinguished : ItemsAreDistinguished m) where
   abbrev are : TypesAreCounted m
-  are = types_are_counted m info accepted told.types
+  are = types_are_counted m info accepted distinguished.types
 
   -- ---- expressions
   module _ (function : ir_function.Function) (es : List ExpressionInfo) (sound : IsSoundGroup m info (Some function) (function_group function es)) (h : ℕ) where
@@ -184,7 +165,7 @@ module _ (m : ir_module.Module) (info : ModuleInfo) (accepted : IsTrue (is_accep
     part_taken_by : (e : ir.Expression) (at : slice_get function.expressions h ≡ Some e) (whole : Bytes) (step : Step) → takes_part (declared m info (types_known es)) whole step e ≡ true →
         type_of_values m (own e at).r ≡ PointerType (parts whole step)
     part_taken_by e at whole step takes =
-        taken_spelled m info accepted told whole step (own e at).r (record {
+        taken_spelled m info accepted distinguished whole step (own e at).r (record {
           function = Some function;
           group = g;
           sound = sound;
@@ -208,7 +189,7 @@ module _ (m : ir_module.Module) (info : ModuleInfo) (accepted : IsTrue (is_accep
       index_values : (w : Bytes) × (type_of_values m i.r ≡ IntegerType w)
       index_values =
           let demanded = and_parts (operand_is m.types g.known (has_computed_parts m.types) base) (operand_is m.types g.known is_integer index) (sound.demands h accessed at) in
-          integer_values m are i.r i.fit
+          integer_values m i.r
           (sym (ap (λ o. option_map_or is_integer (option_and_then (λ r. inner_of r m.types) o) false) i.there) ∙ demanded.1)
 
       access_by : (x : ValueType) → type_of_values m b.r ≡ x → (y : ValueType) → type_of_values m i.r ≡ y → (z : ValueType) → type_of_values m (own accessed at).r ≡ z → AccessFits parts x y z
@@ -226,7 +207,10 @@ module _ (m : ir_module.Module) (info : ModuleInfo) (accepted : IsTrue (is_accep
         access_by base index at b i (handle_type shape base) (sym b.values) (handle_type shape index) (sym i.values) (handle_type shape h) (sym (own (expression.Access base index) at).values)
 
     -- a part that is named
-    module _ (base index : ℕ) (at : slice_get function.expressions h ≡ Some (expression.AccessIndex base index)) (b : IsKnown base) (s : Selector) (selected : part_selector (declared m info (types_known es)) base index ≡ Some s) where
+    module _ (base index : ℕ)
+        (at : slice_get function.expressions h ≡ Some (expression.AccessIndex base index))
+        (b : IsKnown base) (s : Selector)
+        (selected : part_selector (declared m info (types_known es)) base index ≡ Some s) where
       abbrev named : ir.Expression
       named = expression.AccessIndex base index
 
@@ -238,14 +222,19 @@ module _ (m : ir_module.Module) (info : ModuleInfo) (accepted : IsTrue (is_accep
           (ap (λ o. option_map_or (λ t. same_step (step_of t) (step_of s)) o false) selected ∙ same_step_self (step_of s)))
       named_by x is z gives = tt
 
-    part_fits : (base index : ℕ) → slice_get function.expressions h ≡ Some (expression.AccessIndex base index) → (s : Selector) → part_selector (declared m info (types_known es)) base index ≡ Some s → AccessIndexFits parts s (handle_type shape base) (handle_type shape h)
+    part_fits : (base index : ℕ) →
+        slice_get function.expressions h ≡ Some (expression.AccessIndex base index) →
+        (s : Selector) → part_selector (declared m info (types_known es)) base index ≡ Some s →
+        AccessIndexFits parts s (handle_type shape base) (handle_type shape h)
     part_fits base index at s selected =
         let operands = operands_known m info (Some function) g sound h (expression.AccessIndex base index) at in
         let b = known_as base operands.0.0 operands.0.1 in
         named_by base index at b s selected (handle_type shape base) (sym b.values) (handle_type shape h) (sym (own (expression.AccessIndex base index) at).values)
 
     -- `&&` and `||`
-    module _ (e : ir.Expression) (at : slice_get function.expressions h ≡ Some e) (left : ℕ) (b : IsKnown left) (wanted : wanted_type m (Some function) g.known e ≡ logical_type (known_inner m.types g.known left)) where
+    module _ (e : ir.Expression) (at : slice_get function.expressions h ≡ Some e) (left : ℕ)
+        (b : IsKnown left) (wanted : wanted_type m (Some function) g.known e ≡ logical_type
+        (known_inner m.types g.known left)) where
       logical_by : (x : ValueType) → type_of_values m b.r ≡ x → (z : ValueType) → type_of_values m (own e at).r ≡ z → LogicalFits x z
       logical_by BooleanType is z gives =
           let boolean = Value (inner.Scalar (scalar_of kind.Bool 1)) in
@@ -268,17 +257,22 @@ module _ (m : ir_module.Module) (info : ModuleInfo) (accepted : IsTrue (is_accep
     IsNoSign (Some (BinarySign op)) = ⊥
     IsNoSign _ = Unit {0}
 
-    applied_fits : (otherwise : Expression) (hs : List ℕ) → PartsFit parts shape (handle_type shape h) (Some otherwise) → (o : Option TableOperator) → IsNoSign o → PartsFit parts shape (handle_type shape h) (Some (applied_or otherwise hs o))
+    applied_fits : (otherwise : Expression) (hs : List ℕ) →
+        PartsFit parts shape (handle_type shape h) (Some otherwise) → (o : Option TableOperator) →
+        IsNoSign o → PartsFit parts shape (handle_type shape h) (Some (applied_or otherwise hs o))
     applied_fits otherwise hs fits None no_sign = fits
     applied_fits otherwise hs fits (Some (BinarySign op)) no_sign = absurd no_sign
     applied_fits otherwise hs fits (Some (WithoutForm what)) no_sign = by (asks (WithoutForm what))
       where
-        by : (b : Bool) → PartsFit parts shape (handle_type shape h) (Some (if b then Request (asking (WithoutForm what)) (run_word (WithoutForm what)) hs no_constant else operator_shape (WithoutForm what) hs))
+        by : (b : Bool) →
+            PartsFit parts shape (handle_type shape h)
+            (Some (if b then Request (asking (WithoutForm what)) (run_word (WithoutForm what)) hs
+            no_constant else operator_shape (WithoutForm what) hs))
         by true = tt
         by false = tt
     applied_fits otherwise hs fits (Some o) no_sign = tt
 
-    no_constructor : (r : TypeResolution) (n : ℕ) → IsNoSign (Some (constructor (surroundings m (types_known es)) r n))
+    no_constructor : (r : TypeResolution) (n : ℕ) → IsNoSign (Some (constructor (expression_context m (types_known es)) r n))
     no_constructor r n = by (spelled_resolution (type_names m) r)
       where
         by : (o : Option Bytes) → IsNoSign (Some (option_map_or (λ spelling. Construct spelling n) o (WithoutForm (ValueOf (identity_code (identity m.types r)) n))))
@@ -300,12 +294,17 @@ module _ (m : ir_module.Module) (info : ModuleInfo) (accepted : IsTrue (is_accep
     no_query query.NumLayers = tt
     no_query query.NumSamples = tt
 
-    sign_fits : (op : BinaryOperator) (left right : ℕ) → slice_get function.expressions h ≡ Some (expression.Binary op left right) → PartsFit parts shape (handle_type shape h) (Some (applied_or Result (left ∷ right ∷ []) (Some (BinarySign op))))
+    sign_fits : (op : BinaryOperator) (left right : ℕ) →
+        slice_get function.expressions h ≡ Some (expression.Binary op left right) →
+        PartsFit parts shape (handle_type shape h)
+        (Some (applied_or Result (left ∷ right ∷ []) (Some (BinarySign op))))
     sign_fits binary.LogicalAnd left right at = logical_fits binary.LogicalAnd left right at refl
     sign_fits binary.LogicalOr left right at = logical_fits binary.LogicalOr left right at refl
     sign_fits op left right at = tt
 
-    shape_fits : (e : ir.Expression) → slice_get function.expressions h ≡ Some e → PartsFit parts shape (handle_type shape h) (Some (shape_of (declared m info (types_known es)) function.expressions h e))
+    shape_fits : (e : ir.Expression) → slice_get function.expressions h ≡ Some e →
+        PartsFit parts shape (handle_type shape h)
+        (Some (shape_of (declared m info (types_known es)) function.expressions h e))
     shape_fits (expression.Access base index) at = access_fits base index at
     shape_fits (expression.AccessIndex base index) at = by (part_selector (declared m info (types_known es)) base index) refl
       where
@@ -314,17 +313,19 @@ module _ (m : ir_module.Module) (info : ModuleInfo) (accepted : IsTrue (is_accep
         by (Some s) is = part_fits base index at s is
     shape_fits (expression.Binary op left right) at = sign_fits op left right at
     shape_fits (expression.Compose ty components) at =
-        applied_fits Result components.items tt (Some (constructor (surroundings m (types_known es)) (Handle ty) (length components.items))) (no_constructor (Handle ty) (length components.items))
+        applied_fits Result components.items tt
+        (Some (constructor (expression_context m (types_known es)) (Handle ty)
+        (length components.items))) (no_constructor (Handle ty) (length components.items))
     shape_fits (expression.As operand to convert) at =
-        applied_fits Result (operand ∷ []) tt (Some (cast (surroundings m (types_known es)) to convert (type_known (surroundings m (types_known es)) operand))) (no_cast _ _ _)
-    shape_fits (expression.Load pointer) at = by (points_to_atomic (surroundings m (types_known es)) pointer)
+        applied_fits Result (operand ∷ []) tt (Some (cast (expression_context m (types_known es)) to convert (type_known (expression_context m (types_known es)) operand))) (no_cast _ _ _)
+    shape_fits (expression.Load pointer) at = by (is_atomic_pointer (expression_context m (types_known es)) pointer)
       where
         by : (b : Bool) → PartsFit parts shape (handle_type shape h) (Some (applied_or (Load pointer) (pointer ∷ []) (if b then Some AtomicLoad else None)))
         by true = tt
         by false = tt
     shape_fits (expression.ImageQuery image q) at = applied_fits Result _ tt (Some (query_operator q)) (no_query q)
     shape_fits (expression.CooperativeLoad columns rows role place) at =
-        applied_fits Result _ tt (Some (matrix_load (surroundings m (types_known es)) columns rows role place)) (no_matrix_load place.row_major _ _)
+        applied_fits Result _ tt (Some (matrix_load (expression_context m (types_known es)) columns rows role place)) (no_matrix_load place.row_major _ _)
     shape_fits (expression.ImageSample image sampler gather coordinate array_index offset level depth_ref clamp) at = tt
     shape_fits e at = tt
 
@@ -333,6 +334,8 @@ module _ (m : ir_module.Module) (info : ModuleInfo) (accepted : IsTrue (is_accep
     parts_fit =
         subst (PartsFit parts shape (handle_type shape h)) (sym (expression_is m info function es h)) (by (slice_get function.expressions h) refl)
       where
-        by : (o : Option ir.Expression) → slice_get function.expressions h ≡ o → PartsFit parts shape (handle_type shape h) (option_map (shape_of (declared m info (types_known es)) function.expressions h) o)
+        by : (o : Option ir.Expression) → slice_get function.expressions h ≡ o →
+            PartsFit parts shape (handle_type shape h)
+            (option_map (shape_of (declared m info (types_known es)) function.expressions h) o)
         by None at = tt
         by (Some e) at = shape_fits e at

@@ -18,16 +18,16 @@ use Rattle.naga_info.specs.declared.info.TypeResolution.{TypeResolution}
 use Rattle.naga_info.specs.declared.info.TypeResolution.TheVariants.{Value}
 use Rattle.naga_names.proofs.Refusal.{element}
 use Rattle.naga_names.specs.declared.key.NameKey.TheVariants as key
-use Rattle.wgsl_text.specs.Words.{stands_in}
+use Rattle.naga_ir.specs.declared.types.ScalarKind.{ScalarKind}
+use Rattle.naga_ir.specs.declared.types.ScalarKind.TheVariants as kind
 use Rattle.shader_runs.specs.Value.{Bytes, Selector, Step, At, Field, step_of, MemberNamed, same_bytes, same_integer}
-use Rattle.shader_runs.specs.Value.{BooleanType, IntegerType, PointerType, OtherType}
+use Rattle.shader_runs.specs.Value.{BooleanType, PointerType, OtherType}
 use Rattle.shader_runs.proofs.Update.{same_bytes_true, same_bytes_self}
 use Rattle.module_meaning.specs.ExpressionShapes.{Declared, own_selector, selector}
 use Rattle.module_meaning.specs.Names.{module_names, name_in}
-use Rattle.module_meaning.specs.Surroundings.{declared}
+use Rattle.module_meaning.specs.ExpressionContexts.{declared}
 use Rattle.module_meaning.specs.Types.{type_of_values, word_of_values, values_of, scalar_values}
 use Rattle.module_meaning.specs.TypeParts.{part_type, has_computed_parts, pointed_part, inner_at, member_type, is_part_number, value_part_count}
-use Rattle.module_meaning.specs.Types.{integer_words}
 use Rattle.naga_form.proofs.AlikeParts.{is_pointer}
 use Rattle.module_meaning.specs.ModuleShapes.{same_step}
 
@@ -80,16 +80,16 @@ one_word v w e = sym (step_word_is v) ∙ (ap step_word e ∙ step_word_is w)
 
 -- ---- pointers
 -- the values of all others are no places
-no_scalar_points : (w v : Bytes) → scalar_values w ≡ PointerType v → ⊥
-no_scalar_points w v e = by (bytes_eq w (codes "bool")) (stands_in integer_words w) e
+no_scalar_points : (k : ScalarKind) (w v : Bytes) → scalar_values k w ≡ PointerType v → ⊥
+no_scalar_points kind.Bool w v e = by (bytes_eq w (codes "bool")) e
   where
-    by : (a b : Bool) → (if a then BooleanType else (if b then IntegerType w else OtherType w)) ≡ PointerType v → ⊥
-    by true b e = absurd cc
-    by false true e = absurd cc
-    by false false e = absurd cc
+    by : (b : Bool) → (if b then BooleanType else OtherType w) ≡ PointerType v → ⊥
+    by true e = absurd cc
+    by false e = absurd cc
+no_scalar_points _ w v e = absurd cc
 
 pointers_alone : (it : TypeInner) (w v : Bytes) → values_of it w ≡ PointerType v → is_pointer it ≡ true
-pointers_alone (inner.Scalar s) w v e = absurd (no_scalar_points w v e)
+pointers_alone (inner.Scalar s) w v e = absurd (no_scalar_points s.kind w v e)
 pointers_alone (inner.Pointer base space) w v e = refl
 pointers_alone (inner.ValuePointer size s space) w v e = refl
 pointers_alone _ w v e = absurd cc
@@ -138,12 +138,9 @@ module _ (m : ir_module.Module) where
   pub own_word : (r : TypeResolution) (w : Bytes) → type_of_values m r ≡ PointerType w → word_of_values m r ≡ w
   own_word r w e = by (inner_of r m.types) refl e
     where
-      scalar : (v : Bytes) → scalar_values v ≡ PointerType w → v ≡ w
-      scalar v e = absurd (no_scalar_points v w e)
-
       by : (o : Option TypeInner) → inner_of r m.types ≡ o → option_map_or (λ it. values_of it (word_of_values m r)) o (OtherType (word_of_values m r)) ≡ PointerType w → word_of_values m r ≡ w
       by None at e = absurd cc
-      by (Some (inner.Scalar s)) at e = scalar (word_of_values m r) e
+      by (Some (inner.Scalar s)) at e = absurd (no_scalar_points s.kind (word_of_values m r) w e)
       by (Some (inner.Pointer base space)) at e = cc
       by (Some (inner.ValuePointer size s space)) at e = cc
       by (Some _) at e = absurd cc
@@ -155,8 +152,8 @@ some_there (Some x) is = (x, refl)
 
 -- ---- parts through pointers
 module _ (m : ir_module.Module) (info : ModuleInfo) (known : ℕ → Option TypeResolution) where
-  abbrev around : Declared
-  around = declared m info known
+  abbrev context : Declared
+  context = declared m info known
 
   -- the member of a struct that stands behind a pointer
   pub record IsMember (it : TypeInner) (index : ℕ) (s : Selector) : Type 0 where
@@ -182,9 +179,11 @@ module _ (m : ir_module.Module) (info : ModuleInfo) (known : ℕ → Option Type
         ElementPart p (ap (option_and_then (λ it. pointed_part space it (Some index))) at ∙ here) (ap (option_and_then (λ it. pointed_part space it None)) at ∙ any)
 
     part_behind : (base : ℕ) (space : AddressSpace) (t : Type_) → slice_get m.types base ≡ Some t → (it : TypeInner) → t.inner ≡ it →
-        own_selector around (Some base) it index ≡ Some s → option_map_or (λ count. nat_lt index count) (value_part_count it) true ≡ true → IsPart (inner.Pointer base space) index s
+        own_selector context (Some base) it index ≡ Some s → option_map_or (λ count. nat_lt index count) (value_part_count it) true ≡ true → IsPart (inner.Pointer base space) index s
     part_behind base space t there (inner.Vector n scalar) is selected within = element_behind base space t there (inner.Vector n scalar) is (Value (inner.ValuePointer None scalar space)) refl refl
-    part_behind base space t there (inner.Matrix columns rows scalar) is selected within = element_behind base space t there (inner.Matrix columns rows scalar) is (Value (inner.ValuePointer (Some rows) scalar space)) refl refl
+    part_behind base space t there (inner.Matrix columns rows scalar) is selected within =
+        element_behind base space t there (inner.Matrix columns rows scalar) is
+        (Value (inner.ValuePointer (Some rows) scalar space)) refl refl
     part_behind base space t there (inner.Array item n stride) is selected within = element_behind base space t there (inner.Array item n stride) is (Value (inner.Pointer item space)) refl refl
     part_behind base space t there (inner.BindingArray item n) is selected within = element_behind base space t there (inner.BindingArray item n) is (Value (inner.Pointer item space)) refl refl
     part_behind base space t there (inner.Struct members span) is selected within =
@@ -200,11 +199,11 @@ module _ (m : ir_module.Module) (info : ModuleInfo) (known : ℕ → Option Type
         })
     part_behind base space t there _ is selected within = absurd cc
 
-    pub part_of : (it : TypeInner) → is_pointer it ≡ true → (whole : Option ℕ) → selector around whole it index ≡ Some s → is_part_number m.types it index ≡ true → IsPart it index s
+    pub part_of : (it : TypeInner) → is_pointer it ≡ true → (whole : Option ℕ) → selector context whole it index ≡ Some s → is_part_number m.types it index ≡ true → IsPart it index s
     part_of (inner.Pointer base space) points whole selected within = by (slice_get m.types base) refl selected within
       where
         by : (o : Option Type_) → slice_get m.types base ≡ o →
-            option_and_then (λ it. own_selector around (Some base) it index) (option_map (λ t. t.inner) o) ≡ Some s →
+            option_and_then (λ it. own_selector context (Some base) it index) (option_map (λ t. t.inner) o) ≡ Some s →
             option_map_or (λ count. nat_lt index count) (option_and_then value_part_count (option_map (λ t. t.inner) o)) true ≡ true → IsPart (inner.Pointer base space) index s
         by None there selected within = absurd cc
         by (Some t) there selected within = part_behind base space t there t.inner refl selected within

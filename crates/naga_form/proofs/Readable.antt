@@ -8,7 +8,7 @@ use Rattle.naga_ir.specs.declared.types.ArraySize.{ArraySize}
 use Rattle.naga_ir.specs.declared.types.Type_.{Type_}
 use Rattle.naga_ir.specs.declared.types.TypeInner.TheVariants as inner
 use Rattle.wgsl_text.specs.Types.{TypeSpecifier}
-use Rattle.naga_form.specs.Readable.{has_form, handle_names, AreAlike, SpelledAlike, Formless}
+use Rattle.naga_form.specs.Readable.{is_readable, handle_names, AreAlike, SpelledAlike, Formless}
 use Rattle.naga_form.specs.TypeTrees.{resolution_tree}
 
 module _ (types : List Type_) where
@@ -33,9 +33,15 @@ module _ (types : List Type_) where
   alike_through a b c (Formless p q same) (SpelledAlike u r s) = let none : Some u ≡ None = sym r ∙ q in absurd (cc)
   alike_through a b c (Formless p q same) (Formless r s other) = Formless p s (same ∙ other)
 
-  pub strides_are_alike : (base : ℕ) (l : ArraySize) (s t : ℕ) → IsTrue (has_form (handle_names types) (resolution.Value (inner.Array base l s))) → AreAlike types (resolution.Value (inner.Array base l s)) (resolution.Value (inner.Array base l t))
+  pub strides_are_alike : (base : ℕ) (l : ArraySize) (s t : ℕ) →
+      IsTrue (is_readable (handle_names types) (resolution.Value (inner.Array base l s))) →
+      AreAlike types (resolution.Value (inner.Array base l s))
+      (resolution.Value (inner.Array base l t))
   strides_are_alike base l s t has = by (resolution_tree (handle_names types) (resolution.Value (inner.Array base l s))) refl has
     where
-      by : (o : Option TypeSpecifier) → resolution_tree (handle_names types) (resolution.Value (inner.Array base l s)) ≡ o → IsTrue (is_some o) → AreAlike types (resolution.Value (inner.Array base l s)) (resolution.Value (inner.Array base l t))
+      by : (o : Option TypeSpecifier) →
+          resolution_tree (handle_names types) (resolution.Value (inner.Array base l s)) ≡ o →
+          IsTrue (is_some o) → AreAlike types (resolution.Value (inner.Array base l s))
+          (resolution.Value (inner.Array base l t))
       by (Some x) at has = SpelledAlike x at at
       by None at has = absurd (cc)

@@ -2,12 +2,12 @@
 -- result type, calls pass what an earlier callee wants, results go to result handles, and cases
 -- fall through from empty ones alone. What is said of words and names is asked, and so is that only
 -- empty cases fall through, which acceptance doesn't say.
-use Rattle.module_meaning.specs.Writable.{is_empty, only_empty_fall, only_empty_fall_in, only_empty_cases_fall}
+use Rattle.module_meaning.specs.Writable.{only_empty_fall, only_empty_fall_in, only_empty_cases_fall}
 use Rattle.std.proofs.Common.{◌≡◌, ℕ, ◌<◌, ◌≤◌, Bool, true, false, not, ◌&&◌, ◌||◌, List, [], ◌∷◌}
 use Rattle.std.proofs.Common.{Option, Some, None, refl, sym, ap, ◌∙◌, subst, slice_get, length, map}
 use Rattle.std.proofs.Common.{arith, nat_lt, eqb-true}
 use Rattle.std.specs.Option.{option_map, option_map_or, option_and_then, is_some}
-use Rattle.std.proofs.lemmas.Bool.{and_parts, ltb-true, not-true}
+use Rattle.std.proofs.lemmas.Bool.{and_parts, ltb-true}
 use Rattle.naga_info.proofs.Options.{map_some}
 use Rattle.naga_ir.specs.StatementTree.{SimpleStatement, return}
 use Rattle.naga_ir.specs.StatementTree.{control_barrier, memory_barrier, store, image_store, atomic}
@@ -16,16 +16,13 @@ use Rattle.naga_ir.specs.StatementTree.{subgroup_ballot, subgroup_gather}
 use Rattle.naga_ir.specs.StatementTree.{subgroup_collective_operation, cooperative_store}
 use Rattle.naga_ir.specs.StatementTree.{ray_pipeline_function, StatementTree, simple, block, branch}
 use Rattle.naga_ir.specs.StatementTree.{switch, loop, BlockTree, no_statements, statement}
-use Rattle.naga_ir.specs.StatementTree.{CaseTrees, no_cases, case}
+use Rattle.naga_ir.specs.StatementTree.{CaseTrees, no_cases, case, has_no_statements}
 use Rattle.naga_ir.specs.declared.expression.Expression as ir
 use Rattle.naga_ir.specs.declared.expression.Expression.TheVariants as expression
 use Rattle.naga_ir.specs.declared.module.Function.{Function}
 use Rattle.naga_ir.specs.declared.module.FunctionArgument.{FunctionArgument}
 use Rattle.naga_ir.specs.declared.module.FunctionResult.{FunctionResult}
 use Rattle.naga_ir.specs.declared.module.Module.{Module}
-use Rattle.naga_ir.specs.declared.statement.SwitchValue.TheVariants as label
-use Rattle.naga_ir.specs.declared.types.TypeInner.{TypeInner}
-use Rattle.naga_ir.specs.declared.types.TypeInner.TheVariants as inner
 use Rattle.naga_info.specs.declared.info.ExpressionInfo.{ExpressionInfo}
 use Rattle.naga_info.specs.declared.info.ModuleInfo.{ModuleInfo}
 use Rattle.naga_info.specs.declared.info.TypeResolution.{TypeResolution}
@@ -33,7 +30,7 @@ use Rattle.naga_info.specs.declared.info.TypeResolution.TheVariants.{Handle}
 use Rattle.module_meaning.specs.Numbers.{label_fits_32_bits}
 use Rattle.module_meaning.specs.AgreeingOperators.{function_group}
 use Rattle.module_meaning.specs.AlikeTypes.{are_alike}
-use Rattle.module_meaning.specs.ExpressionOperators.{points_to_atomic}
+use Rattle.module_meaning.specs.ExpressionOperators.{is_atomic_pointer}
 use Rattle.module_meaning.specs.ExpressionShapes.{Declared, shape_of}
 use Rattle.module_meaning.specs.ExpressionTypes.{is_wanted, only, result_type}
 use Rattle.module_meaning.specs.FunctionShapes.{function_shape, statement_shape, statements_shape}
@@ -47,13 +44,12 @@ use Rattle.module_meaning.specs.StatementsFit.{is_answered, is_result, is_result
 use Rattle.module_meaning.specs.StatementsFit.{is_atomic_result, is_uniform_load_result}
 use Rattle.module_meaning.specs.StatementsFit.{is_ballot_result, is_subgroup_result}
 use Rattle.module_meaning.specs.StatementsFit.{simple_is_sound, statement_is_sound, block_is_sound}
-use Rattle.module_meaning.specs.StatementsFit.{cases_are_sound, labels_fit, last_falls_through}
-use Rattle.module_meaning.specs.StatementsFit.{is_condition, is_selection, selection_fits, selects}
-use Rattle.module_meaning.specs.StatementsFit.{labels_are_of, labels_differ, has_label}
+use Rattle.module_meaning.specs.StatementsFit.{cases_are_sound, last_falls_through}
+use Rattle.module_meaning.specs.StatementsFit.{is_condition, is_selection}
 use Rattle.module_meaning.specs.StatementsFit.{body_is_sound}
-use Rattle.module_meaning.specs.StatementsFit.{points_to_atomic as points_to_atomic_type}
+use Rattle.module_meaning.specs.TypeParts.{points_to_atomic}
 use Rattle.module_meaning.specs.OperandDemands.{operand_is}
-use Rattle.module_meaning.specs.Surroundings.{declared, types_known}
+use Rattle.module_meaning.specs.ExpressionContexts.{declared, types_known}
 use Rattle.module_meaning.specs.Types.{type_of_values}
 use Rattle.shader_runs.specs.Premises.{IsRegular, AreRegular, CasesAreRegular, FallsFrom, ReturnFits}
 use Rattle.shader_runs.specs.Premises.{ResultFits, ActionFits, CallFits, ResultWanted, IsResult}
@@ -67,7 +63,8 @@ use Rattle.shader_runs.specs.Scope.{Naming, Names}
 use Rattle.naga_form.proofs.AcceptedGroups.{IsSoundGroup}
 use Rattle.naga_form.proofs.Leaves.{alike_values, typed_only}
 use Rattle.naga_form.proofs.SameValues.{TypesAreCounted, IsFit}
-use Rattle.naga_form.proofs.WellFormed.{passing, operand_at, shape_there, typed_known}
+use Rattle.naga_form.proofs.Switches.{last_stays}
+use Rattle.naga_form.proofs.WellFormed.{passing, shape_there, typed_known}
 
 -- ---- what is asked of words and names
 -- the words of a statement ask for events, and no name hides a callee's
@@ -131,8 +128,8 @@ module _ (m : Module) (info : ModuleInfo) (f : Function) (es : List ExpressionIn
   abbrev known : List TypeResolution
   known = map (λ e. e.ty) es
 
-  abbrev around : Declared
-  around = declared m info (types_known es)
+  abbrev context : Declared
+  context = declared m info (types_known es)
 
   value_typed : (h ty : ℕ) → value_has_type m.types known h (Handle ty) ≡ true →
       handle_type shape h ≡ type_of_values m (Handle ty)
@@ -160,7 +157,7 @@ module _ (m : Module) (info : ModuleInfo) (f : Function) (es : List ExpressionIn
       λ i. value_typed x a.ty one.0 i ∷ passed wanted xs one.1 i
 
   result_at : (test : ir.Expression → Bool) (h : ℕ) →
-      ((e : ir.Expression) → test e ≡ true → IsResult (Some (shape_of around f.expressions h e))) →
+      ((e : ir.Expression) → test e ≡ true → IsResult (Some (shape_of context f.expressions h e))) →
       is_result test f h ≡ true → ResultFits shape (Some h)
   result_at test h each fits =
       let one = passing test (slice_get f.expressions h) fits in
@@ -168,7 +165,7 @@ module _ (m : Module) (info : ModuleInfo) (f : Function) (es : List ExpressionIn
 
   result_if : (test : ir.Expression → Bool) (r : Option ℕ) →
       ((h : ℕ) (e : ir.Expression) → test e ≡ true →
-      IsResult (Some (shape_of around f.expressions h e))) →
+      IsResult (Some (shape_of context f.expressions h e))) →
       is_result_if test f r ≡ true → ResultFits shape r
   result_if test None each fits = tt
   result_if test (Some h) each fits = result_at test h (each h) fits
@@ -221,18 +218,18 @@ module _ (m : Module) (info : ModuleInfo) (f : Function) (es : List ExpressionIn
         by : (callee : Function) (r : Option ℕ) → is_answered callee g f r ≡ true → ResultFits shape r
         by callee None fits = tt
         by callee (Some h) fits =
-            result_at (is_result_of g) h (call_result around f.expressions h g)
+            result_at (is_result_of g) h (call_result context f.expressions h g)
             (and_parts (is_some callee.result) (is_result (is_result_of g) f h) fits).1
 
     line_at : (breaks continues : Bool) (s : SimpleStatement) →
         simple_in_range count (length f.expressions) s ≡ true →
         simple_is_sound m f known breaks continues s ≡ true →
-        IsWorded p own (simple_shape around.around s) →
-        IsRegular p callees own (simple_shape around.around s)
+        IsWorded p own (simple_shape context.context s) →
+        IsRegular p callees own (simple_shape context.context s)
     line_at breaks continues (return v) within fits worded = return_at f.result v refl fits
     line_at breaks continues (control_barrier flags) within fits worded = worded
     line_at breaks continues (memory_barrier flags) within fits worded = worded
-    line_at breaks continues (store pointer value) within fits worded = by (points_to_atomic around.around pointer) worded
+    line_at breaks continues (store pointer value) within fits worded = by (is_atomic_pointer context.context pointer) worded
       where
         by : (to_atomic : Bool) → IsWorded p own (store_shape to_atomic pointer value) →
             IsRegular p callees own (store_shape to_atomic pointer value)
@@ -241,57 +238,40 @@ module _ (m : Module) (info : ModuleInfo) (f : Function) (es : List ExpressionIn
     line_at breaks continues (image_store image coordinate array_index value) within fits worded = (worded, tt)
     line_at breaks continues (atomic pointer fun value outcome) within fits worded =
         let one =
-        and_parts (operand_is m.types known (points_to_atomic_type m.types) pointer)
+        and_parts (operand_is m.types known (points_to_atomic m.types) pointer)
         (is_result_if is_atomic_result f outcome) fits in
-        (worded, result_if is_atomic_result outcome (λ h. atomic_result around f.expressions h) one.1)
+        (worded, result_if is_atomic_result outcome (λ h. atomic_result context f.expressions h) one.1)
     line_at breaks continues (image_atomic image coordinate array_index fun value) within fits worded = (worded, tt)
     line_at breaks continues (work_group_uniform_load pointer outcome) within fits worded =
-        (worded, result_at is_uniform_load_result outcome (uniform_load_result around f.expressions outcome) fits)
+        (worded, result_at is_uniform_load_result outcome (uniform_load_result context f.expressions outcome) fits)
     line_at breaks continues (call function arguments outcome) within fits worded =
         call_at function arguments outcome (ltb-true function count (and_parts (nat_lt function count) _ within).0) fits worded
     line_at breaks continues (ray_query query) within fits worded = (worded, tt)
     line_at breaks continues (subgroup_ballot outcome predicate) within fits worded =
-        (worded, result_at is_ballot_result outcome (ballot_result around f.expressions outcome) fits)
+        (worded, result_at is_ballot_result outcome (ballot_result context f.expressions outcome) fits)
     line_at breaks continues (subgroup_gather mode argument outcome) within fits worded =
-        (worded, result_at is_subgroup_result outcome (subgroup_result around f.expressions outcome) fits)
+        (worded, result_at is_subgroup_result outcome (subgroup_result context f.expressions outcome) fits)
     line_at breaks continues (subgroup_collective_operation op collective argument outcome) within fits worded =
-        (worded, result_at is_subgroup_result outcome (subgroup_result around f.expressions outcome) fits)
+        (worded, result_at is_subgroup_result outcome (subgroup_result context f.expressions outcome) fits)
     line_at breaks continues (cooperative_store target data_) within fits worded = (worded, tt)
     line_at breaks continues (ray_pipeline_function fun) within fits worded = (worded, tt)
     line_at breaks continues _ within fits worded = tt
 
     -- a case that falls through is empty, and not the last one
-    falls_at : (falls : Bool) (b : BlockTree) (cs : CaseTrees) → (not falls || is_empty b) ≡ true →
+    falls_at : (falls : Bool) (b : BlockTree) (cs : CaseTrees) → (not falls || has_no_statements b) ≡ true →
         last_falls_through falls cs ≡ false →
-        FallsFrom falls (statements_shape around.around b) (cases_shape around.around cs)
+        FallsFrom falls (statements_shape context.context b) (cases_shape context.context cs)
     falls_at false b cs only last = tt
     falls_at true no_statements no_cases only last = absurd cc
     falls_at true no_statements (case v b falls cs) only last = tt
     falls_at true (statement s b) cs only last = absurd cc
 
-    last_falls : (h : ℕ) (cs : CaseTrees) → is_selection m.types known h cs ≡ true →
-        last_falls_through false cs ≡ false
-    last_falls h cs fits = let o = operand_at m.types known (selection_fits cs) h fits in by o.itself o.taken
-      where
-        by : (it : TypeInner) → selection_fits cs it ≡ true → last_falls_through false cs ≡ false
-        by (inner.Scalar s) fits =
-            let one = and_parts (selects s) (labels_fit s cs) fits in
-            let two =
-            and_parts (labels_are_of s cs)
-            (labels_differ cs && (has_label label.Default cs && not (last_falls_through false cs))) one.1 in
-            let three =
-            and_parts (labels_differ cs)
-            (has_label label.Default cs && not (last_falls_through false cs)) two.1 in
-            not-true (last_falls_through false cs)
-            (and_parts (has_label label.Default cs) (not (last_falls_through false cs)) three.1).1
-        by _ fits = absurd cc
-
     mutual
       statement_at : (breaks continues : Bool) (s : StatementTree) →
           statement_in_range count (length f.expressions) s ≡ true →
           statement_is_sound m f known breaks continues s ≡ true → only_empty_fall_in s ≡ true →
-          IsWorded p own (statement_shape around.around s) →
-          IsRegular p callees own (statement_shape around.around s)
+          IsWorded p own (statement_shape context.context s) →
+          IsRegular p callees own (statement_shape context.context s)
       statement_at breaks continues (simple s) within fits only worded =
           line_at breaks continues s within fits worded
       statement_at breaks continues (block b) within fits only worded =
@@ -316,7 +296,7 @@ module _ (m : Module) (info : ModuleInfo) (f : Function) (es : List ExpressionIn
           let one =
           and_parts (is_selection m.types known selector cs)
           (cases_are_sound m f known true continues cs) fits in
-          cases_at continues false cs ranges.1 one.1 only (last_falls selector cs one.0) worded
+          cases_at continues false cs ranges.1 one.1 only (last_stays m.types known selector cs one.0) worded
       statement_at breaks continues (loop body continuing break_if) within fits only worded =
           let ranges = and_parts (block_in_range count (length f.expressions) body) _ within in
           let both =
@@ -334,8 +314,8 @@ module _ (m : Module) (info : ModuleInfo) (f : Function) (es : List ExpressionIn
       block_at : (breaks continues : Bool) (b : BlockTree) →
           block_in_range count (length f.expressions) b ≡ true →
           block_is_sound m f known breaks continues b ≡ true → only_empty_fall b ≡ true →
-          AreWorded p own (statements_shape around.around b) →
-          AreRegular p callees own (statements_shape around.around b)
+          AreWorded p own (statements_shape context.context b) →
+          AreRegular p callees own (statements_shape context.context b)
       block_at breaks continues no_statements within fits only worded = tt
       block_at breaks continues (statement s b) within fits only worded =
           let ranges =
@@ -353,8 +333,8 @@ module _ (m : Module) (info : ModuleInfo) (f : Function) (es : List ExpressionIn
           cases_in_range count (length f.expressions) cs ≡ true →
           cases_are_sound m f known true continues cs ≡ true → only_empty_cases_fall cs ≡ true →
           last_falls_through before cs ≡ false →
-          CasesAreWorded p own (cases_shape around.around cs) →
-          CasesAreRegular p callees own (cases_shape around.around cs)
+          CasesAreWorded p own (cases_shape context.context cs) →
+          CasesAreRegular p callees own (cases_shape context.context cs)
       cases_at continues before no_cases within fits only last worded = tt
       cases_at continues before (case v b falls cs) within fits only last worded =
           let ranges =
@@ -365,7 +345,7 @@ module _ (m : Module) (info : ModuleInfo) (f : Function) (es : List ExpressionIn
           and_parts (block_is_sound m f known true continues b)
           (cases_are_sound m f known true continues cs) fits in
           let empty =
-          and_parts (not falls || is_empty b) (only_empty_fall b && only_empty_cases_fall cs) only in
+          and_parts (not falls || has_no_statements b) (only_empty_fall b && only_empty_cases_fall cs) only in
           let rest = and_parts (only_empty_fall b) (only_empty_cases_fall cs) empty.1 in (
             falls_at falls b cs empty.0 last,
             block_at true continues b ranges.0 one.0 rest.0 worded.0,

@@ -23,17 +23,17 @@ use Rattle.shader_runs.specs.Scope.{Naming}
 use Rattle.shader_runs.specs.Resolution.{text_targets}
 use Rattle.shader_runs.specs.Identifiers.{LeafStands, LeavesStand}
 use Rattle.shader_runs.proofs.Resolution.{resolves_as_meant}
-use Rattle.module_meaning.specs.Names.{given_name, module_names}
+use Rattle.module_meaning.specs.Names.{expression_name, module_names}
 use Rattle.module_meaning.specs.Types.{declared_type}
-use Rattle.module_meaning.specs.ExpressionOperators.{points_to_atomic}
+use Rattle.module_meaning.specs.ExpressionOperators.{is_atomic_pointer}
 use Rattle.module_meaning.specs.ExpressionShapes.{Declared, shape_of, applied_shape, applied_or}
 use Rattle.module_meaning.specs.ExpressionShapes.{part_shape, part_selector}
 use Rattle.module_meaning.specs.FunctionShapes.{function_shape, function_shapes}
 use Rattle.module_meaning.specs.Namings.{function_naming, namings_from, namings, outer_names}
 use Rattle.module_meaning.specs.ModuleShapes.{module_shape}
 use Rattle.module_meaning.specs.OperatorTable.{Operator, BinarySign, AtomicLoad}
-use Rattle.module_meaning.specs.Surroundings.{declared, types_known}
-use Rattle.module_meaning.specs.Part.{is_written_so_far}
+use Rattle.module_meaning.specs.ExpressionContexts.{declared, types_known}
+use Rattle.module_meaning.specs.WrittenSoFar.{is_written_so_far}
 use Rattle.naga_form.specs.Declarations.{written_program}
 use Rattle.module_meaning.specs.Premises.{ScopesHold}
 use Rattle.module_meaning.specs.Resolution.{ResolvesAs}
@@ -57,10 +57,12 @@ module _ (m : Module) (info : ModuleInfo) (callees : ℕ) (f : ir_function.Funct
   leaf_stands : (h : ℕ) (e : ir.Expression) → slice_get f.expressions h ≡ Some e →
       LeafStands own (Some (shape_of d f.expressions h e))
   leaf_stands h (expression.FunctionArgument n) at =
-      subst (λ count. n < count) (sym (mapped_length (λ a. declared_type m a.ty) f.arguments.items)) (ltb-true n (length f.arguments.items) (names_are_in_range m callees f ranges h (expression.FunctionArgument n) at))
+      subst (λ count. n < count) (sym (mapped_length (λ a. declared_type m a.ty) f.arguments.items))
+      (ltb-true n (length f.arguments.items)
+      (names_are_in_range m callees f ranges h (expression.FunctionArgument n) at))
   leaf_stands h (expression.LocalVariable v) at =
       subst (λ count. v < count) (sym (mapped_length (λ l. l.init) f.local_variables)) (ltb-true v (length f.local_variables) (names_are_in_range m callees f ranges h (expression.LocalVariable v) at))
-  leaf_stands h (expression.Load pointer) at = by (points_to_atomic d.around pointer)
+  leaf_stands h (expression.Load pointer) at = by (is_atomic_pointer d.context pointer)
     where
       by : (atomic : Bool) →
           LeafStands own
@@ -92,12 +94,16 @@ module _ (m : Module) (info : ModuleInfo) (accepted : IsTrue (is_accepted m info
       let here : g + 0 ≡ g = omega arith in
       let known = function_there m info accepted g f (subst (λ h. slice_get m.functions h ≡ Some f) here (there 0 f refl)) in
       let is = accepted_at m info accepted g f known.0 known.1 in
-      leaves_stand (g + 1) fs ess (further m.functions g f fs there) (function_naming (module_names m) (given_name m g) m info g f es ∷ behind) (leaves_are_own m info is.callees f is.ranges es, all)
+      leaves_stand (g + 1) fs ess (further m.functions g f fs there)
+      (function_naming (module_names m) (expression_name m g) m info g f es ∷ behind)
+      (leaves_are_own m info is.callees f is.ranges es, all)
 
-pub resolves : (m : Module) (info : ModuleInfo) (explicit : Bool) → IsTrue (is_accepted m info) → IsTrue (is_written_so_far m) → AllWrittenHaveForms explicit m info → ScopesHold m info → ResolvesAs m info (written_program m info explicit)
+pub resolves : (m : Module) (info : ModuleInfo) (explicit : Bool) → IsTrue (is_accepted m info) →
+    IsTrue (is_written_so_far m) → AllWrittenHaveForms explicit m info → ScopesHold m info →
+    ResolvesAs m info (written_program m info explicit)
 resolves m info explicit accepted written have scope =
     let names = module_names m in
     ap text_targets (reads_as_shapes m info explicit accepted written have)
     ∙ resolves_as_meant (module_shape m info) (outer_names names m) (namings names m info)
-    (module_fits m info accepted written ((scopes_are_checked m info accepted written).1 scope))
+    (module_fits m info accepted written explicit have ((scopes_are_checked m info accepted written).1 scope))
     (leaves_stand m info accepted 0 m.functions info.functions.items (from_start m.functions) [] tt)

@@ -1,6 +1,6 @@
 -- The program that is written for a module does what the module does.
-use Rattle.module_meaning.specs.Part.{types_are_of_part}
-use Rattle.std.proofs.Common.{[], ◌≡◌, ℕ, suc, ◌+◌, ◌<◌, Bool, List, ◌∷◌, map, length}
+use Rattle.module_meaning.specs.WrittenSoFar.{types_are_written_so_far}
+use Rattle.std.proofs.Common.{[], ◌≡◌, ℕ, suc, ◌+◌, ◌<◌, Bool, true, false, List, ◌∷◌, map, length}
 use Rattle.std.proofs.Common.{Some, refl, sym, ap, subst, ◌∙◌, arith, add-one, append-nil}
 use Rattle.std.specs.Prelude.{IsTrue, slice_get, reverse}
 use Rattle.std.specs.List.{list_all}
@@ -10,10 +10,10 @@ use Rattle.std.proofs.lemmas.Bool.{and_from}
 use Rattle.indexmap.proofs.ReorderLemmas.{map-reverse}
 use Rattle.naga_ir.specs.declared.module.Function as ir_function
 use Rattle.naga_ir.specs.declared.module.Module.{Module}
-use Rattle.module_meaning.specs.Part.{is_written_so_far}
+use Rattle.module_meaning.specs.WrittenSoFar.{is_written_so_far}
 use Rattle.module_meaning.specs.ModuleShapes.{module_shape}
 use Rattle.module_meaning.proofs.ModuleShapes.{declares_functions_alone, functions_alone}
-use Rattle.module_meaning.proofs.Part.{functions_are_written, written_so_far_parts}
+use Rattle.module_meaning.proofs.WrittenSoFar.{functions_are_written, written_so_far_parts}
 use Rattle.naga_info.specs.declared.info.ExpressionInfo.{ExpressionInfo}
 use Rattle.naga_info.specs.declared.info.ModuleInfo.{ModuleInfo}
 use Rattle.naga_form.specs.Functions.{functions_form}
@@ -22,7 +22,7 @@ use Rattle.naga_form.proofs.Abstraction.{function_reads}
 use Rattle.naga_form.proofs.AcceptedFunctions.{functions_paired}
 use Rattle.module_meaning.specs.InfoSizes.{function_size_fits}
 use Rattle.module_meaning.proofs.SideBySide.{paired_at}
-use Rattle.naga_form.proofs.ToldItems.{types_are_told}
+use Rattle.naga_form.proofs.DistinguishedItems.{types_are_distinguished}
 use Rattle.naga_form.proofs.Names.{items_tell, function_item, function_there}
 use Rattle.naga_names.proofs.Refusal.{element}
 use Rattle.naga_names.specs.declared.key.NameKey.TheVariants as key
@@ -38,29 +38,26 @@ use Rattle.shader_runs.proofs.Names.{length-functions_of}
 use Rattle.shader_runs.proofs.Update.{and_left, and_right}
 use Rattle.module_meaning.specs.Premises.{scope_holds, ScopesHold}
 use Rattle.module_meaning.specs.Names.{module_names}
-use Rattle.module_meaning.specs.Names.{function_name, given_name}
+use Rattle.module_meaning.specs.Names.{function_name, expression_name}
 use Rattle.module_meaning.specs.FunctionShapes.{function_shapes}
 use Rattle.module_meaning.specs.Namings.{namings_from, namings, outer_names, function_naming}
 use Rattle.text_meaning.specs.Abstraction.{function_read, program_read}
 use Rattle.wgsl_text.specs.Requests.{is_request}
 use Rattle.module_meaning.specs.Faithful.{RunsAs}
+use Rattle.module_meaning.specs.StatementForms.{block_has_forms}
 use Rattle.module_meaning.specs.Written.{AllWrittenHaveForms, WrittenHaveForms}
 use Rattle.naga_form.proofs.Facts.{further, from_start}
-use Rattle.naga_form.proofs.PartFits.{is_left, no_case_falls}
+use Rattle.naga_form.proofs.WritableModules.{no_case_falls, no_entry_points}
+use Rattle.naga_form.proofs.WrittenSoFarFits.{is_free}
 use Rattle.naga_form.proofs.ConstantsFit.{constants_are_typed}
-use Rattle.naga_form.proofs.FunctionsFit.{IsLeft, AllBehind, all_fit}
+use Rattle.naga_form.proofs.FunctionsFit.{IsFree, AllBehind, all_fit_freely}
 use Rattle.naga_form.proofs.AcceptedFunctions.{functions_known, group_at, numbered, Numbered, functions_counted, AsFunction, AsEntryPoint}
 use Rattle.naga_form.proofs.Leaves.{ConstantsAreTyped}
 use Rattle.module_meaning.specs.Accepted.{is_accepted}
-use Rattle.module_meaning.specs.Part.{function_is_written}
-use Rattle.module_meaning.proofs.Lists.{list_all_at}
+use Rattle.module_meaning.specs.WrittenSoFar.{function_is_written}
 use Rattle.naga_ir.specs.declared.module.EntryPoint.{EntryPoint}
-use Rattle.std.proofs.lemmas.List.{nil_from_length}
 use Rattle.std.proofs.lemmas.Bool.{and_parts, eqb-true}
-use Rattle.std.specs.Prelude.{◌==◌}
-use Rattle.std.specs.Option.{is_none}
 use Rattle.naga_form.proofs.AcceptedGroups.{declarations_are}
-use Rattle.module_meaning.specs.Part.{declares_functions}
 use Rattle.naga_form.proofs.AcceptedGroups.{types_are_fit}
 use Rattle.naga_form.proofs.ScopeRules.{same_functions, scopes_are_checked}
 
@@ -73,15 +70,26 @@ shapes_counted m info [] ess paired = refl
 shapes_counted m info (f ∷ fs) [] paired = absurd (omega (arith, paired))
 shapes_counted m info (f ∷ fs) (es ∷ ess) paired = ap suc (shapes_counted m info fs ess (omega (arith, paired)))
 
-functions_read : (explicit : Bool) (m : Module) (info : ModuleInfo) → IsTrue (types_are_of_part m) → IsTrue (declares_functions m) → length m.global_expressions ≡ length info.const_expression_types.items → (g : ℕ) (fs : List ir_function.Function) (ess : List (List ExpressionInfo)) → IsTrue (list_all function_is_written fs) → ((i : ℕ) (f : ir_function.Function) (es : List ExpressionInfo) → slice_get fs i ≡ Some f → slice_get ess i ≡ Some es → WrittenHaveForms explicit m info f es) → ((i : ℕ) (f : ir_function.Function) (es : List ExpressionInfo) → slice_get fs i ≡ Some f → slice_get ess i ≡ Some es → length f.expressions ≡ length es) →
+functions_read : (explicit : Bool) (m : Module) (info : ModuleInfo) →
+    IsTrue (types_are_written_so_far m) →
+    length m.global_expressions ≡ length info.const_expression_types.items →
+    (g : ℕ) (fs : List ir_function.Function) (ess : List (List ExpressionInfo)) →
+    IsTrue (list_all function_is_written fs) →
+    ((i : ℕ) (f : ir_function.Function) (es : List ExpressionInfo) → slice_get fs i ≡ Some f →
+    slice_get ess i ≡ Some es → WrittenHaveForms explicit m info f es) →
+    ((i : ℕ) (f : ir_function.Function) (es : List ExpressionInfo) → slice_get fs i ≡ Some f →
+    slice_get ess i ≡ Some es → length f.expressions ≡ length es) →
     map function_read (functions_form explicit (module_names m) m info g fs ess) ≡ map form_function (namings_from (module_names m) m g (function_shapes m info fs ess))
-functions_read explicit m info values declares own g [] [] is have sizes = refl
-functions_read explicit m info values declares own g [] (es ∷ ess) is have sizes = refl
-functions_read explicit m info values declares own g (f ∷ fs) [] is have sizes = refl
-functions_read explicit m info values declares own g (f ∷ fs) (es ∷ ess) is have sizes =
+functions_read explicit m info values own g [] [] is have sizes = refl
+functions_read explicit m info values own g [] (es ∷ ess) is have sizes = refl
+functions_read explicit m info values own g (f ∷ fs) [] is have sizes = refl
+functions_read explicit m info values own g (f ∷ fs) (es ∷ ess) is have sizes =
     let all = and_parts (function_is_written f) (list_all function_is_written fs) is in
     let size = sizes 0 f es refl refl in
-    λ i. function_reads explicit (given_name m g) m info g f es values declares own all.0 (have 0 f es refl refl) size i ∷ functions_read explicit m info values declares own (g + 1) fs ess all.1 (λ i f es here known. have (suc i) f es here known) (λ i f es here known. sizes (suc i) f es here known) i
+    λ i. function_reads explicit (expression_name m g) m info g f es values own all.0
+    (have 0 f es refl refl) size i ∷ functions_read explicit m info values own
+    (g + 1) fs ess all.1 (λ i f es here known. have (suc i) f es here known)
+    (λ i f es here known. sizes (suc i) f es here known) i
 
 -- what holds of all of a list that is turned round onto another holds of all of both
 behind_all : {X : Type 0} (test : X → Bool) (xs behind : List X) → IsTrue (list_all test (reverse_aux xs behind)) → IsTrue (list_all test behind)
@@ -93,28 +101,42 @@ all_reversed test [] behind all = refl
 all_reversed test (x ∷ xs) behind all = and_from (test x) (list_all test xs) (and_left (test x) (list_all test behind) (behind_all test xs (x ∷ behind) all)) (all_reversed test xs (x ∷ behind) all)
 
 -- the square: what is written of the module is read as its functions are written
-pub program_reads : (m : Module) (info : ModuleInfo) (explicit : Bool) → IsTrue (is_accepted m info) → IsTrue (is_written_so_far m) → AllWrittenHaveForms explicit m info → program_read (written_program m info explicit) ≡ form_module (functions_alone m info) (outer_names (module_names m) m) (namings (module_names m) m info)
+pub program_reads : (m : Module) (info : ModuleInfo) (explicit : Bool) →
+    IsTrue (is_accepted m info) → IsTrue (is_written_so_far m) →
+    AllWrittenHaveForms explicit m info → program_read (written_program m info explicit) ≡
+    form_module (functions_alone m info) (outer_names (module_names m) m)
+    (namings (module_names m) m info)
 program_reads m info explicit accepted written have =
     let listed = namings_from (module_names m) m 0 (function_shapes m info m.functions info.functions.items) in
-    let each = functions_read explicit m info (written_so_far_parts m written).1 (written_so_far_parts m written).0 (declarations_are m info accepted).size 0 m.functions info.functions.items (functions_are_written m written) (λ i f es here known. have i f es here known) sized in
+    let each = functions_read explicit m info (written_so_far_parts m written).1
+    (declarations_are m info accepted).size 0 m.functions
+    info.functions.items (functions_are_written m written)
+    (λ i f es here known. have i f es here known) sized in
     λ i. record {
       constants = [];
       overrides = [];
       globals = [];
-      functions = (ap reverse (append-nil (map function_read (functions_form explicit (module_names m) m info 0 m.functions info.functions.items)) ∙ each) ∙ sym (form_functions-map (reverse listed) ∙ map-reverse form_function listed)) i;
+      functions = (ap reverse
+          (append-nil (map function_read
+          (functions_form explicit (module_names m) m info 0 m.functions info.functions.items))
+          ∙ each) ∙ sym (form_functions-map (reverse listed) ∙ map-reverse form_function listed)) i;
     }
   where
     sized : (i : ℕ) (f : ir_function.Function) (es : List ExpressionInfo) → slice_get m.functions i ≡ Some f → slice_get info.functions.items i ≡ Some es → length f.expressions ≡ length es
     sized i f es here known = eqb-true (length f.expressions) (length es) (paired_at function_size_fits m.functions info.functions.items (functions_paired m info accepted) i f es here known)
 
 -- and so as its program of shapes is
-pub reads_as_shapes : (m : Module) (info : ModuleInfo) (explicit : Bool) → IsTrue (is_accepted m info) → IsTrue (is_written_so_far m) → AllWrittenHaveForms explicit m info → program_read (written_program m info explicit) ≡ form_module (module_shape m info) (outer_names (module_names m) m) (namings (module_names m) m info)
+pub reads_as_shapes : (m : Module) (info : ModuleInfo) (explicit : Bool) →
+    IsTrue (is_accepted m info) → IsTrue (is_written_so_far m) →
+    AllWrittenHaveForms explicit m info → program_read (written_program m info explicit) ≡
+    form_module (module_shape m info) (outer_names (module_names m) m)
+    (namings (module_names m) m info)
 reads_as_shapes m info explicit accepted written have =
     program_reads m info explicit accepted written have
     ∙ ap (λ p. form_module p (outer_names (module_names m) m) (namings (module_names m) m info)) (sym (declares_functions_alone m info written))
 
 -- ---- what the law of runs asks
--- A module that is accepted and of the part: all is said by acceptance but what the part shows.
+-- A module that is accepted and written so far: all is said by acceptance but what the part shows.
 module _ (m : Module) (info : ModuleInfo) (accepted : IsTrue (is_accepted m info)) (written : IsTrue (is_written_so_far m)) where
   abbrev p : shapes.Module
   p = module_shape m info
@@ -125,8 +147,8 @@ module _ (m : Module) (info : ModuleInfo) (accepted : IsTrue (is_accepted m info
   no_constant_types : p.constant_types ≡ []
   no_constant_types = ap (λ p. p.constant_types) same
 
-  no_global_types : p.global_types ≡ []
-  no_global_types = ap (λ p. p.global_types) same
+  no_globals : p.globals ≡ []
+  no_globals = ap (λ p. p.globals) same
 
   all_counted : length p.functions ≡ length m.functions
   all_counted =
@@ -134,42 +156,41 @@ module _ (m : Module) (info : ModuleInfo) (accepted : IsTrue (is_accepted m info
       ∙ (length-reverse (function_shapes m info m.functions info.functions.items)
       ∙ shapes_counted m info m.functions info.functions.items (functions_counted m info accepted))
 
-  no_entry_points : m.entry_points.items ≡ []
-  no_entry_points =
-      let one = and_parts (list_all (λ c. is_none c.name) m.constants) _ (written_so_far_parts m written).0 in
-      let two = and_parts (length m.overrides == 0) _ one.1 in
-      let three = and_parts (length m.global_variables == 0) (length m.entry_points.items == 0) two.1 in
-      nil_from_length m.entry_points.items (eqb-true (length m.entry_points.items) 0 three.1)
+  module _ (explicit : Bool) (have : AllWrittenHaveForms explicit m info) where
+    -- the statements of each function that is known have forms
+    forms_at : (k : ℕ) (f : ir_function.Function) (es : List ExpressionInfo) → slice_get (functions_known m info) k ≡ Some (f, es) → block_has_forms f.body ≡ true
+    forms_at k f es at = by (numbered m info accepted k f es at)
+      where
+        none : (xs : List EntryPoint) (j : ℕ) (e : EntryPoint) → xs ≡ [] → slice_get xs j ≡ Some e → ⊥
+        none [] j e is at = absurd cc
+        none (x ∷ xs) j e is at = absurd cc
 
-  -- each function that is known is written so far
-  written_at : (k : ℕ) (f : ir_function.Function) (es : List ExpressionInfo) → slice_get (functions_known m info) k ≡ Some (f, es) → IsTrue (function_is_written f)
-  written_at k f es at = by (numbered m info accepted k f es at)
-    where
-      none : (xs : List EntryPoint) (j : ℕ) (e : EntryPoint) → xs ≡ [] → slice_get xs j ≡ Some e → ⊥
-      none [] j e is at = absurd cc
-      none (x ∷ xs) j e is at = absurd cc
+        by : Numbered m info accepted k f es → block_has_forms f.body ≡ true
+        by (AsFunction here known) = (have k f es here known).statements
+        by (AsEntryPoint j e number here known of) = absurd (none m.entry_points.items j e (no_entry_points m info accepted written) here)
 
-      by : Numbered m info accepted k f es → IsTrue (function_is_written f)
-      by (AsFunction here known) = list_all_at function_is_written m.functions k f (functions_are_written m written) here
-      by (AsEntryPoint j e number here known of) = absurd (none m.entry_points.items j e no_entry_points here)
-
-  module _ (scope : IsTrue (scope_holds m info)) where
     constants_typed : (k : ℕ) (f : ir_function.Function) (es : List ExpressionInfo) → slice_get (functions_known m info) k ≡ Some (f, es) → ConstantsAreTyped m info f es
-    constants_typed k f es at = constants_are_typed m info accepted (types_are_told m) f es (group_at m info accepted k f es at)
+    constants_typed k f es at = constants_are_typed m info accepted (types_are_distinguished m) f es (group_at m info accepted k f es at)
 
     -- nothing is left of each function, behind those before it
-    all_left : (g : ℕ) (fs : List ir_function.Function) (ess : List (List ExpressionInfo)) → ((i : ℕ) (f : ir_function.Function) → slice_get fs i ≡ Some f → slice_get m.functions (g + i) ≡ Some f) → IsTrue (list_all function_is_written fs) → IsTrue (list_all fits_function (namings_from (module_names m) m g (function_shapes m info fs ess))) →
-        (behind : List Naming) → length behind ≡ g → AllBehind (IsLeft p (outer_names (module_names m) m)) behind → AllBehind (IsLeft p (outer_names (module_names m) m)) (reverse_aux (namings_from (module_names m) m g (function_shapes m info fs ess)) behind)
-    all_left g [] ess there is scoped behind at so_far = so_far
-    all_left g (f ∷ fs) [] there is scoped behind at so_far = so_far
-    all_left g (f ∷ fs) (es ∷ ess) there is scoped behind at so_far =
+    all_free : (g : ℕ) (fs : List ir_function.Function) (ess : List (List ExpressionInfo)) →
+        ((i : ℕ) (f : ir_function.Function) → slice_get fs i ≡ Some f →
+        slice_get m.functions (g + i) ≡ Some f) →
+        IsTrue (list_all fits_function
+        (namings_from (module_names m) m g (function_shapes m info fs ess))) →
+        (behind : List Naming) → length behind ≡ g →
+        AllBehind (IsFree false p (outer_names (module_names m) m)) behind →
+        AllBehind (IsFree false p (outer_names (module_names m) m))
+        (reverse_aux (namings_from (module_names m) m g (function_shapes m info fs ess)) behind)
+    all_free g [] ess there scoped behind at so_far = so_far
+    all_free g (f ∷ fs) [] there scoped behind at so_far = so_far
+    all_free g (f ∷ fs) (es ∷ ess) there scoped behind at so_far =
         let here : g + 0 ≡ g = omega arith in
         let found = subst (λ h. slice_get m.functions h ≡ Some f) here (there 0 f refl) in
-        let own = function_naming (module_names m) (given_name m g) m info g f es in
-        let all = and_parts (function_is_written f) (list_all function_is_written fs) is in
+        let own = function_naming (module_names m) (expression_name m g) m info g f es in
         let scopes = and_parts (fits_function own) (list_all fits_function (namings_from (module_names m) m (g + 1) (function_shapes m info fs ess))) scoped in
-        let this = is_left m info (types_are_fit m info accepted) g f found es all.0 p no_constant_types no_global_types all_counted (functions_of behind) (length-functions_of behind ∙ at) scopes.0 in
-        all_left (g + 1) fs ess (further m.functions g f fs there) all.1 scopes.1 (own ∷ behind) (ap suc at ∙ sym (add-one g)) (this, so_far)
+        let this = is_free m info (types_are_fit m info accepted) g f found es p no_constant_types no_globals all_counted (functions_of behind) (length-functions_of behind ∙ at) scopes.0 in
+        all_free (g + 1) fs ess (further m.functions g f fs there) scopes.1 (own ∷ behind) (ap suc at ∙ sym (add-one g)) (this, so_far)
 
     no_constants : ConstantsFit (functions_alone m info) (outer_names (module_names m) m)
     no_constants = record {
@@ -182,8 +203,9 @@ module _ (m : Module) (info : ModuleInfo) (accepted : IsTrue (is_accepted m info
     one_function : (g k : ℕ) → key.Function g ≡ key.Function k → g ≡ k
     one_function g k e = cc
 
-    pub module_fits : ModuleFits (module_shape m info) (outer_names (module_names m) m) (namings (module_names m) m info)
-    module_fits =
+    pub module_fits : IsTrue (scope_holds m info) →
+        ModuleFits (module_shape m info) (outer_names (module_names m) m) (namings (module_names m) m info)
+    module_fits scope =
         let listed = namings_from (module_names m) m 0 (function_shapes m info m.functions info.functions.items) in
         record {
           functions = same_functions m info accepted written;
@@ -194,15 +216,21 @@ module _ (m : Module) (info : ModuleInfo) (accepted : IsTrue (is_accepted m info
                 one_function g k (ap (λ item. item.0) (items_tell m (function_item m g a.0) (function_item m k b.0) (function_there m g a.0 a.1) (function_there m k b.0 b.1) e));
           };
           constants = subst (λ p. ConstantsFit p (outer_names (module_names m) m)) (sym same) no_constants;
-          all = all_fit m info accepted (types_are_told m) constants_typed (λ k f es at. no_case_falls f (written_at k f es at)) (outer_names (module_names m) m) (namings (module_names m) m info) (same_functions m info accepted written)
-              (all_left 0 m.functions info.functions.items (from_start m.functions) (functions_are_written m written) (all_reversed fits_function listed [] scope) [] refl tt);
+          all = all_fit_freely m info accepted (types_are_distinguished m) constants_typed
+              (λ k f es at. no_case_falls f.body (forms_at k f es at)) (outer_names (module_names m) m)
+              (namings (module_names m) m info) (same_functions m info accepted written) false forms_at
+              (all_free 0 m.functions info.functions.items (from_start m.functions) (all_reversed fits_function listed [] scope) [] refl tt);
         }
 
-    runs : (explicit : Bool) → AllWrittenHaveForms explicit m info → RunsAs m info (written_program m info explicit)
-    runs explicit have settings fit meaning typed g f found arguments typed_arguments world turns past keeps =
+    runs : IsTrue (scope_holds m info) → RunsAs m info (written_program m info explicit)
+    runs scope settings fit meaning typed g f found arguments typed_arguments world turns past keeps =
         ap (λ (text : TextModule). follow_module text settings world meaning is_request turns (function_name (module_names m) g) arguments past) (reads_as_shapes m info explicit accepted written have)
-        ∙ runs_alike (module_shape m info) (outer_names (module_names m) m) (namings (module_names m) m info) module_fits settings fit meaning typed g f found arguments typed_arguments world turns past keeps
+        ∙ runs_alike (module_shape m info) (outer_names (module_names m) m)
+        (namings (module_names m) m info) (module_fits scope) settings fit meaning typed g f found
+        arguments typed_arguments world turns past keeps
 
-pub runs_as : (m : Module) (info : ModuleInfo) (explicit : Bool) → IsTrue (is_accepted m info) → IsTrue (is_written_so_far m) → AllWrittenHaveForms explicit m info → ScopesHold m info → RunsAs m info (written_program m info explicit)
+pub runs_as : (m : Module) (info : ModuleInfo) (explicit : Bool) → IsTrue (is_accepted m info) →
+    IsTrue (is_written_so_far m) → AllWrittenHaveForms explicit m info → ScopesHold m info →
+    RunsAs m info (written_program m info explicit)
 runs_as m info explicit accepted written have scope =
-    runs m info accepted written ((scopes_are_checked m info accepted written).1 scope) explicit have
+    runs m info accepted written explicit have ((scopes_are_checked m info accepted written).1 scope)

@@ -5,7 +5,7 @@
 -- be numbers of 32 bits.
 use Rattle.std.proofs.Common.{◌≡◌, ℕ, zero, suc, ◌<◌, Bool, true, false, List, [], ◌∷◌, refl, sym, ap, ◌∙◌}
 use Rattle.std.proofs.Common.{Option, Some, None, slice_get, length, arith, if◌then◌else◌, codes, ◌^◌}
-use Rattle.std.proofs.Common.{get_or, subst, ◌++◌, nat_eq}
+use Rattle.std.proofs.Common.{get_or, subst, ◌++◌, nat_eq, nat_lt}
 use Rattle.std.specs.Prelude.{unwrap_or}
 use Rattle.std.specs.List.{list_all}
 use Rattle.std.specs.Str.{bytes_eq}
@@ -17,6 +17,8 @@ use Rattle.std.proofs.lemmas.Slice.Eq.{bytes_eq-Decides}
 use Rattle.std.proofs.lemmas.Option.{slice_get_within}
 use Rattle.wgsl_words.specs.Words.{scalar_word, space_word}
 use Rattle.naga_ir.specs.declared.module.Module.{Module}
+use Rattle.naga_ir.specs.declared.types.ScalarKind.{ScalarKind}
+use Rattle.naga_ir.specs.declared.types.ScalarKind.TheVariants as scalars
 use Rattle.naga_ir.specs.declared.types.ArraySize.{ArraySize}
 use Rattle.naga_ir.specs.declared.types.ArraySize.TheVariants as size
 use Rattle.naga_ir.specs.declared.types.Type_.{Type_}
@@ -36,25 +38,28 @@ use Rattle.naga_words.specs.Spelling.{is_struct, size_within, length_within}
 use Rattle.wgsl_text.specs.Reading.{type_layout, ReadsType}
 use Rattle.wgsl_text.specs.Text.{tokens}
 use Rattle.wgsl_text.specs.Types.{TypeSpecifier, IsType}
-use Rattle.wgsl_text.specs.Words.{IsIdentifier, stands_in}
+use Rattle.wgsl_text.specs.Words.{IsIdentifier}
 use Rattle.wgsl_text.proofs.Reading.{type_has_one_reading}
 use Rattle.shader_runs.specs.Value.{ValueType, BooleanType, IntegerType, PointerType, OtherType}
-use Rattle.module_meaning.specs.AlikeTypes.{type_form, type_identity, handle_form, inner_form_by, form_within}
-use Rattle.module_meaning.specs.AlikeTypes.{found_form_by, named_form_by, over_scalar, image_form, pointer_form, value_form, access_number}
+use Rattle.module_meaning.specs.AlikeTypes.{type_key, type_identity, handle_key, inner_key_by, key_within}
+use Rattle.module_meaning.specs.AlikeTypes.{found_key_by, named_key_by, over_scalar, image_key, pointer_key, value_key, access_number}
 use Rattle.naga_ir.specs.declared.image.ImageClass.{ImageClass}
 use Rattle.naga_ir.specs.declared.image.ImageClass.TheVariants as class
 use Rattle.naga_ir.specs.declared.image.ImageDimension.{ImageDimension}
 use Rattle.module_meaning.specs.InfoSizes.{type_is_fit, resolution_is_fit}
-use Rattle.module_meaning.specs.Names.{TypesAreTold, constant_name, global_name, module_names, name_in}
+use Rattle.module_meaning.specs.Names.{TypesAreDistinguished, constant_name, global_name, module_names, name_in}
 use Rattle.module_meaning.specs.Names.{wgsl_names}
 use Rattle.module_meaning.specs.Types.{type_of_values, word_of_values, values_of, scalar_values}
-use Rattle.module_meaning.specs.TypeIdentity.{identity, identity_code, word_of_unspelled_type, level, kind_number, truth_number, dimension_number, vector_number, cooperative_number, role_number, space_number, length_kind, length_number}
-use Rattle.module_meaning.specs.Types.{type_names, spelled_resolution, integer_words}
+use Rattle.module_meaning.specs.TypeIdentity.{identity, identity_code, word_of_unspelled_type}
+use Rattle.module_meaning.specs.TypeIdentity.{level, kind_number, truth_number, dimension_number}
+use Rattle.module_meaning.specs.TypeIdentity.{vector_number, cooperative_number, role_number}
+use Rattle.module_meaning.specs.TypeIdentity.{space_number, length_kind, length_number}
+use Rattle.module_meaning.specs.Types.{type_names, spelled_resolution}
 use Rattle.module_meaning.proofs.TypeIdentity.{word_tells}
 use Rattle.naga_form.specs.Readable.{AreNamed, ResolutionIsWithin, LengthIsWithin, InnerIsWithin}
 use Rattle.naga_form.specs.TypeTrees.{resolution_tree}
-use Rattle.naga_form.proofs.AlikeLaw.{form_apart, told_by_itself, each_named, by_itself, itself, itself_back}
-use Rattle.naga_form.proofs.AlikeNumbers.{AreTold, InnerIsTold, LengthIsTold, ResolutionIsTold, named_numbers, form_is_told, tree_numbers}
+use Rattle.naga_form.proofs.AlikeLaw.{form_apart, distinguished_by_itself, each_named, by_itself, itself, itself_back}
+use Rattle.naga_form.proofs.AlikeNumbers.{AreDistinguished, InnerIsDistinguished, LengthIsDistinguished, ResolutionIsDistinguished, named_numbers, form_is_distinguished, tree_numbers}
 use Rattle.naga_form.proofs.AlikeTypes.{form_read, form_is_read}
 use Rattle.naga_form.proofs.Names.{item_is_identifier}
 use Rattle.naga_form.proofs.TypeTrees.{resolution_is, resolution_row}
@@ -108,7 +113,7 @@ pub record TypesAreFit (m : Module) : Type 0 where
 
 -- and structs and overrides are told by their names
 pub record TypesAreCounted (m : Module) : Type 0 where
-  pub names : TypesAreTold m
+  pub names : TypesAreDistinguished m
   pub types : TypesAreFit m
 
 -- ---- values
@@ -118,16 +123,16 @@ word_in (IntegerType w) = w
 word_in (PointerType w) = w
 word_in (OtherType w) = w
 
-scalar_word_in : (w : List ℕ) → word_in (scalar_values w) ≡ w
-scalar_word_in w = by (bytes_eq w (codes "bool")) refl (stands_in integer_words w)
+scalar_word_in : (k : ScalarKind) (w : List ℕ) → word_in (scalar_values k w) ≡ w
+scalar_word_in scalars.Bool w = by (bytes_eq w (codes "bool")) refl
   where
-    by : (b : Bool) → bytes_eq w (codes "bool") ≡ b → (c : Bool) → word_in (if b then BooleanType else (if c then IntegerType w else OtherType w)) ≡ w
-    by true at c = sym ((bytes_eq-Decides w (codes "bool")).0 at)
-    by false at true = refl
-    by false at false = refl
+    by : (b : Bool) → bytes_eq w (codes "bool") ≡ b → word_in (if b then BooleanType else OtherType w) ≡ w
+    by true at = sym ((bytes_eq-Decides w (codes "bool")).0 at)
+    by false at = refl
+scalar_word_in _ w = refl
 
 values_word : (it : TypeInner) (w : List ℕ) → word_in (values_of it w) ≡ w
-values_word (inner.Scalar s) w = scalar_word_in w
+values_word (inner.Scalar s) w = scalar_word_in s.kind w
 values_word _ w = refl
 
 pub word_of_type : (m : Module) (r : TypeResolution) → word_in (type_of_values m r) ≡ word_of_values m r
@@ -255,40 +260,41 @@ module _ (m : Module) (are : TypesAreCounted m) where
           (same_name (key.Type_ h) (key.Override o) ((bytes_eq-Decides (names.struct_name h) (names.override_name o)).0 parts.1)))
       not_both h false named = named
 
-  size_told : (n : ArraySize) → size_within (length m.overrides) n ≡ true → LengthIsTold handle_named names n
-  size_told (size.Constant number) within = tt
-  size_told (size.Pending o) within =
+  size_distinguished : (n : ArraySize) → size_within (length m.overrides) n ≡ true → LengthIsDistinguished handle_named names n
+  size_distinguished (size.Constant number) within = tt
+  size_distinguished (size.Pending o) within =
       let lt = ltb-true o (length m.overrides) within in
       named_numbers handle_named (names.override_name o) (override_identifier m o lt) ∙ ap (λ x. level 8 x 0 0 0 0) (override_handle o lt)
-  size_told size.Dynamic within = tt
+  size_distinguished size.Dynamic within = tt
 
-  inner_told : (it : TypeInner) → length_within (length m.overrides) it ≡ true → InnerIsTold handle_named names it
-  inner_told (inner.Array base n stride) within = size_told n within
-  inner_told (inner.BindingArray base n) within = size_told n within
-  inner_told _ within = tt
+  inner_distinguished : (it : TypeInner) → length_within (length m.overrides) it ≡ true → InnerIsDistinguished handle_named names it
+  inner_distinguished (inner.Array base n stride) within = size_distinguished n within
+  inner_distinguished (inner.BindingArray base n) within = size_distinguished n within
+  inner_distinguished _ within = tt
 
-  are_told : AreTold handle_named names
-  are_told = record {
+  are_distinguished : AreDistinguished handle_named names
+  are_distinguished = record {
     structs = λ h t at is. let lt = slice_get_within m.types h t at in
         named_numbers handle_named (names.struct_name h) (struct_identifier m h lt) ∙ ap (λ x. level 8 x 0 0 0 0) (struct_handle h t at is);
-    lengths = λ h t at. inner_told t.inner (are.types.within h t at);
+    lengths = λ h t at. inner_distinguished t.inner (are.types.within h t at);
   }
 
   is_fit : (r : TypeResolution) → IsFit m r → resolution_is_fit r ≡ true
   is_fit (Handle h) fit = refl
   is_fit (Value it) fit = fit.0
 
-  is_told : (r : TypeResolution) → IsFit m r → ResolutionIsTold handle_named names r
-  is_told (Handle h) fit = tt
-  is_told (Value it) fit = inner_told it fit.2
+  is_distinguished : (r : TypeResolution) → IsFit m r →
+      ResolutionIsDistinguished handle_named names r
+  is_distinguished (Handle h) fit = tt
+  is_distinguished (Value it) fit = inner_distinguished it fit.2
 
   -- ---- forms and spellings
   -- a type's numbers by its tree
-  numbers_of : (r : TypeResolution) → IsFit m r → type_form m.types r ≡ option_map (tree_numbers handle_named) (resolution_tree names r)
-  numbers_of r fit = form_is_told handle_named names are_told (each_named m.types are.types.fits) r (is_told r fit) (is_fit r fit)
+  numbers_of : (r : TypeResolution) → IsFit m r → type_key m.types r ≡ option_map (tree_numbers handle_named) (resolution_tree names r)
+  numbers_of r fit = form_is_distinguished handle_named names are_distinguished (each_named m.types are.types.fits) r (is_distinguished r fit) (is_fit r fit)
 
   -- the tree by the numbers
-  pub tree_of : (r : TypeResolution) → resolution_tree names r ≡ option_map (form_read names) (type_form m.types r)
+  pub tree_of : (r : TypeResolution) → resolution_tree names r ≡ option_map (form_read names) (type_key m.types r)
   tree_of r = form_is_read names r
 
   -- the spelling by the tree
@@ -332,21 +338,23 @@ module _ (m : Module) (are : TypesAreCounted m) where
   abbrev form_word : Option (List ℕ) → TypeResolution → List ℕ
   form_word o r = unwrap_or (option_map type_layout (option_map (form_read names) o)) (word_of_unspelled_type (identity m.types r))
 
-  word_by_form : (r : TypeResolution) → word_of_values m r ≡ form_word (type_form m.types r) r
+  word_by_form : (r : TypeResolution) → word_of_values m r ≡ form_word (type_key m.types r) r
   word_by_form r = word_is r ∙ ap (λ o. word_of o r) (tree_of r)
 
-  apart : (r : TypeResolution) → IsFit m r → (it code : List ℕ) → type_form m.types r ≡ Some it → it ≡ 32 ∷ code → ⊥
+  apart : (r : TypeResolution) → IsFit m r → (it code : List ℕ) → type_key m.types r ≡ Some it → it ≡ 32 ∷ code → ⊥
   apart r fit = form_apart m.types (each_named m.types are.types.fits) r (is_fit r fit)
 
   -- the same, with the form of the other type
   record AlikeForms (a b : TypeResolution) : Type 0 where
     words : word_of_values m a ≡ word_of_values m b
-    kinds : (type_form m.types a ≡ type_form m.types b) × ((type_form m.types a ≡ None) → identity m.types a ≡ identity m.types b)
+    kinds : (type_key m.types a ≡ type_key m.types b) × ((type_key m.types a ≡ None) → identity m.types a ≡ identity m.types b)
 
   alike_forms : (a b : TypeResolution) → IsFit m a → IsFit m b → type_identity m.types a ≡ type_identity m.types b → AlikeForms a b
-  alike_forms a b p q e = by (type_form m.types a) refl (type_form m.types b) refl e
+  alike_forms a b p q e = by (type_key m.types a) refl (type_key m.types b) refl e
     where
-      by : (x : Option (List ℕ)) → type_form m.types a ≡ x → (y : Option (List ℕ)) → type_form m.types b ≡ y → unwrap_or x (word_of_unspelled_type (identity m.types a)) ≡ unwrap_or y (word_of_unspelled_type (identity m.types b)) → AlikeForms a b
+      by : (x : Option (List ℕ)) → type_key m.types a ≡ x → (y : Option (List ℕ)) →
+          type_key m.types b ≡ y → unwrap_or x (word_of_unspelled_type (identity m.types a)) ≡
+          unwrap_or y (word_of_unspelled_type (identity m.types b)) → AlikeForms a b
       by (Some x) at (Some y) bt e = record {
         words = word_by_form a ∙ (ap (λ o. form_word o a) at ∙ (ap (λ z. type_layout (form_read names z)) e ∙ sym (word_by_form b ∙ ap (λ o. form_word o b) bt)));
         kinds = (at ∙ (ap Some e ∙ sym bt), λ none. absurd (cc));
@@ -363,50 +371,69 @@ module _ (m : Module) (are : TypesAreCounted m) where
   numbers_by_values a b p q e = numbers_by_words a b p q (sym (word_of_type m a) ∙ (ap word_in e ∙ word_of_type m b))
 
   -- ---- which values a type has, by its form
-  abbrev values_numbered : ℕ → List ℕ → ValueType
-  values_numbered tag w = if nat_eq tag 0 then scalar_values w else (if nat_eq tag 5 then PointerType w else OtherType w)
+  abbrev scalar_numbered : (kind : ℕ) → List ℕ → ValueType
+  scalar_numbered kind w =
+      if nat_lt kind 2 then IntegerType w else (if nat_eq kind 3 then scalar_values scalars.Bool w else OtherType w)
+
+  scalar_of_number : (k : ScalarKind) (w : List ℕ) → scalar_values k w ≡ scalar_numbered (kind_number k) w
+  scalar_of_number scalars.Bool w = refl
+  scalar_of_number _ w = refl
+
+  -- of the kind of type with this tag, over a scalar of the kind with this number
+  abbrev values_numbered : (tag kind : ℕ) → List ℕ → ValueType
+  values_numbered tag kind w =
+      if nat_eq tag 0 then scalar_numbered kind w else (if nat_eq tag 5 then PointerType w else OtherType w)
 
   abbrev values_by_form : Option (List ℕ) → Option TypeInner → List ℕ → ValueType
-  values_by_form (Some form) o w = values_numbered (get_or form 0 0) w
+  values_by_form (Some form) o w = values_numbered (get_or form 0 0) (get_or form 1 0) w
   values_by_form None o w = option_map_or (λ it. values_of it w) o (OtherType w)
 
   -- the tag of a form is that of its type
   abbrev IsOfTag : Option (List ℕ) → TypeInner → Type 0
   IsOfTag o it = (w : List ℕ) → values_of it w ≡ values_by_form o (Some it) w
 
-  over_tag : (tag : ℕ) (s : Scalar) (c d e : ℕ) (it : TypeInner) → ((w : List ℕ) → values_of it w ≡ values_numbered tag w) → IsOfTag (over_scalar tag s c d e) it
+  over_tag : (tag : ℕ) (s : Scalar) (c d e : ℕ) (it : TypeInner) → ((w : List ℕ) → values_of it w ≡ values_numbered tag (kind_number s.kind) w) → IsOfTag (over_scalar tag s c d e) it
   over_tag tag s c d e it is w = by (is_some (scalar_word s))
     where
       by : (b : Bool) → values_of it w ≡ values_by_form (if b then Some (level tag (kind_number s.kind) s.width c d e) else None) (Some it) w
       by true = is w
       by false = refl
 
-  mapped_tag : (f : List ℕ → List ℕ) (it : TypeInner) (w : List ℕ) → ((x : List ℕ) → values_of it w ≡ values_numbered (get_or (f x) 0 0) w) → (o : Option (List ℕ)) → values_of it w ≡ values_by_form (option_map f o) (Some it) w
+  mapped_tag : (f : List ℕ → List ℕ) (it : TypeInner) (w : List ℕ) →
+      ((x : List ℕ) → values_of it w ≡ values_numbered (get_or (f x) 0 0) (get_or (f x) 1 0) w) →
+      (o : Option (List ℕ)) → values_of it w ≡ values_by_form (option_map f o) (Some it) w
   mapped_tag f it w is None = refl
   mapped_tag f it w is (Some x) = is x
 
-  image_tag : (dim : ImageDimension) (arrayed : Bool) (c : ImageClass) → IsOfTag (image_form dim arrayed c) (inner.Image dim arrayed c)
+  image_tag : (dim : ImageDimension) (arrayed : Bool) (c : ImageClass) → IsOfTag (image_key dim arrayed c) (inner.Image dim arrayed c)
   image_tag dim arrayed (class.Sampled kind multi) w = by (is_some (scalar_word (record { kind = kind; width = 4 })))
     where
-      by : (b : Bool) → OtherType w ≡ values_by_form (if b then Some (level 9 (dimension_number dim) (truth_number arrayed) 0 (kind_number kind) (truth_number multi)) else None) (Some (inner.Image dim arrayed (class.Sampled kind multi))) w
+      by : (b : Bool) →
+          OtherType w ≡ values_by_form
+          (if b then Some
+          (level 9 (dimension_number dim) (truth_number arrayed) 0 (kind_number kind)
+          (truth_number multi)) else None)
+          (Some (inner.Image dim arrayed (class.Sampled kind multi))) w
       by true = refl
       by false = refl
   image_tag dim arrayed (class.Depth multi) w = refl
   image_tag dim arrayed (class.Storage format access) w = refl
   image_tag dim arrayed class.External w = refl
 
-  inner_tag : (f : ℕ → Option (List ℕ)) (it : TypeInner) → IsOfTag (inner_form_by f it) it
-  inner_tag f (inner.Scalar s) w = over_tag 0 s 0 0 0 (inner.Scalar s) (λ w. refl) w
+  inner_tag : (f : ℕ → Option (List ℕ)) (it : TypeInner) → IsOfTag (inner_key_by f it) it
+  inner_tag f (inner.Scalar s) w = over_tag 0 s 0 0 0 (inner.Scalar s) (scalar_of_number s.kind) w
   inner_tag f (inner.Vector n s) w = over_tag 1 s (vector_number n) 0 0 (inner.Vector n s) (λ w. refl) w
   inner_tag f (inner.Matrix columns rows s) w = over_tag 2 s (vector_number columns) (vector_number rows) 0 (inner.Matrix columns rows s) (λ w. refl) w
-  inner_tag f (inner.CooperativeMatrix columns rows s role) w = over_tag 3 s (cooperative_number columns) (cooperative_number rows) (role_number role) (inner.CooperativeMatrix columns rows s role) (λ w. refl) w
+  inner_tag f (inner.CooperativeMatrix columns rows s role) w =
+      over_tag 3 s (cooperative_number columns) (cooperative_number rows) (role_number role)
+      (inner.CooperativeMatrix columns rows s role) (λ w. refl) w
   inner_tag f (inner.Atomic s) w = over_tag 4 s 0 0 0 (inner.Atomic s) (λ w. refl) w
   inner_tag f (inner.Pointer base at) w = mapped_tag (λ it. level 5 (space_number at) (access_number at) 0 0 0 ++ it) (inner.Pointer base at) w (λ x. refl) (f base)
   inner_tag f (inner.ValuePointer n s at) w = by (is_none (space_word at))
     where
-      by : (b : Bool) → PointerType w ≡ values_by_form (if b then None else pointer_form at (value_form n s)) (Some (inner.ValuePointer n s at)) w
+      by : (b : Bool) → PointerType w ≡ values_by_form (if b then None else pointer_key at (value_key n s)) (Some (inner.ValuePointer n s at)) w
       by true = refl
-      by false = mapped_tag (λ it. level 5 (space_number at) (access_number at) 0 0 0 ++ it) (inner.ValuePointer n s at) w (λ x. refl) (value_form n s)
+      by false = mapped_tag (λ it. level 5 (space_number at) (access_number at) 0 0 0 ++ it) (inner.ValuePointer n s at) w (λ x. refl) (value_key n s)
   inner_tag f (inner.Array base n stride) w = mapped_tag (λ it. level 6 (length_kind n) (length_number n) 0 0 0 ++ it) (inner.Array base n stride) w (λ x. refl) (f base)
   inner_tag f (inner.BindingArray base n) w = mapped_tag (λ it. level 7 (length_kind n) (length_number n) 0 0 0 ++ it) (inner.BindingArray base n) w (λ x. refl) (f base)
   inner_tag f (inner.Struct members span) w = refl
@@ -418,11 +445,11 @@ module _ (m : Module) (are : TypesAreCounted m) where
   abbrev ValuesAre : Option (List ℕ) → Option TypeInner → Type 0
   ValuesAre form o = (w : List ℕ) → option_map_or (λ it. values_of it w) o (OtherType w) ≡ values_by_form form o w
 
-  found_tag : (f : ℕ → Option (List ℕ)) (h : ℕ) (o : Option Type_) → ValuesAre (found_form_by f h o) (option_map (λ t. t.inner) o)
+  found_tag : (f : ℕ → Option (List ℕ)) (h : ℕ) (o : Option Type_) → ValuesAre (found_key_by f h o) (option_map (λ t. t.inner) o)
   found_tag f h None w = refl
   found_tag f h (Some t) w = by t.inner
     where
-      by : (it : TypeInner) → values_of it w ≡ values_by_form (named_form_by f h it) (Some it) w
+      by : (it : TypeInner) → values_of it w ≡ values_by_form (named_key_by f h it) (Some it) w
       by (inner.Struct members span) = refl
       by (inner.Scalar s) = inner_tag f (inner.Scalar s) w
       by (inner.Vector n s) = inner_tag f (inner.Vector n s) w
@@ -438,23 +465,33 @@ module _ (m : Module) (are : TypesAreCounted m) where
       by (inner.AccelerationStructure vertex_return) = refl
       by (inner.RayQuery vertex_return) = refl
 
-  values_are : (r : TypeResolution) → ValuesAre (type_form m.types r) (inner_of r m.types)
-  unfolding handle_form
-  values_are (Handle h) w = found_tag (form_within h m.types) h (slice_get m.types h) w
-  values_are (Value it) w = inner_tag (handle_form m.types) it w
+  values_are : (r : TypeResolution) → ValuesAre (type_key m.types r) (inner_of r m.types)
+  unfolding handle_key
+  values_are (Handle h) w = found_tag (key_within h m.types) h (slice_get m.types h) w
+  values_are (Value it) w = inner_tag (handle_key m.types) it w
 
-  one_form : (a b : TypeResolution) → IsFit m a → IsFit m b → (o : Option (List ℕ)) → type_form m.types a ≡ o → (k : AlikeForms a b) → (w : List ℕ) → values_by_form (type_form m.types a) (inner_of a m.types) w ≡ values_by_form (type_form m.types b) (inner_of b m.types) w
+  one_form : (a b : TypeResolution) → IsFit m a → IsFit m b → (o : Option (List ℕ)) →
+      type_key m.types a ≡ o → (k : AlikeForms a b) →
+      (w : List ℕ) → values_by_form (type_key m.types a) (inner_of a m.types) w ≡ values_by_form
+      (type_key m.types b) (inner_of b m.types) w
   one_form a b p q (Some x) at k w =
       ap (λ o. values_by_form o (inner_of a m.types) w) at ∙ sym (ap (λ o. values_by_form o (inner_of b m.types) w) (sym k.kinds.0 ∙ at))
   one_form a b p q None at k w =
-      let inners = inner_by_identity a b (told_by_itself m.types a (is_fit a p) at) (told_by_itself m.types b (is_fit b q) (sym k.kinds.0 ∙ at)) (k.kinds.1 at) in
+      let inners = inner_by_identity a b (distinguished_by_itself m.types a (is_fit a p) at) (distinguished_by_itself m.types b (is_fit b q) (sym k.kinds.0 ∙ at)) (k.kinds.1 at) in
       λ i. values_by_form (k.kinds.0 i) (inners i) w
     where
-      inner_by_identity : (a b : TypeResolution) → identity m.types a ≡ by_itself (inner_of a m.types) → identity m.types b ≡ by_itself (inner_of b m.types) → identity m.types a ≡ identity m.types b → inner_of a m.types ≡ inner_of b m.types
+      inner_by_identity : (a b : TypeResolution) →
+          identity m.types a ≡ by_itself (inner_of a m.types) →
+          identity m.types b ≡ by_itself (inner_of b m.types) →
+          identity m.types a ≡ identity m.types b → inner_of a m.types ≡ inner_of b m.types
       inner_by_identity a b x y e = sym (itself_back (inner_of a m.types)) ∙ (ap itself (sym x ∙ (e ∙ y)) ∙ itself_back (inner_of b m.types))
 
   -- and where types are told by the same numbers, their values are of one type
   pub values_by_numbers : (a b : TypeResolution) → IsFit m a → IsFit m b → type_identity m.types a ≡ type_identity m.types b → type_of_values m a ≡ type_of_values m b
   values_by_numbers a b p q e =
       let k = alike_forms a b p q e in
-      values_are a (word_of_values m a) ∙ (one_form a b p q (type_form m.types a) refl k (word_of_values m a) ∙ (sym (values_are b (word_of_values m a)) ∙ ap (λ w. option_map_or (λ it. values_of it w) (inner_of b m.types) (OtherType w)) k.words))
+      values_are a (word_of_values m a)
+      ∙ (one_form a b p q (type_key m.types a) refl k (word_of_values m a)
+      ∙ (sym (values_are b (word_of_values m a))
+      ∙ ap (λ w. option_map_or (λ it. values_of it w) (inner_of b m.types) (OtherType w))
+      k.words))

@@ -17,14 +17,15 @@ use Rattle.shader_runs.specs.Premises.{AllBelow}
 use Rattle.shader_runs.proofs.ScopeRules.{scope_check_is_the_rules}
 use Rattle.shader_runs.proofs.Update.{and_left, and_right}
 use Rattle.module_meaning.specs.Names.{module_names}
-use Rattle.module_meaning.specs.Part.{is_written_so_far}
+use Rattle.module_meaning.specs.WrittenSoFar.{is_written_so_far}
 use Rattle.module_meaning.proofs.ModuleShapes.{declares_functions_alone, functions_alone}
 use Rattle.module_meaning.specs.Premises.{scope_holds, EachScopeHolds, ScopesHold}
 use Rattle.module_meaning.specs.FunctionShapes.{function_shapes}
 use Rattle.module_meaning.specs.Namings.{namings_from, namings}
 use Rattle.module_meaning.specs.ModuleShapes.{module_shape}
 use Rattle.naga_form.proofs.AcceptedFunctions.{accepted_at}
-use Rattle.naga_form.proofs.FunctionsFit.{AllBehind, all_from, all_told, shape_numbered, Tells}
+use Rattle.naga_form.proofs.FunctionsFit.{AllBehind, all_from, all_distinguished, shape_numbered}
+use Rattle.naga_form.proofs.FunctionsFit.{Tells}
 use Rattle.naga_form.proofs.Ordered.{ordered}
 
 pub functions_of-map : (ns : List Naming) → functions_of ns ≡ map (λ n. n.function) ns
@@ -71,7 +72,7 @@ module _ (m : Module) (info : ModuleInfo) (accepted : IsTrue (is_accepted m info
       (λ k f es at names callees number tells none.
       let is = accepted_at m info accepted k f es at in ordered m info is.callees f es is.ranges)
       (namings (module_names m) m info)
-      (subst (Tells (shape_numbered m info accepted)) (sym same_functions) (all_told m info accepted))
+      (subst (Tells (shape_numbered m info accepted)) (sym same_functions) (all_distinguished m info accepted))
       (nothing_asked (namings (module_names m) m info))
 
   pub scopes_are_checked : IsTrue (scope_holds m info) ↔ ScopesHold m info

@@ -26,9 +26,9 @@ use Rattle.module_meaning.specs.ModuleShapes.{initialiser}
 use Rattle.module_meaning.specs.OperatorTable.{Operator, Splat, WithoutForm, PartAt, run_word, asks}
 use Rattle.module_meaning.specs.OperatorTable.{TypeIsSound}
 use Rattle.module_meaning.specs.Shapes.{operator_shape}
-use Rattle.module_meaning.specs.Surroundings.{declared, types_known}
-use Rattle.module_meaning.specs.Surroundings.{written_constant}
-use Rattle.module_meaning.specs.Surroundings.{surroundings}
+use Rattle.module_meaning.specs.ExpressionContexts.{declared, types_known}
+use Rattle.module_meaning.specs.ExpressionContexts.{written_constant}
+use Rattle.module_meaning.specs.ExpressionContexts.{expression_context}
 use Rattle.module_meaning.proofs.ExpressionShapes.{constructor_asks}
 use Rattle.module_meaning.proofs.Shapes.{operator_any}
 use Rattle.shader_runs.specs.Program as shapes
@@ -40,7 +40,7 @@ use Rattle.shader_runs.specs.Premises.{OperatesOutside}
 use Rattle.shader_runs.specs.Value.{Selector}
 use Rattle.naga_form.proofs.FreeNames.{free_names, freely_named, asks_freely, operates_freely}
 use Rattle.naga_form.proofs.FreeNames.{operates_outside}
-use Rattle.naga_form.proofs.FreeWords.{free_request, word_is_told}
+use Rattle.naga_form.proofs.FreeWords.{free_request, word_is_distinguished}
 use Rattle.naga_form.proofs.SameValues.{TypesAreCounted}
 use Rattle.naga_form.proofs.SoundOperators.{constructor_is_sound, atomic_is_sound, sampling_is_sound}
 use Rattle.naga_form.proofs.SoundOperators.{applied_is_sound}
@@ -56,15 +56,15 @@ module _ (m : Module) (info : ModuleInfo) (are : TypesAreCounted m) (p : shapes.
 
   pub operator_operates : (o : Operator) → TypeIsSound o → asks o ≡ false → OperatesBy p own (run_word o)
   operator_operates o is none =
-      let told = word_is_told o is in operates_freely free_request p earlier f (run_word o) told.free (told.asking ∙ none)
+      let distinguished = word_is_distinguished o is in operates_freely free_request p earlier f (run_word o) distinguished.free (distinguished.asking ∙ none)
 
   pub operator_asks : (o : Operator) → TypeIsSound o → asks o ≡ true → AsksBy p own (run_word o)
   operator_asks o is does =
-      let told = word_is_told o is in asks_freely free_request p earlier f (run_word o) told.free (told.asking ∙ does)
+      let distinguished = word_is_distinguished o is in asks_freely free_request p earlier f (run_word o) distinguished.free (distinguished.asking ∙ does)
 
   -- values made of a type, and of one value
-  made_operates : (ty n : ℕ) → OperatesBy p own (run_word (constructor (surroundings m (λ h. None)) (Handle ty) n))
-  made_operates ty n = operator_operates _ (constructor_is_sound m are (λ h. None) ty n) (constructor_asks (surroundings m (λ h. None)) (Handle ty) n)
+  made_operates : (ty n : ℕ) → OperatesBy p own (run_word (constructor (expression_context m (λ h. None)) (Handle ty) n))
+  made_operates ty n = operator_operates _ (constructor_is_sound m are (λ h. None) ty n) (constructor_asks (expression_context m (λ h. None)) (Handle ty) n)
 
   splat_operates : (size : VectorSize) → OperatesBy p own (run_word (Splat size))
   splat_operates size = operator_operates (Splat size) tt refl
@@ -76,7 +76,9 @@ module _ (m : Module) (info : ModuleInfo) (are : TypesAreCounted m) (p : shapes.
       by true does = (operator_asks o is does, tt)
       by false none = operator_any (λ e. WordFits p own (Some e)) o xs (λ j l r. tt) (operator_operates o is none)
 
-  applied_or_words : (otherwise : Expression) → WordFits p own (Some otherwise) → (xs : List ℕ) (o : Option Operator) → ((x : Operator) → o ≡ Some x → TypeIsSound x) → WordFits p own (Some (applied_or otherwise xs o))
+  applied_or_words : (otherwise : Expression) → WordFits p own (Some otherwise) →
+      (xs : List ℕ) (o : Option Operator) → ((x : Operator) → o ≡ Some x → TypeIsSound x) →
+      WordFits p own (Some (applied_or otherwise xs o))
   applied_or_words otherwise other xs None sound = other
   applied_or_words otherwise other xs (Some o) sound = applied_words o (sound o refl) xs
 
@@ -87,7 +89,9 @@ module _ (m : Module) (info : ModuleInfo) (are : TypesAreCounted m) (p : shapes.
   shape_words known es h (expression.Override handle) = tt
   shape_words known es h (expression.ZeroValue ty) =
       let d = declared m info known in
-      or_false_words m info (OperatesBy p own) made_operates splat_operates (built d h (constructor d.around (Handle ty) 0) []) (zero_words m info (OperatesBy p own) made_operates splat_operates known h ty)
+      or_false_words m info (OperatesBy p own) made_operates splat_operates
+      (built d h (constructor d.context (Handle ty) 0) [])
+      (zero_words m info (OperatesBy p own) made_operates splat_operates known h ty)
   shape_words known es h (expression.AccessIndex base index) = by (part_selector (declared m info known) base index)
     where
       by : (s : Option Selector) → WordFits p own (Some (part_shape base index s))
@@ -95,7 +99,7 @@ module _ (m : Module) (info : ModuleInfo) (are : TypesAreCounted m) (p : shapes.
       by None = applied_words (WithoutForm (PartAt index)) tt (base ∷ [])
   shape_words known es h (expression.Load pointer) =
       let d = declared m info known in
-      applied_or_words (Load pointer) tt (pointer ∷ []) (load_operator d.around pointer) (atomic_is_sound m are known pointer)
+      applied_or_words (Load pointer) tt (pointer ∷ []) (load_operator d.context pointer) (atomic_is_sound m are known pointer)
   shape_words known es h (expression.ImageSample image sampler gather coordinate array_index offset l depth_ref clamp) =
       let d = declared m info known in
       let unwritten = is_some gather || (is_some depth_ref || clamp) in
@@ -113,7 +117,7 @@ module _ (m : Module) (info : ModuleInfo) (are : TypesAreCounted m) (p : shapes.
   shape_words known es h (expression.LocalVariable handle) = tt
   shape_words known es h e =
       let d = declared m info known in
-      applied_or_words Result tt (expression_operands e) (applied_operator d.around e) (applied_is_sound m are known e)
+      applied_or_words Result tt (expression_operands e) (applied_operator d.context e) (applied_is_sound m are known e)
 
   -- in a list of shapes
   shapes_words : (known : ℕ → Option TypeResolution) (all : List ir.Expression) (n : ℕ) (es : List ir.Expression) (h : ℕ) → WordFits p own (slice_get (shapes_from (declared m info known) all n es) h)
@@ -122,18 +126,23 @@ module _ (m : Module) (info : ModuleInfo) (are : TypesAreCounted m) (p : shapes.
   shapes_words known all n (e ∷ es) (suc h) = shapes_words known all (n + 1) es h
 
 -- in a function of the module
-pub function_words : (m : Module) (info : ModuleInfo) → TypesAreCounted m → (p : shapes.Module) (f : ir_function.Function) (es : List ExpressionInfo) (earlier h : ℕ) → WordFits p (freely_named free_request earlier (function_shape m info f es)) (expression_of (function_shape m info f es) h)
+pub function_words : (m : Module) (info : ModuleInfo) → TypesAreCounted m →
+    (p : shapes.Module) (f : ir_function.Function) (es : List ExpressionInfo) (earlier h : ℕ) →
+    WordFits p (freely_named free_request earlier (function_shape m info f es))
+    (expression_of (function_shape m info f es) h)
 function_words m info are p f es earlier h =
     shapes_words m info are p (function_shape m info f es) earlier (types_known es) f.expressions 0 f.expressions h
 
 -- outside functions
 pub operator_operates_outside : (p : shapes.Module) (o : Operator) → TypeIsSound o → asks o ≡ false → OperatesOutside p (free_names free_request) (run_word o)
 operator_operates_outside p o is none =
-    let told = word_is_told o is in operates_outside free_request p (run_word o) told.free (told.asking ∙ none)
+    let distinguished = word_is_distinguished o is in operates_outside free_request p (run_word o) distinguished.free (distinguished.asking ∙ none)
 
 -- so do the words of each initialiser
-pub initialiser_words_outside : (m : Module) (info : ModuleInfo) → TypesAreCounted m → (p : shapes.Module) (c : ir_constant.Constant) → EachWord (OperatesOutside p (free_names free_request)) (initialiser m info c)
+pub initialiser_words_outside : (m : Module) (info : ModuleInfo) → TypesAreCounted m →
+    (p : shapes.Module) (c : ir_constant.Constant) →
+    EachWord (OperatesOutside p (free_names free_request)) (initialiser m info c)
 initialiser_words_outside m info are p c =
     initialiser_words m info (OperatesOutside p (free_names free_request))
-    (λ ty n. operator_operates_outside p _ (constructor_is_sound m are (λ h. None) ty n) (constructor_asks (surroundings m (λ h. None)) (Handle ty) n))
+    (λ ty n. operator_operates_outside p _ (constructor_is_sound m are (λ h. None) ty n) (constructor_asks (expression_context m (λ h. None)) (Handle ty) n))
     (λ size. operator_operates_outside p (Splat size) tt refl) c

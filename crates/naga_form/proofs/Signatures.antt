@@ -19,10 +19,11 @@ use Rattle.naga_info.specs.declared.info.TypeResolution.TheVariants.{Handle}
 use Rattle.shader_runs.specs.Typing.{Signature}
 use Rattle.shader_runs.specs.Value.{Word, Spelled, PartWord, IndexWord, Selector, MemberNamed}
 use Rattle.module_meaning.specs.AgreeingOperators.{Group}
-use Rattle.module_meaning.specs.ExpressionOperators.{Surroundings, applied_operator, constructor}
+use Rattle.module_meaning.specs.ExpressionOperators.{ExpressionContext, applied_operator}
+use Rattle.module_meaning.specs.ExpressionOperators.{constructor}
 use Rattle.module_meaning.specs.ExpressionShapes.{Declared, part_selector, letter}
 use Rattle.module_meaning.specs.OperatorTable.{Operator, run_word, asks}
-use Rattle.module_meaning.specs.Surroundings.{surroundings, declared}
+use Rattle.module_meaning.specs.ExpressionContexts.{expression_context, declared}
 use Rattle.module_meaning.specs.TypeIdentity.{vector_number}
 use Rattle.naga_form.proofs.AcceptedGroups.{IsSoundGroup}
 use Rattle.naga_form.proofs.AgreeingUses.{value_at}
@@ -42,22 +43,22 @@ either_signature x (y ∷ xs) ys one two (later_of there) =
     either_signature x xs ys (λ k. one (later_of k)) two there
 
 module _ (m : Module) (info : ModuleInfo) where
-  -- what stands around expressions that stand together, and what the module declares for them
-  abbrev pub around_group : Group → Surroundings
-  around_group g = surroundings m (λ h. slice_get g.known h)
+  -- the context of expressions that stand together, and what the module declares for them
+  abbrev pub group_context : Group → ExpressionContext
+  group_context g = expression_context m (λ h. slice_get g.known h)
 
   abbrev pub declared_for : Group → Declared
   declared_for g = declared m info (λ h. slice_get g.known h)
 
   -- the word by which the runs call what an expression applies
   pub data IsCalled (g : Group) (e : Expression) : Word → Type 0 where
-    by_operator : (o : Operator) → applied_operator (around_group g) e ≡ Some o → asks o ≡ false →
+    by_operator : (o : Operator) → applied_operator (group_context g) e ≡ Some o → asks o ≡ false →
         IsCalled g e (Spelled (run_word o))
     by_zero : (ty : ℕ) → e ≡ expression.ZeroValue ty →
-        IsCalled g e (Spelled (run_word (constructor (around_group g) (Handle ty) 0)))
+        IsCalled g e (Spelled (run_word (constructor (group_context g) (Handle ty) 0)))
     by_constant : (c : ℕ) (k : Constant) → e ≡ expression.Constant c →
         slice_get m.constants c ≡ Some k →
-        IsCalled g e (Spelled (run_word (constructor (around_group g) (Handle k.ty) 0)))
+        IsCalled g e (Spelled (run_word (constructor (group_context g) (Handle k.ty) 0)))
     by_index : (base index : ℕ) → e ≡ expression.Access base index → IsCalled g e IndexWord
     by_part : (base index : ℕ) (s : Selector) → e ≡ expression.AccessIndex base index →
         part_selector (declared_for g) base index ≡ Some s → IsCalled g e (PartWord s)

@@ -47,7 +47,9 @@ module _ (m : Module) (info : ModuleInfo) (accepted : IsTrue (is_accepted m info
       further (inr (zero, same)) = (None, subst (IsSoundGroup m info None) (same_Some _ g same) (declarations_are m info accepted))
       further (inr (suc k, same)) = absurd cc
 
-      by : ((k : ℕ) × (slice_get (function_groups m.functions info.functions.items) k ≡ Some g)) ⊎ ((k : ℕ) × (slice_get (further_groups_of m info) k ≡ Some g)) → (f : Option Function) × IsSoundGroup m info f g
+      by : ((k : ℕ) × (slice_get (function_groups m.functions info.functions.items) k ≡ Some g)) ⊎
+          ((k : ℕ) × (slice_get (further_groups_of m info) k ≡ Some g)) → (f : Option Function) ×
+          IsSoundGroup m info f g
       by (inl here) =
           let k = of_functions m.functions info.functions.items here.0 g here.1 in
           (Some k.function, subst (IsSoundGroup m info (Some k.function)) k.same (functions_are m info accepted k.place k.function k.known k.here k.there))

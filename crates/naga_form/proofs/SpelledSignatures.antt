@@ -1,6 +1,6 @@
 -- What the program of shapes of an accepted module spells: each signature is that of an expression.
 -- What is said of trees of constants, and of the initialisers of named ones, is a premise here.
-use Rattle.module_meaning.specs.Names.{TypesAreTold}
+use Rattle.module_meaning.specs.Names.{TypesAreDistinguished}
 use Rattle.naga_form.proofs.Signatures.{either_signature, only_signature}
 use Rattle.std.proofs.Common.{◌≡◌, ℕ, Bool, true, false, List, [], ◌∷◌, ◌++◌, refl, sym, ap, ◌∙◌, subst}
 use Rattle.std.proofs.Common.{Option, Some, None, slice_get, if◌then◌else◌}
@@ -72,33 +72,39 @@ module _ (d : Declared) (index : ℕ) where
   no_selector_behind base (Some it) none = no_own_selector (Some base) it none
   no_selector_behind base None none = refl
 
-  no_selector : (whole : Option ℕ) (it : TypeInner) → selector d whole it index ≡ None → has_parts d.around.types it ≡ false
-  no_selector whole (inner.Pointer base space) none = no_selector_behind base (type_with d.around.types base) none
+  no_selector : (whole : Option ℕ) (it : TypeInner) → selector d whole it index ≡ None → has_parts d.context.types it ≡ false
+  no_selector whole (inner.Pointer base space) none = no_selector_behind base (type_with d.context.types base) none
   no_selector whole (inner.ValuePointer (Some size) s space) none = absurd cc
   no_selector whole (inner.ValuePointer None s space) none = refl
   no_selector whole it none = no_own_selector whole it none
 
-  no_selector_of : (whole : Option ℕ) (o : Option TypeInner) → option_and_then (λ it. selector d whole it index) o ≡ None → option_map_or (has_parts d.around.types) o false ≡ false
+  no_selector_of : (whole : Option ℕ) (o : Option TypeInner) → option_and_then (λ it. selector d whole it index) o ≡ None → option_map_or (has_parts d.context.types) o false ≡ false
   no_selector_of whole (Some it) none = no_selector whole it none
   no_selector_of whole None none = refl
 
   -- where an expression has no part, an operator by itself is applied
-  part_is_applied : (base : ℕ) → part_selector d base index ≡ None → part_operator d.around base index ≡ Some (WithoutForm (PartAt index))
+  part_is_applied : (base : ℕ) → part_selector d base index ≡ None → part_operator d.context base index ≡ Some (WithoutForm (PartAt index))
   part_is_applied base none =
-      ap (λ b. if b then None else Some (WithoutForm (PartAt index))) (by (d.around.known base) none)
+      ap (λ b. if b then None else Some (WithoutForm (PartAt index))) (by (d.context.known base) none)
     where
-      by : (o : Option TypeResolution) → option_and_then (λ r. option_and_then (λ it. selector d (handle_of r) it index) (inner_of r d.around.types)) o ≡ None →
-          option_map_or (has_parts d.around.types) (option_and_then (λ r. inner_of r d.around.types) o) false ≡ false
-      by (Some r) none = no_selector_of (handle_of r) (inner_of r d.around.types) none
+      by : (o : Option TypeResolution) → option_and_then (λ r. option_and_then (λ it. selector d (handle_of r) it index) (inner_of r d.context.types)) o ≡ None →
+          option_map_or (has_parts d.context.types) (option_and_then (λ r. inner_of r d.context.types) o) false ≡ false
+      by (Some r) none = no_selector_of (handle_of r) (inner_of r d.context.types) none
       by None none = refl
 
 -- ---- what a function spells
-module _ (m : ir_module.Module) (info : ModuleInfo) (of_trees : (f : Option ir_function.Function) (g : Group) → IsSoundGroup m info f g → (h : ℕ) (t : ConstantTree) → constant_tree (declared_for m info g) g.expressions h ≡ Some t → (x : Signature) → IsOneOf x (constant_signatures (module_shape m info) t) → IsOfExpression m info x) where
+module _ (m : ir_module.Module) (info : ModuleInfo)
+    (of_trees : (f : Option ir_function.Function) (g : Group) → IsSoundGroup m info f g →
+    (h : ℕ) (t : ConstantTree) → constant_tree (declared_for m info g) g.expressions h ≡ Some t →
+    (x : Signature) → IsOneOf x (constant_signatures (module_shape m info) t) →
+    IsOfExpression m info x) where
   abbrev p : Module
   p = module_shape m info
 
   -- at the handle of an expression
-  module _ (function : ir_function.Function) (es : List ExpressionInfo) (sound : IsSoundGroup m info (Some function) (function_group function es)) (h : ℕ) (e : ir.Expression) (at : slice_get function.expressions h ≡ Some e) (x : Signature) where
+  module _ (function : ir_function.Function) (es : List ExpressionInfo)
+      (sound : IsSoundGroup m info (Some function) (function_group function es)) (h : ℕ)
+      (e : ir.Expression) (at : slice_get function.expressions h ≡ Some e) (x : Signature) where
     abbrev g : Group
     g = function_group function es
 
@@ -126,12 +132,15 @@ module _ (m : ir_module.Module) (info : ModuleInfo) (of_trees : (f : Option ir_f
         }
 
     -- an operator that is applied; one that asks spells nothing
-    of_applied : (otherwise : Expression) → signatures_of p own (handle_type own h) (Some otherwise) ≡ [] → (o : Option TableOperator) → applied_operator d.around e ≡ o →
+    of_applied : (otherwise : Expression) → signatures_of p own (handle_type own h) (Some otherwise) ≡ [] → (o : Option TableOperator) → applied_operator d.context e ≡ o →
         IsOneOf x (signatures_of p own (handle_type own h) (Some (applied_or otherwise (expression_operands e) o))) → IsOfExpression m info x
     of_applied otherwise none None is among = absurd (no_signature x (subst (IsOneOf x) none among))
     of_applied otherwise none (Some o) is among = by (asks o) refl among
       where
-        by : (b : Bool) → asks o ≡ b → IsOneOf x (signatures_of p own (handle_type own h) (Some (if b then Request (asking o) (run_word o) (expression_operands e) no_constant else operator_shape o (expression_operands e)))) → IsOfExpression m info x
+        by : (b : Bool) → asks o ≡ b →
+            IsOneOf x (signatures_of p own (handle_type own h)
+            (Some (if b then Request (asking o) (run_word o) (expression_operands e) no_constant
+            else operator_shape o (expression_operands e)))) → IsOfExpression m info x
         by true asked among = absurd (no_signature x among)
         by false asked among =
             of_one (Spelled (run_word o)) (by_operator o is asked)
@@ -162,60 +171,77 @@ module _ (m : ir_module.Module) (info : ModuleInfo) (of_trees : (f : Option ir_f
         by (Some t) is among =
             either_signature x (constant_signatures p t) [] (of_trees (Some function) g sound k t is x) (λ none. absurd (no_signature x none)) among
 
-    of_sample : (l : SampleLevel) (unwritten : Bool) (offset : Option ℕ) → IsOneOf x (constants_signatures p (trees (written_zero l unwritten ++ option_to_list (option_and_then (constant_tree d g.expressions) offset)))) → IsOfExpression m info x
+    of_sample : (l : SampleLevel) (unwritten : Bool) (offset : Option ℕ) →
+        IsOneOf x (constants_signatures p
+        (trees (written_zero l unwritten ++ option_to_list
+        (option_and_then (constant_tree d g.expressions) offset)))) → IsOfExpression m info x
     of_sample l unwritten offset among =
         of_offset offset (subst (IsOneOf x) (zero_spells l unwritten (option_to_list (option_and_then (constant_tree d g.expressions) offset))) among)
 
   module _ (function : ir_function.Function) (es : List ExpressionInfo) (sound : IsSoundGroup m info (Some function) (function_group function es)) (h : ℕ) where
-    abbrev around : Declared
-    around = declared_for m info (function_group function es)
+    abbrev context : Declared
+    context = declared_for m info (function_group function es)
 
     abbrev shape : Function
     shape = function_shape m info function es
 
     -- what the shape of an expression spells
-    spelled_by : (e : ir.Expression) → slice_get function.expressions h ≡ Some e → (x : Signature) → IsOneOf x (signatures_of p shape (handle_type shape h) (Some (shape_of around function.expressions h e))) → IsOfExpression m info x
+    spelled_by : (e : ir.Expression) → slice_get function.expressions h ≡ Some e →
+        (x : Signature) →
+        IsOneOf x (signatures_of p shape (handle_type shape h)
+        (Some (shape_of context function.expressions h e))) → IsOfExpression m info x
     spelled_by (expression.Literal value) at x among = absurd (no_signature x among)
     spelled_by (expression.Constant handle) at x among =
-        let e = expression.Constant handle in of_constant function es sound h e at x (around.constant_tree handle) (tree_here function es sound h e at x) among
+        let e = expression.Constant handle in of_constant function es sound h e at x (context.constant_tree handle) (tree_here function es sound h e at x) among
     spelled_by (expression.Override handle) at x among = absurd (no_signature x among)
     spelled_by (expression.ZeroValue ty) at x among =
-        let e = expression.ZeroValue ty in of_constant function es sound h e at x (built around h (constructor around.around (Handle ty) 0) []) (tree_here function es sound h e at x) among
+        let e = expression.ZeroValue ty in of_constant function es sound h e at x (built context h (constructor context.context (Handle ty) 0) []) (tree_here function es sound h e at x) among
     spelled_by (expression.FunctionArgument number) at x among = absurd (no_signature x among)
     spelled_by (expression.GlobalVariable handle) at x among = absurd (no_signature x among)
     spelled_by (expression.LocalVariable handle) at x among = absurd (no_signature x among)
     spelled_by (expression.Access base index) at x among =
         of_one function es sound h (expression.Access base index) at x IndexWord (by_index base index refl) among
-    spelled_by (expression.AccessIndex base index) at x among = by (part_selector around base index) refl among
+    spelled_by (expression.AccessIndex base index) at x among = by (part_selector context base index) refl among
       where
-        by : (o : Option Selector) → part_selector around base index ≡ o → IsOneOf x (signatures_of p shape (handle_type shape h) (Some (part_shape base index o))) → IsOfExpression m info x
+        by : (o : Option Selector) → part_selector context base index ≡ o → IsOneOf x (signatures_of p shape (handle_type shape h) (Some (part_shape base index o))) → IsOfExpression m info x
         by (Some s) is among =
             of_one function es sound h (expression.AccessIndex base index) at x (PartWord s) (by_part base index s refl is) among
         by None is among =
-            of_applied function es sound h (expression.AccessIndex base index) at x Result refl (Some (WithoutForm (PartAt index))) (part_is_applied around index base is) among
+            of_applied function es sound h (expression.AccessIndex base index) at x Result refl (Some (WithoutForm (PartAt index))) (part_is_applied context index base is) among
     spelled_by (expression.Swizzle size vector pattern) at x among =
-        of_one function es sound h (expression.Swizzle size vector pattern) at x (PartWord (MemberNamed (flat_map letter (take (vector_number size) pattern)))) (by_letters size vector pattern refl) among
+        of_one function es sound h (expression.Swizzle size vector pattern) at x
+        (PartWord (MemberNamed (flat_map letter (take (vector_number size) pattern))))
+        (by_letters size vector pattern refl) among
     spelled_by (expression.Load pointer) at x among =
-        of_applied function es sound h (expression.Load pointer) at x (Load pointer) refl (load_operator around.around pointer) refl among
+        of_applied function es sound h (expression.Load pointer) at x (Load pointer) refl (load_operator context.context pointer) refl among
     spelled_by (expression.ImageSample image sampler gather coordinate array_index offset level depth_ref clamp) at x among =
-        of_sample function es sound h (expression.ImageSample image sampler gather coordinate array_index offset level depth_ref clamp) at x level (is_some gather || (is_some depth_ref || clamp)) offset among
-    spelled_by e at x among = of_applied function es sound h e at x Result refl (applied_operator around.around e) refl among
+        of_sample function es sound h
+        (expression.ImageSample image sampler gather coordinate array_index offset level
+        depth_ref clamp) at x level (is_some gather || (is_some depth_ref || clamp)) offset
+        among
+    spelled_by e at x among = of_applied function es sound h e at x Result refl (applied_operator context.context e) refl among
 
     -- what is spelled at a handle
     spelled_at : (x : Signature) → IsOneOf x (signatures_of p shape (handle_type shape h) (expression_of shape h)) → IsOfExpression m info x
     spelled_at x among =
         by (slice_get function.expressions h) refl (subst (λ o. IsOneOf x (signatures_of p shape (handle_type shape h) o)) (expression_is m info function es h) among)
       where
-        by : (o : Option ir.Expression) → slice_get function.expressions h ≡ o → IsOneOf x (signatures_of p shape (handle_type shape h) (option_map (shape_of around function.expressions h) o)) → IsOfExpression m info x
+        by : (o : Option ir.Expression) → slice_get function.expressions h ≡ o →
+            IsOneOf x (signatures_of p shape (handle_type shape h)
+            (option_map (shape_of context function.expressions h) o)) → IsOfExpression m info x
         by (Some e) at among = spelled_by e at x among
         by None at among = absurd (no_signature x among)
 
   -- ---- what the module spells
-  module _ (accepted : IsTrue (is_accepted m info)) (told : TypesAreTold m) (of_initialisers : (i : ℕ) (e : ConstantTree) → slice_get (module_shape m info).initialisers i ≡ Some e → (x : Signature) → IsOneOf x (constant_signatures (module_shape m info) e) → IsOfExpression m info x) where
+  module _ (accepted : IsTrue (is_accepted m info)) (distinguished : TypesAreDistinguished m)
+      (of_initialisers : (i : ℕ) (e : ConstantTree) →
+      slice_get (module_shape m info).initialisers i ≡ Some e →
+      (x : Signature) → IsOneOf x (constant_signatures (module_shape m info) e) →
+      IsOfExpression m info x) where
     -- each signature that is spelled is that of an expression
     pub of_spelled : (x : Signature) → IsSpelled (module_shape m info) x → IsOfExpression m info x
     of_spelled x (in_initialiser i e there among) = of_initialisers i e there x among
     of_spelled x (in_function place f there h among) =
-        let k = function_at m info accepted told place f there in
+        let k = function_at m info accepted distinguished place f there in
         spelled_at k.function k.known k.sound h x
         (subst (λ f. IsOneOf x (signatures_of p f (handle_type f h) (expression_of f h))) k.same among)

@@ -26,7 +26,7 @@ use Rattle.module_meaning.specs.AlikeTypes.{type_identity}
 use Rattle.module_meaning.specs.ExpressionShapes.{part_selector, selector}
 use Rattle.module_meaning.specs.ExpressionTypes.{wanted_type, LikeThis, is_wanted, only, if_any}
 use Rattle.module_meaning.specs.ModuleShapes.{same_step, points_so, takes_part, part_taken, parts_taken, part_words, is_numbered}
-use Rattle.module_meaning.specs.Names.{ItemsAreTold}
+use Rattle.module_meaning.specs.Names.{ItemsAreDistinguished}
 use Rattle.module_meaning.specs.OperandDemands.{operand_is, is_integer}
 use Rattle.module_meaning.specs.Types.{type_of_values, word_of_values}
 use Rattle.module_meaning.specs.TypeParts.{part_type, has_computed_parts, is_part_number}
@@ -69,12 +69,12 @@ only_there true x zero y at = (refl, same_Some x y at)
 only_there true x (suc i) y at = absurd cc
 only_there false x i y at = absurd cc
 
-module _ (m : ir_module.Module) (info : ModuleInfo) (accepted : IsTrue (is_accepted m info)) (told : ItemsAreTold m) where
+module _ (m : ir_module.Module) (info : ModuleInfo) (accepted : IsTrue (is_accepted m info)) (distinguished : ItemsAreDistinguished m) where
   abbrev are : TypesAreCounted m
-  are = types_are_counted m info accepted told.types
+  are = types_are_counted m info accepted distinguished.types
 
   abbrev stand : PartsStand m
-  stand = parts_stand m info accepted told
+  stand = parts_stand m info accepted distinguished
 
   -- an expression of this type that takes a part of a pointer spelled so
   pub record IsTaking (whole : Bytes) (step : Step) (r : TypeResolution) : Type 0 where
@@ -169,20 +169,25 @@ module _ (m : ir_module.Module) (info : ModuleInfo) (accepted : IsTrue (is_accep
           (ap (λ o. only (option_and_then (λ it. part_type m.types it None) (option_and_then (λ r. inner_of r m.types) o))) k.there
           ∙ (ap (λ o. only (option_and_then (λ it. part_type m.types it None) o)) k.itself ∙ ap only p.1)))
 
-      module _ (base index : ℕ) (at : slice_get g.expressions h ≡ Some (expression.AccessIndex base index)) (k : IsWhole g whole base) (s : Selector) (selected : part_selector (declared_for m info g) base index ≡ Some s) (leads : step_of s ≡ step) where
+      module _ (base index : ℕ)
+          (at : slice_get g.expressions h ≡ Some (expression.AccessIndex base index))
+          (k : IsWhole g whole base) (s : Selector)
+          (selected : part_selector (declared_for m info g) base index ≡ Some s)
+          (leads : step_of s ≡ step) where
         part_wanted : (p : TypeResolution) → part_type m.types k.it (Some index) ≡ Some p → type_identity m.types r ≡ type_identity m.types p
         part_wanted p is =
             own_alike (expression.AccessIndex base index) at p
             (ap (λ o. if_any (option_and_then (λ it. part_type m.types it (Some index)) (option_and_then (λ r. inner_of r m.types) o))) k.there
             ∙ (ap (λ o. if_any (option_and_then (λ it. part_type m.types it (Some index)) o)) k.itself ∙ ap if_any is))
 
-        of_part : IsPart m info (λ h. slice_get g.known h) k.it index s → Taken g whole step h r
-        of_part (ElementPart p there any) = Element base k p any (part_wanted p there)
-        of_part (MemberPart part) = Member base index k s at selected leads part (part_wanted part.part part.part_is)
+        is_supported : IsPart m info (λ h. slice_get g.known h) k.it index s →
+            Taken g whole step h r
+        is_supported (ElementPart p there any) = Element base k p any (part_wanted p there)
+        is_supported (MemberPart part) = Member base index k s at selected leads part (part_wanted part.part part.part_is)
 
         by_selector : Taken g whole step h r
         by_selector =
-            of_part
+            is_supported
             (part_of m info (λ h. slice_get g.known h) index s k.it k.points (handle_of k.r)
             (sym (ap (option_and_then (λ r. option_and_then (λ it. selector (declared_for m info g) (handle_of r) it index) (inner_of r m.types))) k.there
             ∙ ap (option_and_then (λ it. selector (declared_for m info g) (handle_of k.r) it index)) k.itself) ∙ selected)
@@ -196,7 +201,10 @@ module _ (m : ir_module.Module) (info : ModuleInfo) (accepted : IsTrue (is_accep
           let parts = and_parts (points_so (declared_for m info g) whole base) (option_map_or (λ s. same_step (step_of s) step) (part_selector (declared_for m info g) base index) false) takes in
           by (whole_is f g sound whole base parts.0) (part_selector (declared_for m info g) base index) refl parts.1
         where
-          by : IsWhole g whole base → (o : Option Selector) → part_selector (declared_for m info g) base index ≡ o → option_map_or (λ s. same_step (step_of s) step) o false ≡ true → Taken g whole step h r
+          by : IsWhole g whole base → (o : Option Selector) →
+              part_selector (declared_for m info g) base index ≡ o →
+              option_map_or (λ s. same_step (step_of s) step) o false ≡ true →
+              Taken g whole step h r
           by k None selected leads = absurd cc
           by k (Some s) selected leads = by_selector base index at k s selected (same_step_true (step_of s) step leads)
       taken _ at takes = absurd cc
@@ -223,14 +231,19 @@ module _ (m : ir_module.Module) (info : ModuleInfo) (accepted : IsTrue (is_accep
 
         by : Taken a.group whole step a.handle r → GivesPointers m r
         by (Element base k p is alike) = alike_pointer p (part_fit base k None p is) alike (part_points m k.it k.points None p is)
-        by (Member base index k s at selected leads part alike) = alike_pointer part.part (part_fit base k (Some index) part.part part.part_is) alike (part_points m k.it k.points (Some index) part.part part.part_is)
+        by (Member base index k s at selected leads part alike) =
+            alike_pointer part.part (part_fit base k (Some index) part.part part.part_is) alike
+            (part_points m k.it k.points (Some index) part.part part.part_is)
 
     module _ (r u : TypeResolution) (a : IsTaking whole step r) (b : IsTaking whole step u) where
       wholes_alike : (i j : ℕ) (k : IsWhole a.group whole i) (l : IsWhole b.group whole j) → type_identity m.types k.r ≡ type_identity m.types l.r
       wholes_alike i j k l = numbers_by_values m are k.r l.r k.fit l.fit (k.values ∙ sym l.values)
 
       -- of one pointer with parts that any index names, the other has these too, and they are alike
-      elements : (i j : ℕ) (k : IsWhole a.group whole i) (l : IsWhole b.group whole j) → (p : TypeResolution) → part_type m.types k.it None ≡ Some p → (o : Option TypeResolution) → part_type m.types l.it None ≡ o → PartsAlike m are stand (Some p) o
+      elements : (i j : ℕ) (k : IsWhole a.group whole i) (l : IsWhole b.group whole j) →
+          (p : TypeResolution) → part_type m.types k.it None ≡ Some p →
+          (o : Option TypeResolution) → part_type m.types l.it None ≡ o →
+          PartsAlike m are stand (Some p) o
       elements i j k l p is o at =
           subst (PartsAlike m are stand (Some p)) at
           (subst (λ o. PartsAlike m are stand o (part_type m.types l.it None)) is
@@ -252,9 +265,31 @@ module _ (m : ir_module.Module) (info : ModuleInfo) (accepted : IsTrue (is_accep
           let x : Signature = record { word = PartWord s; operands = value_at m info a.group.known i ∷ []; result = value_at m info a.group.known a.handle } in
           let y : Signature = record { word = PartWord t; operands = value_at m info b.group.known j ∷ []; result = value_at m info b.group.known b.handle } in
           sym (value_is m info a.group.known a.handle r a.known)
-          ∙ (signatures_agree m info accepted told x y
-          (record { function = a.function; group = a.group; sound = a.sound; handle = a.handle; expression = expression.AccessIndex i n; there = at; called = by_part i n s refl first; operands = refl; result = refl })
-          (record { function = b.function; group = b.group; sound = b.sound; handle = b.handle; expression = expression.AccessIndex j q; there = bt; called = by_part j q t refl second; operands = refl; result = refl })
+          ∙ (signatures_agree m info accepted distinguished x y
+          (record {
+            function = a.function;
+            group = a.group;
+            sound = a.sound;
+            handle = a.handle;
+            expression = expression.AccessIndex i n;
+            there = at;
+            called =
+                by_part i n s refl first;
+            operands = refl;
+            result = refl;
+          })
+          (record {
+            function = b.function;
+            group = b.group;
+            sound = b.sound;
+            handle = b.handle;
+            expression = expression.AccessIndex j q;
+            there = bt;
+            called =
+                by_part j q t refl second;
+            operands = refl;
+            result = refl;
+          })
           (ap PartWord same)
           (ap (λ v. v ∷ []) (value_is m info a.group.known i k.r k.there ∙ (k.values ∙ (sym l.values ∙ sym (value_is m info b.group.known j l.r l.there)))))
           ∙ value_is m info b.group.known b.handle u b.known)

@@ -22,38 +22,47 @@ use Rattle.module_meaning.specs.ExpressionShapes.{constant_tree, tree_within, wr
 use Rattle.module_meaning.specs.Literals.{literal_value}
 use Rattle.module_meaning.specs.ModuleShapes.{initialiser}
 use Rattle.module_meaning.specs.OperatorTable.{Operator, Splat, run_word}
-use Rattle.module_meaning.specs.Surroundings.{constant_number, constant_over, declared, declared_over}
-use Rattle.module_meaning.specs.Surroundings.{global_tree, global_tree_within, global_types_known}
-use Rattle.module_meaning.specs.Surroundings.{surroundings, written_constant, zero_of_type}
+use Rattle.module_meaning.specs.ExpressionContexts.{constant_number, constant_over, declared, declared_over}
+use Rattle.module_meaning.specs.ExpressionContexts.{global_tree, global_tree_within}
+use Rattle.module_meaning.specs.ExpressionContexts.{global_types_known}
+use Rattle.module_meaning.specs.ExpressionContexts.{expression_context, written_constant}
+use Rattle.module_meaning.specs.ExpressionContexts.{zero_of_type}
 use Rattle.shader_runs.specs.Program.{ConstantTree, Fixed, NamedConstant, Constructed}
 use Rattle.shader_runs.specs.Premises.{EachWord, EachWordOf}
 use Rattle.shader_runs.specs.Value.{Truth}
 
 module _ (m : Module) (info : ModuleInfo) (P : List ℕ → Type 0)
-    (made : (ty n : ℕ) → P (run_word (constructor (surroundings m (λ h. None)) (Handle ty) n)))
+    (made : (ty n : ℕ) →
+    P (run_word (constructor (expression_context m (λ h. None)) (Handle ty) n)))
     (splat : (size : VectorSize) → P (run_word (Splat size))) where
   module _ (constants : ℕ → Option ConstantTree) (in_constants : (c : ℕ) (t : ConstantTree) → constants c ≡ Some t → EachWord P t) (known : ℕ → Option TypeResolution) where
-    abbrev around : Declared
-    around = declared_over m constants known
+    abbrev context : Declared
+    context = declared_over m constants known
 
-    built_words : (h : ℕ) (o : Operator) → P (run_word o) → (ts : List ConstantTree) → EachWordOf P (trees ts) → (t : ConstantTree) → built around h o ts ≡ Some t → EachWord P t
+    built_words : (h : ℕ) (o : Operator) → P (run_word o) → (ts : List ConstantTree) → EachWordOf P (trees ts) → (t : ConstantTree) → built context h o ts ≡ Some t → EachWord P t
     built_words h o is ts words t e =
-        let r = map_some (λ r. Constructed (run_word o) (around.value_type r) (trees ts)) (around.around.known h) t e in
+        let r = map_some (λ r. Constructed (run_word o) (context.value_type r) (trees ts)) (context.context.known h) t e in
         subst (EachWord P) r.2 (is, words)
 
-    over_words : (tree_of : ℕ → Option ConstantTree) → ((h : ℕ) (t : ConstantTree) → tree_of h ≡ Some t → EachWord P t) → (h : ℕ) (e : ir.Expression) (t : ConstantTree) → tree_over around tree_of h e ≡ Some t → EachWord P t
+    over_words : (tree_of : ℕ → Option ConstantTree) →
+        ((h : ℕ) (t : ConstantTree) → tree_of h ≡ Some t → EachWord P t) →
+        (h : ℕ) (e : ir.Expression) (t : ConstantTree) → tree_over context tree_of h e ≡ Some t →
+        EachWord P t
     over_words tree_of all h (expression.Literal value) t e = subst (EachWord P) (same_Some (Fixed (literal_value value)) t e) tt
     over_words tree_of all h (expression.Constant handle) t e = in_constants handle t e
-    over_words tree_of all h (expression.Override handle) t e = subst (EachWord P) (same_Some (around.override_tree handle) t e) tt
+    over_words tree_of all h (expression.Override handle) t e = subst (EachWord P) (same_Some (context.override_tree handle) t e) tt
     over_words tree_of all h (expression.ZeroValue ty) t e =
-        built_words h (constructor around.around (Handle ty) 0) (made ty 0) [] tt t e
+        built_words h (constructor context.context (Handle ty) 0) (made ty 0) [] tt t e
     over_words tree_of all h (expression.Compose ty components) t e =
         let n = length components.items in
-        let o = constructor around.around (Handle ty) n in
-        let ts = then_some (built around h o) (trees_of tree_of components.items) t e in
+        let o = constructor context.context (Handle ty) n in
+        let ts = then_some (built context h o) (trees_of tree_of components.items) t e in
         built_words h o (made ty n) ts.0 (each_of components.items ts.0 ts.1) t ts.2
       where
-        both : (x : Option ConstantTree) (xs : Option (List ConstantTree)) (us : List ConstantTree) → ((t : ConstantTree) → x ≡ Some t → EachWord P t) → ((ts : List ConstantTree) → xs ≡ Some ts → EachWordOf P (trees ts)) → tree_then x xs ≡ Some us → EachWordOf P (trees us)
+        both : (x : Option ConstantTree) (xs : Option (List ConstantTree))
+            (us : List ConstantTree) → ((t : ConstantTree) → x ≡ Some t → EachWord P t) →
+            ((ts : List ConstantTree) → xs ≡ Some ts → EachWordOf P (trees ts)) →
+            tree_then x xs ≡ Some us → EachWordOf P (trees us)
         both (Some x) (Some xs) us one more e = subst (λ us. EachWordOf P (trees us)) (same_Some (x ∷ xs) us e) (one x refl, more xs refl)
         both (Some x) None us one more e = absurd (cc)
         both None xs us one more e = absurd (cc)
@@ -62,17 +71,17 @@ module _ (m : Module) (info : ModuleInfo) (P : List ℕ → Type 0)
         each_of [] us e = subst (λ us. EachWordOf P (trees us)) (same_Some [] us e) tt
         each_of (h ∷ hs) us e = both (tree_of h) (trees_of tree_of hs) us (all h) (each_of hs) e
     over_words tree_of all h (expression.Splat size value) t e =
-        let x = then_some (λ t. built around h (Splat size) (t ∷ [])) (tree_of value) t e in
+        let x = then_some (λ t. built context h (Splat size) (t ∷ [])) (tree_of value) t e in
         built_words h (Splat size) (splat size) (x.0 ∷ []) (all value x.0 x.1, tt) t x.2
     over_words tree_of all h _ t e = absurd (cc)
 
-    within_words : (levels : ℕ) (es : List ir.Expression) (h : ℕ) (t : ConstantTree) → tree_within levels around es h ≡ Some t → EachWord P t
+    within_words : (levels : ℕ) (es : List ir.Expression) (h : ℕ) (t : ConstantTree) → tree_within levels context es h ≡ Some t → EachWord P t
     within_words zero es h t e = absurd (cc)
     within_words (suc levels) es h t e =
-        let x = then_some (tree_over around (tree_within levels around es) h) (slice_get es h) t e in
-        over_words (tree_within levels around es) (within_words levels es) h x.0 t x.2
+        let x = then_some (tree_over context (tree_within levels context es) h) (slice_get es h) t e in
+        over_words (tree_within levels context es) (within_words levels es) h x.0 t x.2
 
-    tree_words : (es : List ir.Expression) (h : ℕ) (t : ConstantTree) → constant_tree around es h ≡ Some t → EachWord P t
+    tree_words : (es : List ir.Expression) (h : ℕ) (t : ConstantTree) → constant_tree context es h ≡ Some t → EachWord P t
     tree_words es h t e = within_words (suc h) es h t e
 
   -- what is there or is the zero value of a type
@@ -116,10 +125,12 @@ module _ (m : Module) (info : ModuleInfo) (P : List ℕ → Type 0)
   initialiser_words c = or_false_words (global_tree m info c.init) (global_words (suc c.init) c.init)
 
   -- a value of a type without parts
-  pub zero_words : (known : ℕ → Option TypeResolution) (h ty : ℕ) (t : ConstantTree) → built (declared m info known) h (constructor (declared m info known).around (Handle ty) 0) [] ≡ Some t → EachWord P t
+  pub zero_words : (known : ℕ → Option TypeResolution) (h ty : ℕ) (t : ConstantTree) →
+      built (declared m info known) h (constructor (declared m info known).context (Handle ty) 0) []
+      ≡ Some t → EachWord P t
   zero_words known h ty t e =
       let d = declared m info known in
-      built_words (written_constant m info) constant_words known h (constructor d.around (Handle ty) 0) (made ty 0) [] tt t e
+      built_words (written_constant m info) constant_words known h (constructor d.context (Handle ty) 0) (made ty 0) [] tt t e
 
   -- a level and an offset that are written out
   pub levels_words : (l : SampleLevel) (unwritten : Bool) (ts : List ConstantTree) → EachWordOf P (trees ts) → EachWordOf P (trees (written_zero l unwritten ++ ts))

@@ -7,7 +7,7 @@ use Rattle.naga_info.specs.declared.info.TypeResolution.{TypeResolution}
 use Rattle.naga_ir.specs.declared.module.Module.{Module}
 use Rattle.module_meaning.specs.Accepted.{is_accepted}
 use Rattle.module_meaning.specs.AlikeTypes.{are_alike, type_identity}
-use Rattle.module_meaning.specs.Names.{TypesAreTold}
+use Rattle.module_meaning.specs.Names.{TypesAreDistinguished}
 use Rattle.module_meaning.specs.Ranges.{resolution_fits}
 use Rattle.module_meaning.specs.TypeIdentity.{identity, word_of_unspelled_type}
 use Rattle.module_meaning.specs.Types.{spelled_resolution, type_names, type_of_values}
@@ -27,12 +27,13 @@ unspelled_apart m a b x y e =
     ∙ ap (λ o. unwrap_or o (word_of_unspelled_type (identity m.types b))) y))))
 
 -- types in range of an accepted module, whose structs and overrides are told by their names
-pub alike_told : (m : Module) (info : ModuleInfo) → IsTrue (is_accepted m info) → TypesAreTold m →
+pub alike_distinguished : (m : Module) (info : ModuleInfo) → IsTrue (is_accepted m info) →
+    TypesAreDistinguished m →
     (a b : TypeResolution) → IsTrue (resolution_fits (length m.overrides) (length m.types) a) →
     IsTrue (resolution_fits (length m.overrides) (length m.types) b) →
     (type_of_values m a ≡ type_of_values m b) ↔ IsTrue (are_alike m.types a b)
-alike_told m info accepted told a b p q =
-    let are = types_are_counted m info accepted told in
+alike_distinguished m info accepted distinguished a b p q =
+    let are = types_are_counted m info accepted distinguished in
     let x = fit_of m info accepted a p in
     let y = fit_of m info accepted b q in
     let decides = bytes_eq-Decides (type_identity m.types a) (type_identity m.types b) in (

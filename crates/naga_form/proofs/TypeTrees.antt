@@ -32,17 +32,21 @@ use Rattle.naga_ir.specs.declared.image.ImageDimension.TheVariants.{D1, D2, D3, 
 use Rattle.wgsl_words.specs.Words.{scalar_word, space_word, space_access_word, image_access_word}
 use Rattle.wgsl_words.specs.Words.{role_word, format_word, scalar_word_of, has, atomic_bit}
 use Rattle.wgsl_words.specs.Words.{store_bit}
-use Rattle.naga_words.specs.Parts.{Part, Word, Shown, Missing, IsText, NoParts, WordThen, lacks}
-use Rattle.naga_words.specs.Parts.{known_text}
+use Rattle.naga_words.specs.Segments.{Segment, Word, Shown, Missing, IsText, NoSegments, WordThen}
+use Rattle.naga_words.specs.Segments.{lacks}
+use Rattle.naga_words.specs.Segments.{known_text}
 use Rattle.naga_words.specs.Words.{vector_word, matrix_word, cooperative_word, image_word}
 use Rattle.naga_words.specs.Words.{role_tail, acceleration_structure_text, ray_query_text}
 use Rattle.naga_words.specs.Words.{sampler_word}
-use Rattle.naga_words.specs.Values.{scalar_parts_of, template_parts, value_parts, pointer_in}
-use Rattle.naga_words.specs.Values.{value_pointer_parts, access_parts, storage_image_parts}
-use Rattle.naga_words.specs.Values.{image_parts}
-use Rattle.naga_words.specs.Spelling.{length_parts, inner_parts, pointer_parts, array_parts}
-use Rattle.naga_words.specs.Spelling.{is_struct, inner_parts_by, found_parts_by, parts_within}
-use Rattle.naga_words.specs.Spelling.{resolution_parts, type_parts}
+use Rattle.naga_words.specs.Values.{scalar_segments_of, template_segments, value_segments}
+use Rattle.naga_words.specs.Values.{pointer_in}
+use Rattle.naga_words.specs.Values.{value_pointer_segments, access_segments, storage_image_segments}
+use Rattle.naga_words.specs.Values.{image_segments}
+use Rattle.naga_words.specs.Spelling.{length_segments, inner_segments, pointer_segments}
+use Rattle.naga_words.specs.Spelling.{array_segments}
+use Rattle.naga_words.specs.Spelling.{is_struct, inner_segments_by, found_segments_by}
+use Rattle.naga_words.specs.Spelling.{segments_within}
+use Rattle.naga_words.specs.Spelling.{resolution_segments, type_segments}
 use Rattle.naga_form.specs.TypeTrees.{type_tree, value_tree, pointer_tree_in, value_pointer_tree_in}
 use Rattle.naga_form.specs.TypeTrees.{array_tree, image_tree, ray_tree, inner_tree, inner_tree_by}
 use Rattle.naga_form.specs.TypeTrees.{found_tree_by, tree_within, scalar_tree, resolution_tree}
@@ -67,12 +71,14 @@ use Rattle.wgsl_text.proofs.Words.{table_word, address_spaces_free, accesses_fre
 use Rattle.naga_form.specs.Readable.{LengthIsWithin, InnerIsWithin, ResolutionIsWithin, AreNamed}
 
 -- the only text of parts that are words alone
-only_word : (w : List ℕ) (ps : List Part) (b t : List ℕ) (o : Option (List ℕ)) → known_text ps ≡ o → ((u : List ℕ) → known_text ps ≡ Some u → b ≡ u) → option_map (λ r. w ++ r) o ≡ Some t → w ++ b ≡ t
+only_word : (w : List ℕ) (ps : List Segment) (b t : List ℕ) (o : Option (List ℕ)) →
+    known_text ps ≡ o → ((u : List ℕ) → known_text ps ≡ Some u → b ≡ u) →
+    option_map (λ r. w ++ r) o ≡ Some t → w ++ b ≡ t
 only_word w ps b t None k same e = cc
 only_word w ps b t (Some u) k same e = let h : b ≡ u = same u k in cc
 
-pub only_text : (ps : List Part) (s t : List ℕ) → IsText ps s → known_text ps ≡ Some t → s ≡ t
-only_text [] s t NoParts e = cc
+pub only_text : (ps : List Segment) (s t : List ℕ) → IsText ps s → known_text ps ≡ Some t → s ≡ t
+only_text [] s t NoSegments e = cc
 only_text (Word w ∷ ps) s t (WordThen _ {bytes = b} p) e = only_word w ps b t (known_text ps) refl (λ u h. only_text ps b u p h) e
 only_text (Shown ∷ ps) s t p e = cc
 only_text (Missing ∷ ps) s t p e = cc
@@ -81,27 +87,33 @@ only_text (Missing ∷ ps) s t p e = cc
 lacks_word : (w : List ℕ) (o : Option (List ℕ)) → o ≡ None → option_map (λ r. w ++ r) o ≡ None
 lacks_word w o e = rw e refl
 
-pub lacks_unknown : (ps : List Part) → lacks ps ≡ true → known_text ps ≡ None
+pub lacks_unknown : (ps : List Segment) → lacks ps ≡ true → known_text ps ≡ None
 lacks_unknown [] h = cc
 lacks_unknown (Word w ∷ ps) h = lacks_word w (known_text ps) (lacks_unknown ps h)
 lacks_unknown (Shown ∷ ps) h = refl
 lacks_unknown (Missing ∷ ps) h = refl
 
-none_behind : (w : List ℕ) (ps qs : List Part) (o : Option (List ℕ)) → known_text ps ≡ o → (known_text ps ≡ None → known_text (ps ++ qs) ≡ None) → option_map (λ r. w ++ r) o ≡ None → option_map (λ r. w ++ r) (known_text (ps ++ qs)) ≡ None
+none_behind : (w : List ℕ) (ps qs : List Segment) (o : Option (List ℕ)) → known_text ps ≡ o →
+    (known_text ps ≡ None → known_text (ps ++ qs) ≡ None) → option_map (λ r. w ++ r) o ≡ None →
+    option_map (λ r. w ++ r) (known_text (ps ++ qs)) ≡ None
 none_behind w ps qs None k same e = rw (same k) refl
 none_behind w ps qs (Some u) k same e = cc
 
-known_none : (ps qs : List Part) → known_text ps ≡ None → known_text (ps ++ qs) ≡ None
+known_none : (ps qs : List Segment) → known_text ps ≡ None → known_text (ps ++ qs) ≡ None
 known_none [] qs e = cc
 known_none (Word w ∷ ps) qs e = none_behind w ps qs (known_text ps) refl (known_none ps qs) e
 known_none (Shown ∷ ps) qs e = refl
 known_none (Missing ∷ ps) qs e = refl
 
-some_behind : (w : List ℕ) (ps qs : List Part) (s t : List ℕ) (o : Option (List ℕ)) → known_text ps ≡ o → ((u : List ℕ) → known_text ps ≡ Some u → known_text (ps ++ qs) ≡ Some (u ++ t)) → option_map (λ r. w ++ r) o ≡ Some s → option_map (λ r. w ++ r) (known_text (ps ++ qs)) ≡ Some (s ++ t)
+some_behind : (w : List ℕ) (ps qs : List Segment) (s t : List ℕ) (o : Option (List ℕ)) →
+    known_text ps ≡ o →
+    ((u : List ℕ) → known_text ps ≡ Some u → known_text (ps ++ qs) ≡ Some (u ++ t)) →
+    option_map (λ r. w ++ r) o ≡ Some s → option_map (λ r. w ++ r) (known_text (ps ++ qs)) ≡
+    Some (s ++ t)
 some_behind w ps qs s t None k same e = cc
 some_behind w ps qs s t (Some u) k same e = let l : w ++ u ≡ s = cc in rw (same u k) (ap Some (sym (append_assoc w u t) ∙ ap (λ v. v ++ t) l))
 
-known_append : (ps qs : List Part) (s t : List ℕ) → known_text ps ≡ Some s → known_text qs ≡ Some t → known_text (ps ++ qs) ≡ Some (s ++ t)
+known_append : (ps qs : List Segment) (s t : List ℕ) → known_text ps ≡ Some s → known_text qs ≡ Some t → known_text (ps ++ qs) ≡ Some (s ++ t)
 known_append [] qs s t e h = let k : [] ≡ s = cc in rw (← k) h
 known_append (Word w ∷ ps) qs s t e h = some_behind w ps qs s t (known_text ps) refl (λ u k. known_append ps qs u t k h) e
 known_append (Shown ∷ ps) qs s t e h = cc
@@ -109,16 +121,21 @@ known_append (Missing ∷ ps) qs s t e h = cc
 
 -- each row
 
-scalar_row : (o : Option (List ℕ)) (kind : ScalarKind) → known_text (scalar_parts_of true o kind) ≡ option_map type_layout (option_map Named o)
+scalar_row : (o : Option (List ℕ)) (kind : ScalarKind) → known_text (scalar_segments_of true o kind) ≡ option_map type_layout (option_map Named o)
 scalar_row None kind = refl
 scalar_row (Some s) kind = refl
 
-template_row : (w : List ℕ) (o : Option (List ℕ)) (kind : ScalarKind) → known_text (template_parts w (scalar_parts_of true o kind) (codes ">")) ≡ option_map type_layout (option_map (of_one w) (option_map Named o))
+template_row : (w : List ℕ) (o : Option (List ℕ)) (kind : ScalarKind) →
+    known_text (template_segments w (scalar_segments_of true o kind) (codes ">")) ≡
+    option_map type_layout (option_map (of_one w) (option_map Named o))
 template_row w None kind = refl
 template_row w (Some s) kind = refl
 
 cooperative_row : (columns rows : CooperativeSize) (role : CooperativeRole) (o : Option (List ℕ)) (kind : ScalarKind) →
-    known_text (template_parts (cooperative_word columns rows) (scalar_parts_of true o kind) (role_tail role)) ≡ option_map type_layout (option_map (λ s. of_two (cooperative_word columns rows) s (Named (role_word role))) (option_map Named o))
+    known_text (template_segments (cooperative_word columns rows) (scalar_segments_of true o kind)
+    (role_tail role)) ≡ option_map type_layout
+    (option_map (λ s. of_two (cooperative_word columns rows) s (Named (role_word role)))
+    (option_map Named o))
 cooperative_row columns rows role None kind = refl
 cooperative_row Eight Eight A (Some s) kind = refl
 cooperative_row Eight Eight B (Some s) kind = refl
@@ -134,7 +151,10 @@ cooperative_row Sixteen Sixteen B (Some s) kind = refl
 cooperative_row Sixteen Sixteen C (Some s) kind = refl
 
 storage_row : (dim : ImageDimension) (arrayed : Bool) (format access : List ℕ) →
-    known_text (storage_image_parts (image_word (codes "texture_storage_") false dim arrayed) format access) ≡ Some (type_layout (of_two (image_word (codes "texture_storage_") false dim arrayed) (Named format) (Named access)))
+    known_text (storage_image_segments (image_word (codes "texture_storage_") false dim arrayed)
+    format access) ≡
+    Some (type_layout (of_two (image_word (codes "texture_storage_") false dim arrayed)
+    (Named format) (Named access)))
 storage_row D1 true format access = refl
 storage_row D1 false format access = refl
 storage_row D2 true format access = refl
@@ -144,7 +164,7 @@ storage_row D3 false format access = refl
 storage_row Cube true format access = refl
 storage_row Cube false format access = refl
 
-image_row : (dim : ImageDimension) (arrayed : Bool) (it : ImageClass) → known_text (image_parts true dim arrayed it) ≡ option_map type_layout (image_tree dim arrayed it)
+image_row : (dim : ImageDimension) (arrayed : Bool) (it : ImageClass) → known_text (image_segments true dim arrayed it) ≡ option_map type_layout (image_tree dim arrayed it)
 image_row dim arrayed (class.Sampled kind multi) = template_row (image_word (codes "texture_") multi dim arrayed) (scalar_word (record { kind = kind; width = 4 })) kind
 image_row dim arrayed (class.Depth multi) = refl
 image_row dim arrayed class.External = refl
@@ -158,7 +178,7 @@ query_row : (b : Bool) → known_text (Word (ray_query_text b) ∷ []) ≡ Some 
 query_row true = refl
 query_row false = refl
 
-value_row : (size : Option VectorSize) (scalar : Scalar) → known_text (value_parts true size scalar) ≡ option_map type_layout (value_tree size scalar)
+value_row : (size : Option VectorSize) (scalar : Scalar) → known_text (value_segments true size scalar) ≡ option_map type_layout (value_tree size scalar)
 value_row None scalar = scalar_row (scalar_word scalar) scalar.kind
 value_row (Some size) scalar = template_row (vector_word size) (scalar_word scalar) scalar.kind
 
@@ -169,35 +189,50 @@ two_words : (a b : List ℕ) (o : Option (List ℕ)) → o ≡ None → option_m
 two_words a b o e = rw e refl
 
 module _ (text_of_appended : (first second : List Piece) → text (first ++ second) ≡ text first ++ text second) where
-  pointer_row : (space : List ℕ) (access : Option (List ℕ)) (ps : List Part) (o : Option TypeSpecifier) → known_text ps ≡ option_map type_layout o → known_text (pointer_in space access ps) ≡ option_map type_layout (option_map (pointer_tree space access) o)
-  pointer_row space access ps None e = three_words (codes "ptr<") space (codes ", ") _ (known_none ps (access_parts access) e)
+  pointer_row : (space : List ℕ) (access : Option (List ℕ)) (ps : List Segment)
+      (o : Option TypeSpecifier) → known_text ps ≡ option_map type_layout o →
+      known_text (pointer_in space access ps) ≡ option_map type_layout
+      (option_map (pointer_tree space access) o)
+  pointer_row space access ps None e = three_words (codes "ptr<") space (codes ", ") _ (known_none ps (access_segments access) e)
   pointer_row space None ps (Some t) e =
-      rw (known_append ps (access_parts None) (type_layout t) _ e refl) (rw (text_of_appended (type_pieces t) (mark GreaterThan ∷ [])) refl)
+      rw (known_append ps (access_segments None) (type_layout t) _ e refl) (rw (text_of_appended (type_pieces t) (mark GreaterThan ∷ [])) refl)
   pointer_row space (Some a) ps (Some t) e =
-      rw (known_append ps (access_parts (Some a)) (type_layout t) _ e refl) (rw (text_of_appended (type_pieces t) (mark Comma ∷ Blank ∷ word a ∷ mark GreaterThan ∷ [])) refl)
+      rw (known_append ps (access_segments (Some a)) (type_layout t) _ e refl) (rw (text_of_appended (type_pieces t) (mark Comma ∷ Blank ∷ word a ∷ mark GreaterThan ∷ [])) refl)
 
-  pointer_in_row : (space access : Option (List ℕ)) (ps : List Part) (o : Option TypeSpecifier) → known_text ps ≡ option_map type_layout o → known_text (pointer_parts space access ps) ≡ option_map type_layout (pointer_tree_in space access o)
+  pointer_in_row : (space access : Option (List ℕ)) (ps : List Segment) (o : Option TypeSpecifier) →
+      known_text ps ≡ option_map type_layout o → known_text (pointer_segments space access ps) ≡
+      option_map type_layout (pointer_tree_in space access o)
   pointer_in_row None access ps o e = e
   pointer_in_row (Some space) access ps o e = pointer_row space access ps o e
 
-  value_pointer_row : (space access : Option (List ℕ)) (ps : List Part) (o : Option TypeSpecifier) → known_text ps ≡ option_map type_layout o → known_text (value_pointer_parts true space access ps) ≡ option_map type_layout (value_pointer_tree_in space access o)
+  value_pointer_row : (space access : Option (List ℕ)) (ps : List Segment)
+      (o : Option TypeSpecifier) → known_text ps ≡ option_map type_layout o →
+      known_text (value_pointer_segments true space access ps) ≡ option_map type_layout
+      (value_pointer_tree_in space access o)
   value_pointer_row None access ps o e = refl
   value_pointer_row (Some space) access ps o e = pointer_row space access ps o e
 
-  array_row : (n : Names) (knows : ℕ → Bool) (w : List ℕ) → has_gaps w ≡ true → (it : ArraySize) (ps : List Part) (o : Option TypeSpecifier) → known_text ps ≡ option_map type_layout o → known_text (array_parts (writer_context n knows) w ps it) ≡ option_map type_layout (option_map (array_tree n w it) o)
-  array_row n knows w gaps it ps None e = two_words w (codes "<") _ (known_none ps (length_parts (writer_context n knows) it) e)
+  array_row : (n : Names) (knows : ℕ → Bool) (w : List ℕ) → has_gaps w ≡ true →
+      (it : ArraySize) (ps : List Segment) (o : Option TypeSpecifier) →
+      known_text ps ≡ option_map type_layout o →
+      known_text (array_segments (writer_context n knows) w ps it) ≡ option_map type_layout
+      (option_map (array_tree n w it) o)
+  array_row n knows w gaps it ps None e = two_words w (codes "<") _ (known_none ps (length_segments (writer_context n knows) it) e)
   array_row n knows w gaps (size.Constant number) ps (Some t) e =
-      rw (known_append ps (length_parts (writer_context n knows) (size.Constant number)) (type_layout t) _ e refl)
+      rw (known_append ps (length_segments (writer_context n knows) (size.Constant number)) (type_layout t) _ e refl)
       (rw gaps (rw (text_of_appended (type_pieces t) (mark Comma ∷ Blank ∷ plain (non_zero_u32_get number) ∷ mark GreaterThan ∷ []))
       (ap (λ v. Some (w ++ (codes "<" ++ (type_layout t ++ (codes ", " ++ (v ++ (codes ">" ++ []))))))) (sym (append-nil (decimal (non_zero_u32_get number)))))))
   array_row n knows w gaps (size.Pending handle) ps (Some t) e =
-      rw (known_append ps (length_parts (writer_context n knows) (size.Pending handle)) (type_layout t) _ e refl)
+      rw (known_append ps (length_segments (writer_context n knows) (size.Pending handle)) (type_layout t) _ e refl)
       (rw gaps (rw (text_of_appended (type_pieces t) (mark Comma ∷ Blank ∷ word (n.override_name handle) ∷ mark GreaterThan ∷ [])) refl))
   array_row n knows w gaps size.Dynamic ps (Some t) e =
-      rw (known_append ps (length_parts (writer_context n knows) size.Dynamic) (type_layout t) _ e refl) (rw (text_of_appended (type_pieces t) (mark GreaterThan ∷ [])) refl)
+      rw (known_append ps (length_segments (writer_context n knows) size.Dynamic) (type_layout t) _ e refl) (rw (text_of_appended (type_pieces t) (mark GreaterThan ∷ [])) refl)
 
   -- a type, from the types that it names
-  inner_row : (n : Names) (knows : ℕ → Bool) (f : ℕ → List Part) (g : ℕ → Option TypeSpecifier) → ((k : ℕ) → known_text (f k) ≡ option_map type_layout (g k)) → (it : TypeInner) → known_text (inner_parts_by (writer_context n knows) f it) ≡ option_map type_layout (inner_tree_by n g it)
+  inner_row : (n : Names) (knows : ℕ → Bool) (f : ℕ → List Segment) (g : ℕ → Option TypeSpecifier) →
+      ((k : ℕ) → known_text (f k) ≡ option_map type_layout (g k)) →
+      (it : TypeInner) → known_text (inner_segments_by (writer_context n knows) f it) ≡
+      option_map type_layout (inner_tree_by n g it)
   inner_row n knows f g same (inner.Scalar scalar) = scalar_row (scalar_word scalar) scalar.kind
   inner_row n knows f g same (inner.Vector size scalar) = template_row (vector_word size) (scalar_word scalar) scalar.kind
   inner_row n knows f g same (inner.Matrix columns rows scalar) = template_row (matrix_word columns rows) (scalar_word scalar) scalar.kind
@@ -205,7 +240,7 @@ module _ (text_of_appended : (first second : List Piece) → text (first ++ seco
   inner_row n knows f g same (inner.Atomic scalar) = template_row (codes "atomic") (scalar_word scalar) scalar.kind
   inner_row n knows f g same (inner.Pointer base space) = pointer_in_row (space_word space) (space_access_word space) (f base) (g base) (same base)
   inner_row n knows f g same (inner.ValuePointer size scalar space) =
-      value_pointer_row (space_word space) (space_access_word space) (value_parts true size scalar) (value_tree size scalar) (value_row size scalar)
+      value_pointer_row (space_word space) (space_access_word space) (value_segments true size scalar) (value_tree size scalar) (value_row size scalar)
   inner_row n knows f g same (inner.Array base size stride) = array_row n knows (codes "array") refl size (f base) (g base) (same base)
   inner_row n knows f g same (inner.Struct members span) = refl
   inner_row n knows f g same (inner.Image dim arrayed class) = image_row dim arrayed class
@@ -214,26 +249,32 @@ module _ (text_of_appended : (first second : List Piece) → text (first ++ seco
   inner_row n knows f g same (inner.RayQuery vertex_return) = query_row vertex_return
   inner_row n knows f g same (inner.BindingArray base size) = array_row n knows (codes "binding_array") refl size (f base) (g base) (same base)
 
-  choice_row : (b : Bool) (name : List ℕ) (ps : List Part) (o : Option TypeSpecifier) → known_text ps ≡ option_map type_layout o → known_text (if b then Word name ∷ [] else ps) ≡ option_map type_layout (if b then Some (Named name) else o)
+  choice_row : (b : Bool) (name : List ℕ) (ps : List Segment) (o : Option TypeSpecifier) →
+      known_text ps ≡ option_map type_layout o → known_text (if b then Word name ∷ [] else ps) ≡
+      option_map type_layout (if b then Some (Named name) else o)
   choice_row true name ps o e = refl
   choice_row false name ps o e = e
 
-  found_row : (n : Names) (knows : ℕ → Bool) (f : ℕ → List Part) (g : ℕ → Option TypeSpecifier) → ((k : ℕ) → known_text (f k) ≡ option_map type_layout (g k)) → (handle : ℕ) (t : Option Type_) → known_text (found_parts_by (writer_context n knows) f handle t) ≡ option_map type_layout (found_tree_by n g handle t)
+  found_row : (n : Names) (knows : ℕ → Bool) (f : ℕ → List Segment) (g : ℕ → Option TypeSpecifier) →
+      ((k : ℕ) → known_text (f k) ≡ option_map type_layout (g k)) →
+      (handle : ℕ) (t : Option Type_) →
+      known_text (found_segments_by (writer_context n knows) f handle t) ≡ option_map type_layout
+      (found_tree_by n g handle t)
   found_row n knows f g same handle None = refl
   found_row n knows f g same handle (Some t) = choice_row (is_struct t.inner) (n.struct_name handle) _ _ (inner_row n knows f g same t.inner)
 
-  within_row : (n : Names) (knows : ℕ → Bool) (levels handle : ℕ) → known_text (parts_within levels (writer_context n knows) handle) ≡ option_map type_layout (tree_within levels n handle)
+  within_row : (n : Names) (knows : ℕ → Bool) (levels handle : ℕ) → known_text (segments_within levels (writer_context n knows) handle) ≡ option_map type_layout (tree_within levels n handle)
   within_row n knows zero handle = refl
-  within_row n knows (suc levels) handle = found_row n knows (parts_within levels (writer_context n knows)) (tree_within levels n) (within_row n knows levels) handle (slice_get n.types handle)
+  within_row n knows (suc levels) handle = found_row n knows (segments_within levels (writer_context n knows)) (tree_within levels n) (within_row n knows levels) handle (slice_get n.types handle)
 
-  pub type_row : (n : Names) (knows : ℕ → Bool) (handle : ℕ) → known_text (type_parts (writer_context n knows) handle) ≡ option_map type_layout (type_tree n handle)
-  unfolding type_parts type_tree
+  pub type_row : (n : Names) (knows : ℕ → Bool) (handle : ℕ) → known_text (type_segments (writer_context n knows) handle) ≡ option_map type_layout (type_tree n handle)
+  unfolding type_segments type_tree
   type_row n knows handle = within_row n knows (suc handle) handle
 
-  pub inner_tree_row : (n : Names) (knows : ℕ → Bool) (it : TypeInner) → known_text (inner_parts (writer_context n knows) it) ≡ option_map type_layout (inner_tree n it)
-  inner_tree_row n knows it = inner_row n knows (type_parts (writer_context n knows)) (type_tree n) (type_row n knows) it
+  pub inner_tree_row : (n : Names) (knows : ℕ → Bool) (it : TypeInner) → known_text (inner_segments (writer_context n knows) it) ≡ option_map type_layout (inner_tree n it)
+  inner_tree_row n knows it = inner_row n knows (type_segments (writer_context n knows)) (type_tree n) (type_row n knows) it
 
-  pub resolution_row : (n : Names) (knows : ℕ → Bool) (r : TypeResolution) → known_text (resolution_parts (writer_context n knows) r) ≡ option_map type_layout (resolution_tree n r)
+  pub resolution_row : (n : Names) (knows : ℕ → Bool) (r : TypeResolution) → known_text (resolution_segments (writer_context n knows) r) ≡ option_map type_layout (resolution_tree n r)
   resolution_row n knows (resolution.Handle ty) = type_row n knows ty
   resolution_row n knows (resolution.Value it) = inner_tree_row n knows it
 
@@ -291,13 +332,23 @@ value_tree_is : (v : Option VectorSize) (s : Scalar) (t : TypeSpecifier) → val
 value_tree_is None s t e = scalar_tree_is s t e
 value_tree_is (Some v) s t e = of_scalar_is (vector_word v) (vector_rule v) s t e
 
-cooperative_is : (c r : CooperativeSize) (l : CooperativeRole) (s : Scalar) (t : TypeSpecifier) → option_map (λ x. of_two (cooperative_word c r) x (Named (role_word l))) (scalar_tree s) ≡ Some t → IsType t
+cooperative_is : (c r : CooperativeSize) (l : CooperativeRole) (s : Scalar) (t : TypeSpecifier) →
+    option_map (λ x. of_two (cooperative_word c r) x (Named (role_word l))) (scalar_tree s) ≡
+    Some t → IsType t
 cooperative_is c r l s t e =
     let x = map_some (λ x. of_two (cooperative_word c r) x (Named (role_word l))) (scalar_tree s) t e in
     let w = map_some Named (scalar_word s) x.0 x.1 in
     let scalar = value_words.scalars.each s w.0 w.1 in
     subst IsType (ap (λ x. of_two (cooperative_word c r) x (Named (role_word l))) w.2 ∙ x.2)
-    (record { part = (rw (cooperative_rule c r) (and_from (stands_in scalar_words w.0) (stands_in role_words (role_word l)) scalar (value_words.roles.each l (role_word l) refl)), (table_word scalar_words w.0 scalars_free scalar, (role_is l, tt))); whole = refl })
+    (record {
+      part = (
+        rw (cooperative_rule c r)
+            (and_from (stands_in scalar_words w.0) (stands_in role_words (role_word l)) scalar
+            (value_words.roles.each l (role_word l) refl)),
+        (table_word scalar_words w.0 scalars_free scalar, (role_is l, tt)),
+      );
+      whole = refl;
+    })
 
 access_is : (x y : Bool) (m : List ℕ) → (if x then Some (codes "atomic") else (if y then Some (codes "read_write") else None)) ≡ Some m → stands_in access_words m ≡ true
 access_is true y m e = let same : codes "atomic" ≡ m = cc in rw (← same) refl
@@ -315,19 +366,25 @@ pointer_is a w at (Some m) access x is =
     let known = storage_is a w m at access in
     record {
       part = (
-        and_from (bytes_eq (codes "storage") w) (is_type x && stands_in access_words m) ((bytes_eq-Decides (codes "storage") w).1 known.0) (and_from (is_type x) (stands_in access_words m) is.whole known.1),
+        and_from (bytes_eq (codes "storage") w) (is_type x && stands_in access_words m)
+            ((bytes_eq-Decides (codes "storage") w).1 known.0)
+            (and_from (is_type x) (stands_in access_words m) is.whole known.1),
         (table_word address_space_words w address_spaces_free (value_words.spaces.each a w at), (is.part, (table_word access_words m accesses_free known.1, tt))),
       );
       whole = refl;
     }
 
-pointer_tree_is : (a : AddressSpace) (s : Option (List ℕ)) → space_word a ≡ s → (o : Option TypeSpecifier) → ((x : TypeSpecifier) → o ≡ Some x → IsType x) → (t : TypeSpecifier) → pointer_tree_in s (space_access_word a) o ≡ Some t → IsType t
+pointer_tree_is : (a : AddressSpace) (s : Option (List ℕ)) → space_word a ≡ s →
+    (o : Option TypeSpecifier) → ((x : TypeSpecifier) → o ≡ Some x → IsType x) →
+    (t : TypeSpecifier) → pointer_tree_in s (space_access_word a) o ≡ Some t → IsType t
 pointer_tree_is a None at o all t e = all t e
 pointer_tree_is a (Some w) at o all t e =
     let x = map_some (pointer_tree w (space_access_word a)) o t e in
     subst IsType x.2 (pointer_is a w at (space_access_word a) refl x.0 (all x.0 x.1))
 
-value_pointer_is : (a : AddressSpace) (s : Option (List ℕ)) → space_word a ≡ s → (o : Option TypeSpecifier) → ((x : TypeSpecifier) → o ≡ Some x → IsType x) → (t : TypeSpecifier) → value_pointer_tree_in s (space_access_word a) o ≡ Some t → IsType t
+value_pointer_is : (a : AddressSpace) (s : Option (List ℕ)) → space_word a ≡ s →
+    (o : Option TypeSpecifier) → ((x : TypeSpecifier) → o ≡ Some x → IsType x) →
+    (t : TypeSpecifier) → value_pointer_tree_in s (space_access_word a) o ≡ Some t → IsType t
 value_pointer_is a None at o all t e = absurd (cc)
 value_pointer_is a (Some w) at o all t e =
     let x = map_some (pointer_tree w (space_access_word a)) o t e in
@@ -386,7 +443,17 @@ image_tree_is dim arrayed (class.Sampled k multi) t e =
     let x = map_some (of_one word) (option_map Named (scalar_word_of k 4)) t e in
     let w = map_some Named (scalar_word_of k 4) x.0 x.1 in
     subst IsType (ap (of_one word) w.2 ∙ x.2)
-    (record { part = (rw (sampled_rule multi dim arrayed) (value_words.sampled.each k w.0 w.1), (table_word scalar_words w.0 scalars_free (value_words.scalars.each (record { kind = k; width = 4 }) w.0 w.1), tt)); whole = refl })
+    (record {
+      part = (
+        rw (sampled_rule multi dim arrayed) (value_words.sampled.each k w.0 w.1),
+        (
+          table_word scalar_words w.0 scalars_free
+              (value_words.scalars.each (record { kind = k; width = 4 }) w.0 w.1),
+          tt,
+        ),
+      );
+      whole = refl;
+    })
 image_tree_is dim arrayed (class.Depth multi) t e =
     subst IsType (same_Some (Named (image_word (codes "texture_depth_") multi dim arrayed)) t e) (plain_is (image_word (codes "texture_depth_") multi dim arrayed) (depth_is_plain multi dim arrayed))
 image_tree_is dim arrayed class.External t e = subst IsType (same_Some (Named (codes "texture_external")) t e) (plain_is (codes "texture_external") refl)
@@ -423,12 +490,18 @@ module _ (n : Names) (count : ℕ) (named : AreNamed n count) where
       record { part = (rw rule (and_from (is_type x) (not (is_builtin (n.override_name o))) is.whole (ap not name.own)), (is.part, (name.word, tt))); whole = refl }
   array_is word rule size.Dynamic within x is = dynamic_is word x rule is
 
-  array_tree_is : (word : List ℕ) → rule_among type_templates word ≡ TakesElements → (l : ArraySize) → LengthIsWithin count l → (o : Option TypeSpecifier) → ((x : TypeSpecifier) → o ≡ Some x → IsType x) → (t : TypeSpecifier) → option_map (array_tree n word l) o ≡ Some t → IsType t
+  array_tree_is : (word : List ℕ) → rule_among type_templates word ≡ TakesElements →
+      (l : ArraySize) → LengthIsWithin count l → (o : Option TypeSpecifier) →
+      ((x : TypeSpecifier) → o ≡ Some x → IsType x) → (t : TypeSpecifier) →
+      option_map (array_tree n word l) o ≡ Some t → IsType t
   array_tree_is word rule l within o all t e =
       let x = map_some (array_tree n word l) o t e in
       subst IsType x.2 (array_is word rule l within x.0 (all x.0 x.1))
 
-  inner_is : (f : ℕ → Option TypeSpecifier) → ((b : ℕ) (x : TypeSpecifier) → f b ≡ Some x → IsType x) → (it : TypeInner) → InnerIsWithin count it → (t : TypeSpecifier) → inner_tree_by n f it ≡ Some t → IsType t
+  inner_is : (f : ℕ → Option TypeSpecifier) →
+      ((b : ℕ) (x : TypeSpecifier) → f b ≡ Some x → IsType x) →
+      (it : TypeInner) → InnerIsWithin count it → (t : TypeSpecifier) →
+      inner_tree_by n f it ≡ Some t → IsType t
   inner_is f all (inner.Scalar s) within t e = scalar_tree_is s t e
   inner_is f all (inner.Vector v s) within t e = of_scalar_is (vector_word v) (vector_rule v) s t e
   inner_is f all (inner.Matrix c r s) within t e = of_scalar_is (matrix_word c r) (matrix_rule c r) s t e
@@ -444,11 +517,16 @@ module _ (n : Names) (count : ℕ) (named : AreNamed n count) where
   inner_is f all (inner.RayQuery b) within t e = subst IsType (same_Some (ray_tree (codes "ray_query") b) t e) (query_is b)
   inner_is f all (inner.BindingArray base l) within t e = array_tree_is (codes "binding_array") refl l within (f base) (all base) t e
 
-  named_is : (f : ℕ → Option TypeSpecifier) → ((b : ℕ) (x : TypeSpecifier) → f b ≡ Some x → IsType x) → (h : ℕ) (y : Type_) → slice_get n.types h ≡ Some y → (b : Bool) → is_struct y.inner ≡ b → (t : TypeSpecifier) → (if b then Some (Named (n.struct_name h)) else inner_tree_by n f y.inner) ≡ Some t → IsType t
+  named_is : (f : ℕ → Option TypeSpecifier) →
+      ((b : ℕ) (x : TypeSpecifier) → f b ≡ Some x → IsType x) → (h : ℕ) (y : Type_) →
+      slice_get n.types h ≡ Some y → (b : Bool) → is_struct y.inner ≡ b → (t : TypeSpecifier) →
+      (if b then Some (Named (n.struct_name h)) else inner_tree_by n f y.inner) ≡ Some t → IsType t
   named_is f all h y at true struct t e = subst IsType (same_Some (Named (n.struct_name h)) t e) (name_is (n.struct_name h) (named.structs h y at struct))
   named_is f all h y at false struct t e = inner_is f all y.inner (named.lengths h y at) t e
 
-  found_is : (k h : ℕ) → ((b : ℕ) (x : TypeSpecifier) → tree_within k n b ≡ Some x → IsType x) → (o : Option Type_) → slice_get n.types h ≡ o → (t : TypeSpecifier) → found_tree_by n (tree_within k n) h o ≡ Some t → IsType t
+  found_is : (k h : ℕ) → ((b : ℕ) (x : TypeSpecifier) → tree_within k n b ≡ Some x → IsType x) →
+      (o : Option Type_) → slice_get n.types h ≡ o → (t : TypeSpecifier) →
+      found_tree_by n (tree_within k n) h o ≡ Some t → IsType t
   found_is k h all None at t e = absurd (cc)
   found_is k h all (Some y) at t e = named_is (tree_within k n) all h y at (is_struct y.inner) refl t e
 

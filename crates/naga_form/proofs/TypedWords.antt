@@ -12,10 +12,12 @@ use Rattle.std.proofs.lemmas.List.{append_cancel_left, append_cancel_right}
 use Rattle.std.proofs.lemmas.Slice.Eq.{bytes_eq-Decides}
 use Rattle.wgsl_text.specs.Words.{is_word_text, is_letter, all_word_bytes, is_word_byte, stands_in}
 use Rattle.wgsl_text.specs.Words.{IsIdentifier, is_builtin}
-use Rattle.wgsl_text.specs.Types.{TypeSpecifier, Named, Template, TypeParts, has_gaps, parts_pieces}
+use Rattle.wgsl_text.specs.Types.{TypeSpecifier, Named, Template, TemplateArguments, has_gaps}
+use Rattle.wgsl_text.specs.Types.{template_pieces}
 use Rattle.wgsl_text.specs.Types.{plain_type_words, is_type, TakesNone, rule_among, type_templates}
-use Rattle.wgsl_text.specs.Types.{fits, IsPart, IsType}
-use Rattle.naga_form.proofs.OperatorTable.{mathematical, others, first_with, operator_of, told}
+use Rattle.wgsl_text.specs.Types.{fits, IsTemplateArgument, IsType}
+use Rattle.naga_form.proofs.OperatorTable.{mathematical, others, first_with, operator_of}
+use Rattle.naga_form.proofs.OperatorTable.{distinguished}
 use Rattle.naga_form.proofs.OperatorTable.{untyped_share}
 use Rattle.wgsl_text.proofs.Types.{fits_none, type_template, named_text}
 use Rattle.wgsl_text.specs.Reading.{type_layout}
@@ -29,8 +31,10 @@ use Rattle.module_meaning.specs.OperatorTable.{is_untyped, SpellsAType, TypeIsSo
 use Rattle.module_meaning.specs.OperatorTable.{Formless, Cast, PartAt, ValueOf, MatrixLoad}
 use Rattle.module_meaning.specs.OperatorTable.{WithoutForm, formless_code, formless_word}
 use Rattle.module_meaning.specs.OperatorTable.{one_formless}
-use Rattle.module_meaning.proofs.TypeIdentity.{kind_of, kind_told, cooperative_of, cooperative_told}
-use Rattle.module_meaning.proofs.TypeIdentity.{role_of, role_told, truth_of, truth_told}
+use Rattle.module_meaning.proofs.TypeIdentity.{kind_of, kind_distinguished, cooperative_of}
+use Rattle.module_meaning.proofs.TypeIdentity.{cooperative_distinguished}
+use Rattle.module_meaning.proofs.TypeIdentity.{role_of, role_distinguished, truth_of}
+use Rattle.module_meaning.proofs.TypeIdentity.{truth_distinguished}
 
 -- ---- the head of a word
 word_byte_goes_on : (b : ℕ) → is_word_byte b ≡ true → (nat_eq b 60 || nat_eq b 32) ≡ false
@@ -122,13 +126,13 @@ abbrev pub head_of : TypeSpecifier → List ℕ
 head_of (Named w) = w
 head_of (Template w parts) = w
 
-pub head_text : (t : TypeSpecifier) → IsPart t → is_word_text (head_of t) ≡ true
+pub head_text : (t : TypeSpecifier) → IsTemplateArgument t → is_word_text (head_of t) ≡ true
 head_text (Named w) is = is.text
 head_text (Template w parts) is = (type_template w parts is.0).word.text
 
-pub head_is : (t : TypeSpecifier) → IsPart t → head_word (type_layout t) ≡ head_of t
+pub head_is : (t : TypeSpecifier) → IsTemplateArgument t → head_word (type_layout t) ≡ head_of t
 head_is (Named w) is = ap head_word (named_text w) ∙ head_alone w (word_bytes w is.text)
-head_is (Template w parts) is = head_before w (text (parts_pieces parts (has_gaps w))) (word_bytes w (head_text (Template w parts) is))
+head_is (Template w parts) is = head_before w (text (template_pieces parts (has_gaps w))) (word_bytes w (head_text (Template w parts) is))
 
 -- ---- which words these are
 any_behind : (w rest : List ℕ) → list_any (nat_eq 60) (w ++ (60 ∷ rest)) ≡ true
@@ -139,10 +143,10 @@ any_behind (b ∷ bytes) rest = by (nat_eq 60 b) (any_behind bytes rest)
     by true e = refl
     by false e = e
 
-template_opens : (w : List ℕ) (parts : TypeParts) → IsPart (Template w parts) → not_open (type_layout (Template w parts)) ≡ false
+template_opens : (w : List ℕ) (parts : TemplateArguments) → IsTemplateArgument (Template w parts) → not_open (type_layout (Template w parts)) ≡ false
 unfolding not_open
 template_opens w parts is =
-    let behind = text (parts_pieces parts (has_gaps w)) in
+    let behind = text (template_pieces parts (has_gaps w)) in
     λ i. not ((ap is_word_text (head_is (Template w parts) is) ∙ head_text (Template w parts) is) i && any_behind w behind i)
 
 named_is_none : (w : List ℕ) → IsType (Named w) → is_function (type_layout (Named w)) ≡ false
@@ -264,16 +268,17 @@ formless_of code =
     []) (get_or code 1 0) (PartAt 0)
     else MatrixLoad (cooperative_of (get_or code 10 0)) (cooperative_of (get_or code 11 0)) (role_of (get_or code 12 0)) (truth_of (get_or code 13 0))
 
-formless_told : (x : Formless) → formless_of (formless_word x) ≡ one_formless x
-formless_told (Cast kind None) = λ i. Cast (kind_told kind i) None
-formless_told (Cast kind (Some width)) = λ i. Cast (kind_told kind i) (Some width)
-formless_told (PartAt index) = refl
-formless_told (ValueOf numbers components) = refl
-formless_told (MatrixLoad columns rows role row_major) =
-    λ i. MatrixLoad (cooperative_told columns i) (cooperative_told rows i) (role_told role i) (truth_told row_major i)
+formless_distinguished : (x : Formless) → formless_of (formless_word x) ≡ one_formless x
+formless_distinguished (Cast kind None) = λ i. Cast (kind_distinguished kind i) None
+formless_distinguished (Cast kind (Some width)) = λ i. Cast (kind_distinguished kind i) (Some width)
+formless_distinguished (PartAt index) = refl
+formless_distinguished (ValueOf numbers components) = refl
+formless_distinguished (MatrixLoad columns rows role row_major) =
+    λ i. MatrixLoad (cooperative_distinguished columns i) (cooperative_distinguished rows i) (role_distinguished role i) (truth_distinguished row_major i)
 
 formless_share : (x y : Formless) → formless_word x ≡ formless_word y → one_formless x ≡ one_formless y
-formless_share x y e = sym (formless_told x) ∙ (ap formless_of e ∙ formless_told y)
+formless_share x y e = sym (formless_distinguished x)
+    ∙ (ap formless_of e ∙ formless_distinguished y)
 
 -- no type is spelled so
 pub no_blank : (w code : List ℕ) → SpellsAType w → w ≡ 32 ∷ code → ⊥
@@ -365,6 +370,6 @@ share_a_word a b sa sb e = by (is_untyped a) refl (is_untyped b) refl
   where
     by : (x : Bool) → is_untyped a ≡ x → (y : Bool) → is_untyped b ≡ y → one_word a ≡ one_word b
     by true ua true ub = untyped_share a b ua ub e
-    by true ua false ub = absurd (some_none (one_word a) (sym (told a ua) ∙ (ap operator_of e ∙ typed_is_none b ub sb)))
-    by false ua true ub = absurd (some_none (one_word b) (sym (told b ub) ∙ (ap operator_of (sym e) ∙ typed_is_none a ua sa)))
+    by true ua false ub = absurd (some_none (one_word a) (sym (distinguished a ua) ∙ (ap operator_of e ∙ typed_is_none b ub sb)))
+    by false ua true ub = absurd (some_none (one_word b) (sym (distinguished b ub) ∙ (ap operator_of (sym e) ∙ typed_is_none a ua sa)))
     by false ua false ub = typed_share a b ua ub sa sb e

@@ -3,7 +3,7 @@
 use Rattle.naga_form.proofs.ModulePlaces.{shapes_at}
 use Rattle.std.proofs.Common.{◌≡◌, ℕ, zero, suc, Bool, true, false, List, [], ◌∷◌, ◌+◌, ◌||◌}
 use Rattle.std.proofs.Common.{refl, sym, ap, ◌∙◌, Option, Some, None, slice_get, map, subst, arith}
-use Rattle.std.proofs.Common.{codes, if◌then◌else◌, ◌==◌, eqb-true}
+use Rattle.std.proofs.Common.{codes, if◌then◌else◌, ◌==◌}
 use mathlib.Core.List.{reverse_aux}
 use Rattle.std.specs.Prelude.{IsTrue, unwrap_or}
 use Rattle.std.specs.Option.{option_map, option_map_or, is_some}
@@ -35,7 +35,7 @@ use Rattle.wgsl_text.specs.Reading.{type_layout}
 use Rattle.wgsl_text.specs.Types.{Named}
 use Rattle.wgsl_text.proofs.Text.{text-append}
 use Rattle.module_meaning.specs.Accepted.{is_accepted}
-use Rattle.module_meaning.specs.ExpressionOperators.{Surroundings, points_to_atomic}
+use Rattle.module_meaning.specs.ExpressionOperators.{ExpressionContext, is_atomic_pointer}
 use Rattle.module_meaning.specs.ExpressionShapes.{Declared, shape_of, applied_shape, asking}
 use Rattle.module_meaning.specs.ExpressionShapes.{part_shape, part_selector, applied_or}
 use Rattle.module_meaning.specs.ExpressionTypes.{is_bool, is_bool_of, have_their_types}
@@ -52,7 +52,7 @@ use Rattle.module_meaning.specs.StatementsFit.{selection_fits, is_selection, is_
 use Rattle.module_meaning.specs.StatementsFit.{simple_is_sound, statement_is_sound, block_is_sound}
 use Rattle.module_meaning.specs.StatementsFit.{cases_are_sound, is_signed}
 use Rattle.module_meaning.specs.StatementsFit.{is_unsigned}
-use Rattle.module_meaning.specs.Surroundings.{declared, types_known}
+use Rattle.module_meaning.specs.ExpressionContexts.{declared, types_known}
 use Rattle.module_meaning.specs.Types.{type_of_values, word_of_values}
 use Rattle.module_meaning.specs.Types.{values_of, scalar_values}
 use Rattle.module_meaning.specs.TypeIdentity.{identity, word_of_unspelled_type}
@@ -123,10 +123,10 @@ scalar_spelled m (Value it) s is =
 -- the values of a scalar that has this word
 scalar_is : (m : Module) (r : TypeResolution) (s : Scalar) (w : List ℕ) →
     inner_of r m.types ≡ Some (inner.Scalar s) → scalar_word s ≡ Some w →
-    type_of_values m r ≡ scalar_values w
+    type_of_values m r ≡ scalar_values s.kind w
 scalar_is m r s w is word =
     values_are m r (inner.Scalar s) is ∙
-    ap scalar_values
+    ap (scalar_values s.kind)
     (ap (λ o. unwrap_or o (word_of_unspelled_type (identity m.types r)))
     (scalar_spelled m r s is ∙ ap (λ o. option_map type_layout (option_map Named o)) word) ∙
     append-nil w)
@@ -145,29 +145,30 @@ pointer_values m r it is pointer =
     subst IsPointer (sym (values_are m r it is)) (points m.types it (word_of_values m r) pointer)
 
 truth_word : (k : ScalarKind) (width : ℕ) → is_bool_of k width ≡ true →
-    scalar_word_of k width ≡ Some (codes "bool")
-truth_word kind.Bool width is = ap (λ b. if b then Some (codes "bool") else None) is
+    (scalar_word_of k width ≡ Some (codes "bool")) × IsBoolean (scalar_values k (codes "bool"))
+truth_word kind.Bool width is = (ap (λ b. if b then Some (codes "bool") else None) is, tt)
 truth_word _ width is = absurd cc
 
 pub truth_values : (m : Module) (r : TypeResolution) (it : TypeInner) →
     inner_of r m.types ≡ Some it → is_bool it ≡ true → IsBoolean (type_of_values m r)
 truth_values m r (inner.Scalar s) is truth =
-    subst IsBoolean (sym (scalar_is m r s (codes "bool") is (truth_word s.kind s.width truth))) tt
+    let word = truth_word s.kind s.width truth in
+    subst IsBoolean (sym (scalar_is m r s (codes "bool") is word.0)) word.1
 truth_values m r _ is truth = absurd cc
 
-integer_word : (k : ScalarKind) (width : ℕ) → (is_signed k || is_unsigned k) ≡ true → width ≡ 4 →
-    (w : List ℕ) × (scalar_word_of k width ≡ Some w) × IsInteger (scalar_values w)
-integer_word kind.Sint width is four = (codes "i32", ap (scalar_word_of kind.Sint) four, tt)
-integer_word kind.Uint width is four = (codes "u32", ap (scalar_word_of kind.Uint) four, tt)
-integer_word _ width is four = absurd cc
+integers : (k : ScalarKind) (w : List ℕ) → (is_signed k || is_unsigned k) ≡ true →
+    IsInteger (scalar_values k w)
+integers kind.Sint w is = tt
+integers kind.Uint w is = tt
+integers _ w is = absurd cc
 
 pub selector_values : (m : Module) (r : TypeResolution) (it : TypeInner) (cs : CaseTrees) →
     inner_of r m.types ≡ Some it → selection_fits cs it ≡ true → IsInteger (type_of_values m r)
 selector_values m r (inner.Scalar s) cs is fits =
     let one = and_parts (selects s) (labels_fit s cs) fits in
     let two = and_parts (is_signed s.kind || is_unsigned s.kind) (s.width == 4) one.0 in
-    let word = integer_word s.kind s.width two.0 (eqb-true s.width 4 two.1) in
-    subst IsInteger (sym (scalar_is m r s word.0 is word.1)) word.2
+    subst IsInteger (sym (values_are m r (inner.Scalar s) is))
+    (integers s.kind (word_of_values m r) two.0)
 selector_values m r _ cs is fits = absurd cc
 
 -- ---- shapes
@@ -191,8 +192,8 @@ module _ (m : Module) (info : ModuleInfo) (f : Function) (es : List ExpressionIn
   abbrev known : List TypeResolution
   known = map (λ e. e.ty) es
 
-  abbrev around : Surroundings
-  around = (declared m info (types_known es)).around
+  abbrev context : ExpressionContext
+  context = (declared m info (types_known es)).context
 
   -- the type of the values of a handle of which this is known
   pub typed_known : (h : ℕ) (r : TypeResolution) → slice_get known h ≡ Some r →
@@ -234,32 +235,33 @@ module _ (m : Module) (info : ModuleInfo) (f : Function) (es : List ExpressionIn
       (pointer_values m three.0 two.0 three.2 (ap is_some two.2))
 
   -- ---- expressions
-  abbrev around_all : Declared
-  around_all = declared m info (types_known es)
+  abbrev whole_context : Declared
+  whole_context = declared m info (types_known es)
 
   pub shape_there : (h : ℕ) (e : ir.Expression) → slice_get f.expressions h ≡ Some e →
-      expression_of own h ≡ Some (shape_of around_all f.expressions h e)
+      expression_of own h ≡ Some (shape_of whole_context f.expressions h e)
   shape_there h e at =
       let from : 0 + h ≡ h = omega arith in
-      shapes_at around_all f.expressions 0 f.expressions h ∙
-      (ap (λ k. option_map (shape_of around_all f.expressions k) (slice_get f.expressions h)) from ∙
-      ap (option_map (shape_of around_all f.expressions h)) at)
+      shapes_at whole_context f.expressions 0 f.expressions h ∙
+      (ap (λ k. option_map (shape_of whole_context f.expressions k) (slice_get f.expressions h))
+      from ∙
+      ap (option_map (shape_of whole_context f.expressions h)) at)
 
   -- what holds of no shape and of each expression's holds of the shape of any handle
   pub any_shape : (h : ℕ) (P : Option shapes.Expression → Type 0) → P None →
       ((e : ir.Expression) → slice_get f.expressions h ≡ Some e →
-      P (Some (shape_of around_all f.expressions h e))) →
+      P (Some (shape_of whole_context f.expressions h e))) →
       P (expression_of own h)
   any_shape h P none some =
       let at : 0 + h ≡ h = omega arith in
       subst P
       (sym
-      (shapes_at around_all f.expressions 0 f.expressions h ∙
-      ap (λ k. option_map (shape_of around_all f.expressions k) (slice_get f.expressions h)) at))
+      (shapes_at whole_context f.expressions 0 f.expressions h ∙
+      ap (λ k. option_map (shape_of whole_context f.expressions k) (slice_get f.expressions h)) at))
       (by (slice_get f.expressions h) refl)
     where
       by : (o : Option ir.Expression) → slice_get f.expressions h ≡ o →
-          P (option_map (shape_of around_all f.expressions h) o)
+          P (option_map (shape_of whole_context f.expressions h) o)
       by None is = none
       by (Some e) is = some e is
 
@@ -267,8 +269,8 @@ module _ (m : Module) (info : ModuleInfo) (f : Function) (es : List ExpressionIn
   applied_loads op xs = applied_any (λ s. LoadFits own (Some s)) op xs tt (λ j l r. tt) tt
 
   load_is : (h : ℕ) (e : ir.Expression) → operands_fit m.types known e ≡ true →
-      LoadFits own (Some (shape_of around_all f.expressions h e))
-  load_is h (expression.Load pointer) fits = by (points_to_atomic around pointer)
+      LoadFits own (Some (shape_of whole_context f.expressions h e))
+  load_is h (expression.Load pointer) fits = by (is_atomic_pointer context pointer)
     where
       by : (atomic : Bool) →
           LoadFits own
@@ -277,7 +279,7 @@ module _ (m : Module) (info : ModuleInfo) (f : Function) (es : List ExpressionIn
       by true = tt
       by false = is_pointer_at pointer fits
   load_is h (expression.Compose ty components) fits = applied_loads _ _
-  load_is h (expression.AccessIndex base index) fits = by (part_selector around_all base index)
+  load_is h (expression.AccessIndex base index) fits = by (part_selector whole_context base index)
     where
       by : (s : Option Selector) → LoadFits own (Some (part_shape base index s))
       by None = tt
@@ -295,8 +297,8 @@ module _ (m : Module) (info : ModuleInfo) (f : Function) (es : List ExpressionIn
   is_break_if (Some h) fits = is_truth h fits
 
   stored : (p v : ℕ) (breaks continues : Bool) → is_stored m.types known p v ≡ true →
-      IsWellFormed own breaks continues (simple_shape around (store p v))
-  stored p v breaks continues fits = by (points_to_atomic around p)
+      IsWellFormed own breaks continues (simple_shape context (store p v))
+  stored p v breaks continues fits = by (is_atomic_pointer context p)
     where
       by : (atomic : Bool) → IsWellFormed own breaks continues (store_shape atomic p v)
       by true = tt
@@ -304,7 +306,7 @@ module _ (m : Module) (info : ModuleInfo) (f : Function) (es : List ExpressionIn
 
   line_is : (breaks continues : Bool) (s : SimpleStatement) →
       simple_is_sound m f known breaks continues s ≡ true →
-      IsWellFormed own breaks continues (simple_shape around s)
+      IsWellFormed own breaks continues (simple_shape context s)
   line_is breaks continues break fits = fits
   line_is breaks continues continue fits = fits
   line_is breaks continues (store pointer value) fits = stored pointer value breaks continues fits
@@ -313,7 +315,7 @@ module _ (m : Module) (info : ModuleInfo) (f : Function) (es : List ExpressionIn
   mutual
     statement_is : (breaks continues : Bool) (s : StatementTree) →
         statement_is_sound m f known breaks continues s ≡ true →
-        IsWellFormed own breaks continues (statement_shape around s)
+        IsWellFormed own breaks continues (statement_shape context s)
     statement_is breaks continues (simple s) fits = line_is breaks continues s fits
     statement_is breaks continues (block b) fits = block_is breaks continues b fits
     statement_is breaks continues (branch condition accept reject) fits =
@@ -342,7 +344,7 @@ module _ (m : Module) (info : ModuleInfo) (f : Function) (es : List ExpressionIn
 
     block_is : (breaks continues : Bool) (b : BlockTree) →
         block_is_sound m f known breaks continues b ≡ true →
-        AreWellFormed own breaks continues (statements_shape around b)
+        AreWellFormed own breaks continues (statements_shape context b)
     block_is breaks continues no_statements fits = tt
     block_is breaks continues (statement s b) fits =
         let one =
@@ -352,7 +354,7 @@ module _ (m : Module) (info : ModuleInfo) (f : Function) (es : List ExpressionIn
 
     cases_are : (continues : Bool) (cs : CaseTrees) →
         cases_are_sound m f known true continues cs ≡ true →
-        CasesAreWellFormed own continues (cases_shape around cs)
+        CasesAreWellFormed own continues (cases_shape context cs)
     cases_are continues no_cases fits = tt
     cases_are continues (case v b falls cs) fits =
         let one =

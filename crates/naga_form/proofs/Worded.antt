@@ -1,8 +1,8 @@
 -- The words of statements ask for events where words that ask stand free, and each statement has
--- a word or words that no text has stand free too: acceptance takes statements for which WGSL has
--- none.
+-- a form or words that no text has stand free too: acceptance takes statements for which WGSL has
+-- no word.
 use Rattle.std.proofs.Common.{◌≡◌, ℕ, ◌<◌, ◌≤◌, Bool, true, false, ◌&&◌, ◌||◌, List, [], Option, Some}
-use Rattle.std.proofs.Common.{None, refl, sym, ◌∙◌, subst, arith, nat_lt, codes}
+use Rattle.std.proofs.Common.{None, refl, sym, ◌∙◌, subst, arith, nat_lt, codes, not}
 use Rattle.std.specs.Prelude.{unwrap_or}
 use Rattle.std.specs.Option.{is_some}
 use Rattle.std.proofs.lemmas.Bool.{and_parts, or_right, ltb-true}
@@ -13,10 +13,10 @@ use Rattle.naga_ir.specs.StatementTree.{subgroup_ballot, subgroup_gather}
 use Rattle.naga_ir.specs.StatementTree.{subgroup_collective_operation, cooperative_store}
 use Rattle.naga_ir.specs.StatementTree.{ray_pipeline_function, StatementTree, simple, block, branch}
 use Rattle.naga_ir.specs.StatementTree.{switch, loop, BlockTree, no_statements, statement}
-use Rattle.naga_ir.specs.StatementTree.{CaseTrees, no_cases, case}
+use Rattle.naga_ir.specs.StatementTree.{CaseTrees, no_cases, case, has_no_statements}
 use Rattle.wgsl_text.specs.Requests.{is_request}
 use Rattle.module_meaning.specs.Numbers.{label_fits_32_bits}
-use Rattle.module_meaning.specs.ExpressionOperators.{Surroundings, points_to_atomic}
+use Rattle.module_meaning.specs.ExpressionOperators.{ExpressionContext, is_atomic_pointer}
 use Rattle.module_meaning.specs.FunctionShapes.{statement_shape, statements_shape, cases_shape}
 use Rattle.module_meaning.specs.OperatorTable.{Operator, TexelStore, TexelChange, AtomicStore}
 use Rattle.module_meaning.specs.OperatorTable.{AtomicChange, UniformLoad, Ballot, Collective}
@@ -24,48 +24,20 @@ use Rattle.module_meaning.specs.OperatorTable.{FromSubgroup, CooperativeStore, T
 use Rattle.module_meaning.specs.OperatorTable.{Barrier, StorageKept, WorkgroupKept, SubgroupKept}
 use Rattle.module_meaning.specs.OperatorTable.{TextureKept, RayStep}
 use Rattle.module_meaning.specs.OperatorTable.{operator_word, own_word, run_word, TypeIsSound}
-use Rattle.module_meaning.specs.OperatorTable.{texel_change_word, collective_word}
 use Rattle.module_meaning.specs.Ranges.{simple_in_range, statement_in_range, block_in_range}
 use Rattle.module_meaning.specs.Ranges.{cases_in_range, is_below}
 use Rattle.module_meaning.specs.StatementShapes.{simple_shape, store_shape, change_of, source_of}
 use Rattle.module_meaning.specs.StatementShapes.{barrier_bits}
+use Rattle.module_meaning.specs.StatementForms.{simple_has_form, statement_has_form, block_has_forms}
+use Rattle.module_meaning.specs.StatementForms.{cases_have_forms}
 use Rattle.shader_runs.specs.Premises.{AsksBy, EachAsks, IsNoName}
 use Rattle.shader_runs.specs.Program as shapes
 use Rattle.shader_runs.specs.Program.{BarrierBits}
 use Rattle.shader_runs.specs.ProgramRun.{barrier_words, word_if}
 use Rattle.shader_runs.specs.Scope.{Naming}
 use Rattle.shader_runs.specs.Value.{Bytes}
-use Rattle.naga_form.proofs.OperatorEvents.{asks_as_told}
+use Rattle.naga_form.proofs.OperatorEvents.{asks_as_distinguished}
 use Rattle.naga_form.proofs.Regular.{IsWorded, AreWorded, CasesAreWorded}
-
--- ---- statements with words
--- WGSL has a word for the statement, if it wants one: none for a step of a ray query, for a texel
--- that is compared and for most scans
-abbrev pub line_has_word : SimpleStatement → Bool
-line_has_word (image_atomic image coordinate array_index fun value) =
-    is_some (texel_change_word (change_of fun))
-line_has_word (subgroup_collective_operation op collective argument outcome) =
-    is_some (collective_word op collective)
-line_has_word (ray_query query) = false
-line_has_word _ = true
-
-abbrev mutual
-  pub statement_has_words : StatementTree → Bool
-  statement_has_words (simple s) = line_has_word s
-  statement_has_words (block b) = block_has_words b
-  statement_has_words (branch condition accept reject) =
-      block_has_words accept && block_has_words reject
-  statement_has_words (switch selector cs) = cases_have_words cs
-  statement_has_words (loop body continuing break_if) =
-      block_has_words body && block_has_words continuing
-
-  pub block_has_words : BlockTree → Bool
-  block_has_words no_statements = true
-  block_has_words (statement s b) = statement_has_words s && block_has_words b
-
-  pub cases_have_words : CaseTrees → Bool
-  cases_have_words no_cases = true
-  cases_have_words (case v b falls cs) = block_has_words b && cases_have_words cs
 
 -- ---- names
 -- Each operator that asks for an event does so here, those with a word of WGSL or `all`, and no
@@ -90,7 +62,7 @@ asks_by_requests p f requests callees = record { operators = ask; callees = call
         by None at has = absurd cc
         by (Some w) at has =
             subst (λ o. AsksBy p f (unwrap_or o (own_word op))) (sym at)
-            (requests w (asks_as_told op w sound at ∙ asking))
+            (requests w (asks_as_distinguished op w sound at ∙ asking))
 
 -- what both of two parts have, or `all`, each has
 each_part : (all a b : Bool) → (all || (a && b)) ≡ true → ((all || a) ≡ true) × ((all || b) ≡ true)
@@ -123,12 +95,12 @@ module _ (all : Bool) (p : shapes.Module) (f : Naming) (free : AsksFreely all p 
   store_has_word true = refl
   store_has_word false = refl
 
-  module _ (a : Surroundings) (count expressions : ℕ) (earlier : count ≤ f.names.earlier) where
+  module _ (a : ExpressionContext) (count expressions : ℕ) (earlier : count ≤ f.names.earlier) where
     line_worded : (s : SimpleStatement) → simple_in_range count expressions s ≡ true →
-        (all || line_has_word s) ≡ true → IsWorded p f (simple_shape a s)
+        (all || simple_has_form s) ≡ true → IsWorded p f (simple_shape a s)
     line_worded (control_barrier flags) within has = barriers_ask (barrier_bits flags)
     line_worded (memory_barrier flags) within has = barriers_ask (barrier_bits flags)
-    line_worded (store pointer value) within has = by (points_to_atomic a pointer)
+    line_worded (store pointer value) within has = by (is_atomic_pointer a pointer)
       where
         by : (to_atomic : Bool) → IsWorded p f (store_shape to_atomic pointer value)
         by true = word_asks AtomicStore refl refl tt
@@ -158,7 +130,7 @@ module _ (all : Bool) (p : shapes.Module) (f : Naming) (free : AsksFreely all p 
 
     mutual
       statement_worded : (s : StatementTree) → statement_in_range count expressions s ≡ true →
-          (all || statement_has_words s) ≡ true → IsWorded p f (statement_shape a s)
+          (all || statement_has_form s) ≡ true → IsWorded p f (statement_shape a s)
       statement_worded (simple s) within has = line_worded s within has
       statement_worded (block b) within has = worded b within has
       statement_worded (branch condition accept reject) within has =
@@ -166,7 +138,7 @@ module _ (all : Bool) (p : shapes.Module) (f : Naming) (free : AsksFreely all p 
           let both =
           and_parts (block_in_range count expressions accept)
           (block_in_range count expressions reject) ranges.1 in
-          let words = each_part all (block_has_words accept) (block_has_words reject) has in
+          let words = each_part all (block_has_forms accept) (block_has_forms reject) has in
           (worded accept both.0 words.0, worded reject both.1 words.1)
       statement_worded (switch selector cs) within has =
           cases_worded cs
@@ -176,26 +148,27 @@ module _ (all : Bool) (p : shapes.Module) (f : Naming) (free : AsksFreely all p 
           let both =
           and_parts (block_in_range count expressions continuing) (is_below expressions break_if)
           ranges.1 in
-          let words = each_part all (block_has_words body) (block_has_words continuing) has in
+          let words = each_part all (block_has_forms body) (block_has_forms continuing) has in
           (worded body ranges.0 words.0, worded continuing both.0 words.1)
 
       -- all statements of a block
       pub worded : (b : BlockTree) → block_in_range count expressions b ≡ true →
-          (all || block_has_words b) ≡ true → AreWorded p f (statements_shape a b)
+          (all || block_has_forms b) ≡ true → AreWorded p f (statements_shape a b)
       worded no_statements within has = tt
       worded (statement s b) within has =
           let ranges =
           and_parts (statement_in_range count expressions s) (block_in_range count expressions b)
           within in
-          let words = each_part all (statement_has_words s) (block_has_words b) has in
+          let words = each_part all (statement_has_form s) (block_has_forms b) has in
           (statement_worded s ranges.0 words.0, worded b ranges.1 words.1)
 
       cases_worded : (cs : CaseTrees) → cases_in_range count expressions cs ≡ true →
-          (all || cases_have_words cs) ≡ true → CasesAreWorded p f (cases_shape a cs)
+          (all || cases_have_forms cs) ≡ true → CasesAreWorded p f (cases_shape a cs)
       cases_worded no_cases within has = tt
       cases_worded (case v b falls cs) within has =
           let ranges =
           and_parts (block_in_range count expressions b) (cases_in_range count expressions cs)
           (and_parts (label_fits_32_bits v) _ within).1 in
-          let words = each_part all (block_has_words b) (cases_have_words cs) has in
+          let formed = each_part all (not falls || has_no_statements b) (block_has_forms b && cases_have_forms cs) has in
+          let words = each_part all (block_has_forms b) (cases_have_forms cs) formed.1 in
           (worded b ranges.0 words.0, cases_worded cs ranges.1 words.1)

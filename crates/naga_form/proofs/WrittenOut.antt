@@ -3,7 +3,7 @@
 -- of such, these have trees too. Acceptance doesn't ask that they are: a negation of a literal is
 -- not.
 use Rattle.module_meaning.specs.Writable.{AreWrittenOut, is_written_out, written_out_within, written_out_over}
-use Rattle.module_meaning.specs.Names.{TypesAreTold}
+use Rattle.module_meaning.specs.Names.{TypesAreDistinguished}
 use Rattle.std.proofs.Common.{◌≡◌, ℕ, zero, suc, ◌<◌, ◌+◌, Bool, true, false, List, [], ◌∷◌, refl, sym, ap, ◌∙◌, length}
 use Rattle.std.proofs.Common.{Option, Some, None, slice_get, arith, nat_lt, ◌&&◌}
 use Rattle.std.specs.List.{list_all}
@@ -27,15 +27,21 @@ use Rattle.module_meaning.specs.ExpressionShapes.{Declared, trees, tree_then, tr
 use Rattle.module_meaning.specs.ExpressionTypes as types
 use Rattle.module_meaning.specs.InfoSizes.{sizes_fit, type_is_fit, all_known}
 use Rattle.module_meaning.specs.OperatorTable.{Operator, Splat}
-use Rattle.module_meaning.specs.Ranges.{module_ranges_fit, module_in_range, declarations_in_range, types_in_range, special_types_fit, constant_in_range, override_in_range, global_in_range, global_expression_in_range, expression_in_range, initialiser_before, names_in_range, all_placed, all_below, resolution_fits, is_below, function_in_range, entry_point_in_range}
+use Rattle.module_meaning.specs.Ranges.{module_ranges_fit, module_in_range, declarations_in_range}
+use Rattle.module_meaning.specs.Ranges.{types_in_range, special_types_fit, constant_in_range}
+use Rattle.module_meaning.specs.Ranges.{override_in_range, global_in_range}
+use Rattle.module_meaning.specs.Ranges.{global_expression_in_range, expression_in_range}
+use Rattle.module_meaning.specs.Ranges.{initialiser_before, names_in_range, all_placed, all_below}
+use Rattle.module_meaning.specs.Ranges.{resolution_fits, is_below, function_in_range}
+use Rattle.module_meaning.specs.Ranges.{entry_point_in_range}
 use Rattle.module_meaning.specs.Soundness.{module_is_sound}
-use Rattle.module_meaning.specs.Surroundings.{constant_over, declared_over, global_tree, global_tree_within, global_types_known, written_constant}
+use Rattle.module_meaning.specs.ExpressionContexts.{constant_over, declared_over, global_tree, global_tree_within, global_types_known, written_constant}
 use Rattle.module_meaning.proofs.Lists.{list_all_at}
 use Rattle.module_meaning.proofs.Lists.{placed_at}
 use Rattle.naga_form.proofs.AcceptedGroups.{IsSoundGroup, own_known, own_group, declarations_are}
 use Rattle.naga_form.proofs.ConstantInitialisers.{HaveTrees, named_stands}
-use Rattle.naga_form.proofs.ConstantTrees.{wanted_there, standing_tree}
-use Rattle.naga_form.proofs.Signatures.{around_group}
+use Rattle.naga_form.proofs.ConstantTrees.{wanted_there, availability_tree}
+use Rattle.naga_form.proofs.Signatures.{group_context}
 
 abbrev HasTree : Option ConstantTree → Type 0
 HasTree o = (t : ConstantTree) × (o ≡ Some t)
@@ -62,13 +68,15 @@ module _ (m : Module) (info : ModuleInfo) where
         (_, ap (option_map (λ r. Constructed _ (inside.value_type r) (trees ts))) own.1)
 
     over_there : (tree_of : ℕ → Option ConstantTree) (is_written : ℕ → Bool) (h : ℕ) (e : Expression) → slice_get g.expressions h ≡ Some e →
-        ((k : ℕ) → k < h → is_written k ≡ true → HasTree (tree_of k)) → ((c : ℕ) → e ≡ expression.Constant c → HasTree (written c)) → written_out_over is_written e ≡ true → HasTree (tree_over inside tree_of h e)
+        ((k : ℕ) → k < h → is_written k ≡ true → HasTree (tree_of k)) →
+        ((c : ℕ) → e ≡ expression.Constant c → HasTree (written c)) →
+        written_out_over is_written e ≡ true → HasTree (tree_over inside tree_of h e)
     over_there tree_of is_written h (expression.Literal v) at have named out = (_, refl)
     over_there tree_of is_written h (expression.Constant c) at have named out = named c refl
     over_there tree_of is_written h (expression.Override o) at have named out = (_, refl)
-    over_there tree_of is_written h (expression.ZeroValue ty) at have named out = built_there h (expression.ZeroValue ty) at (constructor (around_group m info g) (Handle ty) 0) []
+    over_there tree_of is_written h (expression.ZeroValue ty) at have named out = built_there h (expression.ZeroValue ty) at (constructor (group_context m info g) (Handle ty) 0) []
     over_there tree_of is_written h (expression.Compose ty components) at have named out =
-        let o = constructor (around_group m info g) (Handle ty) (length components.items) in
+        let o = constructor (group_context m info g) (Handle ty) (length components.items) in
         let ts = trees_there tree_of is_written h have components.items (is.below h (expression.Compose ty components) at) out in
         let t = built_there h (expression.Compose ty components) at o ts.0 in
         (t.0, ap (option_and_then (built inside h o)) ts.1 ∙ t.1)
@@ -110,7 +118,9 @@ module _ (m : Module) (info : ModuleInfo) where
         (d2.0, d4.1)
 
     -- the constant that an expression names
-    pub constant_named : (f : Option Function) (g : Group) → IsSoundGroup m info f g → (h c : ℕ) → slice_get g.expressions h ≡ Some (expression.Constant c) → (k : Constant) × (slice_get m.constants c ≡ Some k)
+    pub constant_named : (f : Option Function) (g : Group) → IsSoundGroup m info f g →
+        (h c : ℕ) → slice_get g.expressions h ≡ Some (expression.Constant c) → (k : Constant) ×
+        (slice_get m.constants c ≡ Some k)
     constant_named f g is h c at =
         let own = own_known m info f g is h (expression.Constant c) at in
         let there = wanted_there m info (types.constant_type m c) own.0 (is.typed h (expression.Constant c) own.0 at own.1) in
@@ -120,7 +130,10 @@ module _ (m : Module) (info : ModuleInfo) where
     -- each initialiser is one of the module's own expressions
     pub initialiser_within : (c : ℕ) (k : Constant) → slice_get m.constants c ≡ Some k → k.init < length m.global_expressions
     initialiser_within c k at =
-        let own = and_parts (nat_lt k.ty (length m.types)) (nat_lt k.init (length m.global_expressions)) (list_all_at (constant_in_range (length m.types) (length m.global_expressions)) m.constants c k own_parts.0 at) in
+        let own = and_parts (nat_lt k.ty (length m.types))
+        (nat_lt k.init (length m.global_expressions))
+        (list_all_at (constant_in_range (length m.types) (length m.global_expressions))
+        m.constants c k own_parts.0 at) in
         ltb-true k.init (length m.global_expressions) own.1
 
     -- its operands and the initialisers of the constants that it names stand before one of the
@@ -130,21 +143,24 @@ module _ (m : Module) (info : ModuleInfo) where
         let from : 0 + h ≡ h = omega arith in
         sym (ap (λ n. global_expression_in_range m n e) from) ∙ placed_at (global_expression_in_range m) 0 m.global_expressions h e own_parts.1 at
 
-    pub global_names_in_range : (h : ℕ) (e : Expression) → slice_get m.global_expressions h ≡ Some e → names_in_range m (length m.functions) 0 0 e ≡ true
+    pub global_names_in_range : (h : ℕ) (e : Expression) → slice_get m.global_expressions h ≡ Some e → names_in_range m 0 0 e ≡ true
     global_names_in_range h e at =
-        let own = and_parts (expression_in_range m (length m.functions) 0 0 h e) (initialiser_before m h e) (global_is_in_range h e at) in
-        (and_parts (all_below h (expression_operands e)) (names_in_range m (length m.functions) 0 0 e) own.0).1
+        let own = and_parts (expression_in_range m 0 0 h e) (initialiser_before m h e) (global_is_in_range h e at) in
+        (and_parts (all_below h (expression_operands e)) (names_in_range m 0 0 e) own.0).1
 
     pub initialiser_stands_before : (h c : ℕ) → slice_get m.global_expressions h ≡ Some (expression.Constant c) → (k : Constant) → slice_get m.constants c ≡ Some k → k.init < h
     initialiser_stands_before h c at k there =
-        let before = (and_parts (expression_in_range m (length m.functions) 0 0 h (expression.Constant c)) (initialiser_before m h (expression.Constant c)) (global_is_in_range h (expression.Constant c) at)).1 in
+        let before =
+        (and_parts (expression_in_range m 0 0 h (expression.Constant c))
+        (initialiser_before m h (expression.Constant c))
+        (global_is_in_range h (expression.Constant c) at)).1 in
         ltb-true k.init h (sym (ap (λ o. is_below h (option_map (λ k. k.init) o)) there) ∙ before)
 
-    module _ (told : TypesAreTold m) where
+    module _ (distinguished : TypesAreDistinguished m) where
       -- ---- constants
       -- a tree stands for each constant
       constant_stands : (global : ℕ → Option ConstantTree) (h : ℕ) (c : Constant) → slice_get m.constants h ≡ Some c → HasTree (constant_over m global h)
-      constant_stands global h c at = (_, ap (option_map (standing_tree m info accepted told global h)) at)
+      constant_stands global h c at = (_, ap (option_map (availability_tree m info accepted distinguished global h)) at)
 
       pub constant_has_tree : (h : ℕ) (c : Constant) → slice_get m.constants h ≡ Some c → HasTree (written_constant m info h)
       constant_has_tree = constant_stands (global_tree m info)
@@ -166,7 +182,7 @@ module _ (m : Module) (info : ModuleInfo) where
               (λ c same. let item = constant_named None Own own_is h c (at ∙ ap Some same) in constant_stands global c item.0 item.1) out
 
       -- so each initialiser of a named one has
-      pub have_trees : AreWrittenOut m → HaveTrees m info accepted told
+      pub have_trees : AreWrittenOut m → HaveTrees m info accepted distinguished
       have_trees out i c named =
           let k = named_stands m.constants i c named in
           global_there (suc c.init) c.init

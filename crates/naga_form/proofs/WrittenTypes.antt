@@ -3,11 +3,11 @@
 use Rattle.std.proofs.Common.{[], ◌≡◌, ℕ, zero, suc, ◌<◌, Bool, true, false, List, ◌∷◌, ◌++◌}
 use Rattle.std.proofs.Common.{Option, Some, None, refl, sym, ap, subst, slice_get, arith}
 use Rattle.std.proofs.Common.{codes}
-use Rattle.std.specs.Prelude.{if◌then◌else◌, unwrap_or, ◌⊎◌, ◌&&◌, ◌||◌}
+use Rattle.std.specs.Prelude.{if◌then◌else◌, unwrap_or, ◌⊎◌, ◌&&◌, ◌||◌, not}
 use mathlib.Core.Logic.{inl, inr}
 use Rattle.std.specs.List.{AllByRecursion}
 use Rattle.std.specs.Option.{is_some, option_map}
-use Rattle.std.proofs.lemmas.Bool.{ltb-true}
+use Rattle.std.proofs.lemmas.Bool.{and_parts, ltb-true}
 use Rattle.std.proofs.lemmas.Option.{same_Some}
 use Rattle.naga_info.proofs.Options.{map_some, then_some}
 use Rattle.naga_info.specs.declared.info.ExpressionInfo.{ExpressionInfo}
@@ -28,9 +28,11 @@ use Rattle.naga_names.specs.Keys.{NameMap}
 use Rattle.naga_words.specs.Contexts.{Names, names_of}
 use Rattle.naga_words.specs.Spelling.{is_struct, length_within}
 use Rattle.naga_words.specs.Words.{sampler_word}
-use Rattle.module_meaning.specs.AlikeTypes.{has_form, type_form as form_numbers}
-use Rattle.module_meaning.proofs.Part.{type_of_part}
-use Rattle.module_meaning.specs.Part.{needs_nothing, types_are_of_part}
+use Rattle.module_meaning.specs.AlikeTypes.{is_spelled, type_key as form_numbers}
+use Rattle.module_meaning.proofs.WrittenSoFar.{type_of_part}
+use Rattle.module_meaning.specs.BindingExtensions.{members_are_extended}
+use Rattle.module_meaning.specs.WrittenSoFar.{is_extended_struct, needs_nothing}
+use Rattle.module_meaning.specs.WrittenSoFar.{types_are_written_so_far}
 use Rattle.module_meaning.specs.Undeclared.{is_undeclared, names_undeclared}
 use Rattle.module_meaning.specs.Types.{type_names}
 use Rattle.wgsl_text.proofs.Building.{in_front}
@@ -38,9 +40,9 @@ use Rattle.wgsl_text.proofs.ValueWords.{value_words}
 use Rattle.wgsl_text.proofs.Words.{all_words, passes}
 use Rattle.wgsl_text.specs.Reading.{type_layout}
 use Rattle.wgsl_text.specs.Tables.{depth_image_words, ray_words, sampler_words, scalar_words}
-use Rattle.wgsl_text.specs.Types.{IsType, Named, PartsRule, Template, TypeParts, TypeSpecifier, fits}
+use Rattle.wgsl_text.specs.Types.{IsType, Named, TemplateRule, Template, TemplateArguments, TypeSpecifier, fits}
 use Rattle.wgsl_text.specs.Text.{text}
-use Rattle.wgsl_text.specs.Types.{has_gaps, of_one, parts_pieces, plain_type_words, pointer_tree}
+use Rattle.wgsl_text.specs.Types.{has_gaps, of_one, template_pieces, plain_type_words, pointer_tree}
 use Rattle.wgsl_text.specs.Types.{rule_among, type_templates}
 use Rattle.wgsl_text.specs.Words.{stands_in}
 use Rattle.wgsl_words.specs.Words.{scalar_word, scalar_word_of, space_word, space_access_word}
@@ -52,11 +54,11 @@ use Rattle.naga_form.specs.TypeTrees.{array_tree, found_tree_by, image_tree, inn
 use Rattle.naga_form.specs.TypeTrees.{pointer_tree_in, ray_tree, resolution_tree}
 use Rattle.naga_form.specs.TypeTrees.{scalar_tree, tree_within, type_tree, value_pointer_tree_in}
 use Rattle.naga_form.specs.TypeTrees.{value_tree}
-use Rattle.naga_form.specs.Types.{told_type, type_form}
+use Rattle.naga_form.specs.Types.{annotated_type, type_form}
 
 -- ---- trees
 -- a type that has a form has a tree, under any names
-pub tree_there : (n : Names) (r : TypeResolution) → has_form n.types r ≡ true →
+pub tree_there : (n : Names) (r : TypeResolution) → is_spelled n.types r ≡ true →
     (t : TypeSpecifier) × (resolution_tree n r ≡ Some t)
 tree_there n r is = by (form_numbers n.types r) is (form_is_read n r)
   where
@@ -269,9 +271,9 @@ module _ (n : Names) where
       inner_plain (type_tree n) (λ b x is. within_plain (suc b) b x is) it t e
 
 -- a word with the parts that its rule wants
-of_rows_free : (rest : List ℕ) (rows : List (List (List ℕ) × PartsRule)) →
+of_rows_free : (rest : List ℕ) (rows : List (List (List ℕ) × TemplateRule)) →
     AllByRecursion (λ row. all_words (λ v. operates_freely (v ++ 60 ∷ rest)) row.0 ≡ true) rows →
-    (w : List ℕ) (parts : TypeParts) → fits (rule_among rows w) parts ≡ true →
+    (w : List ℕ) (parts : TemplateArguments) → fits (rule_among rows w) parts ≡ true →
     operates_freely (w ++ 60 ∷ rest) ≡ true
 of_rows_free rest [] all w parts is = absurd cc
 of_rows_free rest (row ∷ rows) all w parts is =
@@ -284,10 +286,11 @@ of_rows_free rest (row ∷ rows) all w parts is =
     by true at is more = passes (λ v. operates_freely (v ++ 60 ∷ rest)) row.0 w all.0 at
     by false at is more = more is
 
-template_free : (w : List ℕ) (parts : TypeParts) → fits (rule_among type_templates w) parts ≡ true →
+template_free : (w : List ℕ) (parts : TemplateArguments) →
+    fits (rule_among type_templates w) parts ≡ true →
     operates_freely (type_layout (Template w parts)) ≡ true
 template_free w parts is =
-    let rest = text (parts_pieces parts (has_gaps w)) in
+    let rest = text (template_pieces parts (has_gaps w)) in
     of_rows_free rest type_templates (templates_free rest) w parts is
 
 free_tree : (t : TypeSpecifier) → IsType t → is_plain t ≡ true →
@@ -296,33 +299,35 @@ free_tree (Named w) is plain =
     passes (λ v. operates_freely (type_layout (Named v))) plain_type_words w plain_types_free plain
 free_tree (Template w parts) is plain = template_free w parts is.part.0
 
--- ---- types of a module of the part
+-- ---- types of a module that is written so far
 -- a struct among them is declared by no text
-pub struct_undeclared : (m : Module) → types_are_of_part m ≡ true → (h : ℕ) (t : Type_) →
+pub struct_undeclared : (m : Module) → types_are_written_so_far m ≡ true → (h : ℕ) (t : Type_) →
     slice_get m.types h ≡ Some t → is_struct t.inner ≡ true →
     is_undeclared m.special_types h ≡ true
 struct_undeclared m all h t at is = by t.inner is (type_of_part m all h t at)
   where
     by : (it : TypeInner) → is_struct it ≡ true →
-        (needs_nothing it || (is_struct it && is_undeclared m.special_types h)) ≡ true →
+        (needs_nothing it || (is_struct it &&
+        (is_undeclared m.special_types h && not (is_extended_struct it)))) ≡ true →
         is_undeclared m.special_types h ≡ true
-    by (inner.Struct members span) is part = part
+    by (inner.Struct members span) is part =
+        (and_parts (is_undeclared m.special_types h) (not (members_are_extended members.items)) part).0
     by _ is part = absurd cc
 
 module _ (m : Module) (types : TypesAreFit m) where
   -- a type of the module that has a form is one of the grammar
-  pub is_type_at : (ty : ℕ) → has_form m.types (Handle ty) ≡ true →
+  pub is_type_at : (ty : ℕ) → is_spelled m.types (Handle ty) ≡ true →
       IsType (type_form (type_names m) ty)
   is_type_at ty is =
       let t = tree_there (type_names m) (Handle ty) is in
       subst (λ o. IsType (unwrap_or o (Named []))) (sym t.1) (tree_is m types (Handle ty) tt t.0 t.1)
 
   -- what a `let` tells is a type of the grammar
-  pub told_is : (explicit : Bool) (es : List ExpressionInfo) →
+  pub distinguished_is : (explicit : Bool) (es : List ExpressionInfo) →
       ((h : ℕ) (k : ExpressionInfo) → slice_get es h ≡ Some k → IsFit m k.ty) →
       (h : ℕ) (tree : TypeSpecifier) →
-      told_type explicit m (type_names m) es h ≡ Some tree → IsType tree
-  told_is true es fits h tree is =
+      annotated_type explicit m (type_names m) es h ≡ Some tree → IsType tree
+  distinguished_is true es fits h tree is =
       let k =
       then_some
       (λ k. if names_undeclared m k.ty then None else resolution_tree (type_names m) k.ty)
@@ -334,7 +339,7 @@ module _ (m : Module) (types : TypesAreFit m) where
           IsType tree
       by true k fit e = absurd cc
       by false k fit e = tree_is m types k.ty fit tree e
-  told_is false es fits h tree is = absurd cc
+  distinguished_is false es fits h tree is = absurd cc
 
   -- the tree of a type is spelled as no name is, or it names a struct
   pub free_form : (r : TypeResolution) → IsFit m r →

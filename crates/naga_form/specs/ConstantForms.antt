@@ -1,15 +1,15 @@
 -- How a constant is written out where no name stands for it: over the forms of its parts.
 --
--- Throughout, a is what stands around expressions es, t are the names that types are spelled with,
+-- Throughout, a is the context of expressions es, t are the names that types are spelled with,
 -- constant gives the form of a constant of the module, e is an expression, h a handle, c a constant,
 -- and m a module.
 use Rattle.std.specs.Prelude.{ℕ, zero, suc, false, List, [], ◌∷◌, length, map, slice_get, None}
 use Rattle.std.specs.Prelude.{if◌then◌else◌}
 use Rattle.std.specs.Option.{is_some, option_map_or}
-use Rattle.module_meaning.specs.ExpressionOperators.{Surroundings, constructor}
+use Rattle.module_meaning.specs.ExpressionOperators.{ExpressionContext, constructor}
 use Rattle.module_meaning.specs.Names.{constant_name, module_names}
 use Rattle.module_meaning.specs.OperatorTable.{Splat}
-use Rattle.module_meaning.specs.Surroundings.{surroundings}
+use Rattle.module_meaning.specs.ExpressionContexts.{expression_context}
 use Rattle.naga_form.specs.Literals.{literal_form}
 use Rattle.naga_form.specs.Operators.{applied_form, notation}
 use Rattle.naga_form.specs.TypeTrees.{type_tree}
@@ -22,7 +22,7 @@ use Rattle.wgsl_text.specs.Expressions.{Expression, Constant, Name}
 use Rattle.wgsl_text.specs.Literals.{Truth}
 
 -- a value of a type of the module from so many parts
-abbrev pub built_form : Surroundings → TypeNames → (ty components : ℕ) → List Expression →
+abbrev pub built_form : ExpressionContext → TypeNames → (ty components : ℕ) → List Expression →
     Expression
 built_form a t ty components parts =
     applied_form (notation (type_tree t ty) (constructor a (Handle ty) components)) parts
@@ -32,7 +32,7 @@ abbrev pub no_constant_form : Expression
 no_constant_form = Constant (Truth false)
 
 -- an expression, over the forms of its parts; an override is written as its name
-abbrev pub constant_form_over : Surroundings → TypeNames → (constant part : ℕ → Expression) →
+abbrev pub constant_form_over : ExpressionContext → TypeNames → (constant part : ℕ → Expression) →
     ir.Expression → Expression
 constant_form_over a t constant part (expression.Literal value) = Constant (literal_form value)
 constant_form_over a t constant part (expression.Constant handle) = constant handle
@@ -45,7 +45,7 @@ constant_form_over a t constant part (expression.Splat size value) =
 constant_form_over a t constant part _ = no_constant_form
 
 -- the form of a handle, at most so many levels deep
-abbrev pub constant_form_within : (levels : ℕ) → Surroundings → TypeNames →
+abbrev pub constant_form_within : (levels : ℕ) → ExpressionContext → TypeNames →
     (constant : ℕ → Expression) → List ir.Expression → ℕ → Expression
 constant_form_within zero a t constant es h = no_constant_form
 constant_form_within (suc levels) a t constant es h =
@@ -54,7 +54,7 @@ constant_form_within (suc levels) a t constant es h =
     (slice_get es h) no_constant_form
 
 -- the same of one whose operands stand before it
-abbrev pub written_out : Surroundings → TypeNames → (constant : ℕ → Expression) →
+abbrev pub written_out : ExpressionContext → TypeNames → (constant : ℕ → Expression) →
     List ir.Expression → ℕ → Expression
 written_out a t constant es h = constant_form_within (suc h) a t constant es h
 
@@ -73,7 +73,7 @@ global_form_within zero m t h = no_constant_form
 global_form_within (suc levels) m t h =
     let own = global_form_within levels m t in
     option_map_or
-    (constant_form_over (surroundings m (λ x. None)) t (constant_form_by m own) own)
+    (constant_form_over (expression_context m (λ x. None)) t (constant_form_by m own) own)
     (slice_get m.global_expressions h) no_constant_form
 
 -- the same of one before which its operands and the initialisers of the constants that it names

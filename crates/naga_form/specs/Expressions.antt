@@ -20,15 +20,16 @@ use Rattle.wgsl_text.specs.Expressions.{Expression, Constant, Name, Member, Addr
 use Rattle.wgsl_text.specs.Expressions.{Index, IndexAt}
 use Rattle.wgsl_text.specs.Literals.{Truth}
 use Rattle.naga_form.specs.Literals.{literal_form}
-use Rattle.shader_runs.specs.Scope.{Standing, Named, Handles, Naming}
+use Rattle.shader_runs.specs.Scope.{Availability, Bound, Handles, Naming}
 use Rattle.shader_runs.specs.Value.{Selector, MemberNamed, ElementAt}
 use Rattle.module_meaning.specs.Conversions.{conversion_target, keeps_bits}
-use Rattle.module_meaning.specs.ExpressionOperators.{Surroundings, applied_operator, constructor}
+use Rattle.module_meaning.specs.ExpressionOperators.{ExpressionContext, applied_operator}
+use Rattle.module_meaning.specs.ExpressionOperators.{constructor}
 use Rattle.module_meaning.specs.ExpressionOperators.{load_operator, scalar_behind, type_known}
 use Rattle.module_meaning.specs.ExpressionShapes.{Declared, part_selector, swizzle_letters}
-use Rattle.module_meaning.specs.InfoSizes.{is_handle_space}
 use Rattle.module_meaning.specs.OperatorTable.{Operator, WithoutForm, PartAt}
-use Rattle.module_meaning.specs.Surroundings.{declared, types_known}
+use Rattle.module_meaning.specs.ExpressionContexts.{declared, types_known}
+pub use Rattle.module_meaning.specs.ExpressionContexts.{is_handle_variable}
 use Rattle.module_meaning.specs.Types.{type_names}
 use Rattle.naga_words.specs.Contexts.{Names as TypeNames}
 use Rattle.wgsl_text.specs.Types.{TypeSpecifier, of_one}
@@ -96,11 +97,11 @@ matrix_tree t columns rows role row_major s =
     (option_and_then (λ s. inner_tree t (inner.CooperativeMatrix columns rows s role)) s)
 
 -- the scalars that the expression with this handle points to
-abbrev pub scalar_pointed : Surroundings → ℕ → Option Scalar
+abbrev pub scalar_pointed : ExpressionContext → ℕ → Option Scalar
 scalar_pointed a pointer = option_and_then (scalar_behind a.types) (type_known a pointer)
 
 -- the type by which the operator of an expression is spelled, if it is one that has a form
-abbrev pub operator_type : Surroundings → TypeNames → ir.Expression → Option TypeSpecifier
+abbrev pub operator_type : ExpressionContext → TypeNames → ir.Expression → Option TypeSpecifier
 operator_type a t (expression.Compose ty components) = type_tree t ty
 operator_type a t (expression.As operand kind convert) =
     option_and_then (conversion_tree t kind convert) (type_known a operand)
@@ -119,7 +120,7 @@ is_pointer (inner.ValuePointer size s space) = true
 is_pointer _ = false
 
 -- the expression with this handle has such a type
-abbrev pub points : Surroundings → ℕ → Bool
+abbrev pub points : ExpressionContext → ℕ → Bool
 points a h = option_map_or is_pointer (type_known a h) false
 
 -- Through a pointer a part is a reference, over the reference that the base is written as;
@@ -133,11 +134,7 @@ abbrev pub selected_part : Selector → Expression → Expression
 selected_part (MemberNamed word) base = Member base word
 selected_part (ElementAt index) base = IndexAt base index
 
--- Is the variable of the module with this handle in the handle space?
-abbrev pub is_held : Module → ℕ → Bool
-is_held m h = option_map_or (λ g. is_handle_space g.space) (slice_get m.global_variables h) false
-
--- a function's expressions, what stands around them, the names that types are spelled with, and the
+-- a function's expressions, their context, the names that types are spelled with, and the
 -- constants and variables of the module
 pub record Source : Type 0 where
   pub expressions : List ir.Expression
@@ -145,8 +142,6 @@ pub record Source : Type 0 where
   pub type_names : TypeNames
   -- the form of a constant
   pub constant : ℕ → Expression
-  -- whether a variable is a value, as one in the handle space is
-  pub is_held : ℕ → Bool
 
 -- those of a function of a module, with what is known of them
 abbrev pub function_source :
@@ -157,7 +152,6 @@ function_source m info f es =
       declared = declared m info (types_known es);
       type_names = type_names m;
       constant = written_constant_form m (type_names m);
-      is_held = is_held m;
     }
 
 -- The operands of a sampling that are written by their handles: all but the offset.
@@ -173,7 +167,7 @@ sampling_operands e = expression_operands e
 -- the form of a constant that is written out
 abbrev pub constant_form : Source → ℕ → Expression
 constant_form source h =
-    written_out source.declared.around source.type_names source.constant source.expressions h
+    written_out source.declared.context source.type_names source.constant source.expressions h
 
 -- a sampling by an operator, with this offset
 abbrev pub sampled_plain : Source → (ℕ → PlainForm) → (at_zero : Bool) → List ℕ →
@@ -185,7 +179,7 @@ sampled_plain source operand at_zero hs offset (Some op) =
 sampled_plain source operand at_zero hs offset None = no_form
 
 -- a variable of the module: a value where it is held, else a reference
-abbrev pub variable_plain : (held : Bool) → Expression → PlainForm
+abbrev pub variable_plain : (is_handle : Bool) → Expression → PlainForm
 variable_plain true e = ValueForm e
 variable_plain false e = ReferenceForm e
 
@@ -197,27 +191,27 @@ own_plain n source operand (expression.Override handle) =
     ValueForm (Name (source.type_names.override_name handle))
 own_plain n source operand (expression.ZeroValue ty) =
     applied_plain no_form (type_tree source.type_names ty) operand []
-    (Some (constructor source.declared.around (Handle ty) 0))
+    (Some (constructor source.declared.context (Handle ty) 0))
 own_plain n source operand (expression.FunctionArgument number) =
     ValueForm (Name (n.names.argument number))
 own_plain n source operand (expression.GlobalVariable handle) =
-    variable_plain (source.is_held handle) (Name (n.names.outer.global handle))
+    variable_plain (source.declared.is_held handle) (Name (n.names.outer.global handle))
 own_plain n source operand (expression.LocalVariable handle) =
     ReferenceForm (Name (n.names.local_ handle))
 own_plain n source operand (expression.Access base index) =
-    part_plain (points source.declared.around base) (λ e. Index e (as_value (operand index)))
+    part_plain (points source.declared.context base) (λ e. Index e (as_value (operand index)))
     (operand base)
 own_plain n source operand (expression.AccessIndex base index) =
     let without = Some (WithoutForm (PartAt index)) in
     option_map_or
-    (λ x. part_plain (points source.declared.around base) (selected_part x) (operand base))
+    (λ x. part_plain (points source.declared.context base) (selected_part x) (operand base))
     (part_selector source.declared base index)
     (applied_plain no_form None operand (base ∷ []) without)
 own_plain n source operand (expression.Swizzle size vector pattern) =
     ValueForm (Member (as_value (operand vector)) (swizzle_letters size pattern))
 own_plain n source operand (expression.Load pointer) =
     applied_plain (ValueForm (as_reference (operand pointer))) None operand (pointer ∷ [])
-    (load_operator source.declared.around pointer)
+    (load_operator source.declared.context pointer)
 own_plain n source operand
     (expression.ImageSample
     image sampler gather coordinate array_index offset level depth_ref clamp) =
@@ -225,9 +219,9 @@ own_plain n source operand
     image sampler gather coordinate array_index offset level depth_ref clamp in
     let unwritten = is_some gather || (is_some depth_ref || clamp) in
     sampled_plain source operand (zero_is_written level unwritten) (sampling_operands e) offset
-    (applied_operator source.declared.around e)
+    (applied_operator source.declared.context e)
 own_plain n source operand e =
-    let a = source.declared.around in
+    let a = source.declared.context in
     applied_plain no_form (operator_type a source.type_names e) operand (expression_operands e)
     (applied_operator a e)
 
@@ -236,15 +230,15 @@ abbrev pub own_if : Naming → Source → (ℕ → PlainForm) → Option ir.Expr
 own_if n source operand e = option_map_or (own_plain n source operand) e no_form
 
 -- a bound handle is written as its name
-abbrev pub standing_plain : Standing → PlainForm → PlainForm
-standing_plain (Named x) own = ValueForm (Name x)
-standing_plain _ own = own
+abbrev pub availability_plain : Availability → PlainForm → PlainForm
+availability_plain (Bound x) own = ValueForm (Name x)
+availability_plain _ own = own
 
 -- the form of a handle below the bound
 abbrev pub plain_below : Naming → Source → Handles → ℕ → ℕ → PlainForm
 plain_below n source s zero h = no_form
 plain_below n source s (suc k) h =
-    standing_plain (s h)
+    availability_plain (s h)
     (own_if n source (plain_below n source s k) (slice_get source.expressions h))
 
 -- a handle's form: its name where that is in scope, else its expression over its operands' forms

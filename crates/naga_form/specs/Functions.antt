@@ -11,9 +11,9 @@ use Rattle.naga_ir.specs.declared.module.Module.{Module}
 use Rattle.naga_ir.specs.declared.types.Type_.{Type_}
 use Rattle.naga_names.specs.Keys.{NameMap}
 use Rattle.wgsl_text.specs.Functions.{Parameter, Result, NoResult, ResultOf, Local, Function}
-use Rattle.module_meaning.specs.Names.{function_name, argument_name, given_name}
+use Rattle.module_meaning.specs.Names.{function_name, argument_name, expression_name}
 use Rattle.naga_words.specs.Contexts.{names_of, Names as TypeNames}
-use Rattle.naga_form.specs.Types.{type_form, told_type}
+use Rattle.naga_form.specs.Types.{type_form, annotated_type}
 use Rattle.naga_ir.specs.declared.module.LocalVariable.{LocalVariable}
 use Rattle.naga_info.specs.declared.info.ExpressionInfo.{ExpressionInfo}
 use Rattle.naga_info.specs.declared.info.ModuleInfo.{ModuleInfo}
@@ -53,10 +53,10 @@ result_form t (Some r) = ResultOf [] (type_form t r.ty)
 
 -- a function, with what is known of its expressions; given tells the names that front ends gave in it
 abbrev pub function_form :
-    (explicit : Bool) → NameMap → (given : ℕ → List ℕ) → Module → ModuleInfo → ℕ →
+    (explicit : Bool) → NameMap → (named : ℕ → List ℕ) → Module → ModuleInfo → ℕ →
     ir_function.Function → List ExpressionInfo → Function
-function_form explicit names given m info g f es =
-    let n : Naming = function_naming names given m info g f es in
+function_form explicit names named m info g f es =
+    let n : Naming = function_naming names named m info g f es in
     let source : Source = function_source m info f es in
     let t : TypeNames = names_of m.types names in
     record {
@@ -64,7 +64,7 @@ function_form explicit names given m info g f es =
       parameters = parameters_form names m.types g 0 f.arguments.items;
       result = result_form t f.result;
       locals = locals_form n t source 0 f.local_variables;
-      body = lines_form n (told_type explicit m t es) source 0 f.body (at_start n.function);
+      body = lines_form n (annotated_type explicit m t es) source 0 f.body (at_start n.function);
     }
 
 -- the functions from this handle on, each with what is known of its expressions, in a text of the whole
@@ -73,6 +73,6 @@ abbrev pub functions_form :
     (explicit : Bool) → NameMap → Module → ModuleInfo → ℕ → List ir_function.Function →
     List (List ExpressionInfo) → List Function
 functions_form explicit names m info g (f ∷ fs) (es ∷ ess) =
-    function_form explicit names (given_name m g) m info g f es
+    function_form explicit names (expression_name m g) m info g f es
     ∷ functions_form explicit names m info (g + 1) fs ess
 functions_form explicit names m info g _ _ = []

@@ -17,8 +17,8 @@ use Rattle.naga_info.specs.declared.info.ModuleInfo.{ModuleInfo}
 use Rattle.naga_info.specs.declared.info.TypeResolution.{TypeResolution}
 use Rattle.naga_info.specs.declared.info.TypeResolution.TheVariants as resolutions
 use Rattle.naga_words.specs.Contexts.{Names, writer_context}
-use Rattle.naga_words.specs.Parts.{Part, IsText, known_text, lacks}
-use Rattle.naga_words.specs.Spelling.{inner_parts, type_parts}
+use Rattle.naga_words.specs.Segments.{Segment, IsText, known_text, lacks}
+use Rattle.naga_words.specs.Spelling.{inner_segments, type_segments}
 use Rattle.wgsl_text.specs.Types.{TypeSpecifier, IsType}
 use Rattle.naga_form.specs.Functions.{function_form}
 use Rattle.wgsl_text.specs.Declarations.{Program, IsProgram}
@@ -37,22 +37,25 @@ use Rattle.module_meaning.specs.Literals.{literal_value}
 use Rattle.module_meaning.specs.Meanings.{OperatorsAreConsistent, HasTypedMeaning, HasTypedWorld}
 use Rattle.module_meaning.specs.Meanings.{IsNeverStuck, NoRunIsStuck}
 use Rattle.module_meaning.specs.Writable.{IsWritable}
-use Rattle.module_meaning.specs.Names.{ItemsAreTold, module_names}
+use Rattle.module_meaning.specs.Names.{ItemsAreDistinguished, module_names}
 use Rattle.module_meaning.specs.Ranges.{resolution_fits}
-use Rattle.module_meaning.specs.Part.{declares_functions, function_is_written, is_written_so_far}
-use Rattle.module_meaning.specs.Part.{types_are_of_part}
+use Rattle.module_meaning.specs.WrittenSoFar.{function_is_written}
+use Rattle.module_meaning.specs.WrittenSoFar.{is_written_so_far}
+use Rattle.module_meaning.specs.WrittenSoFar.{types_are_written_so_far}
 use Rattle.module_meaning.specs.Premises.{handles_are_counted, scope_holds, ScopesHold}
 use Rattle.module_meaning.specs.Resolution.{ResolvesAs}
 use Rattle.module_meaning.specs.ModuleShapes.{module_shape}
 use Rattle.module_meaning.specs.Namings.{function_naming, outer_names, namings}
 use Rattle.module_meaning.specs.TypeIdentity.{identity}
 use Rattle.module_meaning.specs.Types.{spelled_resolution, type_names, type_of_values}
-use Rattle.module_meaning.specs.OperatorTable.{Operator, TypeIsSound, asks, is_told, one_word}
+use Rattle.module_meaning.specs.OperatorTable.{Operator, TypeIsSound, asks, is_distinguished}
+use Rattle.module_meaning.specs.OperatorTable.{one_word}
 use Rattle.module_meaning.specs.OperatorTable.{operand_count, operator_word, run_word}
-use Rattle.naga_form.specs.Readable.{AreAlike, AreNamed, ResolutionIsWithin, handle_names, has_form}
+use Rattle.naga_form.specs.Readable.{AreAlike, AreNamed, ResolutionIsWithin, handle_names}
+use Rattle.naga_form.specs.Readable.{is_readable}
 use Rattle.naga_form.specs.TypeTrees.{inner_tree, resolution_tree, type_tree}
 
--- of an accepted module of the part that is written so far, in which each written handle has a form,
+-- of an accepted module that is written so far, in which each written handle has a form,
 -- and of what is written for it with the types of its `let`s told or not
 abbrev pub OfAccepted : (Module → ModuleInfo → Program → Type 0) → Type 0
 OfAccepted Holds =
@@ -85,8 +88,8 @@ HasTheInterface =
 abbrev pub ResolvesAsMeant : Type 0
 ResolvesAsMeant = OfAcceptedInScope ResolvesAs
 
--- its `let`s are those of the emitted handles that are bound, each under its handle's name, and
--- each tells its handle's type where types are to be told
+-- its `let`s are those of the emitted handles that are bound and of the results of statements, each
+-- under its handle's name, and each tells its handle's type where types are to be told
 abbrev pub BindsAsCounted : Type 0
 BindsAsCounted =
     (m : Module) (info : ModuleInfo) (explicit : Bool) → IsTrue (is_accepted m info) →
@@ -94,18 +97,17 @@ BindsAsCounted =
     BindsAs m info explicit (written_program m info explicit)
 
 -- what is written of a function that is written so far, of which what is written has a form, in a
--- module of types of the part that declares nothing else, is read as its shape is written, whatever
--- type is known of each of its expressions and of the module's, and under whatever names front ends gave
+-- module of such types, is read as its shape is written, whatever the module declares, whatever type
+-- is known of each of its expressions and of the module's, and under whatever names front ends gave
 abbrev pub FunctionsAreRead : Type 0
 FunctionsAreRead =
-    (explicit : Bool) (given : ℕ → List ℕ) (m : Module) (info : ModuleInfo) (g : ℕ) (f : Function) →
-    (es : List ExpressionInfo) → IsTrue (types_are_of_part m) →
-    IsTrue (declares_functions m) →
+    (explicit : Bool) (named : ℕ → List ℕ) (m : Module) (info : ModuleInfo) (g : ℕ) (f : Function) →
+    (es : List ExpressionInfo) → IsTrue (types_are_written_so_far m) →
     length m.global_expressions ≡ length info.const_expression_types.items →
     IsTrue (function_is_written f) → WrittenHaveForms explicit m info f es →
     length f.expressions ≡ length es →
-    function_read (function_form explicit (module_names m) given m info g f es)
-    ≡ form_function (function_naming (module_names m) given m info g f es)
+    function_read (function_form explicit (module_names m) named m info g f es)
+    ≡ form_function (function_naming (module_names m) named m info g f es)
 
 -- what the program does is what the program of shapes says that is written for the module
 abbrev pub IsReadAsItsShapes : Type 0
@@ -138,13 +140,11 @@ HasAMeaning =
 -- what is spelled by a name is told by it: the names of a module tell its structs, overrides and
 -- members apart
 abbrev pub NamesTell : Type 0
-NamesTell = (m : Module) → ItemsAreTold m
+NamesTell = (m : Module) → ItemsAreDistinguished m
 
 -- one world answers by the right types in every run of the module
 abbrev pub HasAWorld : Type 0
-HasAWorld =
-    (m : Module) (info : ModuleInfo) → IsTrue (is_accepted m info) →
-    IsTrue (is_written_so_far m) → HasTypedWorld m info
+HasAWorld = OfAcceptedInScope (λ m info program. HasTypedWorld m info)
 
 -- what holds of every accepted module, written so far or not, that holds nothing that no text is ever
 -- written for, and in which the rules of scope hold
@@ -166,27 +166,27 @@ abbrev pub EveryIsNotStuck : Type 0
 EveryIsNotStuck = OfEveryWritable NoRunIsStuck
 
 -- two types without a spelling have values of one type only where they are told by the same
-abbrev pub UnspelledAreTold : Type 0
-UnspelledAreTold =
+abbrev pub UnspelledAreDistinguished : Type 0
+UnspelledAreDistinguished =
     (m : Module) (a b : TypeResolution) →
     spelled_resolution (type_names m) a ≡ None → spelled_resolution (type_names m) b ≡ None →
     type_of_values m a ≡ type_of_values m b → identity m.types a ≡ identity m.types b
 
 -- two types that an accepted module may know of its expressions have values of one type exactly where
 -- acceptance takes them for alike
-abbrev pub AlikeAreTold : Type 0
-AlikeAreTold =
+abbrev pub AlikeAreDistinguished : Type 0
+AlikeAreDistinguished =
     (m : Module) (info : ModuleInfo) → IsTrue (is_accepted m info) →
     (a b : TypeResolution) → IsTrue (resolution_fits (length m.overrides) (length m.types) a) →
     IsTrue (resolution_fits (length m.overrides) (length m.types) b) →
     (type_of_values m a ≡ type_of_values m b) ↔ IsTrue (are_alike m.types a b)
 
-abbrev pub LiteralsAreTold : Type 0
-LiteralsAreTold = (a b : Literal) → literal_value a ≡ literal_value b → a ≡ b
+abbrev pub LiteralsAreDistinguished : Type 0
+LiteralsAreDistinguished = (a b : Literal) → literal_value a ≡ literal_value b → a ≡ b
 
 -- what the runs call two operators is one word only where `one_word` sends them to one
-abbrev pub WordsAreTold : Type 0
-WordsAreTold =
+abbrev pub WordsAreDistinguished : Type 0
+WordsAreDistinguished =
     (a b : Operator) → TypeIsSound a → TypeIsSound b → run_word a ≡ run_word b →
     one_word a ≡ one_word b
 
@@ -195,14 +195,15 @@ abbrev pub WordsAreKept : Type 0
 WordsAreKept = (a : Operator) → run_word (one_word a) ≡ run_word a
 
 -- the number of operands tells apart those that share a word, but for a few
-abbrev pub OperandsAreTold : Type 0
-OperandsAreTold =
-    (a b : Operator) → IsTrue (is_told a) → IsTrue (is_told b) → one_word a ≡ one_word b →
+abbrev pub OperandsAreDistinguished : Type 0
+OperandsAreDistinguished =
+    (a b : Operator) → IsTrue (is_distinguished a) → IsTrue (is_distinguished b) →
+    one_word a ≡ one_word b →
     operand_count a ≡ operand_count b → a ≡ b
 
 -- the words that the run of a text takes for requests are those of the operators that ask
-abbrev pub RequestsAreTold : Type 0
-RequestsAreTold =
+abbrev pub RequestsAreDistinguished : Type 0
+RequestsAreDistinguished =
     (a : Operator) (word : List ℕ) → TypeIsSound a → operator_word a ≡ Some word →
     is_request word ≡ asks a
 
@@ -212,23 +213,25 @@ RequestsAreTold =
 abbrev pub TextOfAHandle : Type 0
 TextOfAHandle =
     (n : Names) (knows : ℕ → Bool) (handle : ℕ) →
-    known_text (type_parts (writer_context n knows) handle)
+    known_text (type_segments (writer_context n knows) handle)
     ≡ option_map type_layout (type_tree n handle)
 
 abbrev pub TextOfAnInner : Type 0
 TextOfAnInner =
     (n : Names) (knows : ℕ → Bool) (it : TypeInner) →
-    known_text (inner_parts (writer_context n knows) it) ≡ option_map type_layout (inner_tree n it)
+    known_text (inner_segments (writer_context n knows) it) ≡ option_map type_layout
+    (inner_tree n it)
 
 -- what has parts of a known text has that text alone
 abbrev pub TextIsKnown : Type 0
 TextIsKnown =
-    (parts : List Part) (bytes text : List ℕ) → IsText parts bytes → known_text parts ≡ Some text →
+    (parts : List Segment) (bytes text : List ℕ) → IsText parts bytes →
+    known_text parts ≡ Some text →
     bytes ≡ text
 
 -- what is refused has none
 abbrev pub RefusedIsUnknown : Type 0
-RefusedIsUnknown = (parts : List Part) → lacks parts ≡ true → known_text parts ≡ None
+RefusedIsUnknown = (parts : List Segment) → lacks parts ≡ true → known_text parts ≡ None
 
 -- of the tree of each type that has one, where structs and overrides have identifiers for names
 abbrev pub OfTrees : (TypeSpecifier → Type 0) → Type 0
@@ -272,5 +275,5 @@ array_type base size stride = resolutions.Value (inners.Array base size stride)
 abbrev pub AlikeButStride : Type 0
 AlikeButStride =
     (types : List Type_) (base : ℕ) (size : ArraySize) (one other : ℕ) →
-    IsTrue (has_form (handle_names types) (array_type base size one)) →
+    IsTrue (is_readable (handle_names types) (array_type base size one)) →
     AreAlike types (array_type base size one) (array_type base size other)

@@ -20,8 +20,8 @@ use Rattle.naga_form.specs.TypeTrees.{resolution_tree}
 use Rattle.naga_words.specs.Contexts.{Names}
 
 -- Does the type have a form in WGSL? A struct without a handle has none.
-abbrev pub has_form : Names → TypeResolution → Bool
-has_form n r = is_some (resolution_tree n r)
+abbrev pub is_readable : Names → TypeResolution → Bool
+is_readable n r = is_some (resolution_tree n r)
 
 -- a length that is a number of 32 bits, or one of so many overrides
 abbrev pub LengthIsWithin : (overrides : ℕ) → ArraySize → Type 0

@@ -7,7 +7,8 @@ use Rattle.std.specs.Prelude.{ℕ, zero, suc, Bool, true, false, if◌then◌els
 use Rattle.std.specs.Prelude.{None, codes, slice_get}
 use Rattle.std.specs.Option.{option_map}
 use Rattle.std.specs.Int.NonZero.{non_zero_u32_get}
-use Rattle.wgsl_text.specs.Types.{TypeSpecifier, Named, Template, NoParts, TypePart, SizePart}
+use Rattle.wgsl_text.specs.Types.{TypeSpecifier, Named, Template, NoTemplateArguments, TypeArgument}
+use Rattle.wgsl_text.specs.Types.{SizeArgument}
 use Rattle.wgsl_text.specs.Types.{of_one, of_two, pointer_tree}
 use Rattle.naga_info.specs.declared.info.TypeResolution.{TypeResolution}
 use Rattle.naga_info.specs.declared.info.TypeResolution.TheVariants.{Handle, Value}
@@ -50,7 +51,8 @@ value_pointer_tree_in (Some space) access value = option_map (pointer_tree space
 
 abbrev pub array_tree : Names → List ℕ → ArraySize → TypeSpecifier → TypeSpecifier
 array_tree n word (size.Constant number) element =
-    Template word (TypePart element (SizePart (non_zero_u32_get number) NoParts))
+    Template word
+    (TypeArgument element (SizeArgument (non_zero_u32_get number) NoTemplateArguments))
 array_tree n word (size.Pending override_handle) element =
     of_two word element (Named (n.override_name override_handle))
 array_tree n word size.Dynamic element = of_one word element

@@ -16,12 +16,12 @@ type_form t ty = unwrap_or (type_tree t ty) (Named [])
 
 -- The type that the `let` of a handle tells, if it is to tell one. One that names a struct that no text
 -- declares is not told.
-abbrev pub told_type :
+abbrev pub annotated_type :
     (explicit : Bool) → Module → TypeNames → List ExpressionInfo → ℕ → Option TypeSpecifier
-told_type true m t es h =
+annotated_type true m t es h =
     option_and_then (λ e. if names_undeclared m e.ty then None else resolution_tree t e.ty)
     (slice_get es h)
-told_type false m t es h = None
+annotated_type false m t es h = None
 
 -- the type of each local has a form
 abbrev pub LocalsHaveForms : TypeNames → List LocalVariable → Type 0

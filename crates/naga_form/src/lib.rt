@@ -8,9 +8,10 @@ ghost use Rattle.naga_form.specs.Laws.{IsAProgram, HasTheInterface, ResolvesAsMe
 ghost use Rattle.naga_form.specs.Laws.{BindsAsCounted, FunctionsAreRead, IsReadAsItsShapes};
 ghost use Rattle.naga_form.specs.Laws.{RunsAsTheModule, ScopesAreChecked, IsConsistent};
 ghost use Rattle.naga_form.specs.Laws.{HasAMeaning, HasAWorld, NamesTell};
-ghost use Rattle.naga_form.specs.Laws.{EveryHasAWorld, IsNotStuck, EveryIsNotStuck, AlikeAreTold};
-ghost use Rattle.naga_form.specs.Laws.{UnspelledAreTold, LiteralsAreTold, WordsAreTold, WordsAreKept};
-ghost use Rattle.naga_form.specs.Laws.{OperandsAreTold, RequestsAreTold};
+ghost use Rattle.naga_form.specs.Laws.{EveryHasAWorld, IsNotStuck, EveryIsNotStuck};
+ghost use Rattle.naga_form.specs.Laws.{AlikeAreDistinguished};
+ghost use Rattle.naga_form.specs.Laws.{UnspelledAreDistinguished, LiteralsAreDistinguished, WordsAreDistinguished, WordsAreKept};
+ghost use Rattle.naga_form.specs.Laws.{OperandsAreDistinguished, RequestsAreDistinguished};
 
 /// The program that is written for an accepted module is one of the grammar, so that its text has
 /// one reading.
@@ -29,14 +30,14 @@ pub fn resolves_as_meant()
     ensures { ResolvesAsMeant }
 {}
 
-/// Its `let`s are those of the emitted handles that are bound, each under its handle's name, and
-/// each tells its handle's type where types are to be told.
+/// Its `let`s are those of the emitted handles that are bound and of the results of statements,
+/// each under its handle's name, and each tells its handle's type where types are to be told.
 pub fn binds_as_counted()
     ensures { BindsAsCounted }
 {}
 
-/// What is written of a function of the part, of which what is written has a form, is read as its
-/// shape is written, whatever is known of it.
+/// What is written of a function that is written so far, of which what is written has a form, is
+/// read as its shape is written, whatever is known of it.
 pub fn functions_are_read()
     ensures { FunctionsAreRead }
 {}
@@ -64,19 +65,19 @@ pub fn scopes_are_checked()
 pub fn has_a_typed_meaning()
     ensures consistent { IsConsistent }
     ensures meaning { HasAMeaning }
-    ensures told { NamesTell }
+    ensures distinguished { NamesTell }
 {}
 
-/// For each such meaning, one world answers by the right types in every run of the module: of a
-/// module of the part that is written so far, and of every accepted module in which the rules of
-/// scope hold, and that holds nothing that no text is ever written for.
+/// For each such meaning, one world answers by the right types in every run of an accepted module
+/// in which the rules of scope hold: of one that is written so far, of which all that is written
+/// has forms, and of every one that holds nothing that no text is ever written for.
 pub fn has_a_typed_world()
     ensures written { HasAWorld }
     ensures every { EveryHasAWorld }
 {}
 
 /// No run of an accepted module is stuck, nor one of its program in a world that keeps the types,
-/// where the rules of scope hold in the module and it is of the part that is written so far. Nor is
+/// where the rules of scope hold in the module and it is written so far. Nor is
 /// one of any other such module that holds nothing that no text is ever written for.
 pub fn is_never_stuck()
     ensures written { IsNotStuck }
@@ -87,26 +88,26 @@ pub fn is_never_stuck()
 /// alike. In any module, two types that no text spells have values of one type only where they are
 /// told by the same, a struct by its handle and any other type by what it is.
 pub fn tells_types_apart()
-    ensures alike { AlikeAreTold }
-    ensures unspelled { UnspelledAreTold }
+    ensures alike { AlikeAreDistinguished }
+    ensures unspelled { UnspelledAreDistinguished }
 {}
 
 /// Different literals have different values.
 pub fn tells_literals_apart()
-    ensures { LiteralsAreTold }
+    ensures { LiteralsAreDistinguished }
 {}
 
 /// What the runs call two operators is one word only where `one_word` sends them to one, and these
 /// do share it. But for samplings, gathers, loads of texels, barriers and conversions, the number
 /// of operands tells those apart that share a word.
 pub fn tells_operators_apart()
-    ensures words { WordsAreTold }
+    ensures words { WordsAreDistinguished }
     ensures kept { WordsAreKept }
-    ensures counts { OperandsAreTold }
+    ensures counts { OperandsAreDistinguished }
 {}
 
 /// The words that the run of a text takes for requests of events are, of all operators, those of
 /// the operators that ask for one.
 pub fn tells_requests_apart()
-    ensures { RequestsAreTold }
+    ensures { RequestsAreDistinguished }
 {}

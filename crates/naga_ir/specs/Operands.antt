@@ -1,6 +1,6 @@
 -- The operand places of expressions and statements, each with the handle that it holds, in the
 -- order in which WGSL writes the operands. The result of a statement is no operand place, nor is an
--- `Emit`'s range.
+-- `Emit`'s range. And which statements have results.
 use Rattle.std.specs.Prelude.{ℕ, List, [], ◌∷◌, ◌++◌, Option, Some, None, drop}
 use Rattle.std.specs.Option.{option_to_list}
 use Rattle.naga_ir.specs.StatementTree.{SimpleStatement, emit, break, continue, return, kill}
@@ -148,6 +148,40 @@ simple_operands (subgroup_gather mode argument outcome) = argument ∷ gather_op
 simple_operands (subgroup_collective_operation op collective_op argument outcome) = argument ∷ []
 simple_operands (cooperative_store target place) = target ∷ cooperative_operands place
 simple_operands (ray_pipeline_function fun) = ray_operands fun
+
+-- those of a statement by itself, without those of the statements in its blocks
+abbrev pub own_operands : StatementTree → List ℕ
+own_operands (simple s) = simple_operands s
+own_operands (block b) = []
+own_operands (branch condition accept reject) = condition ∷ []
+own_operands (switch selector cases) = selector ∷ []
+own_operands (loop body continuing break_if) = option_to_list break_if
+
+-- the expression for which the statement gives a value, if it gives one: its result
+abbrev pub simple_result : SimpleStatement → Option ℕ
+simple_result (emit first end) = None
+simple_result break = None
+simple_result continue = None
+simple_result (return value) = None
+simple_result kill = None
+simple_result (control_barrier flags) = None
+simple_result (memory_barrier flags) = None
+simple_result (store pointer value) = None
+simple_result (image_store image coordinate array_index value) = None
+simple_result (atomic pointer fun value outcome) = outcome
+simple_result (image_atomic image coordinate array_index fun value) = None
+simple_result (work_group_uniform_load pointer outcome) = Some outcome
+simple_result (call function arguments outcome) = outcome
+simple_result (ray_query query) = None
+simple_result (subgroup_ballot outcome predicate) = Some outcome
+simple_result (subgroup_gather mode argument outcome) = Some outcome
+simple_result (subgroup_collective_operation op collective_op argument outcome) = Some outcome
+simple_result (cooperative_store target place) = None
+simple_result (ray_pipeline_function fun) = None
+
+abbrev pub own_result : StatementTree → Option ℕ
+own_result (simple s) = simple_result s
+own_result _ = None
 
 abbrev mutual
   pub statement_operands : StatementTree → List ℕ

@@ -21,6 +21,7 @@ pub mod module;
 pub mod operands;
 pub mod operators;
 pub mod statement;
+pub mod statement_operands;
 pub mod types;
 pub mod unique_arena;
 
@@ -43,6 +44,7 @@ pub use operators::{
     Direction, GatherMode, MathFunction, RelationalFunction, SubgroupOperation, UnaryOperator,
 };
 pub use statement::{Block, Range, RayPipelineFunction, Statement, SwitchCase, SwitchValue};
+pub use statement_operands::StatementOperands;
 pub use types::{
     AddressSpace, ArraySize, CooperativeRole, CooperativeSize, PredeclaredType, Scalar, ScalarKind,
     StructMember, Type_, TypeInner, VectorSize,

@@ -12,7 +12,7 @@ use std::marker::Model;
 
 /// The handle of this number, counted from zero.
 #[inline]
-fn nth(handles: &[Handle<Expression>], number: usize) -> Option<Handle<Expression>>
+pub(crate) fn nth(handles: &[Handle<Expression>], number: usize) -> Option<Handle<Expression>>
     ensures item { result ≡ slice_get handles.now number }
     ensures below { IfSome result (λ _. number < usize.MAX) }
 {
@@ -23,7 +23,10 @@ fn nth(handles: &[Handle<Expression>], number: usize) -> Option<Handle<Expressio
 }
 
 /// The handle of this number among those that there are, counted from zero.
-fn nth_present(handles: &[Option<Handle<Expression>>], number: usize) -> Option<Handle<Expression>>
+pub(crate) fn nth_present(
+    handles: &[Option<Handle<Expression>>],
+    number: usize,
+) -> Option<Handle<Expression>>
     ensures item { result ≡ slice_get (flat_map option_to_list handles.now) number }
     ensures below { IfSome result (λ _. number < usize.MAX) }
 {

@@ -4,9 +4,9 @@
 //! `serde_json::to_string` of a `Module` and of a `ModuleInfo` with naga's feature `serialize`:
 //!
 //! - A struct is an object. Members that this crate does not ask for are let be. An absent option
-//!   is `None`, an absent truth value `false`, and what an absent member of a module, a function or
-//!   an info has is empty, as are `reject`, `continuing` and `memory_decorations`. Other members
-//!   are missed, and so are all in an object that has only unknown ones for a module or an info.
+//!   is `None`, an absent truth value `false`; an absent list, arena, map or block of a module, a
+//!   function or an info is empty, and so are `reject`, `continuing` and `memory_decorations`. Any
+//!   other member is missed. An object of which no member is known is no module and no info.
 //! - An enum is the name of a variant, or an object whose one member is the variant's content, as
 //!   `"Break"` and `{"Load": {"pointer": 2}}`.
 //! - An arena is a list, and a handle a place in it, counted from zero. No two types are equal.

@@ -10,7 +10,10 @@ use Rattle.naga_keywords.specs.Plain.{is_identifier, has_plain_end, IsPlain}
 
 refused : (front digits : List ℕ) → list_all is_ascii_digit digits ≡ true → has_plain_end (front ++ 95 ∷ digits) ≡ false
 refused [] digits h = ap (λ b. not b && has_plain_end digits) h
-refused (c ∷ front) digits h = ap (λ b. not (c == 95 && list_all is_ascii_digit (front ++ 95 ∷ digits)) && b) (refused front digits h) ∙ and-false (not (c == 95 && list_all is_ascii_digit (front ++ 95 ∷ digits)))
+refused (c ∷ front) digits h =
+    ap (λ b. not (c == 95 && list_all is_ascii_digit (front ++ 95 ∷ digits)) && b)
+    (refused front digits h)
+    ∙ and-false (not (c == 95 && list_all is_ascii_digit (front ++ 95 ∷ digits)))
 
 pub plain_is : (word : List ℕ) → (is_identifier word && has_plain_end word) ≡ true → IsPlain word
 plain_is word h =

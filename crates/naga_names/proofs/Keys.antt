@@ -136,7 +136,9 @@ module _ (P : LabelledItem → Type 0) where
   all_append (a ∷ xs) ys x y = (x.0, all_append xs ys x.1 y)
 
   -- what holds of each section holds of all
-  pub each_section : {X : Type 0} (section : ℕ → X → List LabelledItem) → ((n : ℕ) (x : X) → AllByRecursion P (section n x)) → (n : ℕ) (xs : List X) → AllByRecursion P (flat_map (λ p. section p.0 p.1) (enumerate_from n xs))
+  pub each_section : {X : Type 0} (section : ℕ → X → List LabelledItem) →
+      ((n : ℕ) (x : X) → AllByRecursion P (section n x)) → (n : ℕ) (xs : List X) →
+      AllByRecursion P (flat_map (λ p. section p.0 p.1) (enumerate_from n xs))
   each_section section each n [] = tt
   each_section section each n (x ∷ xs) = all_append (section n x) (flat_map (λ p. section p.0 p.1) (enumerate_from (n + 1) xs)) (each n x) (each_section section each (n + 1) xs)
 
@@ -193,7 +195,9 @@ module _ {X : Type 0} (entry : ℕ → X → LabelledItem) where
   entries_all P each n (x ∷ xs) = (each n x, entries_all P each (n + 1) xs)
 
   entries_apart : (i : ℕ) → ((n : ℕ) (x : X) → digit_of i (entry n x).0 ≡ n) → (xs : List X) → AreApart (map (λ p. entry p.0 p.1) (enumerate_from 0 xs))
-  entries_apart i own xs = subst AreApart (single (λ p. entry p.0 p.1) (enumerate_from 0 xs)) (sections_apart (digit_of i) (same_digit i) (λ n x. entry n x ∷ []) (λ n x. (own n x, tt)) (λ n x. (tt, tt)) 0 xs)
+  entries_apart i own xs = subst AreApart (single (λ p. entry p.0 p.1) (enumerate_from 0 xs))
+      (sections_apart (digit_of i) (same_digit i) (λ n x. entry n x ∷ []) (λ n x. (own n x, tt))
+      (λ n x. (tt, tt)) 0 xs)
 
 unlike : (a b : NameKey) (m n : ℕ) → digit_of 4 a ≡ m → digit_of 4 b ≡ n → (m ≡ n → ⊥) → same_key a b ≡ false
 unlike a b m n e f apart = different (digit_of 4) (same_digit 4) a b (λ same. apart (sym e ∙ same ∙ f))
@@ -230,17 +234,30 @@ module _ (external : Bool) (make : ExternalTextureNameKey → NameKey) (item : L
 
 -- ---- functions
 module _ (types : List AType) (h : ℕ) where
-  arguments_all : (P : LabelledItem → Type 0) → ((n : ℕ) (label : List ℕ) → P (FunctionArgument h n, label)) → ((n : ℕ) (part : ExternalTextureNameKey) (label : List ℕ) → P (ExternalTextureFunctionArgument h n part, label)) → (arguments : List AnArgument) → AllByRecursion P (labelled_arguments types h arguments)
+  arguments_all : (P : LabelledItem → Type 0) →
+      ((n : ℕ) (label : List ℕ) → P (FunctionArgument h n, label)) →
+      ((n : ℕ) (part : ExternalTextureNameKey) (label : List ℕ) →
+      P (ExternalTextureFunctionArgument h n part, label)) → (arguments : List AnArgument) →
+      AllByRecursion P (labelled_arguments types h arguments)
   arguments_all P own each arguments =
-      each_section P (labelled_argument types h) (λ n a. with_parts_all (is_external types a.ty) (ExternalTextureFunctionArgument h n) (FunctionArgument h n, label_or a.name (codes "param")) P (own n _) (each n)) 0 arguments
+      each_section P (labelled_argument types h)
+      (λ n a. with_parts_all (is_external types a.ty) (ExternalTextureFunctionArgument h n)
+      (FunctionArgument h n, label_or a.name (codes "param")) P (own n _) (each n)) 0 arguments
 
   arguments_apart : (arguments : List AnArgument) → AreApart (labelled_arguments types h arguments)
   arguments_apart arguments =
       sections_apart (digit_of 3) (same_digit 3) (labelled_argument types h)
-      (λ n a. with_parts_all (is_external types a.ty) (ExternalTextureFunctionArgument h n) (FunctionArgument h n, label_or a.name (codes "param")) (λ item. digit_of 3 item.0 ≡ n) refl (λ part label. refl))
+      (λ n a. with_parts_all (is_external types a.ty) (ExternalTextureFunctionArgument h n)
+      (FunctionArgument h n, label_or a.name (codes "param")) (λ item. digit_of 3 item.0 ≡ n)
+      refl (λ part label. refl))
       (λ n a. with_parts_apart (is_external types a.ty) (ExternalTextureFunctionArgument h n) (FunctionArgument h n, label_or a.name (codes "param")) refl (λ part. refl)) 0 arguments
 
-  function_all : (P : LabelledItem → Type 0) → ((label : List ℕ) → P (Function h, label)) → ((n : ℕ) (label : List ℕ) → P (FunctionArgument h n, label)) → ((n : ℕ) (part : ExternalTextureNameKey) (label : List ℕ) → P (ExternalTextureFunctionArgument h n part, label)) → ((l : ℕ) (label : List ℕ) → P (FunctionLocal h l, label)) → (function : AFunction) → AllByRecursion P (labelled_function types h function)
+  function_all : (P : LabelledItem → Type 0) → ((label : List ℕ) → P (Function h, label)) →
+      ((n : ℕ) (label : List ℕ) → P (FunctionArgument h n, label)) →
+      ((n : ℕ) (part : ExternalTextureNameKey) (label : List ℕ) →
+      P (ExternalTextureFunctionArgument h n part, label)) →
+      ((l : ℕ) (label : List ℕ) → P (FunctionLocal h l, label)) → (function : AFunction) →
+      AllByRecursion P (labelled_function types h function)
   function_all P own arguments parts locals function = (
     own _,
     all_append P (labelled_arguments types h function.arguments.items) (labelled_locals h function.local_variables) (arguments_all P arguments parts function.arguments.items)
@@ -253,7 +270,10 @@ module _ (types : List AType) (h : ℕ) where
       let locals = labelled_locals h function.local_variables in
       let locals_kind = entries_all (λ l (v : ALocal). (FunctionLocal h l, label_or v.name (codes "local"))) in
       apart_append (digit_of 2) (same_digit 2) 1 ((Function h, label_or function.name (codes "function")) ∷ []) (arguments ++ locals) (omega arith, tt)
-      (all_append (λ y. 1 ≤ digit_of 2 y.0) arguments locals (arguments_all (λ y. 1 ≤ digit_of 2 y.0) (λ n label. omega arith) (λ n part label. omega arith) function.arguments.items) (locals_kind (λ y. 1 ≤ digit_of 2 y.0) (λ l v. omega arith) 0 function.local_variables))
+      (all_append (λ y. 1 ≤ digit_of 2 y.0) arguments locals
+      (arguments_all (λ y. 1 ≤ digit_of 2 y.0) (λ n label. omega arith)
+      (λ n part label. omega arith) function.arguments.items)
+      (locals_kind (λ y. 1 ≤ digit_of 2 y.0) (λ l v. omega arith) 0 function.local_variables))
       (tt, tt)
       (apart_append (digit_of 2) (same_digit 2) 2 arguments locals
       (arguments_all (λ y. digit_of 2 y.0 < 2) (λ n label. omega arith) (λ n part label. omega arith) function.arguments.items)
@@ -261,7 +281,13 @@ module _ (types : List AType) (h : ℕ) where
       (arguments_apart function.arguments.items)
       (entries_apart (λ l (v : ALocal). (FunctionLocal h l, label_or v.name (codes "local"))) 3 (λ l v. refl) function.local_variables))
 
-functions_all : (types : List AType) (P : LabelledItem → Type 0) → ((h : ℕ) (label : List ℕ) → P (Function h, label)) → ((h n : ℕ) (label : List ℕ) → P (FunctionArgument h n, label)) → ((h n : ℕ) (part : ExternalTextureNameKey) (label : List ℕ) → P (ExternalTextureFunctionArgument h n part, label)) → ((h l : ℕ) (label : List ℕ) → P (FunctionLocal h l, label)) → (functions : List AFunction) → AllByRecursion P (labelled_functions types functions)
+functions_all : (types : List AType) (P : LabelledItem → Type 0) →
+    ((h : ℕ) (label : List ℕ) → P (Function h, label)) →
+    ((h n : ℕ) (label : List ℕ) → P (FunctionArgument h n, label)) →
+    ((h n : ℕ) (part : ExternalTextureNameKey) (label : List ℕ) →
+    P (ExternalTextureFunctionArgument h n part, label)) →
+    ((h l : ℕ) (label : List ℕ) → P (FunctionLocal h l, label)) → (functions : List AFunction) →
+    AllByRecursion P (labelled_functions types functions)
 functions_all types P own arguments parts locals functions = each_section P (labelled_function types) (λ h f. function_all types h P (own h) (arguments h) (parts h) (locals h) f) 0 functions
 
 functions_apart : (types : List AType) (functions : List AFunction) → AreApart (labelled_functions types functions)
@@ -271,7 +297,10 @@ functions_apart types functions =
 
 -- ---- entry points
 module _ (e : ℕ) where
-  entry_point_all : (P : LabelledItem → Type 0) → ((label : List ℕ) → P (EntryPoint e, label)) → ((n : ℕ) (label : List ℕ) → P (EntryPointArgument e n, label)) → ((l : ℕ) (label : List ℕ) → P (EntryPointLocal e l, label)) → (entry_point : AnEntryPoint) → AllByRecursion P (labelled_entry_point e entry_point)
+  entry_point_all : (P : LabelledItem → Type 0) → ((label : List ℕ) → P (EntryPoint e, label)) →
+      ((n : ℕ) (label : List ℕ) → P (EntryPointArgument e n, label)) →
+      ((l : ℕ) (label : List ℕ) → P (EntryPointLocal e l, label)) → (entry_point : AnEntryPoint) →
+      AllByRecursion P (labelled_entry_point e entry_point)
   entry_point_all P own arguments locals entry_point = (
     own _,
     all_append P (labelled_entry_arguments e entry_point.function.arguments.items) (labelled_entry_locals e entry_point.function.local_variables)
@@ -286,7 +315,11 @@ module _ (e : ℕ) where
       let arguments_kind = entries_all (λ n (a : AnArgument). (EntryPointArgument e n, label_or a.name (codes "param"))) in
       let locals_kind = entries_all (λ l (v : ALocal). (EntryPointLocal e l, label_or v.name (codes "local"))) in
       apart_append (digit_of 2) (same_digit 2) 1 ((EntryPoint e, string_bytes entry_point.name) ∷ []) (arguments ++ locals) (omega arith, tt)
-      (all_append (λ y. 1 ≤ digit_of 2 y.0) arguments locals (arguments_kind (λ y. 1 ≤ digit_of 2 y.0) (λ n a. omega arith) 0 entry_point.function.arguments.items) (locals_kind (λ y. 1 ≤ digit_of 2 y.0) (λ l v. omega arith) 0 entry_point.function.local_variables))
+      (all_append (λ y. 1 ≤ digit_of 2 y.0) arguments locals
+      (arguments_kind (λ y. 1 ≤ digit_of 2 y.0) (λ n a. omega arith) 0
+      entry_point.function.arguments.items)
+      (locals_kind (λ y. 1 ≤ digit_of 2 y.0) (λ l v. omega arith) 0
+      entry_point.function.local_variables))
       (tt, tt)
       (apart_append (digit_of 2) (same_digit 2) 2 arguments locals
       (arguments_kind (λ y. digit_of 2 y.0 < 2) (λ n a. omega arith) 0 entry_point.function.arguments.items)
@@ -294,7 +327,11 @@ module _ (e : ℕ) where
       (entries_apart (λ n (a : AnArgument). (EntryPointArgument e n, label_or a.name (codes "param"))) 3 (λ n a. refl) entry_point.function.arguments.items)
       (entries_apart (λ l (v : ALocal). (EntryPointLocal e l, label_or v.name (codes "local"))) 3 (λ l v. refl) entry_point.function.local_variables))
 
-entry_points_all : (P : LabelledItem → Type 0) → ((e : ℕ) (label : List ℕ) → P (EntryPoint e, label)) → ((e n : ℕ) (label : List ℕ) → P (EntryPointArgument e n, label)) → ((e l : ℕ) (label : List ℕ) → P (EntryPointLocal e l, label)) → (entry_points : List AnEntryPoint) → AllByRecursion P (labelled_entry_points entry_points)
+entry_points_all : (P : LabelledItem → Type 0) →
+    ((e : ℕ) (label : List ℕ) → P (EntryPoint e, label)) →
+    ((e n : ℕ) (label : List ℕ) → P (EntryPointArgument e n, label)) →
+    ((e l : ℕ) (label : List ℕ) → P (EntryPointLocal e l, label)) →
+    (entry_points : List AnEntryPoint) → AllByRecursion P (labelled_entry_points entry_points)
 entry_points_all P own arguments locals entry_points = each_section P labelled_entry_point (λ e p. entry_point_all e P (own e) (arguments e) (locals e) p) 0 entry_points
 
 entry_points_apart : (entry_points : List AnEntryPoint) → AreApart (labelled_entry_points entry_points)
@@ -303,9 +340,15 @@ entry_points_apart entry_points =
     (λ e p. entry_point_all e (λ item. digit_of 1 item.0 ≡ e) (λ label. refl) (λ n label. refl) (λ l label. refl) p) entry_point_apart 0 entry_points
 
 -- ---- globals and types
-globals_all : (types : List AType) (P : LabelledItem → Type 0) → ((g : ℕ) (label : List ℕ) → P (GlobalVariable g, label)) → ((g : ℕ) (part : ExternalTextureNameKey) (label : List ℕ) → P (ExternalTextureGlobalVariable g part, label)) → (globals : List AGlobal) → AllByRecursion P (labelled_globals types globals)
+globals_all : (types : List AType) (P : LabelledItem → Type 0) →
+    ((g : ℕ) (label : List ℕ) → P (GlobalVariable g, label)) →
+    ((g : ℕ) (part : ExternalTextureNameKey) (label : List ℕ) →
+    P (ExternalTextureGlobalVariable g part, label)) → (globals : List AGlobal) →
+    AllByRecursion P (labelled_globals types globals)
 globals_all types P own parts globals =
-    each_section P (labelled_global types) (λ g v. with_parts_all (is_external types v.ty) (ExternalTextureGlobalVariable g) (GlobalVariable g, label_or v.name (codes "global")) P (own g _) (parts g)) 0 globals
+    each_section P (labelled_global types)
+    (λ g v. with_parts_all (is_external types v.ty) (ExternalTextureGlobalVariable g)
+    (GlobalVariable g, label_or v.name (codes "global")) P (own g _) (parts g)) 0 globals
 
 globals_apart : (types : List AType) (globals : List AGlobal) → AreApart (labelled_globals types globals)
 globals_apart types globals =
@@ -315,7 +358,9 @@ globals_apart types globals =
 
 -- a type and its members
 module _ (entry_points : List AnEntryPoint) (t : ℕ) where
-  type_all : (P : LabelledItem → Type 0) → ((label : List ℕ) → P (Type_ t, label)) → ((n : ℕ) (label : List ℕ) → P (StructMember t n, label)) → (ty : AType) → AllByRecursion P (labelled_type entry_points t ty)
+  type_all : (P : LabelledItem → Type 0) → ((label : List ℕ) → P (Type_ t, label)) →
+      ((n : ℕ) (label : List ℕ) → P (StructMember t n, label)) →
+      (ty : AType) → AllByRecursion P (labelled_type entry_points t ty)
   type_all P own each ty = (own _, entries_all (λ n (m : AMember). (StructMember t n, member_label m)) P (λ n m. each n _) 0 (members_of ty.inner))
 
   type_apart : (ty : AType) → AreApart (labelled_type entry_points t ty)
@@ -325,7 +370,10 @@ module _ (entry_points : List AnEntryPoint) (t : ℕ) where
       (entries_all (λ n (m : AMember). (StructMember t n, member_label m)) (λ y. 1 ≤ digit_of 2 y.0) (λ n m. omega arith) 0 members) (tt, tt)
       (entries_apart (λ n (m : AMember). (StructMember t n, member_label m)) 3 (λ n m. refl) members)
 
-pub types_all : (entry_points : List AnEntryPoint) (P : LabelledItem → Type 0) → ((t : ℕ) (label : List ℕ) → P (Type_ t, label)) → ((t n : ℕ) (label : List ℕ) → P (StructMember t n, label)) → (types : List AType) → AllByRecursion P (labelled_types entry_points types)
+pub types_all : (entry_points : List AnEntryPoint) (P : LabelledItem → Type 0) →
+    ((t : ℕ) (label : List ℕ) → P (Type_ t, label)) →
+    ((t n : ℕ) (label : List ℕ) → P (StructMember t n, label)) → (types : List AType) →
+    AllByRecursion P (labelled_types entry_points types)
 types_all entry_points P own each types = each_section P (labelled_type entry_points) (λ t ty. type_all entry_points t P (own t) (each t) ty) 0 types
 
 pub types_apart : (entry_points : List AnEntryPoint) (types : List AType) → AreApart (labelled_types entry_points types)
@@ -369,9 +417,17 @@ module _ («module» : Module) where
   declarations_low : AllByRecursion (λ x. digit_of 0 x.0 < 4) (labelled_declarations «module»)
   declarations_low =
       let m = «module» in
-      all_append (λ x. digit_of 0 x.0 < 4) the_types (the_entry_points ++ (the_functions ++ the_globals)) (types_all m.entry_points.items (λ x. digit_of 0 x.0 < 4) (λ t label. omega arith) (λ t n label. omega arith) m.types)
-      (all_append (λ x. digit_of 0 x.0 < 4) the_entry_points (the_functions ++ the_globals) (entry_points_all (λ x. digit_of 0 x.0 < 4) (λ e label. omega arith) (λ e n label. omega arith) (λ e l label. omega arith) m.entry_points.items)
-      (all_append (λ x. digit_of 0 x.0 < 4) the_functions the_globals (functions_all m.types (λ x. digit_of 0 x.0 < 4) (λ h label. omega arith) (λ h n label. omega arith) (λ h n part label. omega arith) (λ h l label. omega arith) m.functions)
+      all_append (λ x. digit_of 0 x.0 < 4) the_types
+      (the_entry_points ++ (the_functions ++ the_globals))
+      (types_all m.entry_points.items (λ x. digit_of 0 x.0 < 4) (λ t label. omega arith)
+      (λ t n label. omega arith) m.types)
+      (all_append (λ x. digit_of 0 x.0 < 4) the_entry_points (the_functions ++ the_globals)
+      (entry_points_all (λ x. digit_of 0 x.0 < 4) (λ e label. omega arith)
+      (λ e n label. omega arith) (λ e l label. omega arith) m.entry_points.items)
+      (all_append (λ x. digit_of 0 x.0 < 4) the_functions the_globals
+      (functions_all m.types (λ x. digit_of 0 x.0 < 4) (λ h label. omega arith)
+      (λ h n label. omega arith) (λ h n part label. omega arith) (λ h l label. omega arith)
+      m.functions)
       (globals_all m.types (λ x. digit_of 0 x.0 < 4) (λ g label. omega arith) (λ g part label. omega arith) m.global_variables)))
 
   values_apart : (names : ℕ → List ℕ) → AreApart (labelled_values names «module»)
@@ -392,4 +448,7 @@ module _ («module» : Module) where
 -- no item of a module has the key of another one
 pub items_apart : (start : Names) («module» : Module) → AreApart (labelled_items start «module»)
 items_apart start m =
-    apart_append (digit_of 0) (same_digit 0) 4 (labelled_declarations m) (labelled_values (type_name start m) m) (declarations_low m) (values_high m (type_name start m)) (declarations_apart m) (values_apart m (type_name start m))
+    apart_append (digit_of 0) (same_digit 0) 4 (labelled_declarations m)
+    (labelled_values (type_name start m) m) (declarations_low m)
+    (values_high m (type_name start m)) (declarations_apart m)
+    (values_apart m (type_name start m))

@@ -37,7 +37,10 @@ use Rattle.ucd_category.proofs.Computing.{ucd_category}
 -- ---- numeric characters at the front
 pub after_numerics-drop : (cs : List ℕ) → after_numerics cs ≡ drop (prefix_len is_numeric cs) cs
 after_numerics-drop [] = refl
-after_numerics-drop (c ∷ cs) = elim (is_numeric c) as (λ b. cond b (after_numerics cs) (c ∷ cs) ≡ drop (cond b (1 + prefix_len is_numeric cs) 0) (c ∷ cs)) [ true ↦ after_numerics-drop cs ∙ rw one-add refl | false ↦ refl ]
+after_numerics-drop (c ∷ cs) =
+    elim (is_numeric c) as
+    (λ b. cond b (after_numerics cs) (c ∷ cs) ≡ drop (cond b (1 + prefix_len is_numeric cs) 0)
+    (c ∷ cs)) [ true ↦ after_numerics-drop cs ∙ rw one-add refl | false ↦ refl ]
 
 -- ---- `_` at the end
 pub get_or-last : (c d : ℕ) (text : List ℕ) → get_or (c ∷ d ∷ text) (length (c ∷ d ∷ text) - 1) 0 ≡ get_or (d ∷ text) (length (d ∷ text) - 1) 0
@@ -55,7 +58,9 @@ pub with_separator-not : (text : List ℕ) → ends_separated text ≡ false →
 with_separator-not text e = ap (λ b. cond b text (text ++ codes "_")) e
 
 with_separator-cons : (c d : ℕ) (text : List ℕ) → with_separator (c ∷ d ∷ text) ≡ c ∷ with_separator (d ∷ text)
-with_separator-cons c d text = elim (ends_separated (d ∷ text)) as (λ b. cond b (c ∷ d ∷ text) (c ∷ d ∷ text ++ codes "_") ≡ c ∷ cond b (d ∷ text) (d ∷ text ++ codes "_")) [ true ↦ refl | false ↦ refl ]
+with_separator-cons c d text =
+    elim (ends_separated (d ∷ text)) as (λ b. cond b (c ∷ d ∷ text) (c ∷ d ∷ text ++ codes "_") ≡
+    c ∷ cond b (d ∷ text) (d ∷ text ++ codes "_")) [ true ↦ refl | false ↦ refl ]
 
 pub without_last-push : (text : List ℕ) → without_last_separators (text ++ 95 ∷ []) ≡ without_last_separators text
 without_last-push [] = refl
@@ -69,7 +74,16 @@ without_last-done (c ∷ d ∷ text) e = ap (kept_before c) (without_last-done (
 -- ---- squeezing
 squeezed_cons : (c : ℕ) (cs : List ℕ) → (d : ℕ) × (ds : List ℕ) × (without_repeated_underscores (c ∷ cs) ≡ d ∷ ds)
 squeezed_cons c [] = elim (c == 95) as (λ b. (d : ℕ) × (ds : List ℕ) × (cond (b && false) [] (c ∷ []) ≡ d ∷ ds)) [ true ↦ (c, [], refl) | false ↦ (c, [], refl) ]
-squeezed_cons c (e ∷ es) = elim (c == 95 && e == 95) as (λ b. (d : ℕ) × (ds : List ℕ) × (cond b (without_repeated_underscores (e ∷ es)) (c ∷ without_repeated_underscores (e ∷ es)) ≡ d ∷ ds)) [ true ↦ squeezed_cons e es | false ↦ (c, without_repeated_underscores (e ∷ es), refl) ]
+squeezed_cons c (e ∷ es) = elim (c == 95 && e == 95) as (λ b. (d : ℕ) × (ds : List ℕ) ×
+    (cond b (without_repeated_underscores (e ∷ es)) (c ∷ without_repeated_underscores (e ∷ es)) ≡
+    d ∷ ds)) [
+      | true ↦ squeezed_cons e es
+      | false ↦ (
+        c,
+        without_repeated_underscores (e ∷ es),
+        refl,
+      )
+    ]
 
 pub without_repeated_underscores-push_separator : (cs : List ℕ) → without_repeated_underscores (cs ++ 95 ∷ []) ≡ with_separator (without_repeated_underscores cs)
 without_repeated_underscores-push_separator [] = refl
@@ -80,18 +94,30 @@ without_repeated_underscores-push_separator (c ∷ []) = one (c == 95) refl
     one false e = sym (with_separator-not (c ∷ []) e)
 without_repeated_underscores-push_separator (c ∷ d ∷ cs) = more (without_repeated_underscores-push_separator (d ∷ cs)) (squeezed_cons d cs) (c == 95 && d == 95)
   where
-    more : without_repeated_underscores (d ∷ cs ++ 95 ∷ []) ≡ with_separator (without_repeated_underscores (d ∷ cs)) → (e : ℕ) × (es : List ℕ) × (without_repeated_underscores (d ∷ cs) ≡ e ∷ es) → (b : Bool) → cond b (without_repeated_underscores (d ∷ cs ++ 95 ∷ [])) (c ∷ without_repeated_underscores (d ∷ cs ++ 95 ∷ [])) ≡ with_separator (cond b (without_repeated_underscores (d ∷ cs)) (c ∷ without_repeated_underscores (d ∷ cs)))
+    more : without_repeated_underscores (d ∷ cs ++ 95 ∷ []) ≡ with_separator
+        (without_repeated_underscores (d ∷ cs)) → (e : ℕ) × (es : List ℕ) ×
+        (without_repeated_underscores (d ∷ cs) ≡ e ∷ es) →
+        (b : Bool) → cond b (without_repeated_underscores (d ∷ cs ++ 95 ∷ []))
+        (c ∷ without_repeated_underscores (d ∷ cs ++ 95 ∷ [])) ≡ with_separator
+        (cond b (without_repeated_underscores (d ∷ cs)) (c ∷ without_repeated_underscores (d ∷ cs)))
     more so_far some true = so_far
     more so_far some false = ap (λ t. c ∷ t) so_far ∙ ap (λ t. c ∷ with_separator t) some.2 ∙ sym (with_separator-cons c some.0 some.1) ∙ sym (ap (λ t. with_separator (c ∷ t)) some.2)
 
-pub without_repeated_underscores-append : (cs : List ℕ) (d : ℕ) (ds : List ℕ) → (d == 95) ≡ false → without_repeated_underscores (cs ++ d ∷ ds) ≡ without_repeated_underscores cs ++ without_repeated_underscores (d ∷ ds)
+pub without_repeated_underscores-append : (cs : List ℕ) (d : ℕ) (ds : List ℕ) →
+    (d == 95) ≡ false → without_repeated_underscores (cs ++ d ∷ ds) ≡ without_repeated_underscores
+    cs ++ without_repeated_underscores (d ∷ ds)
 without_repeated_underscores-append [] d ds e = refl
 without_repeated_underscores-append (c ∷ []) d ds e =
     ap (λ b. cond b (without_repeated_underscores (d ∷ ds)) (c ∷ without_repeated_underscores (d ∷ ds))) (ap (λ b. c == 95 && b) e ∙ and-false (c == 95))
     ∙ sym (ap (λ b. cond b [] (c ∷ []) ++ without_repeated_underscores (d ∷ ds)) (and-false (c == 95)))
 without_repeated_underscores-append (c ∷ x ∷ cs) d ds e = more (c == 95 && x == 95) (without_repeated_underscores-append (x ∷ cs) d ds e)
   where
-    more : (b : Bool) → without_repeated_underscores (x ∷ cs ++ d ∷ ds) ≡ without_repeated_underscores (x ∷ cs) ++ without_repeated_underscores (d ∷ ds) → cond b (without_repeated_underscores (x ∷ cs ++ d ∷ ds)) (c ∷ without_repeated_underscores (x ∷ cs ++ d ∷ ds)) ≡ cond b (without_repeated_underscores (x ∷ cs)) (c ∷ without_repeated_underscores (x ∷ cs)) ++ without_repeated_underscores (d ∷ ds)
+    more : (b : Bool) → without_repeated_underscores (x ∷ cs ++ d ∷ ds) ≡
+        without_repeated_underscores (x ∷ cs) ++ without_repeated_underscores (d ∷ ds) →
+        cond b (without_repeated_underscores (x ∷ cs ++ d ∷ ds))
+        (c ∷ without_repeated_underscores (x ∷ cs ++ d ∷ ds)) ≡ cond b
+        (without_repeated_underscores (x ∷ cs)) (c ∷ without_repeated_underscores (x ∷ cs)) ++
+        without_repeated_underscores (d ∷ ds)
     more true so_far = so_far
     more false so_far = ap (λ t. c ∷ t) so_far
 
@@ -108,7 +134,9 @@ unseparated-without_repeated_underscores : (cs : List ℕ) → unseparated cs �
 unseparated-without_repeated_underscores [] e = refl
 unseparated-without_repeated_underscores (c ∷ cs) e =
     let parts = and_parts (not (c == 95)) (unseparated cs) e in
-    ap (λ b. cond (b && begins_separated cs) (without_repeated_underscores cs) (c ∷ without_repeated_underscores cs)) (not-true (c == 95) parts.0) ∙ ap (λ t. c ∷ t) (unseparated-without_repeated_underscores cs parts.1)
+    ap (λ b. cond (b && begins_separated cs) (without_repeated_underscores cs)
+    (c ∷ without_repeated_underscores cs)) (not-true (c == 95) parts.0)
+    ∙ ap (λ t. c ∷ t) (unseparated-without_repeated_underscores cs parts.1)
 
 unseparated-zeros : (n : ℕ) → unseparated (replicate n 48) ≡ true
 unseparated-zeros zero = refl
@@ -122,7 +150,12 @@ unseparated-digits zero n behind e = e
 unseparated-digits (suc k) n behind e =
     more (n / 16 == 0) (ap (λ b. b && unseparated behind) (no_separator_glyph (n % 16) (omega arith)) ∙ e) (unseparated-digits k (n / 16) (digit_glyph false (n % 16) ∷ behind))
   where
-    more : (b : Bool) → unseparated (digit_glyph false (n % 16) ∷ behind) ≡ true → (unseparated (digit_glyph false (n % 16) ∷ behind) ≡ true → unseparated (digits_onto k 16 false (n / 16) (digit_glyph false (n % 16) ∷ behind)) ≡ true) → unseparated (cond b (digit_glyph false (n % 16) ∷ behind) (digits_onto k 16 false (n / 16) (digit_glyph false (n % 16) ∷ behind))) ≡ true
+    more : (b : Bool) → unseparated (digit_glyph false (n % 16) ∷ behind) ≡ true →
+        (unseparated (digit_glyph false (n % 16) ∷ behind) ≡ true →
+        unseparated (digits_onto k 16 false (n / 16) (digit_glyph false (n % 16) ∷ behind)) ≡
+        true) → unseparated
+        (cond b (digit_glyph false (n % 16) ∷ behind)
+        (digits_onto k 16 false (n / 16) (digit_glyph false (n % 16) ∷ behind))) ≡ true
     more true one rest = one
     more false one rest = rest one
 
@@ -167,8 +200,18 @@ unfolding spelling body
 spelling-body [] = refl
 spelling-body (c ∷ cs) = either (is_foreign c) refl
   where
-    either : (b : Bool) → is_foreign c ≡ b → cond b (drop 1 (without_repeated_underscores (character_spelling c ++ flat_map character_spelling cs))) (without_repeated_underscores (character_spelling c ++ flat_map character_spelling cs)) ≡ without_repeated_underscores (cond b (drop 1 (character_spelling c ++ flat_map character_spelling cs)) (character_spelling c ++ flat_map character_spelling cs))
-    either true e = ap (λ t. drop 1 (without_repeated_underscores (t ++ flat_map character_spelling cs))) (character_spelling-foreign c e) ∙ sym (ap (λ t. without_repeated_underscores (drop 1 (t ++ flat_map character_spelling cs))) (character_spelling-foreign c e))
+    either : (b : Bool) → is_foreign c ≡ b →
+        cond b (drop 1
+        (without_repeated_underscores (character_spelling c ++ flat_map character_spelling cs)))
+        (without_repeated_underscores (character_spelling c ++ flat_map character_spelling cs)) ≡
+        without_repeated_underscores
+        (cond b (drop 1 (character_spelling c ++ flat_map character_spelling cs))
+        (character_spelling c ++ flat_map character_spelling cs))
+    either true e =
+        ap (λ t. drop 1 (without_repeated_underscores (t ++ flat_map character_spelling cs)))
+        (character_spelling-foreign c e)
+        ∙ sym (ap (λ t. without_repeated_underscores (drop 1 (t ++ flat_map character_spelling cs)))
+        (character_spelling-foreign c e))
     either false e = refl
 
 body-push : (c : ℕ) (cs : List ℕ) (d : ℕ) → body (c ∷ cs ++ d ∷ []) ≡ body (c ∷ cs) ++ character_spelling d
@@ -177,8 +220,16 @@ body-push c cs d =
     ap (λ t. cond (is_foreign c) (drop 1 t) t) (flat_map-append character_spelling (c ∷ cs) (d ∷ []) ∙ ap (λ t. flat_map character_spelling (c ∷ cs) ++ t) (append-nil (character_spelling d)))
     ∙ either (is_foreign c) refl
   where
-    either : (b : Bool) → is_foreign c ≡ b → cond b (drop 1 (character_spelling c ++ flat_map character_spelling cs ++ character_spelling d)) (character_spelling c ++ flat_map character_spelling cs ++ character_spelling d) ≡ cond b (drop 1 (character_spelling c ++ flat_map character_spelling cs)) (character_spelling c ++ flat_map character_spelling cs) ++ character_spelling d
-    either true e = ap (λ t. drop 1 (t ++ flat_map character_spelling cs ++ character_spelling d)) (character_spelling-foreign c e) ∙ sym (ap (λ t. drop 1 (t ++ flat_map character_spelling cs) ++ character_spelling d) (character_spelling-foreign c e))
+    either : (b : Bool) → is_foreign c ≡ b →
+        cond b (drop 1 (character_spelling c ++ flat_map character_spelling cs ++
+        character_spelling d)) (character_spelling c ++ flat_map character_spelling cs ++
+        character_spelling d) ≡ cond b
+        (drop 1 (character_spelling c ++ flat_map character_spelling cs))
+        (character_spelling c ++ flat_map character_spelling cs) ++ character_spelling d
+    either true e = ap (λ t. drop 1 (t ++ flat_map character_spelling cs ++ character_spelling d))
+        (character_spelling-foreign c e)
+        ∙ sym (ap (λ t. drop 1 (t ++ flat_map character_spelling cs) ++ character_spelling d)
+        (character_spelling-foreign c e))
     either false e = refl
 
 -- one more character
@@ -189,7 +240,9 @@ spelling-push c cs d text is = spelling-body (c ∷ cs ++ d ∷ []) ∙ ap witho
 spelling-first : (d : ℕ) (text : List ℕ) → is_foreign d ≡ false → character_spelling d ≡ text → spelling (d ∷ []) ≡ without_repeated_underscores text
 unfolding spelling
 spelling-first d text plain is =
-    ap (λ b. cond b (drop 1 (without_repeated_underscores (character_spelling d ++ []))) (without_repeated_underscores (character_spelling d ++ []))) plain ∙ ap without_repeated_underscores (append-nil (character_spelling d) ∙ is)
+    ap (λ b. cond b (drop 1 (without_repeated_underscores (character_spelling d ++ [])))
+    (without_repeated_underscores (character_spelling d ++ []))) plain
+    ∙ ap without_repeated_underscores (append-nil (character_spelling d) ∙ is)
 
 not_foreign-mark : (c : ℕ) → is_mark c ≡ true → is_foreign c ≡ false
 not_foreign-mark c mark = ap (λ b. not b && not (is_identifier_char c)) mark
@@ -211,7 +264,9 @@ without_repeated_underscores-one : (c : ℕ) → without_repeated_underscores (c
 without_repeated_underscores-one c = ap (λ b. cond b [] (c ∷ [])) (and-false (c == 95))
 
 pub spelling-plain : (cs : List ℕ) (c : ℕ) → is_mark c ≡ false → is_identifier_char c ≡ true → (c == 95) ≡ false → spelling (cs ++ c ∷ []) ≡ spelling cs ++ c ∷ []
-spelling-plain [] c mark plain other = spelling-first c (c ∷ []) (not_foreign-plain c plain) (character_spelling-plain c mark plain) ∙ without_repeated_underscores-one c ∙ sym (ap (λ t. t ++ c ∷ []) spelling-nil)
+spelling-plain [] c mark plain other = spelling-first c (c ∷ []) (not_foreign-plain c plain)
+    (character_spelling-plain c mark plain) ∙ without_repeated_underscores-one c
+    ∙ sym (ap (λ t. t ++ c ∷ []) spelling-nil)
 spelling-plain (d ∷ cs) c mark plain other =
     spelling-push d cs c (c ∷ []) (character_spelling-plain c mark plain)
     ∙ without_repeated_underscores-append (body (d ∷ cs)) c [] other
@@ -222,7 +277,10 @@ body_cons : (c : ℕ) (cs : List ℕ) → (d : ℕ) × (ds : List ℕ) × (body 
 unfolding body
 body_cons c cs = either (is_foreign c) (is_mark c) (is_identifier_char c) refl refl refl
   where
-    either : (f m p : Bool) → is_foreign c ≡ f → is_mark c ≡ m → is_identifier_char c ≡ p → (d : ℕ) × (ds : List ℕ) × (cond f (drop 1 (character_spelling c ++ flat_map character_spelling cs)) (character_spelling c ++ flat_map character_spelling cs) ≡ d ∷ ds)
+    either : (f m p : Bool) → is_foreign c ≡ f → is_mark c ≡ m → is_identifier_char c ≡ p →
+        (d : ℕ) × (ds : List ℕ) ×
+        (cond f (drop 1 (character_spelling c ++ flat_map character_spelling cs))
+        (character_spelling c ++ flat_map character_spelling cs) ≡ d ∷ ds)
     either true m p f_is m_is p_is = (117, hexadecimal c ++ codes "_" ++ flat_map character_spelling cs, ap (λ t. drop 1 (t ++ flat_map character_spelling cs)) (character_spelling-foreign c f_is))
     either false true p f_is m_is p_is = (95, flat_map character_spelling cs, ap (λ t. t ++ flat_map character_spelling cs) (character_spelling-mark c m_is))
     either false false true f_is m_is p_is = (c, flat_map character_spelling cs, ap (λ t. t ++ flat_map character_spelling cs) (character_spelling-plain c m_is p_is))
@@ -236,7 +294,9 @@ spelling_cons c cs =
 
 body-foreign : (c : ℕ) → is_foreign c ≡ true → body (c ∷ []) ≡ by_number c
 unfolding body
-body-foreign c foreign = ap (λ b. cond b (drop 1 (character_spelling c ++ [])) (character_spelling c ++ [])) foreign ∙ ap (λ t. drop 1 (t ++ [])) (character_spelling-foreign c foreign) ∙ append-nil (by_number c)
+body-foreign c foreign =
+    ap (λ b. cond b (drop 1 (character_spelling c ++ [])) (character_spelling c ++ [])) foreign
+    ∙ ap (λ t. drop 1 (t ++ [])) (character_spelling-foreign c foreign) ∙ append-nil (by_number c)
 
 pub spelling-first_foreign : (cs : List ℕ) (c : ℕ) → is_foreign c ≡ true → length (spelling cs) ≡ 0 → spelling (cs ++ c ∷ []) ≡ by_number c
 spelling-first_foreign [] c foreign none = spelling-body (c ∷ []) ∙ ap without_repeated_underscores (body-foreign c foreign) ∙ without_repeated_underscores-by_number c
@@ -370,9 +430,16 @@ pub pushed : {T E : Type 0} (r : Result T E) (old new more : List ℕ) → new �
 pushed r old new more is ok = is ∙ ap (λ b. cond b (old ++ more) old) ok
 
 -- what `write!` of `u{:04x}_` leaves
-pub number_written : {T E : Type 0} (r : Result T E) (old new : List ℕ) (c : ℕ) (d : _) (s : _) → digits_output d ≡ Some (digits 16 false c) → s ≡ format_spec 32 0 4 4 (2 ^ 64 - 1) → OnOk r (AppendsText old new (Some (codes "u") ++? (styled_digits_output d s ++? Some (codes "_")))) → OnOk r (new ≡ old ++ by_number c)
+pub number_written : {T E : Type 0} (r : Result T E) (old new : List ℕ) (c : ℕ) (d : _) (s : _) →
+    digits_output d ≡ Some (digits 16 false c) → s ≡ format_spec 32 0 4 4 (2 ^ 64 - 1) →
+    OnOk r (AppendsText old new
+    (Some (codes "u") ++? (styled_digits_output d s ++? Some (codes "_")))) →
+    OnOk r (new ≡ old ++ by_number c)
 number_written r old new c d s number options written =
-    let shown : styled_digits_output d s ≡ Some (hexadecimal c) = ap (styled_digits_output d) options ∙ ap (option_map (padded_integral (format_spec 32 0 4 4 (2 ^ 64 - 1)) false [])) number ∙ ap Some (padded-hexadecimal c) in
+    let shown : styled_digits_output d s ≡ Some (hexadecimal c) =
+    ap (styled_digits_output d) options
+    ∙ ap (option_map (padded_integral (format_spec 32 0 4 4 (2 ^ 64 - 1)) false [])) number
+    ∙ ap Some (padded-hexadecimal c) in
     on_ok_then r written (λ appended. subst (λ o. AppendsText old new (Some (codes "u") ++? (o ++? Some (codes "_")))) shown appended)
 
 pub nothing_there : (text : List ℕ) → length text ≡ 0 → text ≡ []
@@ -385,7 +452,9 @@ pushed_char r old new encoded c one is ok = pushed r old new encoded is ok ∙ a
 
 -- ---- prefixes
 -- what a test says of the prefixes from the one at i on
-pub any_from : (test : List ℕ → Bool) (prefixes : List (Bor (List ℕ))) (i : ℕ) (d : Bor (List ℕ)) → i < length prefixes → list_any test (map (λ p. p.now) (drop i prefixes)) ≡ (test (get_or prefixes i d).now || list_any test (map (λ p. p.now) (drop (i + 1) prefixes)))
+pub any_from : (test : List ℕ → Bool) (prefixes : List (Bor (List ℕ))) (i : ℕ) (d : Bor (List ℕ)) →
+    i < length prefixes → list_any test (map (λ p. p.now) (drop i prefixes)) ≡
+    (test (get_or prefixes i d).now || list_any test (map (λ p. p.now) (drop (i + 1) prefixes)))
 any_from test prefixes i d lt =
     let split : drop i prefixes ≡ get_or prefixes i d ∷ drop (i + 1) prefixes = rw add-one (drop-cons prefixes i d lt) in
     ap (λ ps. list_any test (map (λ p. p.now) ps)) split
@@ -395,7 +464,10 @@ same_items [] = refl
 same_items (x ∷ xs) = ap (λ t. x ∷ t) (same_items xs)
 
 -- what `pop` leaves of a text that ends in `_`
-pub without_last-pop : (text shorter : List ℕ) (n : ℕ) → n ≡ length text → (get_or text (length text - 1) 0 == 95) ≡ true → text ≡ take (length text - 1) text ++ 95 ∷ [] → (0 < n → get_or text (n - 1) 0 < 128 → shorter ≡ take (n - 1) text) → without_last_separators shorter ≡ without_last_separators text
+pub without_last-pop : (text shorter : List ℕ) (n : ℕ) → n ≡ length text →
+    (get_or text (length text - 1) 0 == 95) ≡ true → text ≡ take (length text - 1) text ++ 95 ∷ [] →
+    (0 < n → get_or text (n - 1) 0 < 128 → shorter ≡ take (n - 1) text) →
+    without_last_separators shorter ≡ without_last_separators text
 without_last-pop text shorter n long last split cut =
     let some : 0 < n = omega (arith, ap length split ∙ length-append (take (length text - 1) text) (95 ∷ [])) in
     let same : get_or text (n - 1) 0 ≡ 95 = ap (λ m. get_or text (m - 1) 0) long ∙ eqb-true _ 95 last in
@@ -411,7 +483,12 @@ module _ (p : ℕ → Bool) (base : ℕ) (each : (n : ℕ) → p (digit_glyph fa
   all_digits_onto (suc k) n behind e =
       more (n / base == 0) (ap (λ b. b && list_all p behind) (each n) ∙ e) (all_digits_onto k (n / base) (digit_glyph false (n % base) ∷ behind))
     where
-      more : (b : Bool) → list_all p (digit_glyph false (n % base) ∷ behind) ≡ true → (list_all p (digit_glyph false (n % base) ∷ behind) ≡ true → list_all p (digits_onto k base false (n / base) (digit_glyph false (n % base) ∷ behind)) ≡ true) → list_all p (cond b (digit_glyph false (n % base) ∷ behind) (digits_onto k base false (n / base) (digit_glyph false (n % base) ∷ behind))) ≡ true
+      more : (b : Bool) → list_all p (digit_glyph false (n % base) ∷ behind) ≡ true →
+          (list_all p (digit_glyph false (n % base) ∷ behind) ≡ true →
+          list_all p (digits_onto k base false (n / base) (digit_glyph false (n % base) ∷ behind)) ≡
+          true) → list_all p
+          (cond b (digit_glyph false (n % base) ∷ behind)
+          (digits_onto k base false (n / base) (digit_glyph false (n % base) ∷ behind))) ≡ true
       more true one rest = one
       more false one rest = rest one
 
@@ -425,7 +502,10 @@ unfolding is_text
 is_text-digits_onto zero n c cs = refl
 is_text-digits_onto (suc k) n c cs = more (n / 10 == 0) (is_text-digits_onto k (n / 10) (digit_glyph false (n % 10)) (c ∷ cs))
   where
-    more : (b : Bool) → is_text (digits_onto k 10 false (n / 10) (digit_glyph false (n % 10) ∷ c ∷ cs)) ≡ true → is_text (cond b (digit_glyph false (n % 10) ∷ c ∷ cs) (digits_onto k 10 false (n / 10) (digit_glyph false (n % 10) ∷ c ∷ cs))) ≡ true
+    more : (b : Bool) →
+        is_text (digits_onto k 10 false (n / 10) (digit_glyph false (n % 10) ∷ c ∷ cs)) ≡ true →
+        is_text (cond b (digit_glyph false (n % 10) ∷ c ∷ cs)
+        (digits_onto k 10 false (n / 10) (digit_glyph false (n % 10) ∷ c ∷ cs))) ≡ true
     more true e = refl
     more false e = e
 
@@ -433,7 +513,10 @@ is_text-digits_of_some : (k n : ℕ) → is_text (digits_onto (suc k) 10 false n
 unfolding is_text
 is_text-digits_of_some k n = more (n / 10 == 0) (is_text-digits_onto k (n / 10) (digit_glyph false (n % 10)) [])
   where
-    more : (b : Bool) → is_text (digits_onto k 10 false (n / 10) (digit_glyph false (n % 10) ∷ [])) ≡ true → is_text (cond b (digit_glyph false (n % 10) ∷ []) (digits_onto k 10 false (n / 10) (digit_glyph false (n % 10) ∷ []))) ≡ true
+    more : (b : Bool) → is_text (digits_onto k 10 false (n / 10) (digit_glyph false (n % 10) ∷ []))
+        ≡ true → is_text
+        (cond b (digit_glyph false (n % 10) ∷ [])
+        (digits_onto k 10 false (n / 10) (digit_glyph false (n % 10) ∷ []))) ≡ true
     more true e = refl
     more false e = e
 
@@ -470,7 +553,9 @@ only_append xs ys x y = list_all-append is_identifier_char xs ys ∙ and_from _ 
 
 only_hexadecimal : (c : ℕ) → only (hexadecimal c)
 unfolding hexadecimal digits
-only_hexadecimal c = only_append (replicate (4 - length (digits_onto 64 16 false c [])) 48) (digits_onto 64 16 false c []) (all_zeros (4 - length (digits_onto 64 16 false c []))) (all_digits_onto is_identifier_char 16 hexadecimal_glyph 64 c [] refl)
+only_hexadecimal c = only_append (replicate (4 - length (digits_onto 64 16 false c [])) 48)
+    (digits_onto 64 16 false c []) (all_zeros (4 - length (digits_onto 64 16 false c [])))
+    (all_digits_onto is_identifier_char 16 hexadecimal_glyph 64 c [] refl)
 
 only_by_number : (c : ℕ) → only (95 ∷ by_number c)
 only_by_number c = only_append (hexadecimal c) (codes "_") (only_hexadecimal c) refl
@@ -576,7 +661,10 @@ without_repeated_underscores-first p (c ∷ []) = either (c == 95)
     either false = refl
 without_repeated_underscores-first p (c ∷ d ∷ cs) = either (c == 95) (d == 95) refl refl (without_repeated_underscores-first p (d ∷ cs))
   where
-    either : (x y : Bool) → (c == 95) ≡ x → (d == 95) ≡ y → begins_by p (without_repeated_underscores (d ∷ cs)) ≡ p d → begins_by p (cond (x && y) (without_repeated_underscores (d ∷ cs)) (c ∷ without_repeated_underscores (d ∷ cs))) ≡ p c
+    either : (x y : Bool) → (c == 95) ≡ x →
+        (d == 95) ≡ y → begins_by p (without_repeated_underscores (d ∷ cs)) ≡ p d →
+        begins_by p (cond (x && y) (without_repeated_underscores (d ∷ cs))
+        (c ∷ without_repeated_underscores (d ∷ cs))) ≡ p c
     either true true ex ey rest = rest ∙ ap p (eqb-true d 95 ey ∙ sym (eqb-true c 95 ex))
     either true false ex ey rest = refl
     either false y ex ey rest = refl
@@ -599,7 +687,10 @@ unfolding begins_by body
 body-first [] e = refl
 body-first (c ∷ cs) e = either (is_foreign c) (is_mark c) (is_identifier_char c) refl refl refl
   where
-    either : (f m p : Bool) → is_foreign c ≡ f → is_mark c ≡ m → is_identifier_char c ≡ p → begins_by is_ascii_digit (cond f (drop 1 (character_spelling c ++ flat_map character_spelling cs)) (character_spelling c ++ flat_map character_spelling cs)) ≡ false
+    either : (f m p : Bool) → is_foreign c ≡ f → is_mark c ≡ m → is_identifier_char c ≡ p →
+        begins_by is_ascii_digit
+        (cond f (drop 1 (character_spelling c ++ flat_map character_spelling cs))
+        (character_spelling c ++ flat_map character_spelling cs)) ≡ false
     either true m p f_is m_is p_is = ap (λ t. begins_by is_ascii_digit (drop 1 (t ++ flat_map character_spelling cs))) (character_spelling-foreign c f_is)
     either false true p f_is m_is p_is = ap (λ t. begins_by is_ascii_digit (t ++ flat_map character_spelling cs)) (character_spelling-mark c m_is)
     either false false true f_is m_is p_is = ap (λ t. begins_by is_ascii_digit (t ++ flat_map character_spelling cs)) (character_spelling-plain c m_is p_is) ∙ digit_not_numeric c e
@@ -648,7 +739,9 @@ before_prefix : (characters : List ℕ) → is_word (or_unnamed (without_last_se
 before_prefix characters =
     let cs = after_numerics characters in
     unnamed_word (without_last_separators (spelling cs)) (only_without (spelling cs) (only_spelling cs))
-    (without-first is_ascii_digit (spelling cs) (ap (begins_by is_ascii_digit) (spelling-body cs) ∙ without_repeated_underscores-first is_ascii_digit (body cs) ∙ body-first cs (after_numerics-first characters)))
+    (without-first is_ascii_digit (spelling cs) (ap (begins_by is_ascii_digit) (spelling-body cs)
+    ∙ without_repeated_underscores-first is_ascii_digit (body cs)
+    ∙ body-first cs (after_numerics-first characters)))
 
 pub base_is_word : (prefixes : List (List ℕ)) (characters : List ℕ) → is_word (base_of prefixes characters) ≡ true
 unfolding base_of
@@ -675,9 +768,15 @@ without_repeated_underscores-double (c ∷ []) = either (c == 95)
     either : (b : Bool) → begins_double (cond (b && false) [] (c ∷ [])) ≡ false
     either true = refl
     either false = refl
-without_repeated_underscores-double (c ∷ d ∷ cs) = either (c == 95) (d == 95) refl refl (without_repeated_underscores (d ∷ cs)) (without_repeated_underscores-double (d ∷ cs)) (without_repeated_underscores-first (λ x. x == 95) (d ∷ cs))
+without_repeated_underscores-double (c ∷ d ∷ cs) =
+    either (c == 95) (d == 95) refl refl (without_repeated_underscores (d ∷ cs))
+    (without_repeated_underscores-double (d ∷ cs))
+    (without_repeated_underscores-first (λ x. x == 95) (d ∷ cs))
   where
-    either : (x y : Bool) → (c == 95) ≡ x → (d == 95) ≡ y → (rest : List ℕ) → begins_double rest ≡ false → begins_by (λ x. x == 95) rest ≡ begins_by (λ x. x == 95) (d ∷ cs) → begins_double (cond (x && y) rest (c ∷ rest)) ≡ false
+    either : (x y : Bool) → (c == 95) ≡ x → (d == 95) ≡ y →
+        (rest : List ℕ) → begins_double rest ≡ false →
+        begins_by (λ x. x == 95) rest ≡ begins_by (λ x. x == 95) (d ∷ cs) →
+        begins_double (cond (x && y) rest (c ∷ rest)) ≡ false
     either true true ex ey rest single first = single
     either true false ex ey [] single first = refl
     either true false ex ey (e ∷ rest) single first = ap (λ b. (c == 95) && b) (first ∙ ey) ∙ and-false (c == 95)
@@ -720,4 +819,7 @@ pub base_not_double : (prefixes : List (List ℕ)) (characters : List ℕ) → b
 unfolding base_of
 base_not_double prefixes characters =
     let cs = after_numerics characters in
-    kept-double prefixes (or_unnamed (without_last_separators (spelling cs))) (unnamed-double (without_last_separators (spelling cs)) (without-double (spelling cs) (ap begins_double (spelling-body cs) ∙ without_repeated_underscores-double (body cs))))
+    kept-double prefixes (or_unnamed (without_last_separators (spelling cs)))
+    (unnamed-double (without_last_separators (spelling cs))
+    (without-double (spelling cs) (ap begins_double (spelling-body cs)
+    ∙ without_repeated_underscores-double (body cs))))

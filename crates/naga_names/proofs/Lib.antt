@@ -1,7 +1,7 @@
 pub mod Label
 pub mod Refusal
 mod Examples
-pub mod Given
+pub mod Assigned
 pub mod Members
 pub mod TypeNames
 pub mod Keys

@@ -67,11 +67,16 @@ last_are xs ys n is =
     ap (λ k. drop k (xs ++ ys)) here ∙ drop-append_seam xs ys
 
 -- a member is named behind the members before it
-pub member_name : (start : Names) (t : ℕ) (earlier done : List LabelledItem) (n : ℕ) (label : List ℕ) → length done ≡ n → item_name start (earlier ++ done) (key.StructMember t n, label) ≡ name_after (member_names start) (map (λ item. item.1) done) label
+pub member_name : (start : Names) (t : ℕ) (earlier done : List LabelledItem) (n : ℕ)
+    (label : List ℕ) → length done ≡ n →
+    item_name start (earlier ++ done) (key.StructMember t n, label) ≡ name_after
+    (member_names start) (map (λ item. item.1) done) label
 member_name start t earlier done n label is = ap (λ items. name_after (member_names start) (map (λ item. item.1) items) label) (last_are earlier done n is)
 
 module _ (start : Names) (t : ℕ) (earlier : List LabelledItem) where
-  named_beside : (done : List LabelledItem) (n : ℕ) (members : List StructMember) → length done ≡ n → named_from start (earlier ++ done) (members_from t n members) ≡ alone_from (member_names start) (map (λ item. item.1) done) (members_from t n members)
+  named_beside : (done : List LabelledItem) (n : ℕ) (members : List StructMember) →
+      length done ≡ n → named_from start (earlier ++ done) (members_from t n members) ≡ alone_from
+      (member_names start) (map (λ item. item.1) done) (members_from t n members)
   named_beside done n [] is = refl
   named_beside done n (m ∷ members) is =
       let item : LabelledItem = (key.StructMember t n, member_label m) in
@@ -114,7 +119,10 @@ puts_more first before now xs ys one two = record {
 }
 
 module _ (old : Names) (before now : NameMap) (t : ℕ) (members : List StructMember) where
-  puts_members : (start : Names) (first : NameMap) (earlier : List LabelledItem) (some : List StructMember) → HasNamedItems start first earlier old before → PutsInto before (named_members (member_names old) t some) now → PutsInto first (named_items start (earlier ++ labelled_members t some)) now
+  puts_members : (start : Names) (first : NameMap) (earlier : List LabelledItem)
+      (some : List StructMember) → HasNamedItems start first earlier old before →
+      PutsInto before (named_members (member_names old) t some) now →
+      PutsInto first (named_items start (earlier ++ labelled_members t some)) now
   puts_members start first earlier some has put =
       subst (λ pairs. PutsInto first pairs now)
       (ap (λ names. named_items start earlier ++ named_members (member_names names) t some) has.words ∙ sym (named_items_members start t earlier some))
@@ -136,14 +144,19 @@ module _ (old : Names) (before now : NameMap) (t : ℕ) (members : List StructMe
       named = earlier ++ labelled_members t (take refused.count members);
       left = members_from t (0 + length (take refused.count members)) (drop refused.count members);
       all =
-          ap (λ all. earlier ++ all) (ap (labelled_members t) (sym (take-append-drop refused.count members)) ∙ entries_grown (λ n (m : StructMember). (key.StructMember t n, member_label m)) 0 (take refused.count members) (drop refused.count members))
+          ap (λ all. earlier ++ all)
+          (ap (labelled_members t) (sym (take-append-drop refused.count members))
+          ∙ entries_grown (λ n (m : StructMember). (key.StructMember t n, member_label m)) 0
+          (take refused.count members) (drop refused.count members))
           ∙ sym (append_assoc earlier (labelled_members t (take refused.count members)) (members_from t (0 + length (take refused.count members)) (drop refused.count members)));
       put = puts_members start first earlier (take refused.count members) has refused.put;
     };
     why = λ start first earlier has. reason start earlier error refused.why;
   }
     where
-      reason : (start : Names) (earlier : List LabelledItem) (error : NamerError) → IsRefusalOfMembers (labelled_members t members) error → IsRefusalOfItems start (earlier ++ labelled_members t members) error
+      reason : (start : Names) (earlier : List LabelledItem) (error : NamerError) →
+          IsRefusalOfMembers (labelled_members t members) error →
+          IsRefusalOfItems start (earlier ++ labelled_members t members) error
       reason start earlier Full never = absurd never
       reason start earlier KeyFull why = list_all-append (λ item. key_fits item.0) earlier (labelled_members t members) ∙ or_not_this (keys_fit earlier) (keys_fit (labelled_members t members)) why
       reason start earlier (Memory e) why = tt
@@ -163,13 +176,27 @@ module _ (start : Names) (before : NameMap) (t : ℕ) where
   labels_folded earlier [] = sym (append-nil earlier)
   labels_folded earlier (x ∷ items) = labels_folded (earlier ++ x.1 ∷ []) items ∙ append_assoc earlier (x.1 ∷ []) (map (λ item. item.1) items)
 
-  named_members-push : (members : List StructMember) (m : StructMember) → named_members start t (members ++ m ∷ []) ≡ named_members start t members ++ (key.StructMember t (length members), name_after start (map member_label members) (member_label m)) ∷ []
+  named_members-push : (members : List StructMember) (m : StructMember) →
+      named_members start t (members ++ m ∷ []) ≡ named_members start t members ++ (
+        key.StructMember t (length members),
+        name_after start (map member_label members) (member_label m),
+      ) ∷ []
   named_members-push members m =
       ap (alone_from start []) (pushed members m)
-      ∙ scan-push (λ earlier item. earlier ++ item.1 ∷ []) (λ earlier item. (item.0, name_after start earlier item.1)) [] (labelled_members t members) (key.StructMember t (length members), member_label m)
-      ∙ ap (λ labels. named_members start t members ++ (key.StructMember t (length members), name_after start labels (member_label m)) ∷ []) (labels_folded [] (labelled_members t members) ∙ own_labels t 0 members)
+      ∙ scan-push (λ earlier item. earlier ++ item.1 ∷ [])
+      (λ earlier item. (item.0, name_after start earlier item.1)) []
+      (labelled_members t members) (key.StructMember t (length members), member_label m)
+      ∙ ap (λ labels. named_members start t members ++ (
+        key.StructMember t (length members),
+        name_after start labels (member_label m),
+      ) ∷ [])
+      (labels_folded [] (labelled_members t members) ∙ own_labels t 0 members)
 
-  pub member_more : (members : List StructMember) (names new : Names) (between now : NameMap) (m : StructMember) → names ≡ record start { uses = names.uses } → length members < 2 ^ 32 → HasNamedMembers start before t members names between → PutsName names between (key.StructMember t (length members)) (member_label m) new now → HasNamedMembers start before t (members ++ m ∷ []) new now
+  pub member_more : (members : List StructMember) (names new : Names) (between now : NameMap)
+      (m : StructMember) → names ≡ record start { uses = names.uses } → length members < 2 ^ 32 →
+      HasNamedMembers start before t members names between →
+      PutsName names between (key.StructMember t (length members)) (member_label m) new now →
+      HasNamedMembers start before t (members ++ m ∷ []) new now
   member_more members names new between now m words small has puts = record {
     labels = subst (HasNamed new) (sym (map-append member_label members (m ∷ []))) (puts.history (map member_label members) has.labels);
     keys =
@@ -179,30 +206,51 @@ module _ (start : Names) (before : NameMap) (t : ℕ) where
     put = record {
       finds = λ q.
           puts.put q
-          ∙ ap (λ name. cond (same_key (key.StructMember t (length members)) q) (Some name) (between q)) (name_of-after names (map member_label members) (member_label m) has.labels ∙ ap (λ n. name_after n (map member_label members) (member_label m)) words)
-          ∙ update_all_push same_key before between (named_members start t members) (key.StructMember t (length members), name_after start (map member_label members) (member_label m)) q (has.put.finds q)
+          ∙ ap (λ name. cond (same_key (key.StructMember t (length members)) q) (Some name)
+          (between q))
+          (name_of-after names (map member_label members) (member_label m) has.labels
+          ∙ ap (λ n. name_after n (map member_label members) (member_label m)) words)
+          ∙ update_all_push same_key before between (named_members start t members) (
+            key.StructMember t (length members),
+            name_after start (map member_label members) (member_label m),
+          ) q (has.put.finds q)
           ∙ sym (ap (λ pairs. update_all same_key before pairs q) (named_members-push members m));
     };
   }
 
   -- the same of the member at i
-  pub member_more_at : (all : List StructMember) (i : ℕ) (names new : Names) (between now : NameMap) (m : StructMember) → i < length all → m ≡ get_or all i m → names ≡ record start { uses = names.uses } → i < 2 ^ 32 → HasNamedMembers start before t (take i all) names between → (n : ℕ) (label : List ℕ) → n ≡ i → label ≡ member_label m → PutsName names between (key.StructMember t n) label new now → HasNamedMembers start before t (take (i + 1) all) new now
+  pub member_more_at : (all : List StructMember) (i : ℕ) (names new : Names) (between now : NameMap)
+      (m : StructMember) → i < length all → m ≡ get_or all i m →
+      names ≡ record start { uses = names.uses } → i < 2 ^ 32 →
+      HasNamedMembers start before t (take i all) names between → (n : ℕ) (label : List ℕ) → n ≡ i →
+      label ≡ member_label m → PutsName names between (key.StructMember t n) label new now →
+      HasNamedMembers start before t (take (i + 1) all) new now
   member_more_at all i names new between now m lt is words small has n label n_is label_is puts =
       let long : length (take i all) ≡ i = omega (arith, length-take-le i all (omega (arith, lt))) in
       let short : length (take i all) < 2 ^ 32 = omega (arith, small, long) in
       subst (λ members. HasNamedMembers start before t members new now) (sym (take_more all i m lt ∙ ap (λ y. take i all ++ y ∷ []) (sym is)))
-      (member_more (take i all) names new between now m words short has (subst (λ k. PutsName names between (key.StructMember t k) (member_label m) new now) (n_is ∙ sym long) (subst (λ label. PutsName names between (key.StructMember t n) label new now) label_is puts)))
+      (member_more (take i all) names new between now m words short has
+      (subst (λ k. PutsName names between (key.StructMember t k) (member_label m) new now)
+      (n_is ∙ sym long)
+      (subst (λ label. PutsName names between (key.StructMember t n) label new now) label_is
+      puts)))
 
   -- ---- why one is refused
   no_full : (members : List StructMember) (names : Names) (label : List ℕ) → length members < 2 ^ 32 → HasNamed names (map member_label members) → IsFull names label → ⊥
   no_full members names label small has full =
       let base : List ℕ = label_base names label in
       let used : labels_with_base names (map member_label members) base ≡ 2 ^ 32 = sym (has.uses_are base) ∙ full in
-      let few : labels_with_base names (map member_label members) base ≤ length (map member_label members) = count_by-le-length (λ label. bytes_eq (label_base names label) base) (map member_label members) in
+      let few : labels_with_base names (map member_label members) base ≤ length
+      (map member_label members) =
+      count_by-le-length (λ label. bytes_eq (label_base names label) base)
+      (map member_label members) in
       let long : length (map member_label members) ≡ length members = length-map members member_label in
       omega (arith, used, few, long, small)
 
-  pub member_refused : (all : List StructMember) (i : ℕ) (names : Names) (between now : NameMap) (label : List ℕ) (error : NamerError) → i < length all → i < 2 ^ 32 → HasNamedMembers start before t (take i all) names between → PutsNoName names between label now error → RefusesMembers start before t all now error
+  pub member_refused : (all : List StructMember) (i : ℕ) (names : Names) (between now : NameMap)
+      (label : List ℕ) (error : NamerError) → i < length all → i < 2 ^ 32 →
+      HasNamedMembers start before t (take i all) names between →
+      PutsNoName names between label now error → RefusesMembers start before t all now error
   member_refused all i names between now label error lt small has none = record {
     count = i;
     put = record { finds = λ q. none.kept q ∙ has.put.finds q };
@@ -217,21 +265,42 @@ module _ (start : Names) (before : NameMap) (t : ℕ) where
       reason KeyFull never = absurd never
       reason (Memory e) why = tt
 
-  pub member_key_refused : (all : List StructMember) (i : ℕ) (names : Names) (between : NameMap) (m : StructMember) → i < length all → m ≡ get_or all i m → (i < 2 ^ 32 → ⊥) → HasNamedMembers start before t (take i all) names between → RefusesMembers start before t all between KeyFull
+  pub member_key_refused : (all : List StructMember) (i : ℕ) (names : Names) (between : NameMap)
+      (m : StructMember) → i < length all → m ≡ get_or all i m →
+      (i < 2 ^ 32 → ⊥) → HasNamedMembers start before t (take i all) names between →
+      RefusesMembers start before t all between KeyFull
   member_key_refused all i names between m lt is past has = record {
     count = i;
     put = has.put;
     why =
-        ap keys_fit (items_at (members_from t) (λ n (m : StructMember). (key.StructMember t n, member_label m) ∷ []) (entries_grown (λ n (m : StructMember). (key.StructMember t n, member_label m))) (λ n m. refl) all i m lt is)
-        ∙ list_all-append (λ item. key_fits item.0) (labelled_members t (take i all)) ((key.StructMember t i, member_label m) ∷ items_left (members_from t) (λ n (m : StructMember). (key.StructMember t n, member_label m) ∷ []) (entries_grown (λ n (m : StructMember). (key.StructMember t n, member_label m))) (λ n m. refl) all i m lt is)
-        ∙ or_not_this (keys_fit (labelled_members t (take i all))) _ (ap (λ b. b && keys_fit (items_left (members_from t) (λ n (m : StructMember). (key.StructMember t n, member_label m) ∷ []) (entries_grown (λ n (m : StructMember). (key.StructMember t n, member_label m))) (λ n m. refl) all i m lt is)) (not_below i (2 ^ 32) past));
+        ap keys_fit (items_at (members_from t)
+        (λ n (m : StructMember). (key.StructMember t n, member_label m) ∷ [])
+        (entries_grown (λ n (m : StructMember). (key.StructMember t n, member_label m)))
+        (λ n m. refl) all i m lt is)
+        ∙ list_all-append (λ item. key_fits item.0) (labelled_members t (take i all))
+        ((key.StructMember t i, member_label m) ∷ items_left (members_from t)
+        (λ n (m : StructMember). (key.StructMember t n, member_label m) ∷ [])
+        (entries_grown (λ n (m : StructMember). (key.StructMember t n, member_label m)))
+        (λ n m. refl) all i m lt is)
+        ∙ or_not_this (keys_fit (labelled_members t (take i all)))
+        _ (ap (λ b. b && keys_fit
+        (items_left (members_from t)
+        (λ n (m : StructMember). (key.StructMember t n, member_label m) ∷ [])
+        (entries_grown (λ n (m : StructMember). (key.StructMember t n, member_label m)))
+        (λ n m. refl) all i m lt is)) (not_below i (2 ^ 32) past));
   }
 
 -- ---- the words while the members are named, and afterwards
 pub within : (inside old : Names) (uses : Uses) (words : Words) → inside ≡ old → uses ≡ finite.empty → words ≡ set.empty → record inside { uses = uses; builtin_identifiers = words } ≡ member_names old
 within inside old uses words same none no_words = λ i. record (same i) { uses = none i; builtin_identifiers = no_words i }
 
-pub outside_again : (inside old last new : Names) (uses : Uses) (words within : Words) → inside ≡ old → last ≡ new → new ≡ record inside { uses = new.uses; builtin_identifiers = within } → uses ≡ inside.uses → words ≡ inside.builtin_identifiers → record last { uses = uses; builtin_identifiers = words } ≡ old
+pub outside_again : (inside old last new : Names) (uses : Uses) (words within : Words) →
+    inside ≡ old → last ≡ new → new ≡ record inside {
+      uses = new.uses;
+      builtin_identifiers =
+          within;
+    } → uses ≡ inside.uses → words ≡ inside.builtin_identifiers →
+    record last { uses = uses; builtin_identifiers = words } ≡ old
 outside_again inside old last new uses words within same last_is kept uses_are words_are = (λ i. record ((last_is ∙ kept) i) { uses = uses_are i; builtin_identifiers = words_are i }) ∙ same
 
 -- Their names after a `reset`.
@@ -263,7 +332,10 @@ behind_right (x ∷ xs) ys item done s =
     let inner = behind_right xs ys item done s in
     record { place = suc inner.place; there = inner.there; front = x ∷ inner.front; before = ap (λ items. x ∷ items) inner.before }
 
-behind_sections : {X : Type 0} (section : ℕ → X → List LabelledItem) (n i : ℕ) (xs : List X) (x : X) (item : LabelledItem) (done : List LabelledItem) → slice_get xs i ≡ Some x → StandsBehind (section (n + i) x) item done → StandsBehind (flat_map (λ p. section p.0 p.1) (enumerate_from n xs)) item done
+behind_sections : {X : Type 0} (section : ℕ → X → List LabelledItem) (n i : ℕ) (xs : List X) (x : X)
+    (item : LabelledItem) (done : List LabelledItem) → slice_get xs i ≡ Some x →
+    StandsBehind (section (n + i) x) item done →
+    StandsBehind (flat_map (λ p. section p.0 p.1) (enumerate_from n xs)) item done
 behind_sections section n i [] x item done e s = absurd (none-some x e)
 behind_sections section n zero (y ∷ xs) x item done e s =
     let here : n + zero ≡ n = omega arith in
@@ -271,7 +343,9 @@ behind_sections section n zero (y ∷ xs) x item done e s =
     (subst (λ z. StandsBehind (section n z) item done) (sym (ap (λ o. unwrap_or o y) e)) (subst (λ m. StandsBehind (section m x) item done) here s))
 behind_sections section n (suc i) (y ∷ xs) x item done e s =
     let next : n + suc i ≡ n + 1 + i = omega arith in
-    behind_right (section n y) (flat_map (λ p. section p.0 p.1) (enumerate_from (n + 1) xs)) item done (behind_sections section (n + 1) i xs x item done e (subst (λ m. StandsBehind (section m x) item done) next s))
+    behind_right (section n y) (flat_map (λ p. section p.0 p.1) (enumerate_from (n + 1) xs)) item
+    done (behind_sections section (n + 1) i xs x item done e
+    (subst (λ m. StandsBehind (section m x) item done) next s))
 
 module _ {X : Type 0} (entry : ℕ → X → LabelledItem) where
   entry_at : (n i : ℕ) (xs : List X) (x : X) → slice_get xs i ≡ Some x → slice_get (map (λ p. entry p.0 p.1) (enumerate_from n xs)) i ≡ Some (entry (n + i) x)
@@ -288,7 +362,9 @@ module _ {X : Type 0} (entry : ℕ → X → LabelledItem) where
   entries_taken n (suc i) (x ∷ xs) = ap (λ items. entry n x ∷ items) (entries_taken (n + 1) i xs)
 
 -- where a member stands in its module
-module _ (start : Names) («module» : Module) (t : ℕ) (ty : Type_) (found : slice_get «module».types t ≡ Some ty) (n : ℕ) (member : StructMember) (there : slice_get (members_of ty.inner) n ≡ Some member) where
+module _ (start : Names) («module» : Module) (t : ℕ) (ty : Type_)
+    (found : slice_get «module».types t ≡ Some ty) (n : ℕ) (member : StructMember)
+    (there : slice_get (members_of ty.inner) n ≡ Some member) where
   abbrev done : List LabelledItem
   done = labelled_members t (take n (members_of ty.inner))
 
@@ -302,7 +378,9 @@ module _ (start : Names) («module» : Module) (t : ℕ) (ty : Type_) (found : s
         place = suc n;
         there = entry_at (λ n (m : StructMember). (key.StructMember t n, member_label m)) 0 n (members_of ty.inner) member there ∙ ap (λ k. Some (key.StructMember t k, member_label member)) same;
         front = (key.Type_ t, type_label «module».entry_points.items t ty) ∷ [];
-        before = ap (λ items. (key.Type_ t, type_label «module».entry_points.items t ty) ∷ items) (entries_taken (λ n (m : StructMember). (key.StructMember t n, member_label m)) 0 n (members_of ty.inner));
+        before = ap (λ items. (key.Type_ t, type_label «module».entry_points.items t ty) ∷ items)
+            (entries_taken (λ n (m : StructMember). (key.StructMember t n, member_label m)) 0 n
+            (members_of ty.inner));
       }
 
   pub in_module : StandsBehind (labelled_items start «module») item done
@@ -320,7 +398,10 @@ module _ (start : Names) («module» : Module) (t : ℕ) (ty : Type_) (found : s
   module _ (before now : NameMap) (put : PutsInto before (named_items start (labelled_items start «module»)) now) where
     pub member_put : now (key.StructMember t n) ≡ Some (name_after (member_names start) (map member_label (take n (members_of ty.inner))) (member_label member))
     member_put =
-        let done_long : length done ≡ n = length-map (enumerate_from 0 (take n (members_of ty.inner))) (λ p. (key.StructMember t p.0, member_label p.1)) ∙ length-enumerate_from 0 (take n (members_of ty.inner)) ∙ long in
+        let done_long : length done ≡ n =
+        length-map (enumerate_from 0 (take n (members_of ty.inner)))
+        (λ p. (key.StructMember t p.0, member_label p.1))
+        ∙ length-enumerate_from 0 (take n (members_of ty.inner)) ∙ long in
         item_put start before now (labelled_items start «module») put (items_apart start «module») in_module.place item in_module.there
         ∙ ap (λ items. Some (item_name start items item)) in_module.before
         ∙ ap Some (member_name start t in_module.front done n (member_label member) done_long)
@@ -348,7 +429,9 @@ module _ (start : Names) where
   member_name_at : List StructMember → ℕ → StructMember → List ℕ
   member_name_at members n member = name_after (member_names start) (map member_label (take n members)) (member_label member)
 
-  members_differ : (members : List StructMember) (n k : ℕ) (a b : StructMember) → n < k → slice_get members n ≡ Some a → slice_get members k ≡ Some b → member_name_at members n a ≡ member_name_at members k b → ⊥
+  members_differ : (members : List StructMember) (n k : ℕ) (a b : StructMember) → n < k →
+      slice_get members n ≡ Some a → slice_get members k ≡ Some b →
+      member_name_at members n a ≡ member_name_at members k b → ⊥
   unfolding member_name_at
   members_differ members n k a b lt there_a there_b same =
       let parts = split_before members n k a lt there_a in
@@ -359,15 +442,20 @@ module _ (start : Names) where
       (same ∙ ap (λ labels. name_after (member_names start) labels (member_label b)) before)
 
 module _ (start : Names) («module» : Module) (before now : NameMap) (put : PutsInto before (named_items start (labelled_items start «module»)) now) where
-  pub put_members_told : (t : ℕ) (ty : Type_) → slice_get «module».types t ≡ Some ty → (n k : ℕ) (a b : StructMember) → slice_get (members_of ty.inner) n ≡ Some a → slice_get (members_of ty.inner) k ≡ Some b → now (key.StructMember t n) ≡ now (key.StructMember t k) → n ≡ k
+  pub put_members_distinguished : (t : ℕ) (ty : Type_) → slice_get «module».types t ≡ Some ty →
+      (n k : ℕ) (a b : StructMember) → slice_get (members_of ty.inner) n ≡ Some a →
+      slice_get (members_of ty.inner) k ≡ Some b →
+      now (key.StructMember t n) ≡ now (key.StructMember t k) → n ≡ k
   unfolding member_name_at
-  put_members_told t ty found n k a b there_a there_b same = either (order n k)
+  put_members_distinguished t ty found n k a b there_a there_b same = either (order n k)
     where
       members : List StructMember
       members = members_of ty.inner
 
       one : member_name_at start members n a ≡ member_name_at start members k b
-      one = ap (λ o. unwrap_or o (member_name_at start members n a)) (sym (member_put start «module» t ty found n a there_a before now put) ∙ same ∙ member_put start «module» t ty found k b there_b before now put)
+      one = ap (λ o. unwrap_or o (member_name_at start members n a))
+          (sym (member_put start «module» t ty found n a there_a before now put) ∙ same
+          ∙ member_put start «module» t ty found k b there_b before now put)
 
       either : (n ≡ k) ⊎ ((n < k) ⊎ (k < n)) → n ≡ k
       either (inl e) = e
@@ -375,5 +463,8 @@ module _ (start : Names) («module» : Module) (before now : NameMap) (put : Put
       either (inr (inr lt)) = absurd (members_differ start members k n b a lt there_b there_a (sym one))
 
 module _ (start : Names) («module» : Module) (before now : NameMap) (names : Names) (has : HasNamedItems start before (labelled_items start «module») names now) where
-  pub members_told : (t : ℕ) (ty : Type_) → slice_get «module».types t ≡ Some ty → (n k : ℕ) (a b : StructMember) → slice_get (members_of ty.inner) n ≡ Some a → slice_get (members_of ty.inner) k ≡ Some b → now (key.StructMember t n) ≡ now (key.StructMember t k) → n ≡ k
-  members_told = put_members_told start «module» before now has.put
+  pub members_distinguished : (t : ℕ) (ty : Type_) → slice_get «module».types t ≡ Some ty →
+      (n k : ℕ) (a b : StructMember) → slice_get (members_of ty.inner) n ≡ Some a →
+      slice_get (members_of ty.inner) k ≡ Some b →
+      now (key.StructMember t n) ≡ now (key.StructMember t k) → n ≡ k
+  members_distinguished = put_members_distinguished start «module» before now has.put

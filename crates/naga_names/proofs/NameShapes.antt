@@ -89,7 +89,10 @@ module _ (names : Names) (base : List ℕ) where
   first_cases : (first_name names base ≡ base ++ 95 ∷ []) ⊎ ((first_name names base ≡ base) × (ends_in_digit base ≡ false) × (is_taken names base ≡ false))
   first_cases = either (ends_in_digit base || is_taken names base) refl
     where
-      either : (b : Bool) → (ends_in_digit base || is_taken names base) ≡ b → (cond b (base ++ codes "_") base ≡ base ++ 95 ∷ []) ⊎ ((cond b (base ++ codes "_") base ≡ base) × (ends_in_digit base ≡ false) × (is_taken names base ≡ false))
+      either : (b : Bool) → (ends_in_digit base || is_taken names base) ≡ b →
+          (cond b (base ++ codes "_") base ≡ base ++ 95 ∷ []) ⊎
+          ((cond b (base ++ codes "_") base ≡ base) × (ends_in_digit base ≡ false) ×
+          (is_taken names base ≡ false))
       either true e = inl refl
       either false e = let parts = or_parts (ends_in_digit base) (is_taken names base) e in inr (refl, parts.0, parts.1)
 
@@ -102,7 +105,9 @@ module _ (names : Names) (base : List ℕ) where
       none : (n == 0) ≡ true → n ≡ 0
       none e = grind (arith, nat_tests)
 
-      either : (b : Bool) → (n == 0) ≡ b → ((n ≡ 0) × (cond b (first_name names base) (later_name base n) ≡ first_name names base)) ⊎ (cond b (first_name names base) (later_name base n) ≡ base ++ 95 ∷ numeral n)
+      either : (b : Bool) → (n == 0) ≡ b →
+          ((n ≡ 0) × (cond b (first_name names base) (later_name base n) ≡ first_name names base)) ⊎
+          (cond b (first_name names base) (later_name base n) ≡ base ++ 95 ∷ numeral n)
       either true e = inl (none e, refl)
       either false e = inr (later_is n)
 
@@ -110,7 +115,9 @@ module _ (names : Names) (base : List ℕ) where
   unfolding ends_by
   first_ends = either first_cases
     where
-      either : (first_name names base ≡ base ++ 95 ∷ []) ⊎ ((first_name names base ≡ base) × (ends_in_digit base ≡ false) × (is_taken names base ≡ false)) → ends_by is_ascii_digit (first_name names base) ≡ false
+      either : (first_name names base ≡ base ++ 95 ∷ []) ⊎
+          ((first_name names base ≡ base) × (ends_in_digit base ≡ false) ×
+          (is_taken names base ≡ false)) → ends_by is_ascii_digit (first_name names base) ≡ false
       either (inl is) = ap (ends_by is_ascii_digit) is ∙ ends_by-append is_ascii_digit base 95 []
       either (inr is) = ap (ends_by is_ascii_digit) is.0 ∙ sym (ends_by-last base) ∙ is.1
 
@@ -153,7 +160,9 @@ module _ (names : Names) (base : List ℕ) where
       either (inr is) = ap is_word is ∙ only_more (95 ∷ numeral n) word (digits_are_only (numeral n) (all_digits-numeral n))
 
   -- ---- a name is none of these words
-  module _ (taken : List ℕ → Bool) (plain : (front digits : List ℕ) → list_all is_ascii_digit digits ≡ true → taken (front ++ 95 ∷ digits) ≡ false) (kept : is_taken names base ≡ false → taken base ≡ false) where
+  module _ (taken : List ℕ → Bool) (plain : (front digits : List ℕ) →
+      list_all is_ascii_digit digits ≡ true → taken (front ++ 95 ∷ digits) ≡ false)
+      (kept : is_taken names base ≡ false → taken base ≡ false) where
     free_of_base : (n : ℕ) → taken (name_of_base names base n) ≡ false
     free_of_base n = either (name_cases n)
       where
@@ -218,7 +227,10 @@ module _ (names : Names) (b c : List ℕ) (m n : ℕ) (b_ends : ends_separated b
 pub name_after_is_word : (start : Names) (earlier : List (List ℕ)) (label : List ℕ) → is_word (name_after start earlier label) ≡ true
 name_after_is_word start earlier label = word_of_base start (label_base start label) (base_is_word start.reserved_prefixes (chars label)) (labels_with_base start earlier (label_base start label))
 
-kept_three : (start : Names) (word : List ℕ) → is_taken start word ≡ false → (set.contains start.keywords word ≡ false) × (set.contains start.builtin_identifiers word ≡ false) × (set.contains start.caseless_keywords (in_lower_case word) ≡ false)
+kept_three : (start : Names) (word : List ℕ) → is_taken start word ≡ false →
+    (set.contains start.keywords word ≡ false) ×
+    (set.contains start.builtin_identifiers word ≡ false) ×
+    (set.contains start.caseless_keywords (in_lower_case word) ≡ false)
 kept_three start word e =
     let outer = or_parts (set.contains start.keywords word || set.contains start.builtin_identifiers word) (set.contains start.caseless_keywords (in_lower_case word)) e in
     let inner = or_parts (set.contains start.keywords word) (set.contains start.builtin_identifiers word) outer.0 in
@@ -236,18 +248,28 @@ identifier_of_base names base n some ends single = either (name_cases names base
     plain : is_word base ≡ true → is_identifier base ≡ true
     plain word = ap is_identifier (sym (append-nil base)) ∙ identifier_more base [] some ends single (ap is_word (append-nil base) ∙ word)
 
-    first : (first_name names base ≡ base ++ 95 ∷ []) ⊎ ((first_name names base ≡ base) × (ends_in_digit base ≡ false) × (is_taken names base ≡ false)) → is_word (first_name names base) ≡ true → is_identifier (first_name names base) ≡ true
+    first : (first_name names base ≡ base ++ 95 ∷ []) ⊎
+        ((first_name names base ≡ base) × (ends_in_digit base ≡ false) ×
+        (is_taken names base ≡ false)) → is_word (first_name names base) ≡ true →
+        is_identifier (first_name names base) ≡ true
     first (inl is) word = ap is_identifier is ∙ identifier_more base (95 ∷ []) some ends single (ap is_word (sym is) ∙ word)
     first (inr is) word = ap is_identifier is.0 ∙ plain some
 
-    either : ((n ≡ 0) × (name_of_base names base n ≡ first_name names base)) ⊎ (name_of_base names base n ≡ base ++ 95 ∷ numeral n) → is_word (name_of_base names base n) ≡ true → is_identifier (name_of_base names base n) ≡ true
+    either : ((n ≡ 0) × (name_of_base names base n ≡ first_name names base)) ⊎
+        (name_of_base names base n ≡ base ++ 95 ∷ numeral n) →
+        is_word (name_of_base names base n) ≡ true →
+        is_identifier (name_of_base names base n) ≡ true
     either (inl is) word = ap is_identifier is.1 ∙ first (first_cases names base) (ap is_word (sym is.1) ∙ word)
     either (inr is) word = ap is_identifier is ∙ identifier_more base (95 ∷ numeral n) some ends single (ap is_word (sym is) ∙ word)
 
 -- a name is an identifier: a word that does not begin with `__`, and is not `_`
 pub name_after_is_identifier : (start : Names) (earlier : List (List ℕ)) (label : List ℕ) → is_identifier (name_after start earlier label) ≡ true
 name_after_is_identifier start earlier label =
-    identifier_of_base start (label_base start label) (labels_with_base start earlier (label_base start label)) (base_is_word start.reserved_prefixes (chars label)) (base_ends start.reserved_prefixes (chars label)) (base_not_double start.reserved_prefixes (chars label))
+    identifier_of_base start (label_base start label)
+    (labels_with_base start earlier (label_base start label))
+    (base_is_word start.reserved_prefixes (chars label))
+    (base_ends start.reserved_prefixes (chars label))
+    (base_not_double start.reserved_prefixes (chars label))
 
 -- ---- the prefixes of WGSL's implementations
 abbrev naga : List ℕ → Bool
@@ -285,21 +307,33 @@ naga_of_base names base n some off = either (name_cases names base n)
     either (inr is) = ap naga is ∙ naga_parted base (numeral n) some ∙ off
 
 -- under the prefixes `__` and `_naga` no name begins with `_naga`
-pub name_after_no_naga : (start : Names) (earlier : List (List ℕ)) (label : List ℕ) → start.reserved_prefixes ≡ codes "__" ∷ codes "_naga" ∷ [] → starts_with nat_eq (name_after start earlier label) (codes "_naga") ≡ false
+pub name_after_no_naga : (start : Names) (earlier : List (List ℕ)) (label : List ℕ) →
+    start.reserved_prefixes ≡ codes "__" ∷ codes "_naga" ∷ [] →
+    starts_with nat_eq (name_after start earlier label) (codes "_naga") ≡ false
 name_after_no_naga start earlier label prefixes =
-    naga_of_base start (label_base start label) (labels_with_base start earlier (label_base start label)) (base_is_word start.reserved_prefixes (chars label)) (base_no_naga start.reserved_prefixes (chars label) prefixes)
+    naga_of_base start (label_base start label)
+    (labels_with_base start earlier (label_base start label))
+    (base_is_word start.reserved_prefixes (chars label))
+    (base_no_naga start.reserved_prefixes (chars label) prefixes)
 
 -- no name is a word of the sets
 pub name_after_no_keyword : (start : Names) (earlier : List (List ℕ)) (label : List ℕ) → HasPlainEnds start.keywords → set.contains start.keywords (name_after start earlier label) ≡ false
-name_after_no_keyword start earlier label plain = free_of_base start (label_base start label) (set.contains start.keywords) plain.no_end (λ e. (kept_three start (label_base start label) e).0) (labels_with_base start earlier (label_base start label))
+name_after_no_keyword start earlier label plain =
+    free_of_base start (label_base start label) (set.contains start.keywords) plain.no_end
+    (λ e. (kept_three start (label_base start label) e).0)
+    (labels_with_base start earlier (label_base start label))
 
-pub name_after_no_builtin : (start : Names) (earlier : List (List ℕ)) (label : List ℕ) → HasPlainEnds start.builtin_identifiers → set.contains start.builtin_identifiers (name_after start earlier label) ≡ false
+pub name_after_no_builtin : (start : Names) (earlier : List (List ℕ)) (label : List ℕ) →
+    HasPlainEnds start.builtin_identifiers →
+    set.contains start.builtin_identifiers (name_after start earlier label) ≡ false
 name_after_no_builtin start earlier label plain =
     let base = label_base start label in
     free_of_base start base (set.contains start.builtin_identifiers) plain.no_end
     (λ e. (kept_three start base e).1) (labels_with_base start earlier base)
 
-pub name_after_no_caseless : (start : Names) (earlier : List (List ℕ)) (label : List ℕ) → HasPlainEnds start.caseless_keywords → set.contains start.caseless_keywords (in_lower_case (name_after start earlier label)) ≡ false
+pub name_after_no_caseless : (start : Names) (earlier : List (List ℕ)) (label : List ℕ) →
+    HasPlainEnds start.caseless_keywords →
+    set.contains start.caseless_keywords (in_lower_case (name_after start earlier label)) ≡ false
 name_after_no_caseless start earlier label plain =
     let base = label_base start label in
     free_of_base start base (λ word. set.contains start.caseless_keywords (in_lower_case word))
@@ -324,7 +358,9 @@ pub plain_ends : (words : List (List ℕ)) → All IsPlain words → HasPlainEnd
 plain_ends words all = record {
   no_end = λ front digits digit.
       set.contains-from_list nat_list_cmp_total words (front ++ 95 ∷ digits)
-      ∙ list_any_none (eq_by_cmp (slice_cmp nat_cmp) (front ++ 95 ∷ digits)) words (λ k d lt. other (front ++ 95 ∷ digits) (get_or words k d) (λ same. (all k d lt).no_end front digits digit (sym same)));
+      ∙ list_any_none (eq_by_cmp (slice_cmp nat_cmp) (front ++ 95 ∷ digits)) words
+      (λ k d lt. other (front ++ 95 ∷ digits) (get_or words k d)
+      (λ same. (all k d lt).no_end front digits digit (sym same)));
 }
   where
     other : (q word : List ℕ) → (q ≡ word → ⊥) → eq_by_cmp (slice_cmp nat_cmp) q word ≡ false
@@ -336,11 +372,16 @@ plain_ends words all = record {
 
 -- no name is `_e` and a number behind it
 pub name_after_not_numbered : (start : Names) (earlier : List (List ℕ)) (label : List ℕ) (h : ℕ) → name_after start earlier label ≡ codes "_e" ++ decimal h → ⊥
-name_after_not_numbered start earlier label h is = numbered_of_base start (label_base start label) (base_is_word start.reserved_prefixes (chars label)) (labels_with_base start earlier (label_base start label)) h is
+name_after_not_numbered start earlier label h is =
+    numbered_of_base start (label_base start label)
+    (base_is_word start.reserved_prefixes (chars label))
+    (labels_with_base start earlier (label_base start label)) h is
 
 -- ---- no name comes twice
 module _ (start : Names) where
-  pub counted_more : (first : List (List ℕ)) (a : List ℕ) (rest : List (List ℕ)) (base : List ℕ) → label_base start a ≡ base → labels_with_base start (first ++ a ∷ rest) base ≡ labels_with_base start first base + (1 + labels_with_base start rest base)
+  pub counted_more : (first : List (List ℕ)) (a : List ℕ) (rest : List (List ℕ)) (base : List ℕ) →
+      label_base start a ≡ base → labels_with_base start (first ++ a ∷ rest) base ≡
+      labels_with_base start first base + (1 + labels_with_base start rest base)
   counted_more first a rest base same =
       sum_by-append (λ l. cond (bytes_eq (label_base start l) base) 1 0) first (a ∷ rest)
       ∙ ap (λ n. labels_with_base start first base + n)

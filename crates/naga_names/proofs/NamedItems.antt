@@ -79,7 +79,10 @@ order (suc i) (suc j) = next (order i j)
 
 module _ (start : Names) (items : List LabelledItem) where
   -- items at two places have different names
-  pub item_names_differ : (i j : ℕ) (x y : LabelledItem) → i < j → slice_get items i ≡ Some x → slice_get items j ≡ Some y → is_member x.0 ≡ false → is_member y.0 ≡ false → name_after start (labels_of (take i items)) x.1 ≡ name_after start (labels_of (take j items)) y.1 → ⊥
+  pub item_names_differ : (i j : ℕ) (x y : LabelledItem) → i < j → slice_get items i ≡ Some x →
+      slice_get items j ≡ Some y → is_member x.0 ≡ false → is_member y.0 ≡ false →
+      name_after start (labels_of (take i items)) x.1 ≡ name_after start (labels_of (take j items))
+      y.1 → ⊥
   item_names_differ i j x y lt ex ey out_x out_y same =
       let parts = split_two items i j x y lt ex ey in
       let front : List (List ℕ) = labels_of (take i items) in
@@ -87,7 +90,10 @@ module _ (start : Names) (items : List LabelledItem) where
       names_differ start front x.1 (labels_of parts.middle) y.1 (same ∙ ap (λ labels. name_after start labels y.1) before)
 
   -- two places with one name are one place
-  pub item_names_tell : (i j : ℕ) (x y : LabelledItem) → slice_get items i ≡ Some x → slice_get items j ≡ Some y → is_member x.0 ≡ false → is_member y.0 ≡ false → name_after start (labels_of (take i items)) x.1 ≡ name_after start (labels_of (take j items)) y.1 → i ≡ j
+  pub item_names_tell : (i j : ℕ) (x y : LabelledItem) → slice_get items i ≡ Some x →
+      slice_get items j ≡ Some y → is_member x.0 ≡ false → is_member y.0 ≡ false →
+      name_after start (labels_of (take i items)) x.1 ≡ name_after start (labels_of (take j items))
+      y.1 → i ≡ j
   item_names_tell i j x y ex ey out_x out_y same = either (order i j)
     where
       either : (i ≡ j) ⊎ ((i < j) ⊎ (j < i)) → i ≡ j
@@ -96,7 +102,9 @@ module _ (start : Names) (items : List LabelledItem) where
       either (inr (inr lt)) = absurd (item_names_differ j i y x lt ey ex out_y out_x (sym same))
 
 -- ---- what a map has of the names that were put into it
-apart_from : (start : Names) (k : NameKey) (earlier items : List LabelledItem) → AllByRecursion (λ y. same_key k y.0 ≡ false) items → AllByRecursion (λ y. same_key k y ≡ false) (keys_of (named_from start earlier items))
+apart_from : (start : Names) (k : NameKey) (earlier items : List LabelledItem) →
+    AllByRecursion (λ y. same_key k y.0 ≡ false) items →
+    AllByRecursion (λ y. same_key k y ≡ false) (keys_of (named_from start earlier items))
 apart_from start k earlier [] all = tt
 apart_from start k earlier (x ∷ items) all = (all.0, apart_from start k (earlier ++ x ∷ []) items all.1)
 
@@ -110,7 +118,10 @@ at_place P [] i y all e = absurd (none-some y e)
 at_place P (x ∷ xs) zero y all e = subst P (same_Some x y e) all.0
 at_place P (x ∷ xs) (suc i) y all e = at_place P xs i y all.1 e
 
-found : (start : Names) (earlier items : List LabelledItem) (i : ℕ) (item : LabelledItem) → AreApart items → slice_get items i ≡ Some item → lookup (same_key item.0) (named_from start earlier items) ≡ Some (item_name start (earlier ++ take i items) item)
+found : (start : Names) (earlier items : List LabelledItem) (i : ℕ) (item : LabelledItem) →
+    AreApart items → slice_get items i ≡ Some item →
+    lookup (same_key item.0) (named_from start earlier items) ≡
+    Some (item_name start (earlier ++ take i items) item)
 found start earlier [] i item apart e = absurd (none-some item e)
 found start earlier (x ∷ items) zero item apart e =
     let same = same_Some x item e in
@@ -130,25 +141,34 @@ absent start k earlier (x ∷ items) all =
     ∙ absent start k (earlier ++ x ∷ []) items all.1
 
 -- among the names of some items, an item's key has its name, and a key that no item has none
-pub name_found : (start : Names) (items : List LabelledItem) (i : ℕ) (item : LabelledItem) → AreApart items → slice_get items i ≡ Some item → lookup (same_key item.0) (named_items start items) ≡ Some (item_name start (take i items) item)
+pub name_found : (start : Names) (items : List LabelledItem) (i : ℕ) (item : LabelledItem) →
+    AreApart items → slice_get items i ≡ Some item →
+    lookup (same_key item.0) (named_items start items) ≡ Some (item_name start (take i items) item)
 name_found start items i item apart e = found start [] items i item apart e
 
 pub name_absent : (start : Names) (items : List LabelledItem) (k : NameKey) → AllByRecursion (λ y. same_key k y.0 ≡ false) items → lookup (same_key k) (named_items start items) ≡ None
 name_absent start items k none = absent start k [] items none
 
 -- the name of the item at a place is in the map
-pub item_put : (start : Names) (before now : NameMap) (items : List LabelledItem) → PutsInto before (named_items start items) now → AreApart items → (i : ℕ) (item : LabelledItem) → slice_get items i ≡ Some item → now item.0 ≡ Some (item_name start (take i items) item)
+pub item_put : (start : Names) (before now : NameMap) (items : List LabelledItem) →
+    PutsInto before (named_items start items) now → AreApart items → (i : ℕ) (item : LabelledItem) →
+    slice_get items i ≡ Some item → now item.0 ≡ Some (item_name start (take i items) item)
 item_put start before now items put apart i item e =
     put.finds item.0
     ∙ update_all_distinct same_key_laws same_key (λ x y. refl) before (named_items start items) item.0 (keys_distinct start [] items apart)
     ∙ ap (λ o. option_or o (before item.0)) (name_found start items i item apart e)
 
 -- of an item outside structs, the name behind the labels before it
-pub put_at : (start : Names) (before now : NameMap) (items : List LabelledItem) → PutsInto before (named_items start items) now → AreApart items → (i : ℕ) (item : LabelledItem) → slice_get items i ≡ Some item → is_member item.0 ≡ false → now item.0 ≡ Some (name_after start (labels_of (take i items)) item.1)
+pub put_at : (start : Names) (before now : NameMap) (items : List LabelledItem) →
+    PutsInto before (named_items start items) now → AreApart items → (i : ℕ) (item : LabelledItem) →
+    slice_get items i ≡ Some item → is_member item.0 ≡ false →
+    now item.0 ≡ Some (name_after start (labels_of (take i items)) item.1)
 put_at start before now items put apart i item e outside = item_put start before now items put apart i item e ∙ ap Some (item_name-outside start (take i items) item.0 item.1 outside)
 
 -- a map has at a key that no item has what it had
-pub put_elsewhere : (start : Names) (before now : NameMap) (items : List LabelledItem) → PutsInto before (named_items start items) now → AreApart items → (key : NameKey) → AllByRecursion (λ y. same_key key y.0 ≡ false) items → now key ≡ before key
+pub put_elsewhere : (start : Names) (before now : NameMap) (items : List LabelledItem) →
+    PutsInto before (named_items start items) now → AreApart items →
+    (key : NameKey) → AllByRecursion (λ y. same_key key y.0 ≡ false) items → now key ≡ before key
 put_elsewhere start before now items put apart k none =
     put.finds k
     ∙ update_all_distinct same_key_laws same_key (λ x y. refl) before (named_items start items) k (keys_distinct start [] items apart)
@@ -187,11 +207,15 @@ pub among_right : (xs ys : List LabelledItem) (item : LabelledItem) → IsAmong 
 among_right [] ys item s = s
 among_right (x ∷ xs) ys item s = let inner = among_right xs ys item s in record { place = suc inner.place; there = inner.there }
 
-pub among_sections : {X : Type 0} (section : ℕ → X → List LabelledItem) (n i : ℕ) (xs : List X) (x : X) (item : LabelledItem) → slice_get xs i ≡ Some x → IsAmong (section (n + i) x) item → IsAmong (flat_map (λ p. section p.0 p.1) (enumerate_from n xs)) item
+pub among_sections : {X : Type 0} (section : ℕ → X → List LabelledItem) (n i : ℕ) (xs : List X)
+    (x : X) (item : LabelledItem) → slice_get xs i ≡ Some x → IsAmong (section (n + i) x) item →
+    IsAmong (flat_map (λ p. section p.0 p.1) (enumerate_from n xs)) item
 among_sections section n i [] x item e s = absurd (none-some x e)
 among_sections section n zero (y ∷ xs) x item e s =
     let here : n + zero ≡ n = omega arith in
-    among_left (section n y) (flat_map (λ p. section p.0 p.1) (enumerate_from (n + 1) xs)) item (subst (λ z. IsAmong (section n z) item) (sym (same_Some y x e)) (subst (λ m. IsAmong (section m x) item) here s))
+    among_left (section n y) (flat_map (λ p. section p.0 p.1) (enumerate_from (n + 1) xs)) item
+    (subst (λ z. IsAmong (section n z) item) (sym (same_Some y x e))
+    (subst (λ m. IsAmong (section m x) item) here s))
 among_sections section n (suc i) (y ∷ xs) x item e s =
     let next : n + suc i ≡ n + 1 + i = omega arith in
     among_right (section n y) (flat_map (λ p. section p.0 p.1) (enumerate_from (n + 1) xs)) item (among_sections section (n + 1) i xs x item e (subst (λ m. IsAmong (section m x) item) next s))
@@ -211,18 +235,32 @@ stands_left xs ys item s = standing s (among_left xs ys item (among s))
 pub stands_right : (xs ys : List LabelledItem) (item : LabelledItem) → Stands ys item → Stands (xs ++ ys) item
 stands_right xs ys item s = standing s (among_right xs ys item (among s))
 
-pub stands_in_section : {X : Type 0} (section : ℕ → X → List LabelledItem) (n i : ℕ) (xs : List X) (x : X) (item : LabelledItem) → slice_get xs i ≡ Some x → Stands (section (n + i) x) item → Stands (flat_map (λ p. section p.0 p.1) (enumerate_from n xs)) item
+pub stands_in_section : {X : Type 0} (section : ℕ → X → List LabelledItem) (n i : ℕ) (xs : List X)
+    (x : X) (item : LabelledItem) → slice_get xs i ≡ Some x → Stands (section (n + i) x) item →
+    Stands (flat_map (λ p. section p.0 p.1) (enumerate_from n xs)) item
 stands_in_section section n i xs x item e s = standing s (among_sections section n i xs x item e (among s))
 
-pub stands_in_entries : {X : Type 0} (entry : ℕ → X → LabelledItem) (i : ℕ) (xs : List X) (x : X) → slice_get xs i ≡ Some x → is_member (entry i x).0 ≡ false → Stands (map (λ p. entry p.0 p.1) (enumerate_from 0 xs)) (entry i x)
+pub stands_in_entries : {X : Type 0} (entry : ℕ → X → LabelledItem) (i : ℕ) (xs : List X) (x : X) →
+    slice_get xs i ≡ Some x → is_member (entry i x).0 ≡ false →
+    Stands (map (λ p. entry p.0 p.1) (enumerate_from 0 xs)) (entry i x)
 stands_in_entries entry i xs x e outside = let a = among_entries entry i xs x e in record { place = a.place; there = a.there; outside = outside }
 
 -- ---- the items of a module, each where its list has it
-pub type_among_types : (start : Names) («module» : Module) (t : ℕ) (ty : Type_) → slice_get «module».types t ≡ Some ty → Stands (labelled_types «module».entry_points.items «module».types) (key.Type_ t, type_label «module».entry_points.items t ty)
+pub type_among_types : (start : Names) («module» : Module) (t : ℕ) (ty : Type_) →
+    slice_get «module».types t ≡ Some ty →
+    Stands (labelled_types «module».entry_points.items «module».types) (
+      key.Type_ t,
+      type_label «module».entry_points.items t ty,
+    )
 type_among_types start m t ty e =
     let same : t ≡ 0 + t = omega arith in
     stands_in_section (labelled_type m.entry_points.items) 0 t m.types ty (key.Type_ t, type_label m.entry_points.items t ty) e
-    (subst (λ n. Stands (labelled_type m.entry_points.items n ty) (key.Type_ t, type_label m.entry_points.items t ty)) same (stands_first (key.Type_ t, type_label m.entry_points.items t ty) (labelled_members t (members_of ty.inner)) refl))
+    (subst (λ n. Stands (labelled_type m.entry_points.items n ty) (
+      key.Type_ t,
+      type_label m.entry_points.items t ty,
+    )) same
+    (stands_first (key.Type_ t, type_label m.entry_points.items t ty)
+    (labelled_members t (members_of ty.inner)) refl))
 
 module _ (start : Names) («module» : Module) where
   abbrev the_values : List LabelledItem
@@ -249,33 +287,61 @@ module _ (start : Names) («module» : Module) where
       declared (key.Type_ t, type_label «module».entry_points.items t ty)
       (stands_left the_types (the_entry_points ++ (the_functions ++ the_globals)) (key.Type_ t, type_label «module».entry_points.items t ty) (type_among_types start «module» t ty e))
 
-  in_entry_point : (n : ℕ) (entry_point : EntryPoint) (item : LabelledItem) → slice_get «module».entry_points.items n ≡ Some entry_point → Stands (labelled_entry_point n entry_point) item → Stands (labelled_items start «module») item
+  in_entry_point : (n : ℕ) (entry_point : EntryPoint) (item : LabelledItem) →
+      slice_get «module».entry_points.items n ≡ Some entry_point →
+      Stands (labelled_entry_point n entry_point) item → Stands (labelled_items start «module») item
   in_entry_point n entry_point item e s =
       let same : n ≡ 0 + n = omega arith in
       declared item (stands_right the_types (the_entry_points ++ (the_functions ++ the_globals)) item
       (stands_left the_entry_points (the_functions ++ the_globals) item
       (stands_in_section labelled_entry_point 0 n «module».entry_points.items entry_point item e (subst (λ k. Stands (labelled_entry_point k entry_point) item) same s))))
 
-  pub entry_point_stands : (n : ℕ) (entry_point : EntryPoint) → slice_get «module».entry_points.items n ≡ Some entry_point → Stands (labelled_items start «module») (key.EntryPoint n, string_bytes entry_point.name)
+  pub entry_point_stands : (n : ℕ) (entry_point : EntryPoint) →
+      slice_get «module».entry_points.items n ≡ Some entry_point →
+      Stands (labelled_items start «module») (key.EntryPoint n, string_bytes entry_point.name)
   entry_point_stands n entry_point e = in_entry_point n entry_point (key.EntryPoint n, string_bytes entry_point.name) e (stands_first _ _ refl)
 
-  pub entry_argument_stands : (n : ℕ) (entry_point : EntryPoint) (a : ℕ) (argument : FunctionArgument) → slice_get «module».entry_points.items n ≡ Some entry_point → slice_get entry_point.function.arguments.items a ≡ Some argument → Stands (labelled_items start «module») (key.EntryPointArgument n a, label_or argument.name (codes "param"))
+  pub entry_argument_stands : (n : ℕ) (entry_point : EntryPoint) (a : ℕ)
+      (argument : FunctionArgument) → slice_get «module».entry_points.items n ≡ Some entry_point →
+      slice_get entry_point.function.arguments.items a ≡ Some argument →
+      Stands (labelled_items start «module») (
+        key.EntryPointArgument n a,
+        label_or argument.name (codes "param"),
+      )
   entry_argument_stands n entry_point a argument e f =
       let item : LabelledItem = (key.EntryPointArgument n a, label_or argument.name (codes "param")) in
       let arguments = labelled_entry_arguments n entry_point.function.arguments.items in
       let locals = labelled_entry_locals n entry_point.function.local_variables in
       in_entry_point n entry_point item e (stands_right ((key.EntryPoint n, string_bytes entry_point.name) ∷ []) (arguments ++ locals) item
-      (stands_left arguments locals item (stands_in_entries (λ k (b : FunctionArgument). (key.EntryPointArgument n k, label_or b.name (codes "param"))) a entry_point.function.arguments.items argument f refl)))
+      (stands_left arguments locals item
+      (stands_in_entries
+      (λ k (b : FunctionArgument). (
+        key.EntryPointArgument n k,
+        label_or b.name (codes "param"),
+      )) a entry_point.function.arguments.items argument f
+      refl)))
 
-  pub entry_local_stands : (n : ℕ) (entry_point : EntryPoint) (l : ℕ) (local : LocalVariable) → slice_get «module».entry_points.items n ≡ Some entry_point → slice_get entry_point.function.local_variables l ≡ Some local → Stands (labelled_items start «module») (key.EntryPointLocal n l, label_or local.name (codes "local"))
+  pub entry_local_stands : (n : ℕ) (entry_point : EntryPoint) (l : ℕ) (local : LocalVariable) →
+      slice_get «module».entry_points.items n ≡ Some entry_point →
+      slice_get entry_point.function.local_variables l ≡ Some local →
+      Stands (labelled_items start «module») (
+        key.EntryPointLocal n l,
+        label_or local.name (codes "local"),
+      )
   entry_local_stands n entry_point l local e f =
       let item : LabelledItem = (key.EntryPointLocal n l, label_or local.name (codes "local")) in
       let arguments = labelled_entry_arguments n entry_point.function.arguments.items in
       let locals = labelled_entry_locals n entry_point.function.local_variables in
       in_entry_point n entry_point item e (stands_right ((key.EntryPoint n, string_bytes entry_point.name) ∷ []) (arguments ++ locals) item
-      (stands_right arguments locals item (stands_in_entries (λ k (v : LocalVariable). (key.EntryPointLocal n k, label_or v.name (codes "local"))) l entry_point.function.local_variables local f refl)))
+      (stands_right arguments locals item
+      (stands_in_entries
+      (λ k (v : LocalVariable). (key.EntryPointLocal n k, label_or v.name (codes "local"))) l
+      entry_point.function.local_variables local f refl)))
 
-  in_function : (h : ℕ) (function : Function) (item : LabelledItem) → slice_get «module».functions h ≡ Some function → Stands (labelled_function «module».types h function) item → Stands (labelled_items start «module») item
+  in_function : (h : ℕ) (function : Function) (item : LabelledItem) →
+      slice_get «module».functions h ≡ Some function →
+      Stands (labelled_function «module».types h function) item →
+      Stands (labelled_items start «module») item
   in_function h function item e s =
       let same : h ≡ 0 + h = omega arith in
       declared item (stands_right the_types (the_entry_points ++ (the_functions ++ the_globals)) item
@@ -283,10 +349,19 @@ module _ (start : Names) («module» : Module) where
       (stands_left the_functions the_globals item
       (stands_in_section (labelled_function «module».types) 0 h «module».functions function item e (subst (λ n. Stands (labelled_function «module».types n function) item) same s)))))
 
-  pub function_stands : (h : ℕ) (function : Function) → slice_get «module».functions h ≡ Some function → Stands (labelled_items start «module») (key.Function h, label_or function.name (codes "function"))
+  pub function_stands : (h : ℕ) (function : Function) →
+      slice_get «module».functions h ≡ Some function →
+      Stands (labelled_items start «module») (
+        key.Function h,
+        label_or function.name (codes "function"),
+      )
   function_stands h function e = in_function h function (key.Function h, label_or function.name (codes "function")) e (stands_first _ _ refl)
 
-  in_argument : (h : ℕ) (function : Function) (n : ℕ) (argument : FunctionArgument) (item : LabelledItem) → slice_get «module».functions h ≡ Some function → slice_get function.arguments.items n ≡ Some argument → Stands (labelled_argument «module».types h n argument) item → Stands (labelled_items start «module») item
+  in_argument : (h : ℕ) (function : Function) (n : ℕ) (argument : FunctionArgument)
+      (item : LabelledItem) → slice_get «module».functions h ≡ Some function →
+      slice_get function.arguments.items n ≡ Some argument →
+      Stands (labelled_argument «module».types h n argument) item →
+      Stands (labelled_items start «module») item
   in_argument h function n argument item e a s =
       let same : n ≡ 0 + n = omega arith in
       let arguments = labelled_arguments «module».types h function.arguments.items in
@@ -295,17 +370,37 @@ module _ (start : Names) («module» : Module) where
       (stands_left arguments locals item
       (stands_in_section (labelled_argument «module».types h) 0 n function.arguments.items argument item a (subst (λ k. Stands (labelled_argument «module».types h k argument) item) same s))))
 
-  pub argument_stands : (h : ℕ) (function : Function) (n : ℕ) (argument : FunctionArgument) → slice_get «module».functions h ≡ Some function → slice_get function.arguments.items n ≡ Some argument → Stands (labelled_items start «module») (key.FunctionArgument h n, label_or argument.name (codes "param"))
+  pub argument_stands : (h : ℕ) (function : Function) (n : ℕ) (argument : FunctionArgument) →
+      slice_get «module».functions h ≡ Some function →
+      slice_get function.arguments.items n ≡ Some argument →
+      Stands (labelled_items start «module») (
+        key.FunctionArgument h n,
+        label_or argument.name (codes "param"),
+      )
   argument_stands h function n argument e a = in_argument h function n argument (key.FunctionArgument h n, label_or argument.name (codes "param")) e a (stands_first _ _ refl)
 
   -- a part of an argument that is an external image
-  pub argument_part_stands : (h : ℕ) (function : Function) (n : ℕ) (argument : FunctionArgument) (part : LabelledItem) → slice_get «module».functions h ≡ Some function → slice_get function.arguments.items n ≡ Some argument → is_external «module».types argument.ty ≡ true → Stands (labelled_parts (key.ExternalTextureFunctionArgument h n) (label_or argument.name (codes "param"))) part → Stands (labelled_items start «module») part
+  pub argument_part_stands : (h : ℕ) (function : Function) (n : ℕ) (argument : FunctionArgument)
+      (part : LabelledItem) → slice_get «module».functions h ≡ Some function →
+      slice_get function.arguments.items n ≡ Some argument →
+      is_external «module».types argument.ty ≡ true →
+      Stands (labelled_parts (key.ExternalTextureFunctionArgument h n)
+      (label_or argument.name (codes "param"))) part → Stands (labelled_items start «module») part
   argument_part_stands h function n argument part e a external s =
       in_argument h function n argument part e a
-      (stands_right ((key.FunctionArgument h n, label_or argument.name (codes "param")) ∷ []) (cond (is_external «module».types argument.ty) (labelled_parts (key.ExternalTextureFunctionArgument h n) (label_or argument.name (codes "param"))) []) part
+      (stands_right ((key.FunctionArgument h n, label_or argument.name (codes "param")) ∷ [])
+      (cond (is_external «module».types argument.ty)
+      (labelled_parts (key.ExternalTextureFunctionArgument h n)
+      (label_or argument.name (codes "param"))) []) part
       (subst (λ b. Stands (cond b (labelled_parts (key.ExternalTextureFunctionArgument h n) (label_or argument.name (codes "param"))) []) part) (sym external) s))
 
-  pub local_stands : (h : ℕ) (function : Function) (l : ℕ) (local : LocalVariable) → slice_get «module».functions h ≡ Some function → slice_get function.local_variables l ≡ Some local → Stands (labelled_items start «module») (key.FunctionLocal h l, label_or local.name (codes "local"))
+  pub local_stands : (h : ℕ) (function : Function) (l : ℕ) (local : LocalVariable) →
+      slice_get «module».functions h ≡ Some function →
+      slice_get function.local_variables l ≡ Some local →
+      Stands (labelled_items start «module») (
+        key.FunctionLocal h l,
+        label_or local.name (codes "local"),
+      )
   local_stands h function l local e f =
       let item : LabelledItem = (key.FunctionLocal h l, label_or local.name (codes "local")) in
       let arguments = labelled_arguments «module».types h function.arguments.items in
@@ -313,7 +408,10 @@ module _ (start : Names) («module» : Module) where
       in_function h function item e (stands_right ((key.Function h, label_or function.name (codes "function")) ∷ []) (arguments ++ locals) item
       (stands_right arguments locals item (stands_in_entries (λ k (v : LocalVariable). (key.FunctionLocal h k, label_or v.name (codes "local"))) l function.local_variables local f refl)))
 
-  in_global : (g : ℕ) (global : GlobalVariable) (item : LabelledItem) → slice_get «module».global_variables g ≡ Some global → Stands (labelled_global «module».types g global) item → Stands (labelled_items start «module») item
+  in_global : (g : ℕ) (global : GlobalVariable) (item : LabelledItem) →
+      slice_get «module».global_variables g ≡ Some global →
+      Stands (labelled_global «module».types g global) item →
+      Stands (labelled_items start «module») item
   in_global g global item e s =
       let same : g ≡ 0 + g = omega arith in
       declared item (stands_right the_types (the_entry_points ++ (the_functions ++ the_globals)) item
@@ -321,24 +419,45 @@ module _ (start : Names) («module» : Module) where
       (stands_right the_functions the_globals item
       (stands_in_section (labelled_global «module».types) 0 g «module».global_variables global item e (subst (λ k. Stands (labelled_global «module».types k global) item) same s)))))
 
-  pub global_stands : (g : ℕ) (global : GlobalVariable) → slice_get «module».global_variables g ≡ Some global → Stands (labelled_items start «module») (key.GlobalVariable g, label_or global.name (codes "global"))
+  pub global_stands : (g : ℕ) (global : GlobalVariable) →
+      slice_get «module».global_variables g ≡ Some global →
+      Stands (labelled_items start «module») (
+        key.GlobalVariable g,
+        label_or global.name (codes "global"),
+      )
   global_stands g global e = in_global g global (key.GlobalVariable g, label_or global.name (codes "global")) e (stands_first _ _ refl)
 
   -- a part of a global that is an external image
-  pub global_part_stands : (g : ℕ) (global : GlobalVariable) (part : LabelledItem) → slice_get «module».global_variables g ≡ Some global → is_external «module».types global.ty ≡ true → Stands (labelled_parts (key.ExternalTextureGlobalVariable g) (label_or global.name (codes "global"))) part → Stands (labelled_items start «module») part
+  pub global_part_stands : (g : ℕ) (global : GlobalVariable) (part : LabelledItem) →
+      slice_get «module».global_variables g ≡ Some global →
+      is_external «module».types global.ty ≡ true →
+      Stands (labelled_parts (key.ExternalTextureGlobalVariable g)
+      (label_or global.name (codes "global"))) part → Stands (labelled_items start «module») part
   global_part_stands g global part e external s =
       in_global g global part e
-      (stands_right ((key.GlobalVariable g, label_or global.name (codes "global")) ∷ []) (cond (is_external «module».types global.ty) (labelled_parts (key.ExternalTextureGlobalVariable g) (label_or global.name (codes "global"))) []) part
+      (stands_right ((key.GlobalVariable g, label_or global.name (codes "global")) ∷ [])
+      (cond (is_external «module».types global.ty)
+      (labelled_parts (key.ExternalTextureGlobalVariable g)
+      (label_or global.name (codes "global"))) []) part
       (subst (λ b. Stands (cond b (labelled_parts (key.ExternalTextureGlobalVariable g) (label_or global.name (codes "global"))) []) part) (sym external) s))
 
-  pub constant_stands : (c : ℕ) (constant : Constant) → slice_get «module».constants c ≡ Some constant → Stands (labelled_items start «module») (key.Constant c, value_label (type_name start «module») (codes "const_") constant.name constant.ty)
+  pub constant_stands : (c : ℕ) (constant : Constant) →
+      slice_get «module».constants c ≡ Some constant →
+      Stands (labelled_items start «module») (
+        key.Constant c,
+        value_label (type_name start «module») (codes "const_") constant.name constant.ty,
+      )
   constant_stands c constant e =
       let item : LabelledItem = (key.Constant c, value_label (type_name start «module») (codes "const_") constant.name constant.ty) in
       stands_right (labelled_declarations «module») the_values item
       (stands_left (labelled_constants (type_name start «module») «module».constants) (labelled_overrides (type_name start «module») «module».overrides) item
       (stands_in_entries (λ k (v : Constant). (key.Constant k, value_label (type_name start «module») (codes "const_") v.name v.ty)) c «module».constants constant e refl))
 
-  pub override_stands : (o : ℕ) (value : Override) → slice_get «module».overrides o ≡ Some value → Stands (labelled_items start «module») (key.Override o, value_label (type_name start «module») (codes "override_") value.name value.ty)
+  pub override_stands : (o : ℕ) (value : Override) → slice_get «module».overrides o ≡ Some value →
+      Stands (labelled_items start «module») (
+        key.Override o,
+        value_label (type_name start «module») (codes "override_") value.name value.ty,
+      )
   override_stands o value e =
       let item : LabelledItem = (key.Override o, value_label (type_name start «module») (codes "override_") value.name value.ty) in
       stands_right (labelled_declarations «module») the_values item
@@ -362,7 +481,10 @@ module _ (start : Names) (before : NameMap) («module» : Module) (names : Names
   pub function_named : (h : ℕ) (function : Function) → slice_get «module».functions h ≡ Some function → (name : List ℕ) × (now (key.Function h) ≡ Some name)
   function_named h function e = (_, named_there (key.Function h, label_or function.name (codes "function")) (function_stands start «module» h function e))
 
-  pub argument_named : (h : ℕ) (function : Function) (n : ℕ) (argument : FunctionArgument) → slice_get «module».functions h ≡ Some function → slice_get function.arguments.items n ≡ Some argument → (name : List ℕ) × (now (key.FunctionArgument h n) ≡ Some name)
+  pub argument_named : (h : ℕ) (function : Function) (n : ℕ) (argument : FunctionArgument) →
+      slice_get «module».functions h ≡ Some function →
+      slice_get function.arguments.items n ≡ Some argument → (name : List ℕ) ×
+      (now (key.FunctionArgument h n) ≡ Some name)
   argument_named h function n argument e a = (_, named_there (key.FunctionArgument h n, label_or argument.name (codes "param")) (argument_stands start «module» h function n argument e a))
 
   pub type_named : (t : ℕ) (ty : Type_) → slice_get «module».types t ≡ Some ty → (name : List ℕ) × (now (key.Type_ t) ≡ Some name)
@@ -372,8 +494,11 @@ module _ (start : Names) (before : NameMap) («module» : Module) (names : Names
   pub named_at : (i : ℕ) (item : LabelledItem) → slice_get (labelled_items start «module») i ≡ Some item → now item.0 ≡ Some (item_name start (take i (labelled_items start «module»)) item)
   named_at i item e = item_put start before now (labelled_items start «module») has.put (items_apart start «module») i item e
 
-  pub told_at : (i j : ℕ) (a b : LabelledItem) → slice_get (labelled_items start «module») i ≡ Some a → slice_get (labelled_items start «module») j ≡ Some b → is_member a.0 ≡ false → is_member b.0 ≡ false → now a.0 ≡ now b.0 → i ≡ j
-  told_at i j a b ea eb out_a out_b same =
+  pub distinguished_at : (i j : ℕ) (a b : LabelledItem) →
+      slice_get (labelled_items start «module») i ≡ Some a →
+      slice_get (labelled_items start «module») j ≡ Some b → is_member a.0 ≡ false →
+      is_member b.0 ≡ false → now a.0 ≡ now b.0 → i ≡ j
+  distinguished_at i j a b ea eb out_a out_b same =
       let items = labelled_items start «module» in
       let a_is = put_at start before now items has.put (items_apart start «module») i a ea out_a in
       let b_is = put_at start before now items has.put (items_apart start «module») j b eb out_b in

@@ -32,7 +32,12 @@ module _ {Y : Type 0} where
       ap (λ b. cond b (Some (e.1 + 1)) (finite.find (slice_cmp nat_cmp) q (map (λ e. (string_bytes e.0, e.1 + 1)) es))) (is_eq-slice_cmp q (string_bytes e.0))
       ∙ either (bytes_eq q (string_bytes e.0)) (found q es)
     where
-      either : (b : Bool) → finite.find (slice_cmp nat_cmp) q (map (λ e. (string_bytes e.0, e.1 + 1)) es) ≡ option_map one_more (lookup (λ k. bytes_eq q (string_bytes k)) es) → cond b (Some (e.1 + 1)) (finite.find (slice_cmp nat_cmp) q (map (λ e. (string_bytes e.0, e.1 + 1)) es)) ≡ option_map one_more (cond b (Some e.1) (lookup (λ k. bytes_eq q (string_bytes k)) es))
+      either : (b : Bool) →
+          finite.find (slice_cmp nat_cmp) q (map (λ e. (string_bytes e.0, e.1 + 1)) es) ≡
+          option_map one_more (lookup (λ k. bytes_eq q (string_bytes k)) es) →
+          cond b (Some (e.1 + 1))
+          (finite.find (slice_cmp nat_cmp) q (map (λ e. (string_bytes e.0, e.1 + 1)) es)) ≡
+          option_map one_more (cond b (Some e.1) (lookup (λ k. bytes_eq q (string_bytes k)) es))
       either true rest = refl
       either false rest = rest
 
@@ -79,7 +84,10 @@ pub has_named_nothing : (names : Names) → names.uses ≡ finite.empty → HasN
 has_named_nothing names none = record { uses_are = λ base. ap (λ u. uses_of u base) none ∙ uses_of-empty base; few = λ base. omega arith }
 
 -- a label that has the base b
-pub with_use_is : (names : Names) (label b : List ℕ) (n : ℕ) (after : Uses) → b ≡ label_base names label → uses_of names.uses b ≡ n → after ≡ finite.insert names.uses b (n + 1) → record names { uses = after } ≡ with_use names label
+pub with_use_is : (names : Names) (label b : List ℕ) (n : ℕ) (after : Uses) →
+    b ≡ label_base names label → uses_of names.uses b ≡ n →
+    after ≡ finite.insert names.uses b (n + 1) →
+    record names { uses = after } ≡ with_use names label
 unfolding with_use
 with_use_is names label b n after base_is uses_are is =
     (λ i. record names { uses = (is ∙ ap (λ m. finite.insert names.uses b (m + 1)) (sym uses_are) ∙ ap (λ d. finite.insert names.uses d (uses_of names.uses d + 1)) base_is) i })
@@ -105,11 +113,16 @@ pub name_of-after : (names : Names) (earlier : List (List ℕ)) (label : List �
 unfolding name_of
 name_of-after names earlier label has = ap (name_of_base names (label_base names label)) (has.uses_are (label_base names label))
 
-pub has_named-push : (names : Names) (earlier : List (List ℕ)) (label : List ℕ) → uses_of names.uses (label_base names label) < 2 ^ 32 → HasNamed names earlier → HasNamed (with_use names label) (earlier ++ label ∷ [])
+pub has_named-push : (names : Names) (earlier : List (List ℕ)) (label : List ℕ) →
+    uses_of names.uses (label_base names label) < 2 ^ 32 → HasNamed names earlier →
+    HasNamed (with_use names label) (earlier ++ label ∷ [])
 unfolding with_use
 has_named-push names earlier label room has = record {
   uses_are = λ base.
-      ap (λ u. unwrap_or u 0) (finite.get-insert nat_list_cmp_total names.uses b (uses_of names.uses b + 1) base ∙ ap (λ t. cond t (Some (uses_of names.uses b + 1)) (finite.get names.uses base)) (is_eq-slice_cmp base b ∙ nat_list_eq_equiv.symm base b))
+      ap (λ u. unwrap_or u 0)
+      (finite.get-insert nat_list_cmp_total names.uses b (uses_of names.uses b + 1) base
+      ∙ ap (λ t. cond t (Some (uses_of names.uses b + 1)) (finite.get names.uses base))
+      (is_eq-slice_cmp base b ∙ nat_list_eq_equiv.symm base b))
       ∙ either base (bytes_eq b base) refl
       ∙ sym (sum_by_push (λ l. cond (bytes_eq (label_base names l) base) 1 0) earlier label);
   few = λ base. fewer base (bytes_eq b base) refl;

@@ -20,7 +20,9 @@ module _ (t : ℕ) (entry_points : List EntryPoint) (i : ℕ) (entry_point : Ent
   returns_nothing nothing = output_label-more t entry_points i entry_point lt is ∙ ap (λ result. more result (output_word entry_point.stage)) nothing
 
   -- there is no word for what it returns
-  pub has_no_word : (result : FunctionResult) → entry_point.function.result ≡ Some result → output_word entry_point.stage ≡ None → output_label t (take (i + 1) entry_points) ≡ output_label t (take i entry_points)
+  pub has_no_word : (result : FunctionResult) → entry_point.function.result ≡ Some result →
+      output_word entry_point.stage ≡ None →
+      output_label t (take (i + 1) entry_points) ≡ output_label t (take i entry_points)
   has_no_word result some no_word = output_label-more t entry_points i entry_point lt is ∙ (λ j. more (some j) (no_word j)) ∙ neither (nat_eq result.ty t)
     where
       neither : (b : Bool) → option_or (cond b None None) (output_label t (take i entry_points)) ≡ output_label t (take i entry_points)
@@ -28,7 +30,10 @@ module _ (t : ℕ) (entry_points : List EntryPoint) (i : ℕ) (entry_point : Ent
       neither false = refl
 
   -- there is one, which is put into the table
-  pub has_word : {S : Type 0} (old new : HashMap ℕ (Bor (List ℕ)) S) (result : FunctionResult) (word : Bor (List ℕ)) → entry_point.function.result ≡ Some result → output_word entry_point.stage ≡ Some word.now → hash.Updates nat_eq old new result.ty (Some word)
+  pub has_word : {S : Type 0} (old new : HashMap ℕ (Bor (List ℕ)) S) (result : FunctionResult)
+      (word : Bor (List ℕ)) → entry_point.function.result ≡ Some result →
+      output_word entry_point.stage ≡ Some word.now →
+      hash.Updates nat_eq old new result.ty (Some word)
       → words_in old t ≡ output_label t (take i entry_points) → words_in new t ≡ output_label t (take (i + 1) entry_points)
   has_word old new result word some is_word updates so_far =
       ap (option_map (λ word. word.now)) (updates.0 t) ∙ either (nat_eq result.ty t)

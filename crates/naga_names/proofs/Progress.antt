@@ -24,7 +24,9 @@ use Rattle.naga_names.specs.Progress.{Progress, Stands, Gives, GivesModule, Leav
 use Rattle.naga_names.specs.declared.namer.items.Owner.{Owner}
 use Rattle.naga_names.specs.declared.namer.items.Owner.TheVariants as owner
 
-stands_more : (start : Names) (first : NameMap) (earlier items : List LabelledItem) (names : Names) (now : NameMap) (error : NamerError) → Stands start first earlier names now (Some error) → Stands start first (earlier ++ items) names now (Some error)
+stands_more : (start : Names) (first : NameMap) (earlier items : List LabelledItem) (names : Names)
+    (now : NameMap) (error : NamerError) → Stands start first earlier names now (Some error) →
+    Stands start first (earlier ++ items) names now (Some error)
 stands_more start first earlier items names now error stands = (beginning_more start first now earlier items stands.0, refusal_more start earlier items error stands.1)
 
 pub gives_none : (a : Progress) → Gives a [] a
@@ -52,7 +54,9 @@ gives_same {a} {b} same gives = subst (λ items. Gives a items b) same gives
 pub gives_behind : (a : Progress) (items : List LabelledItem) → is_some a.refusal ≡ true → Gives a items a
 gives_behind a items is = record { more = λ start first earlier stands. either start first earlier a.refusal is stands }
   where
-    either : (start : Names) (first : NameMap) (earlier : List LabelledItem) (o : Option NamerError) → is_some o ≡ true → Stands start first earlier a.names a.map o → Stands start first (earlier ++ items) a.names a.map o
+    either : (start : Names) (first : NameMap) (earlier : List LabelledItem)
+        (o : Option NamerError) → is_some o ≡ true → Stands start first earlier a.names a.map o →
+        Stands start first (earlier ++ items) a.names a.map o
     either start first earlier None none stands = absurd (cc)
     either start first earlier (Some error) some stands = stands_more start first earlier items a.names a.map error stands
 
@@ -78,7 +82,10 @@ pub gives_up : (a b : Progress) (items : List LabelledItem) (error : NamerError)
     → ((start : Names) (earlier : List LabelledItem) → IsRefusalOfItems start (earlier ++ items) error) → Gives a items b
 gives_up a b items error map_is is why = record { more = λ start first earlier stands. either start first earlier a.refusal refl stands }
   where
-    either : (start : Names) (first : NameMap) (earlier : List LabelledItem) (o : Option NamerError) → a.refusal ≡ o → Stands start first earlier a.names a.map a.refusal → Stands start first (earlier ++ items) b.names b.map b.refusal
+    either : (start : Names) (first : NameMap) (earlier : List LabelledItem)
+        (o : Option NamerError) → a.refusal ≡ o →
+        Stands start first earlier a.names a.map a.refusal →
+        Stands start first (earlier ++ items) b.names b.map b.refusal
     either start first earlier None was stands =
         let has : HasNamedItems start first earlier a.names a.map = subst (Stands start first earlier a.names a.map) was stands in
         subst (Stands start first (earlier ++ items) b.names b.map) (sym (is ∙ ap (λ o. option_or o (Some error)) was))
@@ -93,7 +100,9 @@ pub gives_up_memory : (a b : Progress) (items : List LabelledItem) {e : _} → b
 gives_up_memory a b items {e} map_is is = gives_up a b items (Memory e) map_is is (λ start earlier. tt)
 
 -- a key that can't be told
-pub gives_up_key : (a b : Progress) (item : LabelledItem) (others : List LabelledItem) → b.map ≡ a.map → b.refusal ≡ option_or a.refusal (Some KeyFull) → key_fits item.0 ≡ false → Gives a (item ∷ others) b
+pub gives_up_key : (a b : Progress) (item : LabelledItem) (others : List LabelledItem) →
+    b.map ≡ a.map → b.refusal ≡ option_or a.refusal (Some KeyFull) → key_fits item.0 ≡ false →
+    Gives a (item ∷ others) b
 gives_up_key a b item others map_is is unfit =
     gives_up a b (item ∷ others) KeyFull map_is is
     (λ start earlier. list_all-append (λ item. key_fits item.0) earlier (item ∷ others) ∙ ap (λ b. keys_fit earlier && (b && keys_fit others)) unfit ∙ and-false (keys_fit earlier))

@@ -64,14 +64,18 @@ module _ (start : Names) («module» : Module) where
 
 -- ---- where a key does not fit
 module _ (P : LabelledItem → Type 0) where
-  sections_in : {X : Type 0} (section : ℕ → X → List LabelledItem) (n : ℕ) (xs : List X) → ((i : ℕ) (x : X) → slice_get xs i ≡ Some x → AllByRecursion P (section (n + i) x)) → AllByRecursion P (flat_map (λ p. section p.0 p.1) (enumerate_from n xs))
+  sections_in : {X : Type 0} (section : ℕ → X → List LabelledItem) (n : ℕ) (xs : List X) →
+      ((i : ℕ) (x : X) → slice_get xs i ≡ Some x → AllByRecursion P (section (n + i) x)) →
+      AllByRecursion P (flat_map (λ p. section p.0 p.1) (enumerate_from n xs))
   sections_in section n [] each = tt
   sections_in section n (x ∷ xs) each =
       let here : n + 0 ≡ n = omega arith in
       all_append P (section n x) (flat_map (λ p. section p.0 p.1) (enumerate_from (n + 1) xs)) (subst (λ k. AllByRecursion P (section k x)) here (each 0 x refl))
       (sections_in section (n + 1) xs (λ i y e. let next : n + suc i ≡ n + 1 + i = omega arith in subst (λ k. AllByRecursion P (section k y)) next (each (suc i) y e)))
 
-  entries_in : {X : Type 0} (entry : ℕ → X → LabelledItem) (n : ℕ) (xs : List X) → ((i : ℕ) (x : X) → slice_get xs i ≡ Some x → P (entry (n + i) x)) → AllByRecursion P (map (λ p. entry p.0 p.1) (enumerate_from n xs))
+  entries_in : {X : Type 0} (entry : ℕ → X → LabelledItem) (n : ℕ) (xs : List X) →
+      ((i : ℕ) (x : X) → slice_get xs i ≡ Some x → P (entry (n + i) x)) →
+      AllByRecursion P (map (λ p. entry p.0 p.1) (enumerate_from n xs))
   entries_in entry n [] each = tt
   entries_in entry n (x ∷ xs) each =
       let here : n + 0 ≡ n = omega arith in
@@ -102,7 +106,15 @@ module _ (start : Names) («module» : Module) where
   types_unfit = sections_in Unfit (labelled_type «module».entry_points.items) 0 «module».types (λ t ty found. (
     λ unfit. absurd (true≢false unfit),
     entries_in Unfit (λ n (m : StructMember). (key.StructMember (0 + t) n, member_label m)) 0 (members_of ty.inner)
-        (λ n m there unfit. inr (inl (record { place = t; ty = ty; there = found; long = too_long n (2 ^ 32) (length (members_of ty.inner)) (slice_get_within (members_of ty.inner) n m there) unfit }))),
+        (λ n m there unfit. inr
+        (inl (record {
+          place = t;
+          ty = ty;
+          there = found;
+          long =
+              too_long n (2 ^ 32) (length (members_of ty.inner))
+              (slice_get_within (members_of ty.inner) n m there) unfit;
+        }))),
   ))
 
   entry_points_unfit : AllByRecursion Unfit (labelled_entry_points «module».entry_points.items)
@@ -117,7 +129,10 @@ module _ (start : Names) («module» : Module) where
             (λ l v there unfit. inl (too_long e (2 ^ 16) (length «module».entry_points.items) long unfit))),
       ))
     where
-      either : (e : ℕ) (p : EntryPoint) → slice_get «module».entry_points.items e ≡ Some p → e < length «module».entry_points.items → (n : ℕ) → n < length p.function.arguments.items → (nat_lt (0 + e) (2 ^ 16) ≡ false) ⊎ (nat_lt (0 + n) (2 ^ 32) ≡ false) → KeysRunOut «module»
+      either : (e : ℕ) (p : EntryPoint) → slice_get «module».entry_points.items e ≡ Some p →
+          e < length «module».entry_points.items → (n : ℕ) → n < length p.function.arguments.items →
+          (nat_lt (0 + e) (2 ^ 16) ≡ false) ⊎ (nat_lt (0 + n) (2 ^ 32) ≡ false) →
+          KeysRunOut «module»
       either e p found lt n few (inl unfit) = inl (too_long e (2 ^ 16) (length «module».entry_points.items) lt unfit)
       either e p found lt n few (inr unfit) = inr (inr (inr (record { place = e; entry_point = p; there = found; long = too_long n (2 ^ 32) (length p.function.arguments.items) few unfit })))
 
@@ -127,14 +142,28 @@ module _ (start : Names) («module» : Module) where
         λ unfit. absurd (true≢false unfit),
         all_append Unfit (labelled_arguments «module».types (0 + h) arguments) (labelled_locals (0 + h) f.local_variables)
             (sections_in Unfit (labelled_argument «module».types (0 + h)) 0 arguments (λ n a there.
-            let long : nat_lt (0 + n) (2 ^ 32) ≡ false → KeysRunOut «module» = λ unfit. inr (inr (inl (record { place = h; function = f; there = found; long = too_long n (2 ^ 32) (length arguments) (slice_get_within arguments n a there) unfit }))) in
-            with_parts_all (is_external «module».types a.ty) (key.ExternalTextureFunctionArgument (0 + h) (0 + n)) (key.FunctionArgument (0 + h) (0 + n), label_or a.name (codes "param")) Unfit long (λ part label. long)))
+            let long : nat_lt (0 + n) (2 ^ 32) ≡ false → KeysRunOut «module» =
+            λ unfit. inr
+            (inr (inl (record {
+              place = h;
+              function = f;
+              there = found;
+              long =
+                  too_long n (2 ^ 32) (length arguments) (slice_get_within arguments n a there)
+                  unfit;
+            }))) in
+            with_parts_all (is_external «module».types a.ty)
+            (key.ExternalTextureFunctionArgument (0 + h) (0 + n))
+            (key.FunctionArgument (0 + h) (0 + n), label_or a.name (codes "param")) Unfit long
+            (λ part label. long)))
             (entries_in Unfit (λ l (v : LocalVariable). (key.FunctionLocal (0 + h) l, label_or v.name (codes "local"))) 0 f.local_variables (λ l v there unfit. absurd (true≢false unfit))),
       ))
 
   globals_unfit : AllByRecursion Unfit (labelled_globals «module».types «module».global_variables)
   globals_unfit = sections_in Unfit (labelled_global «module».types) 0 «module».global_variables (λ g v found.
-      with_parts_all (is_external «module».types v.ty) (key.ExternalTextureGlobalVariable (0 + g)) (key.GlobalVariable (0 + g), label_or v.name (codes "global")) Unfit (λ unfit. absurd (true≢false unfit)) (λ part label unfit. absurd (true≢false unfit)))
+      with_parts_all (is_external «module».types v.ty) (key.ExternalTextureGlobalVariable (0 + g))
+      (key.GlobalVariable (0 + g), label_or v.name (codes "global")) Unfit
+      (λ unfit. absurd (true≢false unfit)) (λ part label unfit. absurd (true≢false unfit)))
 
   values_unfit : AllByRecursion Unfit (labelled_values (type_name start «module») «module»)
   values_unfit =
@@ -148,7 +177,10 @@ module _ (start : Names) («module» : Module) where
       let m = «module» in
       found_unfit (KeysRunOut m) (labelled_items start m)
       (all_append Unfit (labelled_declarations m) (labelled_values (type_name start m) m)
-      (all_append Unfit (labelled_types m.entry_points.items m.types) (labelled_entry_points m.entry_points.items ++ (labelled_functions m.types m.functions ++ labelled_globals m.types m.global_variables)) types_unfit
+      (all_append Unfit (labelled_types m.entry_points.items m.types)
+      (labelled_entry_points m.entry_points.items ++
+      (labelled_functions m.types m.functions ++ labelled_globals m.types m.global_variables))
+      types_unfit
       (all_append Unfit (labelled_entry_points m.entry_points.items) (labelled_functions m.types m.functions ++ labelled_globals m.types m.global_variables) entry_points_unfit
       (all_append Unfit (labelled_functions m.types m.functions) (labelled_globals m.types m.global_variables) functions_unfit globals_unfit)))
       values_unfit) unfit

@@ -35,12 +35,16 @@ pub labels_of-append : (xs ys : List LabelledItem) → labels_of (xs ++ ys) ≡ 
 labels_of-append xs ys = flat_map-append (λ (item : LabelledItem). cond (is_member item.0) [] (item.1 ∷ [])) xs ys
 
 -- the labels around an item that is no member of a struct
-pub labels_of-around : (items : List LabelledItem) (item : LabelledItem) (others : List LabelledItem) → is_member item.0 ≡ false → labels_of (items ++ item ∷ others) ≡ labels_of items ++ item.1 ∷ labels_of others
+pub labels_of-around : (items : List LabelledItem) (item : LabelledItem)
+    (others : List LabelledItem) → is_member item.0 ≡ false →
+    labels_of (items ++ item ∷ others) ≡ labels_of items ++ item.1 ∷ labels_of others
 labels_of-around items item others outside =
     labels_of-append items (item ∷ others) ∙ ap (λ b. labels_of items ++ (cond b [] (item.1 ∷ []) ++ labels_of others)) outside
 
 -- its name is that of its label behind these labels
-pub item_name-outside : (start : Names) (earlier : List LabelledItem) (key : NameKey) (label : List ℕ) → is_member key ≡ false → item_name start earlier (key, label) ≡ name_after start (labels_of earlier) label
+pub item_name-outside : (start : Names) (earlier : List LabelledItem) (key : NameKey)
+    (label : List ℕ) → is_member key ≡ false →
+    item_name start earlier (key, label) ≡ name_after start (labels_of earlier) label
 item_name-outside start earlier (key.StructMember t n) label outside = absurd (cc)
 item_name-outside start earlier other label outside = refl
 
@@ -71,7 +75,9 @@ used_words old new label used = subst (λ n. n ≡ record old { uses = n.uses })
 
 module _ where
   -- one more item, after whatever was named before
-  pub names_one : (old : Names) (before now : NameMap) (key : NameKey) (label : List ℕ) (new : Names) → key_fits key ≡ true → is_member key ≡ false → PutsName old before key label new now → NamesItems old before ((key, label) ∷ []) new now
+  pub names_one : (old : Names) (before now : NameMap) (key : NameKey) (label : List ℕ)
+      (new : Names) → key_fits key ≡ true → is_member key ≡ false →
+      PutsName old before key label new now → NamesItems old before ((key, label) ∷ []) new now
   names_one old before now key label new fits outside puts = record {
     more = λ start first earlier has. record {
       words = subst (λ n. n ≡ record start { uses = n.uses }) (sym puts.used) (with_use-words old start label has.words);
@@ -80,7 +86,10 @@ module _ where
       put = record {
         finds = λ q.
             puts.put q
-            ∙ (λ i. cond (same_key key q) (Some ((name_of-after old (labels_of earlier) label has.labels ∙ ap (λ n. name_after n (labels_of earlier) label) has.words ∙ sym (item_name-outside start earlier key label outside)) i)) (has.put.finds q i))
+            ∙ (λ i. cond (same_key key q)
+            (Some ((name_of-after old (labels_of earlier) label has.labels
+            ∙ ap (λ n. name_after n (labels_of earlier) label) has.words
+            ∙ sym (item_name-outside start earlier key label outside)) i)) (has.put.finds q i))
             ∙ sym (ap (λ pairs. update_all same_key first pairs q) (named_items-push start earlier (key, label))
             ∙ ap (λ f. f q) (fold-push (λ f p. update same_key f p.0 (Some p.1)) first (named_items start earlier) (key, item_name start earlier (key, label))));
       };
@@ -92,8 +101,17 @@ module _ where
   begins start before none = record { words = refl; labels = none; keys = refl; put = record { finds = λ q. refl } }
 
 -- these words and prefixes, with no uses
-pub starts : (keywords builtins caseless : Words) (uses : Uses) (prefixes given : List (Bor (List ℕ))) → uses ≡ finite.empty → prefixes ≡ given → record { keywords = keywords; builtin_identifiers = builtins; caseless_keywords = caseless; reserved_prefixes = map (λ p. p.now) prefixes; uses = uses } ≡ new_names keywords builtins caseless (map (λ p. p.now) given)
-starts keywords builtins caseless uses prefixes given none same =
+pub starts : (keywords builtins caseless : Words) (uses : Uses)
+    (prefixes assigned : List (Bor (List ℕ))) → uses ≡ finite.empty → prefixes ≡ assigned →
+    record {
+      keywords = keywords;
+      builtin_identifiers = builtins;
+      caseless_keywords = caseless;
+      reserved_prefixes = map (λ p. p.now) prefixes;
+      uses = uses;
+    } ≡ new_names keywords builtins
+    caseless (map (λ p. p.now) assigned)
+starts keywords builtins caseless uses prefixes assigned none same =
     λ i. record { keywords = keywords; builtin_identifiers = builtins; caseless_keywords = caseless; reserved_prefixes = map (λ p. p.now) (same i); uses = none i }
 
 -- ---- why items are refused
@@ -130,7 +148,9 @@ beginning_more start first now items others p = record {
 }
 
 -- a map that stays as it was
-beginning_unchanged : (start : Names) (first before now : NameMap) (earlier items : List LabelledItem) (old : Names) → ((q : NameKey) → now q ≡ before q) → HasNamedItems start first earlier old before → PutsBeginning start first (earlier ++ items) now
+beginning_unchanged : (start : Names) (first before now : NameMap)
+    (earlier items : List LabelledItem) (old : Names) → ((q : NameKey) → now q ≡ before q) →
+    HasNamedItems start first earlier old before → PutsBeginning start first (earlier ++ items) now
 beginning_unchanged start first before now earlier items old same has = record {
   named = earlier;
   left = items;
@@ -139,13 +159,18 @@ beginning_unchanged start first before now earlier items old same has = record {
 }
 
 -- one item is refused for the reason that its label is
-pub refuses_one : (old : Names) (before now : NameMap) (key : NameKey) (label : List ℕ) (error : NamerError) → is_member key ≡ false → PutsNoName old before label now error → RefusesItems old before ((key, label) ∷ []) now error
+pub refuses_one : (old : Names) (before now : NameMap) (key : NameKey) (label : List ℕ)
+    (error : NamerError) → is_member key ≡ false → PutsNoName old before label now error →
+    RefusesItems old before ((key, label) ∷ []) now error
 refuses_one old before now key label error outside refused = record {
   some = λ start first earlier has. beginning_unchanged start first before now earlier ((key, label) ∷ []) old refused.kept has;
   why = λ start first earlier has. reason error refused.why start first earlier has;
 }
   where
-    reason : (error : NamerError) → IsRefusalOf old label error → (start : Names) (first : NameMap) (earlier : List LabelledItem) → HasNamedItems start first earlier old before → IsRefusalOfItems start (earlier ++ (key, label) ∷ []) error
+    reason : (error : NamerError) → IsRefusalOf old label error →
+        (start : Names) (first : NameMap) (earlier : List LabelledItem) →
+        HasNamedItems start first earlier old before →
+        IsRefusalOfItems start (earlier ++ (key, label) ∷ []) error
     reason Full full start first earlier has = record {
       named = earlier;
       item = (key, label);
@@ -183,7 +208,10 @@ none_full start before items names now has full =
     omega (arith, few, count, met)
 
 -- what a map says after `insert`, by the names that it has
-pub names_in-insert : {Y S : Type 0} (old new : HashMap NameKey (String Y) S) (key : NameKey) (name : String Y) → hash.Updates same_key old new key (Some name) → (q : NameKey) → names_in new q ≡ cond (same_key key q) (Some (string_bytes name)) (names_in old q)
+pub names_in-insert : {Y S : Type 0} (old new : HashMap NameKey (String Y) S) (key : NameKey)
+    (name : String Y) → hash.Updates same_key old new key (Some name) →
+    (q : NameKey) → names_in new q ≡ cond (same_key key q) (Some (string_bytes name))
+    (names_in old q)
 names_in-insert old new key name updates q = ap (option_map string_bytes) (updates.0 q) ∙ either (same_key key q)
   where
     either : (b : Bool) → option_map string_bytes (cond b (Some name) (hash.get same_key old q)) ≡ cond b (Some (string_bytes name)) (names_in old q)
@@ -197,7 +225,10 @@ enumerate_from-append n (x ∷ xs) ys =
     ap (λ items. (n, x) ∷ items) (enumerate_from-append (n + 1) xs ys ∙ ap (λ m. enumerate_from (n + 1) xs ++ enumerate_from m ys) long)
 
 -- items that come of a list, in order, each by its place and the entry there
-module _ {X : Type 0} (items : ℕ → List X → List LabelledItem) (own : ℕ → X → List LabelledItem) (grown : (n : ℕ) (xs ys : List X) → items n (xs ++ ys) ≡ items n xs ++ items (n + length xs) ys) (single : (n : ℕ) (x : X) → items n (x ∷ []) ≡ own n x) (xs : List X) (i : ℕ) (x : X) (lt : i < length xs) (is : x ≡ get_or xs i x) where
+module _ {X : Type 0} (items : ℕ → List X → List LabelledItem) (own : ℕ → X → List LabelledItem)
+    (grown : (n : ℕ) (xs ys : List X) → items n (xs ++ ys) ≡ items n xs ++ items (n + length xs) ys)
+    (single : (n : ℕ) (x : X) → items n (x ∷ []) ≡ own n x) (xs : List X) (i : ℕ) (x : X)
+    (lt : i < length xs) (is : x ≡ get_or xs i x) where
   long : 0 + length (take i xs) ≡ i
   long = omega (arith, length-take-le i xs (omega arith))
 
@@ -222,7 +253,9 @@ module _ {X : Type 0} (items : ℕ → List X → List LabelledItem) (own : ℕ 
       ∙ append_assoc (items 0 (take i xs)) (own i x) items_left
 
 module _ {X : Type 0} (entry : ℕ → X → LabelledItem) where
-  pub entries_grown : (n : ℕ) (xs ys : List X) → map (λ p. entry p.0 p.1) (enumerate_from n (xs ++ ys)) ≡ map (λ p. entry p.0 p.1) (enumerate_from n xs) ++ map (λ p. entry p.0 p.1) (enumerate_from (n + length xs) ys)
+  pub entries_grown : (n : ℕ) (xs ys : List X) →
+      map (λ p. entry p.0 p.1) (enumerate_from n (xs ++ ys)) ≡ map (λ p. entry p.0 p.1)
+      (enumerate_from n xs) ++ map (λ p. entry p.0 p.1) (enumerate_from (n + length xs) ys)
   entries_grown n xs ys = ap (map (λ p. entry p.0 p.1)) (enumerate_from-append n xs ys) ∙ map-append (λ p. entry p.0 p.1) (enumerate_from n xs) (enumerate_from (n + length xs) ys)
 
 -- ---- optional values, and the word of the last entry point
@@ -235,7 +268,10 @@ pub option_or-none : {X : Type 0} (a : Option X) → option_or a None ≡ a
 option_or-none (Some x) = refl
 option_or-none None = refl
 
-pub output_label-push : (t : ℕ) (entry_points : List EntryPoint) (entry_point : EntryPoint) → output_label t (entry_points ++ entry_point ∷ []) ≡ option_or (cond (returns t entry_point) (output_word entry_point.stage) None) (output_label t entry_points)
+pub output_label-push : (t : ℕ) (entry_points : List EntryPoint) (entry_point : EntryPoint) →
+    output_label t (entry_points ++ entry_point ∷ []) ≡ option_or
+    (cond (returns t entry_point) (output_word entry_point.stage) None)
+    (output_label t entry_points)
 output_label-push t [] entry_point =
     sym (option_or-none (cond (returns t entry_point) (output_word entry_point.stage) None))
 output_label-push t (first ∷ entry_points) entry_point =
@@ -243,7 +279,12 @@ output_label-push t (first ∷ entry_points) entry_point =
     ∙ option_or-assoc (cond (returns t entry_point) (output_word entry_point.stage) None)
     (output_label t entry_points) (cond (returns t first) (output_word first.stage) None)
 
-pub output_label-more : (t : ℕ) (entry_points : List EntryPoint) (i : ℕ) (entry_point : EntryPoint) → i < length entry_points → entry_point ≡ get_or entry_points i entry_point → output_label t (take (i + 1) entry_points) ≡ option_or (cond (returns t entry_point) (output_word entry_point.stage) None) (output_label t (take i entry_points))
+pub output_label-more : (t : ℕ) (entry_points : List EntryPoint) (i : ℕ)
+    (entry_point : EntryPoint) → i < length entry_points →
+    entry_point ≡ get_or entry_points i entry_point →
+    output_label t (take (i + 1) entry_points) ≡ option_or
+    (cond (returns t entry_point) (output_word entry_point.stage) None)
+    (output_label t (take i entry_points))
 output_label-more t entry_points i entry_point lt is =
     ap (output_label t) (take_more entry_points i entry_point lt ∙ ap (λ e. take i entry_points ++ e ∷ []) (sym is)) ∙ output_label-push t (take i entry_points) entry_point
 

@@ -29,14 +29,18 @@ past (y ∷ xs) zero e = absurd (none-some y (sym e))
 past (y ∷ xs) (suc i) e = omega (arith, past xs i e)
 
 -- no item is a type behind the last one
-no_type : (entry_points : List EntryPoint) (t n : ℕ) (types : List Type_) → n + length types ≤ t → AllByRecursion (λ (y : LabelledItem). same_key (key.Type_ t) y.0 ≡ false) (flat_map (λ p. labelled_type entry_points p.0 p.1) (enumerate_from n types))
+no_type : (entry_points : List EntryPoint) (t n : ℕ) (types : List Type_) → n + length types ≤ t →
+    AllByRecursion (λ (y : LabelledItem). same_key (key.Type_ t) y.0 ≡ false)
+    (flat_map (λ p. labelled_type entry_points p.0 p.1) (enumerate_from n types))
 no_type entry_points t n [] le = tt
 no_type entry_points t n (ty ∷ types) le =
     let differ : t ≡ n → ⊥ = λ e. absurd (omega (arith, e, le)) in
     all_append (λ y. same_key (key.Type_ t) y.0 ≡ false) (labelled_type entry_points n ty) (flat_map (λ p. labelled_type entry_points p.0 p.1) (enumerate_from (n + 1) types))
     (unlike_types t n differ, members_differ 0 (members_of ty.inner)) (no_type entry_points t (n + 1) types (omega (arith, le)))
   where
-    members_differ : (k : ℕ) (members : List StructMember) → AllByRecursion (λ (y : LabelledItem). same_key (key.Type_ t) y.0 ≡ false) (map (λ p. (key.StructMember n p.0, member_label p.1)) (enumerate_from k members))
+    members_differ : (k : ℕ) (members : List StructMember) →
+        AllByRecursion (λ (y : LabelledItem). same_key (key.Type_ t) y.0 ≡ false)
+        (map (λ p. (key.StructMember n p.0, member_label p.1)) (enumerate_from k members))
     members_differ k [] = tt
     members_differ k (m ∷ members) = (refl, members_differ (k + 1) members)
 

@@ -74,8 +74,8 @@ ItemsAreNamed =
     now item.0 ≡ Some (item_name start (take i (labelled_items start module_)) item)
 
 -- and items outside structs with one name are one item
-abbrev pub ItemsAreTold : Type 0
-ItemsAreTold =
+abbrev pub ItemsAreDistinguished : Type 0
+ItemsAreDistinguished =
     (start : Names) (before now : NameMap) (module_ : Module) (names : Names) →
     HasNamedItems start before (labelled_items start module_) names now →
     (i j : ℕ) (a b : LabelledItem) → slice_get (labelled_items start module_) i ≡ Some a →
@@ -96,8 +96,8 @@ MembersAreNamed =
     ≡ Some (name_after (member_names start) earlier (member_label member))
 
 -- members of one struct that have one name are one member
-abbrev pub MembersAreTold : Type 0
-MembersAreTold =
+abbrev pub MembersAreDistinguished : Type 0
+MembersAreDistinguished =
     (start : Names) (before now : NameMap) (module_ : Module) (names : Names) →
     HasNamedItems start before (labelled_items start module_) names now →
     (t : ℕ) (ty : Type_) → slice_get module_.types t ≡ Some ty → (n k : ℕ) (a b : StructMember) →
@@ -117,7 +117,7 @@ MembersAreNotReserved =
 
 -- ---- what was given so far
 -- one of these labels, which were named one after another, got this identifier
-pub record WasGiven (start : Names) (labels : List (List ℕ)) (word : List ℕ) : Type 0 where
+pub record WasAssigned (start : Names) (labels : List (List ℕ)) (word : List ℕ) : Type 0 where
   pub place : ℕ
   pub label : List ℕ
   pub there : slice_get labels place ≡ Some label
@@ -131,14 +131,14 @@ pub record FollowsFromUses (names : Names) (word : List ℕ) : Type 0 where
   pub is : word ≡ name_of_base names base number
 
 -- the identifiers given so far are those that the uses tell
-abbrev pub GivenNamesFollow : Type 0
-GivenNamesFollow =
+abbrev pub AssignedNamesFollow : Type 0
+AssignedNamesFollow =
     (names : Names) (labels : List (List ℕ)) → HasNamed names labels → (word : List ℕ) →
-    (WasGiven names labels word → FollowsFromUses names word)
-    × (FollowsFromUses names word → WasGiven names labels word)
+    (WasAssigned names labels word → FollowsFromUses names word)
+    × (FollowsFromUses names word → WasAssigned names labels word)
 
 -- and the next one is none of them
-abbrev pub GivenNamesAreNew : Type 0
-GivenNamesAreNew =
+abbrev pub AssignedNamesAreNew : Type 0
+AssignedNamesAreNew =
     (names : Names) (labels : List (List ℕ)) → HasNamed names labels → (label : List ℕ) →
-    WasGiven names labels (name_of names label) → ⊥
+    WasAssigned names labels (name_of names label) → ⊥

@@ -6,8 +6,10 @@ ghost use Rattle.std.specs.Hash.{Alike};
 ghost use Rattle.naga_names.specs.Laws.{NamesAreIdentifiers, NamesKeepOffNaga, NamesAreNoKeywords};
 ghost use Rattle.naga_names.specs.Laws.{NamesAreNoBuiltins, NamesAreNoCaselessKeywords};
 ghost use Rattle.naga_names.specs.Laws.{NamesAreNotNumbered, NamesDiffer, ItemsAreNamed};
-ghost use Rattle.naga_names.specs.Laws.{ItemsAreTold, MembersAreNamed, MembersAreTold};
-ghost use Rattle.naga_names.specs.Laws.{MembersAreNotReserved, GivenNamesFollow, GivenNamesAreNew};
+ghost use Rattle.naga_names.specs.Laws.{ItemsAreDistinguished, MembersAreNamed};
+ghost use Rattle.naga_names.specs.Laws.{MembersAreDistinguished};
+ghost use Rattle.naga_names.specs.Laws.{MembersAreNotReserved, AssignedNamesFollow};
+ghost use Rattle.naga_names.specs.Laws.{AssignedNamesAreNew};
 ghost use Rattle.naga_keywords.specs.Plain.{HasPlainEnds};
 ghost use Rattle.naga_names.specs.Keys.{same_key, key_writes};
 ghost use Rattle.naga_keywords.specs.Words.{same_caseless, caseless_writes};
@@ -53,22 +55,22 @@ pub fn names_differ()
 /// from the uses: a base with n uses gave its first form and the numbers below n. The next call
 /// gives a new one.
 pub fn names_follow_from_uses()
-    ensures given { GivenNamesFollow }
-    ensures new { GivenNamesAreNew }
+    ensures assigned { AssignedNamesFollow }
+    ensures new { AssignedNamesAreNew }
 {}
 
 /// After a `reset` each item of the module has its name in the map, and no two items outside
 /// structs have one.
 pub fn items_have_their_names()
     ensures named { ItemsAreNamed }
-    ensures told { ItemsAreTold }
+    ensures distinguished { ItemsAreDistinguished }
 {}
 
 /// The members of a struct are named by themselves: no two have one name, and none a name that is a
 /// reserved word of WGSL.
 pub fn members_have_their_names()
     ensures named { MembersAreNamed }
-    ensures told { MembersAreTold }
+    ensures distinguished { MembersAreDistinguished }
     ensures free { MembersAreNotReserved }
 {}
 

@@ -19,18 +19,20 @@ use Rattle.naga_info.specs.declared.info.ExpressionInfo.{ExpressionInfo}
 use Rattle.naga_info.specs.declared.info.ModuleInfo.{ModuleInfo}
 use Rattle.shader_runs.specs.Program.{Function, expression_of, operands_of}
 use Rattle.shader_runs.specs.Scope.{is_pure, all_constant, constant_test}
-use Rattle.shader_runs.specs.Scope.{is_constant_below, start_standing, at_start}
+use Rattle.shader_runs.specs.Scope.{is_constant_below, start_availability, at_start}
 use Rattle.shader_runs.specs.Premises.{AllBelow}
 use Rattle.module_meaning.specs.FunctionShapes.{function_shape}
 use Rattle.module_meaning.specs.Names.{numbered_name}
 use Rattle.module_meaning.specs.Premises.{OperandsStandBefore}
-use Rattle.module_meaning.specs.Surroundings.{declared, types_known}
+use Rattle.module_meaning.specs.ExpressionContexts.{declared, types_known}
 use Rattle.naga_form.proofs.ModulePlaces.{no_expression_at, shapes_length}
-use Rattle.naga_scope.specs.declared.points.Standing.{Standing}
-use Rattle.naga_scope.specs.declared.points.Standing.TheVariants.{Absent}
-use Rattle.naga_scope.specs.Standings.{standing_of, handles_of, is_everywhere, is_constant_by}
-use Rattle.naga_scope.specs.Standings.{first_standing, is_constant_kind, is_pure_kind, kind_at}
-use Rattle.naga_scope.specs.Standings.{operands_at}
+use Rattle.naga_scope.specs.declared.points.Availability.{Availability}
+use Rattle.naga_scope.specs.declared.points.Availability.TheVariants.{Absent}
+use Rattle.naga_scope.specs.Availabilities.{availability_of, handles_of, is_everywhere}
+use Rattle.naga_scope.specs.Availabilities.{is_constant_by}
+use Rattle.naga_scope.specs.Availabilities.{first_availability, is_constant_kind, is_pure_kind}
+use Rattle.naga_scope.specs.Availabilities.{kind_at}
+use Rattle.naga_scope.specs.Availabilities.{operands_at}
 use Rattle.naga_scope.proofs.Shaped.{constant_at, pure_at, pure_operands}
 
 -- ---- tests of the operands
@@ -53,30 +55,30 @@ test_again true p a = refl
 test_again false false a = refl
 test_again false true a = refl
 
-first_everywhere : (b : Bool) → is_everywhere (first_standing b) ≡ b
+first_everywhere : (b : Bool) → is_everywhere (first_availability b) ≡ b
 first_everywhere true = refl
 first_everywhere false = refl
 
-first_at_start : (given : ℕ → List ℕ) (name : List ℕ) (b : Bool) → standing_of given name (first_standing b) ≡ start_standing b
-first_at_start given name true = refl
-first_at_start given name false = refl
+first_at_start : (named : ℕ → List ℕ) (name : List ℕ) (b : Bool) → availability_of named name (first_availability b) ≡ start_availability b
+first_at_start named name true = refl
+first_at_start named name false = refl
 
 -- the cell of a handle at the start
 abbrev pub first_cell :
-    Module → ModuleInfo → ir_function.Function → List ExpressionInfo → ℕ → Standing
+    Module → ModuleInfo → ir_function.Function → List ExpressionInfo → ℕ → Availability
 first_cell m info f es h =
-    first_standing
+    first_availability
     (is_pure_kind (kind_at f.expressions h)
     && is_constant_below (function_shape m info f es) (length f.expressions) h)
 
 -- a table of one cell for each expression, in which those below i are as at the start
 pub record IsStart (m : Module) (info : ModuleInfo) (f : ir_function.Function)
-    (es : List ExpressionInfo) (table : List Standing) (i : ℕ) : Type 0 where
+    (es : List ExpressionInfo) (table : List Availability) (i : ℕ) : Type 0 where
   pub size : length table ≡ length f.expressions
   pub cells : (h : ℕ) → h < i → get_or table h Absent ≡ first_cell m info f es h
 
 pub is_start_none : (m : Module) (info : ModuleInfo) (f : ir_function.Function)
-    (es : List ExpressionInfo) (table : List Standing) → length table ≡ length f.expressions →
+    (es : List ExpressionInfo) (table : List Availability) → length table ≡ length f.expressions →
     IsStart m info f es table 0
 is_start_none m info f es table size =
     record { size = size; cells = λ h lt. absurd (omega (arith, lt)) }
@@ -145,7 +147,7 @@ module _ (m : Module) (info : ModuleInfo) (f : ir_function.Function) (es : List 
       let more : h < suc n = omega (arith, lt) in any_bound n (suc n) h lt more ∙ one_more n h
 
   -- by such a table, a handle below i is seen to be constant
-  constant_by_cell : (table : List Standing) (i h : ℕ) → i ≤ all → IsStart m info f es table i →
+  constant_by_cell : (table : List Availability) (i h : ℕ) → i ≤ all → IsStart m info f es table i →
       h < i → is_constant_by table f.expressions h ≡ constant_to all h
   constant_by_cell table i h le s lt =
       let within : h < all = omega (arith, le, lt) in
@@ -156,7 +158,7 @@ module _ (m : Module) (info : ModuleInfo) (f : ir_function.Function) (es : List 
       ∙ test_again (leaf h) (pure h) (all_constant (constant_to all) (own h))
       ∙ sym (unfolded all h within)
 
-  next_cell : (table : List Standing) (i : ℕ) → i < all → IsStart m info f es table i →
+  next_cell : (table : List Availability) (i : ℕ) → i < all → IsStart m info f es table i →
       (pure i && all_constant (is_constant_by table f.expressions) (own i)) ≡
       (pure i && constant_to all i)
   next_cell table i lt s =
@@ -167,10 +169,10 @@ module _ (m : Module) (info : ModuleInfo) (f : ir_function.Function) (es : List 
       ∙ no_leaf (kind_at f.expressions i) (all_constant (constant_to all) (own i))
       ∙ ap (λ t. pure i && t) (sym (unfolded all i lt))
 
-  pub is_start_more : (table : List Standing) (i : ℕ) (cell : Standing) → i < all →
+  pub is_start_more : (table : List Availability) (i : ℕ) (cell : Availability) → i < all →
       IsStart m info f es table i →
       cell ≡
-      first_standing (pure i && all_constant (is_constant_by table f.expressions) (own i)) →
+      first_availability (pure i && all_constant (is_constant_by table f.expressions) (own i)) →
       IsStart m info f es (slice_set table i cell) (i + 1)
   is_start_more table i cell lt s is =
       let within : i < length table = subst (λ n. i < n) (sym s.size) lt in
@@ -182,33 +184,34 @@ module _ (m : Module) (info : ModuleInfo) (f : ir_function.Function) (es : List 
             get_or-set_other table i h cell Absent (λ same. absurd (omega (arith, l, same)))
             ∙ s.cells h l)
             (get_or-set_at table i i cell Absent refl within
-            ∙ is ∙ ap first_standing (next_cell table i lt s));
+            ∙ is ∙ ap first_availability (next_cell table i lt s));
       }
 
   pub counted : length shape.expressions ≡ all
   counted = shapes_length (declared m info (types_known es)) f.expressions 0 f.expressions
 
-  pub start_handles : (given : ℕ → List ℕ) (table : List Standing) → IsStart m info f es table all →
-      handles_of given table ≡ at_start shape
-  start_handles given table s = λ i h. each h i
+  pub start_handles : (named : ℕ → List ℕ) (table : List Availability) →
+      IsStart m info f es table all →
+      handles_of named table ≡ at_start shape
+  start_handles named table s = λ i h. each h i
     where
-      inside : (h : ℕ) → h < all → handles_of given table h ≡ at_start shape h
+      inside : (h : ℕ) → h < all → handles_of named table h ≡ at_start shape h
       inside h lt =
-          ap (standing_of given (numbered_name h)) (s.cells h lt)
-          ∙ first_at_start given (numbered_name h) (pure h && constant_to all h)
-          ∙ ap₂ (λ p n. start_standing (p && constant_to n h)) (sym (pure_at m info f es h))
+          ap (availability_of named (numbered_name h)) (s.cells h lt)
+          ∙ first_at_start named (numbered_name h) (pure h && constant_to all h)
+          ∙ ap₂ (λ p n. start_availability (p && constant_to n h)) (sym (pure_at m info f es h))
           (sym counted)
 
-      outside : (h : ℕ) → all ≤ h → handles_of given table h ≡ at_start shape h
+      outside : (h : ℕ) → all ≤ h → handles_of named table h ≡ at_start shape h
       outside h le =
           let past : length table ≤ h = omega (arith, le, s.size) in
-          ap (standing_of given (numbered_name h)) (get_or_past table h Absent past)
-          ∙ ap (λ e. start_standing (is_pure e && constant_to (length shape.expressions) h))
+          ap (availability_of named (numbered_name h)) (get_or_past table h Absent past)
+          ∙ ap (λ e. start_availability (is_pure e && constant_to (length shape.expressions) h))
           (sym (no_expression_at m info f es h (slice_get_past f.expressions h le)))
 
-      by : (h : ℕ) (b : Bool) → nat_lt h all ≡ b → handles_of given table h ≡ at_start shape h
+      by : (h : ℕ) (b : Bool) → nat_lt h all ≡ b → handles_of named table h ≡ at_start shape h
       by h true is = inside h (ltb-true h all is)
       by h false is = outside h (ltb-false h all is)
 
-      each : (h : ℕ) → handles_of given table h ≡ at_start shape h
+      each : (h : ℕ) → handles_of named table h ≡ at_start shape h
       each h = by h (nat_lt h all) refl

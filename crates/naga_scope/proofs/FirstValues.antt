@@ -13,20 +13,21 @@ use Rattle.naga_ir.specs.declared.module.LocalVariable.{LocalVariable}
 use Rattle.naga_ir.specs.declared.module.Module.{Module}
 use Rattle.naga_info.specs.declared.info.ExpressionInfo.{ExpressionInfo}
 use Rattle.shader_runs.specs.Program.{Expression, Function, Load, local_count}
-use Rattle.shader_runs.specs.Scope.{Standing, Handles, usable_as, usable_if, at_start, before_local}
+use Rattle.shader_runs.specs.Scope.{Availability, Handles, usable_as, usable_if, at_start}
+use Rattle.shader_runs.specs.Scope.{before_local}
 use Rattle.shader_runs.specs.Scope.{first_values_fit, is_present}
 use Rattle.shader_runs.proofs.Update.{and_left, and_right, and_both}
-use Rattle.module_meaning.specs.ExpressionOperators.{points_to_atomic}
+use Rattle.module_meaning.specs.ExpressionOperators.{is_atomic_pointer}
 use Rattle.module_meaning.specs.ExpressionShapes.{Declared, shape_of, applied_or, applied_shape}
 use Rattle.module_meaning.specs.ExpressionShapes.{part_selector, part_shape}
 use Rattle.module_meaning.specs.FunctionShapes.{function_shape}
 use Rattle.module_meaning.specs.OperatorTable.{Operator as TableOperator, AtomicLoad, BinarySign}
-use Rattle.module_meaning.specs.Surroundings.{declared, types_known}
+use Rattle.module_meaning.specs.ExpressionContexts.{declared, types_known}
 use Rattle.naga_form.proofs.ModulePlaces.{expression_at, no_expression_at}
 use Rattle.naga_form.proofs.WellFormed.{applied_any}
 use Rattle.naga_info.specs.declared.info.ModuleInfo.{ModuleInfo}
 use Rattle.shader_runs.specs.Value.{Selector}
-use Rattle.naga_scope.specs.Standings.{names_earlier, is_earlier}
+use Rattle.naga_scope.specs.Availabilities.{names_earlier, is_earlier}
 
 -- each local with its index: its first value is in scope where it stands
 abbrev pub all_fit : Function → List (ℕ × LocalVariable) → Bool
@@ -40,7 +41,11 @@ all_listed f i (l ∷ ls) =
 
 below_both : (j i n : ℕ) → (nat_lt j n && nat_lt j i) ≡ nat_lt j (min i n)
 below_both j i n =
-    ltb_from_iff ((λ e. let a = ltb-true j n (and_left (nat_lt j n) (nat_lt j i) e) in let b = ltb-true j i (and_right (nat_lt j n) (nat_lt j i) e) in le-min b a), λ lt. and_both (nat_lt j n) (nat_lt j i) (lt-ltb j n (first lt)) (lt-ltb j i (second lt)))
+    ltb_from_iff (
+      (λ e. let a = ltb-true j n (and_left (nat_lt j n) (nat_lt j i) e) in let b =
+          ltb-true j i (and_right (nat_lt j n) (nat_lt j i) e) in le-min b a),
+      λ lt. and_both (nat_lt j n) (nat_lt j i) (lt-ltb j n (first lt)) (lt-ltb j i (second lt)),
+    )
   where
     first : j < min i n → j < n
     first lt = omega (arith, lt, min-le_right i n)
@@ -63,21 +68,21 @@ module _ (m : Module) (info : ModuleInfo) (f : ir_function.Function) (es : List 
   fewer = length-take i shape.first_values
 
   -- what is no local is in scope where it stands, whatever locals there are
-  abbrev IsAlike : Standing → Expression → Type 0
+  abbrev IsAlike : Availability → Expression → Type 0
   IsAlike s e = (usable_as shape (Some e) s && true) ≡ usable_as (before_local shape i) (Some e) s
 
-  applied_alike : (op : TableOperator) (xs : List ℕ) (s : Standing) → IsAlike s (applied_shape op xs)
+  applied_alike : (op : TableOperator) (xs : List ℕ) (s : Availability) → IsAlike s (applied_shape op xs)
   applied_alike op xs s =
       applied_any (IsAlike s) op xs (and_true (is_present s)) (λ j l r. and_true (is_present s))
       (and_true (is_present s))
 
-  usable_shape : (h : ℕ) (e : ir.Expression) (s : Standing) →
+  usable_shape : (h : ℕ) (e : ir.Expression) (s : Availability) →
       (usable_as shape (Some (shape_of d f.expressions h e)) s && names_earlier i (Some e)) ≡
       usable_as (before_local shape i) (Some (shape_of d f.expressions h e)) s
   usable_shape h (expression.LocalVariable other) s =
       below_both other i (local_count shape) ∙ ap (nat_lt other) (sym fewer)
   usable_shape h (expression.FunctionArgument number) s = and_true _
-  usable_shape h (expression.Load pointer) s = by (points_to_atomic d.around pointer)
+  usable_shape h (expression.Load pointer) s = by (is_atomic_pointer d.context pointer)
     where
       by : (atomic : Bool) →
           IsAlike s

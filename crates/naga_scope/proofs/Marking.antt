@@ -1,17 +1,12 @@
 -- Marks of the handles of a list, one after another.
 use Rattle.std.proofs.Common.{◌≡◌, ℕ, Bool, true, false, List, [], ◌∷◌, ◌++◌, ◌&&◌, ◌||◌, refl, sym}
-use Rattle.std.proofs.Common.{ap, ◌∙◌, length, nat_eq, nat_lt, suc, ◌+◌, ◌<◌, ◌≤◌, drop}
-use Rattle.std.proofs.Common.{slice_index_or}
+use Rattle.std.proofs.Common.{ap, ◌∙◌, length, nat_eq, nat_lt, suc, ◌+◌}
+use Rattle.std.proofs.Common.{append-nil, append_assoc, subst}
 use Rattle.std.specs.Prelude.{if◌then◌else◌}
-use Rattle.std.specs.List.{enumerate_from, flat_map}
+use Rattle.std.specs.List.{enumerate_from, filter, flat_map}
 use Rattle.std.specs.Option.{option_to_list}
-use Rattle.module_meaning.proofs.Fitting.{drop_first}
-use Rattle.module_meaning.specs.Written.{block_roots, statement_roots}
-use Rattle.std.proofs.lemmas.List.{drop_all}
-use Rattle.naga_ir.specs.StatementViews.{block_of, tree_of}
 use Rattle.naga_ir.specs.declared.module.LocalVariable.{LocalVariable}
-use Rattle.naga_ir.specs.declared.statement.Statement.{Statement}
-use Rattle.naga_scope.specs.Marks.{MarksJust, is_marked, is_one_of, marked_with}
+use Rattle.naga_scope.specs.Marks.{MarksAlso, MarksJust, is_marked, is_one_of, marked_with}
 use Rattle.std.proofs.Common.{replicate, zero}
 
 -- in turn is as all together
@@ -68,6 +63,43 @@ module _ (old new : List Bool) (size : length new ≡ length old) (h : ℕ) wher
       both false true false false = refl
       both false false b l = refl
 
+-- ---- as a whole
+pub marks_none : (marks : List Bool) → MarksAlso marks [] marks
+marks_none marks = record { size = refl; marks = λ h. marked_none (is_marked marks h) (nat_lt h (length marks)) }
+
+pub marks_then : {old mid new : List Bool} {xs ys : List ℕ} → MarksAlso old xs mid → MarksAlso mid ys new → MarksAlso old (xs ++ ys) new
+marks_then {old} {mid} {new} {xs} {ys} first second = record {
+  size = second.size ∙ first.size;
+  marks = λ h. second.marks h ∙ marked_both old mid first.size h xs ys (first.marks h);
+}
+
+-- what is left of a list by a test, by its first item
+pub kept_first : (keep : ℕ → Bool) (x : ℕ) (xs : List ℕ) → filter keep (x ∷ xs) ≡ (if keep x then x ∷ [] else []) ++ filter keep xs
+kept_first keep x xs = by (keep x)
+  where
+    by : (b : Bool) → (if b then x ∷ filter keep xs else filter keep xs) ≡ (if b then x ∷ [] else []) ++ filter keep xs
+    by true = refl
+    by false = refl
+
+-- some of these are marked, and the others are left
+pub record MarkedSoFar (old : List Bool) (all left : List ℕ) (new : List Bool) : Type 0 where
+  pub done : List ℕ
+  pub parts : all ≡ done ++ left
+  pub so_far : MarksAlso old done new
+
+pub so_far_none : (old : List Bool) (all : List ℕ) → MarkedSoFar old all all old
+so_far_none old all = record { done = []; parts = refl; so_far = marks_none old }
+
+pub so_far_more : {old mid new : List Bool} {all left : List ℕ} (here left1 : List ℕ) → MarkedSoFar old all left mid → left ≡ here ++ left1 → MarksAlso mid here new → MarkedSoFar old all left1 new
+so_far_more here left1 s split more = record {
+  done = s.done ++ here;
+  parts = s.parts ∙ (ap (λ hs. s.done ++ hs) split ∙ sym (append_assoc s.done here left1));
+  so_far = marks_then s.so_far more;
+}
+
+pub so_far_all : {old new : List Bool} {all left : List ℕ} → MarkedSoFar old all left new → left ≡ [] → MarksAlso old all new
+so_far_all {old} {new} s none = subst (λ hs. MarksAlso old hs new) (sym (s.parts ∙ (ap (λ hs. s.done ++ hs) none ∙ append-nil s.done))) s.so_far
+
 -- ---- lists that a loop goes through
 -- the first values of locals with their handles
 abbrev pub firsts_of : List (ℕ × LocalVariable) → List ℕ
@@ -77,19 +109,6 @@ pub firsts_listed : (k : ℕ) (ls : List LocalVariable) →
     firsts_of (enumerate_from k ls) ≡ flat_map (λ l. option_to_list l.init) ls
 firsts_listed k [] = refl
 firsts_listed k (l ∷ ls) = ap (λ hs. option_to_list l.init ++ hs) (firsts_listed (k + 1) ls)
-
--- the roots of the statements from some on
-pub roots_more : (binds : ℕ → Bool) (i : ℕ) (items : List Statement) (x : Statement) →
-    i < length items → x ≡ slice_index_or items i x →
-    block_roots binds (block_of (drop i items)) ≡
-    statement_roots binds (tree_of x) ++ block_roots binds (block_of (drop (i + 1) items))
-roots_more binds i items x lt is =
-    ap (λ xs. block_roots binds (block_of xs))
-    (drop_first i items x lt ∙ ap (λ y. y ∷ drop (i + 1) items) (sym is))
-
-pub roots_end : (binds : ℕ → Bool) (items : List Statement) (i : ℕ) → length items ≤ i →
-    block_roots binds (block_of (drop i items)) ≡ []
-roots_end binds items i le = ap (λ xs. block_roots binds (block_of xs)) (drop_all i items le)
 
 -- a table without marks
 pub unmarked : (n h : ℕ) → is_marked (replicate n false) h ≡ false

@@ -1,9 +1,8 @@
 -- An offset that is written out as a constant is in scope from the start of a function to its end, so
 -- that it is no matter whether it is taken for an operand.
-use Rattle.std.proofs.Common.{◌≡◌, ℕ, zero, suc, ◌<◌, ◌&&◌, ◌||◌, Bool, true, false, List, [], ◌∷◌}
-use Rattle.std.proofs.Common.{◌++◌, length, nat_eq, Option, Some, None, refl, sym, ap, ap₂, ◌∙◌}
-use Rattle.std.proofs.Common.{arith, subst, eqb-true, slice_get}
-use Rattle.std.specs.Prelude.{cond}
+use Rattle.std.proofs.Common.{◌≡◌, ℕ, zero, suc, ◌<◌, ◌&&◌, ◌||◌, true, List, [], ◌∷◌}
+use Rattle.std.proofs.Common.{◌++◌, length, Option, Some, None, refl, sym, ap, ap₂, ◌∙◌}
+use Rattle.std.proofs.Common.{arith, subst, slice_get}
 use Rattle.std.specs.Option.{is_some, option_and_then, option_map_or, option_to_list}
 use Rattle.std.proofs.lemmas.Option.{slice_get_within}
 use Rattle.module_meaning.proofs.ExpressionShapes.{shape_operands}
@@ -13,7 +12,7 @@ use Rattle.module_meaning.specs.ExpressionShapes.{shape_of, tree_over, tree_then
 use Rattle.module_meaning.specs.FunctionShapes.{function_shape}
 use Rattle.module_meaning.specs.OperatorTable.{Operator, Splat}
 use Rattle.module_meaning.specs.Premises.{OperandsStandBefore}
-use Rattle.module_meaning.specs.Surroundings.{declared, types_known}
+use Rattle.module_meaning.specs.ExpressionContexts.{declared, types_known}
 use Rattle.naga_form.proofs.ModulePlaces.{expression_at, no_expression_at}
 use Rattle.naga_info.specs.declared.info.ExpressionInfo.{ExpressionInfo}
 use Rattle.naga_info.specs.declared.info.ModuleInfo.{ModuleInfo}
@@ -23,74 +22,18 @@ use Rattle.naga_ir.specs.declared.expression.Expression as ir
 use Rattle.naga_ir.specs.declared.expression.Expression.TheVariants as expression
 use Rattle.naga_ir.specs.declared.module.Function as ir_function
 use Rattle.naga_ir.specs.declared.module.Module.{Module}
-use Rattle.module_meaning.specs.FunctionShapes.{statement_shape}
-use Rattle.module_meaning.specs.Part.{statement_is_written}
-use Rattle.module_meaning.specs.StatementShapes.{store_shape}
-use Rattle.module_meaning.specs.ExpressionOperators.{Surroundings, points_to_atomic}
-use Rattle.naga_ir.specs.StatementTree.{StatementTree, emit, return, simple, store}
 use Rattle.naga_ir.specs.Kinds.{kind_of}
 use Rattle.naga_ir.specs.declared.kind.ExpressionKind.TheVariants as kind
 use Rattle.naga_scope.proofs.Constants.{any_bound, constant_to, counted, one_more}
 use Rattle.naga_scope.proofs.Shaped.{pure_at, usable_is}
-use Rattle.naga_scope.specs.Standings.{KeepsStart, is_constant_kind, is_pure_kind, operands_at}
-use Rattle.naga_scope.specs.Standings.{usable_by}
-use Rattle.std.proofs.Common.{◌-◌}
-use Rattle.shader_runs.specs.Program.{ConstantTree, Function, expression_of, from, operands_of}
-use Rattle.shader_runs.specs.Scope.{Absent, Barred, Everywhere, Handles, Inline, Named, Naming}
-use Rattle.shader_runs.specs.Scope.{Standing, after_emit, after_one, all_constant}
-use Rattle.shader_runs.specs.Scope.{after, given_after, is_present}
-use Rattle.shader_runs.specs.Scope.{start_standing}
-use Rattle.shader_runs.specs.Scope.{standing_without_name, usable, usable_all, with_emitted_handle}
-use Rattle.shader_runs.specs.World.{update}
-
--- ---- behind an Emit
-without_name_present : (u : Bool) (a : Standing) → is_present a ≡ true →
-    is_present (standing_without_name u a) ≡ true
-without_name_present true a is = refl
-without_name_present false Absent is = absurd cc
-without_name_present false Barred is = absurd cc
-without_name_present false Everywhere is = refl
-without_name_present false Inline is = refl
-without_name_present false (Named x) is = refl
-
-updated_present : (s : Handles) (h j : ℕ) (a : Standing) →
-    (is_present (s h) ≡ true → is_present a ≡ true) → is_present (s j) ≡ true →
-    is_present (update s h a j) ≡ true
-updated_present s h j a keeps is = by (nat_eq j h) refl
-  where
-    by : (b : Bool) → nat_eq j h ≡ b → is_present (cond b a (s j)) ≡ true
-    by true same = keeps (ap (λ k. is_present (s k)) (sym (eqb-true j h same)) ∙ is)
-    by false other = is
-
-emitted_present : (b o u : Bool) (x : List ℕ) (s : Handles) (h j : ℕ) → is_present (s j) ≡ true →
-    is_present (with_emitted_handle b o u x s h j) ≡ true
-emitted_present true o u x s h j is = updated_present s h j (Named x) (λ was. refl) is
-emitted_present false true u x s h j is =
-    updated_present s h j (standing_without_name u (s h)) (without_name_present u (s h)) is
-emitted_present false false u x s h j is = is
-
-module _ (own : Naming) (f : Function) where
-  -- what is in scope stays so behind an Emit of a handle, and of several
-  pub one_keeps : (k h : ℕ) (s : Handles) → KeepsStart f s → KeepsStart f (after_one own k h s)
-  one_keeps k h s held j first = emitted_present _ _ _ _ s h j (held j first)
-
-  pub emit_keeps : (k : ℕ) (hs : List ℕ) (s : Handles) → KeepsStart f s →
-      KeepsStart f (after_emit own k hs s)
-  emit_keeps k [] s held = held
-  emit_keeps k (h ∷ hs) s held =
-      emit_keeps (given_after own.function h k) hs (after_one own k h s) (one_keeps k h s held)
-
-  -- and behind a statement that is written so far
-  pub line_keeps : (a : Surroundings) (k : ℕ) (st : StatementTree) → statement_is_written st ≡ true →
-      (s : Handles) → KeepsStart f s → KeepsStart f (after own k (statement_shape a st) s)
-  line_keeps a k (simple (emit first end)) is s held = emit_keeps k (from first (end - first)) s held
-  line_keeps a k (simple (store pointer value)) is s held = by (points_to_atomic a pointer)
-    where
-      by : (b : Bool) → KeepsStart f (after own k (store_shape b pointer value) s)
-      by true = held
-      by false = held
-  line_keeps a k (simple (return value)) is s held = held
-  line_keeps a k _ is s held = absurd cc
+use Rattle.naga_scope.specs.Availabilities.{KeepsStart, is_constant_kind, is_pure_kind, operands_at}
+use Rattle.naga_scope.specs.Availabilities.{usable_by}
+use Rattle.shader_runs.specs.Program.{ConstantTree, Function, expression_of, operands_of}
+use Rattle.shader_runs.specs.Scope.{Handles}
+use Rattle.shader_runs.specs.Scope.{all_constant}
+use Rattle.shader_runs.specs.Scope.{is_present}
+use Rattle.shader_runs.specs.Scope.{start_availability}
+use Rattle.shader_runs.specs.Scope.{usable, usable_all}
 
 -- ---- a function of a module
 module _ (m : Module) (info : ModuleInfo) (f : ir_function.Function) (es : List ExpressionInfo)
@@ -154,7 +97,7 @@ module _ (m : Module) (info : ModuleInfo) (f : ir_function.Function) (es : List 
       by (Some (expression.ZeroValue ty)) is each = refl
       by (Some (expression.Compose ty components)) is each =
           all_there tree_of levels each components.items
-          (composed x (constructor d.around (Handle ty) (length components.items))
+          (composed x (constructor d.context (Handle ty) (length components.items))
           (trees_of tree_of components.items) is)
       by (Some (expression.Splat size value)) is each =
           ap (λ b. b && true) (each value (splat x (Splat size) (tree_of value) is))
@@ -175,7 +118,7 @@ module _ (m : Module) (info : ModuleInfo) (f : ir_function.Function) (es : List 
           let whole = constant_at_start (suc x) x (ap is_some at) in
           let one : x < suc x = omega arith in
           held x
-          (ap₂ (λ p b. is_present (start_standing (p && b)))
+          (ap₂ (λ p b. is_present (start_availability (p && b)))
           (pure_at m info f es x
           ∙ (ap (λ o. is_pure_kind (option_map_or kind_of o kind.Result)) here ∙ pure))
           (any_bound m info f es ordered (length shape.expressions) (suc x) x within one ∙ whole))

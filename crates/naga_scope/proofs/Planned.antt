@@ -14,7 +14,7 @@ use Rattle.shader_runs.proofs.ScopeRules.{scope_check_is_the_rules}
 use Rattle.module_meaning.specs.FunctionShapes.{function_shape, function_shapes}
 use Rattle.module_meaning.specs.Namings.{function_naming}
 use Rattle.module_meaning.specs.Premises.{OperandsStandBefore}
-use Rattle.module_meaning.specs.Surroundings.{declared, types_known}
+use Rattle.module_meaning.specs.ExpressionContexts.{declared, types_known}
 use Rattle.naga_form.proofs.Ordered.{shape_ordered}
 use Rattle.naga_form.proofs.WellFormed.{any_shape}
 use Rattle.naga_scope.specs.Plans.{IsPlan, IsPlanOf, OfFunctionAt, Planned}

@@ -17,13 +17,15 @@ use Rattle.naga_info.specs.declared.info.ModuleInfo.{ModuleInfo}
 use Rattle.shader_runs.specs.Program.{Expression, Load, Operator, Access, AccessIndex, Logical}
 use Rattle.shader_runs.specs.Program.{Argument, Constant, Global, Local, Request, Result, Swizzle}
 use Rattle.shader_runs.specs.Program.{operands_of}
-use Rattle.shader_runs.specs.Program.{Function, expression_of, is_counted, binds_as, binds}
-use Rattle.shader_runs.specs.Scope.{Handles, Standing, is_present, is_constant_leaf, is_emittable}
+use Rattle.shader_runs.specs.Program.{Function, expression_of, is_counted, is_named, binds_as, binds}
+use Rattle.shader_runs.specs.Scope.{Handles, Availability, is_present, is_constant_leaf}
+use Rattle.shader_runs.specs.Scope.{is_emittable}
 use Rattle.shader_runs.specs.Scope.{is_pure, usable, usable_as}
 use Rattle.shader_runs.specs.Value.{Selector}
 use Rattle.naga_info.specs.declared.info.TypeResolution.TheVariants.{Handle}
-use Rattle.module_meaning.specs.ExpressionOperators.{Surroundings, cast, constructor, type_known}
-use Rattle.module_meaning.specs.ExpressionOperators.{points_to_atomic}
+use Rattle.module_meaning.specs.ExpressionOperators.{ExpressionContext, cast, constructor}
+use Rattle.module_meaning.specs.ExpressionOperators.{type_known}
+use Rattle.module_meaning.specs.ExpressionOperators.{is_atomic_pointer}
 use Rattle.module_meaning.specs.ExpressionShapes.{asking}
 use Rattle.module_meaning.specs.Shapes.{operator_shape}
 use Rattle.module_meaning.specs.OperatorTable.{asks, run_word}
@@ -31,28 +33,26 @@ use Rattle.shader_runs.specs.Program.{no_constant}
 use Rattle.module_meaning.proofs.ExpressionShapes.{cast_asks, constructor_asks}
 use Rattle.module_meaning.specs.ExpressionShapes.{Declared, shape_of, applied_or, applied_shape}
 use Rattle.module_meaning.specs.ExpressionShapes.{part_selector, part_shape}
+use Rattle.module_meaning.specs.BindingCounts.{binding_count, is_partless}
 use Rattle.module_meaning.specs.FunctionShapes.{function_shape}
+use Rattle.module_meaning.proofs.BindingCounts.{binding_count_at, bound_as_part}
 use Rattle.module_meaning.specs.OperatorTable.{Operator as TableOperator, AtomicLoad, BinarySign}
 use Rattle.module_meaning.specs.OperatorTable.{CooperativeLoad, MatrixLoad, PartAt, WithoutForm}
 use Rattle.naga_ir.specs.declared.types.CooperativeRole.{CooperativeRole}
 use Rattle.naga_ir.specs.declared.types.CooperativeSize.{CooperativeSize}
-use Rattle.module_meaning.specs.ExpressionOperators.{has_parts}
-use Rattle.module_meaning.specs.Part.{known_passes}
-use Rattle.naga_form.proofs.AllowedParts.{part_there}
 use Rattle.shader_runs.specs.Program.{greatest_count}
 use Rattle.module_meaning.specs.ShapeKinds.{shape_kind}
-use Rattle.module_meaning.specs.Surroundings.{declared, types_known}
+use Rattle.module_meaning.specs.ExpressionContexts.{declared, types_known}
 use Rattle.module_meaning.specs.Types.{declared_type}
 use Rattle.module_meaning.proofs.ExpressionShapes.{kind_shaped, shape_kinds, shape_operands}
-use Rattle.std.proofs.lemmas.Bool.{false≢true, true≢false}
 use Rattle.module_meaning.proofs.Shapes.{operator_bound}
-use Rattle.naga_form.proofs.Fits.{given_is, mapped_length}
-use Rattle.module_meaning.specs.GivenLabels.{label_of}
+use Rattle.naga_form.proofs.Fits.{named_is, mapped_length}
+use Rattle.module_meaning.specs.ExpressionLabels.{label_of}
 use Rattle.naga_form.proofs.ModulePlaces.{expression_at, no_expression_at}
 use Rattle.naga_form.proofs.WellFormed.{applied_any}
-use Rattle.naga_scope.specs.Standings.{kind_at, operands_at, is_pure_kind, is_constant_kind}
-use Rattle.naga_scope.specs.Standings.{is_emittable_kind, is_image_operation, usable_by}
-use Rattle.naga_scope.specs.Standings.{uses_to_bind}
+use Rattle.naga_scope.specs.Availabilities.{kind_at, operands_at, is_pure_kind, is_constant_kind}
+use Rattle.naga_scope.specs.Availabilities.{is_emittable_kind, is_image_operation, usable_by}
+use Rattle.naga_scope.specs.Availabilities.{uses_to_bind}
 use Rattle.module_meaning.specs.ExpressionOperators.{is_depth_image, level_of, query_operator}
 use Rattle.module_meaning.specs.ExpressionOperators.{sample_operator}
 use Rattle.naga_ir.specs.Operands.{cooperative_operands, query_operands}
@@ -60,14 +60,14 @@ use Rattle.naga_ir.specs.declared.expression.ImageQuery.{ImageQuery}
 use Rattle.naga_ir.specs.declared.expression.ImageQuery.TheVariants as query
 use Rattle.naga_ir.specs.declared.expression.SwizzleComponent.{SwizzleComponent}
 use Rattle.shader_runs.specs.Program.{is_asked}
-use Rattle.std.specs.Option.{is_some}
+use Rattle.std.specs.Option.{is_none, is_some}
 
 -- ---- the runs' words for shapes are tests of their kind
 pure_shape : (o : Option Expression) → is_pure o ≡ is_pure_kind (shape_kind o)
 pure_shape (Some (Constant tree)) = refl
 pure_shape (Some (Argument number)) = refl
 pure_shape (Some (Local number)) = refl
-pure_shape (Some (Global number)) = refl
+pure_shape (Some (Global held number)) = refl
 pure_shape (Some (Load pointer)) = refl
 pure_shape (Some (Operator word xs)) = refl
 pure_shape (Some (Access base index)) = refl
@@ -82,7 +82,7 @@ constant_shape : (o : Option Expression) → is_constant_leaf o ≡ is_constant_
 constant_shape (Some (Constant tree)) = refl
 constant_shape (Some (Argument number)) = refl
 constant_shape (Some (Local number)) = refl
-constant_shape (Some (Global number)) = refl
+constant_shape (Some (Global held number)) = refl
 constant_shape (Some (Load pointer)) = refl
 constant_shape (Some (Operator word xs)) = refl
 constant_shape (Some (Access base index)) = refl
@@ -97,7 +97,7 @@ emittable_shape : (o : Option Expression) → is_emittable o ≡ is_emittable_ki
 emittable_shape (Some (Constant tree)) = refl
 emittable_shape (Some (Argument number)) = refl
 emittable_shape (Some (Local number)) = refl
-emittable_shape (Some (Global number)) = refl
+emittable_shape (Some (Global held number)) = refl
 emittable_shape (Some (Load pointer)) = refl
 emittable_shape (Some (Operator word xs)) = refl
 emittable_shape (Some (Access base index)) = refl
@@ -122,8 +122,8 @@ never_bound f h None none = refl
 
 -- a test that doesn't tell requests from loads holds of an expression's kind as of its shape's
 shaped_test : (test : ExpressionKind → Bool) → test kind.Request ≡ test kind.Load →
-    (a : Surroundings) (e : ir.Expression) → test (kind_shaped a e) ≡ test (kind_of e)
-shaped_test test same a (expression.Load pointer) = by (points_to_atomic a pointer)
+    (a : ExpressionContext) (e : ir.Expression) → test (kind_shaped a e) ≡ test (kind_of e)
+shaped_test test same a (expression.Load pointer) = by (is_atomic_pointer a pointer)
   where
     by : (b : Bool) → test (if b then kind.Request else kind.Load) ≡ test kind.Load
     by true = same
@@ -150,7 +150,7 @@ module _ (m : Module) (info : ModuleInfo) (f : ir_function.Function) (es : List 
       by (Some e) at =
           ap (λ o. test (shape_kind o)) (expression_at m info f es h e at)
           ∙ (ap test (shape_kinds d f.expressions h e)
-          ∙ (shaped_test test same d.around e
+          ∙ (shaped_test test same d.context e
           ∙ sym (ap (λ o. test (option_map_or kind_of o kind.Result)) at)))
 
   pub pure_at : (h : ℕ) → is_pure (expression_of shape h) ≡ is_pure_kind (kind_at f.expressions h)
@@ -197,18 +197,18 @@ module _ (m : Module) (info : ModuleInfo) (f : ir_function.Function) (es : List 
       own e is = shape_operands d f.expressions h e refl
 
   -- ---- what is in scope
-  applied_usable : (op : TableOperator) (xs : List ℕ) (s : Standing) →
+  applied_usable : (op : TableOperator) (xs : List ℕ) (s : Availability) →
       usable_as shape (Some (applied_shape op xs)) s ≡ is_present s
   applied_usable op xs s =
       applied_any (λ e. usable_as shape (Some e) s ≡ is_present s) op xs refl (λ j l r. refl) refl
 
-  usable_own : (h : ℕ) (e : ir.Expression) (s : Standing) →
+  usable_own : (h : ℕ) (e : ir.Expression) (s : Availability) →
       usable_as shape (Some (shape_of d f.expressions h e)) s ≡ usable_by f (Some e) s
   usable_own h (expression.FunctionArgument number) s =
       ap (nat_lt number) (mapped_length (λ a. declared_type m a.ty) f.arguments.items)
   usable_own h (expression.LocalVariable handle) s =
       ap (nat_lt handle) (mapped_length (λ l. l.init) f.local_variables)
-  usable_own h (expression.Load pointer) s = by (points_to_atomic d.around pointer)
+  usable_own h (expression.Load pointer) s = by (is_atomic_pointer d.context pointer)
     where
       by : (atomic : Bool) →
           usable_as shape
@@ -250,8 +250,12 @@ module _ (m : Module) (info : ModuleInfo) (f : ir_function.Function) (es : List 
   abbrev named_or : ℕ → Bool → Bool
   named_or h counts = is_some (label_of f h) || counts
 
-  counted_from : (least h : ℕ) → is_counted shape least h ≡ named_or h (nat_le least (count h))
-  counted_from least h = ap (λ b. b || nat_le least (count h)) (given_is m info f es h)
+  -- what stands in the place of a part is counted as binding takes it, all else by its uses
+  counted_from : (least h : ℕ) {e : ir.Expression} → slice_get f.expressions h ≡ Some e →
+      is_counted shape least h ≡ named_or h (nat_le least (binding_count (is_partless d e) (count h)))
+  counted_from least h {e} at =
+      ap (λ n. is_named shape h || nat_le least n) (binding_count_at d f.expressions es h e at)
+      ∙ ap (λ b. b || nat_le least (binding_count (is_partless d e) (count h))) (named_is m info f es h)
 
   -- an operator that asks for nothing is bound from the second use on
   silent_binds : (h : ℕ) (op : TableOperator) (xs : List ℕ) → asks op ≡ false →
@@ -288,16 +292,16 @@ module _ (m : Module) (info : ModuleInfo) (f : ir_function.Function) (es : List 
   pub emitted_binds : (h : ℕ) (e : ir.Expression) →
       slice_get f.expressions h ≡ Some e →
       is_emittable_kind (kind_of e) ≡ true →
-      (is_image_operation e || named_or h (nat_le (uses_to_bind m.types es e) (count h))) ≡ binds shape h
+      (is_image_operation e || named_or h (nat_le (uses_to_bind e) (count h))) ≡ binds shape h
   emitted_binds h e at may =
       sym
       (ap (binds_as shape h) (expression_at m info f es h e at)
-      ∙ own e may)
+      ∙ own e at may)
     where
-      own : (e : ir.Expression) → is_emittable_kind (kind_of e) ≡ true →
+      own : (e : ir.Expression) → slice_get f.expressions h ≡ Some e → is_emittable_kind (kind_of e) ≡ true →
           binds_as shape h (Some (shape_of d f.expressions h e)) ≡
-          (is_image_operation e || named_or h (nat_le (uses_to_bind m.types es e) (count h)))
-      own (expression.Load pointer) may = by (points_to_atomic d.around pointer)
+          (is_image_operation e || named_or h (nat_le (uses_to_bind e) (count h)))
+      own (expression.Load pointer) at may = by (is_atomic_pointer d.context pointer)
         where
           by : (atomic : Bool) →
               binds_as shape h
@@ -305,66 +309,67 @@ module _ (m : Module) (info : ModuleInfo) (f : ir_function.Function) (es : List 
               (applied_or (Load pointer) (pointer ∷ [])
               (if atomic then Some AtomicLoad else None))) ≡
               named_or h (nat_le 1 (count h))
-          by true = counted_from 1 h
-          by false = counted_from 1 h
-      own (expression.Unary op expr) may = counted_from 2 h
-      own (expression.Binary op left right) may =
-          operator_bound shape h (BinarySign op) (left ∷ right ∷ []) ∙ counted_from 2 h
-      own (expression.Compose ty components) may =
-          let op = constructor d.around (Handle ty) (length components.items) in
-          silent_binds h op components.items (constructor_asks d.around (Handle ty) _)
-          ∙ counted_from 2 h
-      own (expression.ZeroValue ty) may = absurd cc
-      own (expression.Access base index) may = counted_from greatest_count h
-      own (expression.AccessIndex base index) may =
-          by (part_selector d base index) (known_passes m.types es (has_parts m.types) base)
-          (part_there m info es base index)
+          by true = counted_from 1 h at
+          by false = counted_from 1 h at
+      own (expression.Unary op expr) at may = counted_from 2 h at
+      own (expression.Binary op left right) at may =
+          operator_bound shape h (BinarySign op) (left ∷ right ∷ []) ∙ counted_from 2 h at
+      own (expression.Compose ty components) at may =
+          let op = constructor d.context (Handle ty) (length components.items) in
+          silent_binds h op components.items (constructor_asks d.context (Handle ty) _)
+          ∙ counted_from 2 h at
+      own (expression.ZeroValue ty) at may = absurd cc
+      own (expression.Access base index) at may = counted_from greatest_count h at
+      own (expression.AccessIndex base index) at may =
+          by (part_selector d base index) (λ least. counted_from least h at)
         where
-          by : (o : Option Selector) (b : Bool) → is_some o ≡ b →
+          by : (o : Option Selector) →
+              ((least : ℕ) → is_counted shape least h ≡
+              named_or h (nat_le least (binding_count (is_none o) (count h)))) →
               binds_as shape h (Some (part_shape base index o)) ≡
-              named_or h (nat_le (if b then greatest_count else 2) (count h))
-          by (Some x) true there = counted_from greatest_count h
-          by None false there =
-              silent_binds h (WithoutForm (PartAt index)) (base ∷ []) refl ∙ counted_from 2 h
-          by (Some x) false there = absurd (true≢false there)
-          by None true there = absurd (false≢true there)
-      own (expression.Select condition accept reject) may = counted_from 2 h
-      own (expression.Splat size value) may = counted_from 2 h
-      own (expression.Swizzle size vector pattern) may = counted_from 2 h
-      own (expression.Derivative axis how expr) may = counted_from 1 h
-      own (expression.As operand kind convert) may =
-          let op = cast d.around kind convert (type_known d.around operand) in
-          silent_binds h op (operand ∷ []) (cast_asks d.around kind convert _)
-          ∙ counted_from 2 h
-      own (expression.Math fun arg arg1 arg2 arg3) may = counted_from 2 h
-      own (expression.Relational fun argument) may = counted_from 2 h
+              named_or h (nat_le greatest_count (count h))
+          by (Some x) counted = counted greatest_count
+          by None counted =
+              silent_binds h (WithoutForm (PartAt index)) (base ∷ []) refl
+              ∙ counted 2
+              ∙ ap (named_or h) (bound_as_part (count h))
+      own (expression.Select condition accept reject) at may = counted_from 2 h at
+      own (expression.Splat size value) at may = counted_from 2 h at
+      own (expression.Swizzle size vector pattern) at may = counted_from 2 h at
+      own (expression.Derivative axis how expr) at may = counted_from 1 h at
+      own (expression.As operand kind convert) at may =
+          let op = cast d.context kind convert (type_known d.context operand) in
+          silent_binds h op (operand ∷ []) (cast_asks d.context kind convert _)
+          ∙ counted_from 2 h at
+      own (expression.Math fun arg arg1 arg2 arg3) at may = counted_from 2 h at
+      own (expression.Relational fun argument) at may = counted_from 2 h at
       own
           (expression.ImageSample
-          image sampler gather coordinate array_index offset level depth_ref clamp) may =
+          image sampler gather coordinate array_index offset level depth_ref clamp) at may =
           by gather
         where
           by : (g : Option SwizzleComponent) →
               is_asked shape h
               (asking
               (sample_operator
-              (option_map_or is_depth_image (type_known d.around image) false)
+              (option_map_or is_depth_image (type_known d.context image) false)
               g (level_of level) (is_some depth_ref) clamp
               (is_some array_index) (is_some offset))) ≡ true
           by None = refl
           by (Some c) = refl
-      own (expression.ImageLoad image coordinate array_index sample level) may = refl
-      own (expression.ImageQuery image query) may = query_bound h query (image ∷ query_operands query)
-      own (expression.ArrayLength array) may = counted_from 2 h
-      own (expression.CooperativeLoad columns rows role place) may =
+      own (expression.ImageLoad image coordinate array_index sample level) at may = refl
+      own (expression.ImageQuery image query) at may = query_bound h query (image ∷ query_operands query)
+      own (expression.ArrayLength array) at may = counted_from 2 h at
+      own (expression.CooperativeLoad columns rows role place) at may =
           load_binds h columns rows role place.row_major _ (cooperative_operands place)
-          ∙ counted_from 1 h
-      own (expression.CooperativeMultiplyAdd x y z) may = counted_from 2 h
-      own (expression.RayQueryGetIntersection query committed) may = counted_from 2 h
-      own (expression.RayQueryVertexPositions query committed) may = counted_from 2 h
-      own (expression.Literal value) may = absurd cc
-      own (expression.FunctionArgument number) may = absurd cc
-      own (expression.LocalVariable handle) may = absurd cc
-      own _ may = absurd cc
+          ∙ counted_from 1 h at
+      own (expression.CooperativeMultiplyAdd x y z) at may = counted_from 2 h at
+      own (expression.RayQueryGetIntersection query committed) at may = counted_from 2 h at
+      own (expression.RayQueryVertexPositions query committed) at may = counted_from 2 h at
+      own (expression.Literal value) at may = absurd cc
+      own (expression.FunctionArgument number) at may = absurd cc
+      own (expression.LocalVariable handle) at may = absurd cc
+      own _ at may = absurd cc
 
   -- and nothing else is
   pub others_bind : (h : ℕ) → is_emittable_kind (kind_at f.expressions h) ≡ false →

@@ -1,21 +1,18 @@
 -- What a search for a type without a form says of the types that the text of a function spells.
-use Rattle.std.proofs.Common.{◌≡◌, ◌<◌, ◌≤◌, ◌+◌, ℕ, zero, suc, Bool, true, false, ◌&&◌, List, [], ◌∷◌, ◌++◌}
+use Rattle.std.proofs.Common.{◌≡◌, ◌<◌, ◌+◌, ℕ, zero, suc, Bool, true, false, ◌&&◌, List, [], ◌∷◌, ◌++◌}
 use Rattle.std.proofs.Common.{drop, length, map, slice_index_or, Option, Some, None, refl, sym, ap, subst, ◌∙◌, arith}
 use Rattle.std.specs.Prelude.{IsFalse, IsSomeAnd, IsTrue, ◌⊎◌, cond, if◌then◌else◌, not, slice_get}
 use mathlib.Core.Logic.{inl, inr}
-use Rattle.std.specs.List.{IsAmong, enumerate_from, find}
+use Rattle.std.specs.List.{IsAmong, enumerate_from, filter, find}
 use Rattle.std.specs.Option.{option_map, option_map_or, option_or, option_to_list}
 use Rattle.std.proofs.lemmas.Bool.{and_parts}
-use Rattle.std.proofs.lemmas.List.{drop_all}
 use Rattle.std.proofs.lemmas.List.Folds.{find-append}
 use Rattle.module_meaning.proofs.Fitting.{drop_first}
-use Rattle.module_meaning.specs.AlikeTypes.{has_form}
+use Rattle.module_meaning.specs.AlikeTypes.{is_spelled}
 use Rattle.module_meaning.specs.Undeclared.{is_spellable, names_undeclared}
 use Rattle.module_meaning.specs.FunctionShapes.{function_shape}
 use Rattle.module_meaning.specs.Written.{IsSpelledIn, OfArgument, OfLet, OfLocal, OfResult}
-use Rattle.module_meaning.specs.Written.{block_emits, statement_emits}
-use Rattle.naga_ir.specs.StatementViews.{block_of, tree_of}
-use Rattle.naga_ir.specs.declared.statement.Statement.{Statement}
+use Rattle.module_meaning.specs.Written.{block_lets}
 use Rattle.naga_info.specs.declared.info.ExpressionInfo.{ExpressionInfo}
 use Rattle.naga_info.specs.declared.info.ModuleInfo.{ModuleInfo}
 use Rattle.naga_info.specs.declared.info.TypeResolution.{TypeResolution}
@@ -23,8 +20,8 @@ use Rattle.naga_info.specs.declared.info.TypeResolution.TheVariants.{Handle}
 use Rattle.naga_ir.specs.declared.module.Function.{Function}
 use Rattle.naga_ir.specs.declared.module.FunctionResult.{FunctionResult}
 use Rattle.naga_ir.specs.declared.module.Module.{Module}
-use Rattle.naga_scope.specs.SpelledTypes.{declared_formless, is_formless, tells_formless}
-use Rattle.naga_scope.specs.SpelledTypes.{is_told_formless, told_formless}
+use Rattle.naga_scope.specs.SpelledTypes.{declared_formless, is_formless, is_formless_let}
+use Rattle.naga_scope.specs.SpelledTypes.{is_annotated_formless, annotated_formless}
 use Rattle.shader_runs.specs.Program.{binds}
 
 -- ---- searches
@@ -73,19 +70,6 @@ pub numbered_mapped : {X Y : Type 0} (g : X → Y) (k : ℕ) (xs : List X) →
 numbered_mapped g k [] = refl
 numbered_mapped g k (x ∷ xs) = ap (λ ys. g x ∷ ys) (numbered_mapped g (k + 1) xs)
 
--- the handles that the statements from some on emit
-pub emits_more : (i : ℕ) (items : List Statement) (x : Statement) → i < length items →
-    x ≡ slice_index_or items i x →
-    block_emits (block_of (drop i items)) ≡
-    statement_emits (tree_of x) ++ block_emits (block_of (drop (i + 1) items))
-emits_more i items x lt is =
-    ap (λ xs. block_emits (block_of xs))
-    (drop_first i items x lt ∙ ap (λ y. y ∷ drop (i + 1) items) (sym is))
-
-pub emits_end : (items : List Statement) (i : ℕ) → length items ≤ i →
-    block_emits (block_of (drop i items)) ≡ []
-emits_end items i le = ap (λ xs. block_emits (block_of xs)) (drop_all i items le)
-
 -- the same by what is among a list
 pub there_among : {X : Type 0} (xs : List X) (x : X) → IsAmong xs x → (i : ℕ) × (slice_get xs i ≡ Some x)
 there_among [] x is = absurd (omega (arith, is.1.0))
@@ -126,6 +110,29 @@ turned_true : (b : Bool) → not b ≡ true → b ≡ false
 turned_true true is = absurd cc
 turned_true false is = refl
 
+-- ---- lists in parts
+module _ {X : Type 0} (p : X → Bool) where
+  -- a search through two lists, by whether the first has one
+  pub found_first : (xs ys : List X) (x : X) → find p xs ≡ Some x → find p (xs ++ ys) ≡ Some x
+  found_first xs ys x is = find-append p xs ys ∙ ap (λ o. option_or o (find p ys)) is
+
+  pub not_first : (xs ys : List X) → find p xs ≡ None → find p (xs ++ ys) ≡ find p ys
+  not_first xs ys none = find-append p xs ys ∙ ap (λ o. option_or o (find p ys)) none
+
+  -- one through what is left of a list by a test, by the first item
+  pub kept_found : (keep : X → Bool) (x : X) (xs : List X) → (keep x && p x) ≡ true → find p (filter keep (x ∷ xs)) ≡ Some x
+  kept_found keep x xs both =
+      let kept = (and_parts (keep x) (p x) both).0 in
+      let passes = (and_parts (keep x) (p x) both).1 in
+      ap (λ b. find p (if b then x ∷ filter keep xs else filter keep xs)) kept ∙ ap (λ b. cond b (Some x) (find p (filter keep xs))) passes
+
+  pub kept_not_found : (keep : X → Bool) (x : X) (xs : List X) → (keep x && p x) ≡ false → find p (filter keep (x ∷ xs)) ≡ find p (filter keep xs)
+  kept_not_found keep x xs fails = by (keep x) refl fails
+    where
+      by : (b : Bool) → keep x ≡ b → (b && p x) ≡ false → find p (if b then x ∷ filter keep xs else filter keep xs) ≡ find p (filter keep xs)
+      by true kept fails = ap (λ b. cond b (Some x) (find p (filter keep xs))) fails
+      by false kept fails = refl
+
 -- ---- a function
 abbrev argument_types : Function → List ℕ
 argument_types f = map (λ a. a.ty) f.arguments.items
@@ -153,13 +160,14 @@ module _ (explicit : Bool) (m : Module) (info : ModuleInfo) (f : Function) (es :
   abbrev p : ℕ → Bool
   p = is_formless m
 
-  abbrev told : ℕ → Bool
-  told = tells_formless m es bound
+  abbrev annotated : ℕ → Bool
+  annotated = is_formless_let m es
 
   -- where neither search finds one, each type that is spelled has a form
-  pub spelled_formed : declared_formless m f ≡ None → told_formless explicit m es bound f ≡ None →
+  pub spelled_formed : declared_formless m f ≡ None →
+      annotated_formless explicit m es bound f ≡ None →
       (r : TypeResolution) → IsSpelledIn explicit m info f es r → IsTrue (is_spellable m r)
-  spelled_formed none_declared none_told = spelled
+  spelled_formed none_declared none_annotated = spelled
     where
       one : (find p (argument_types f) ≡ None) × (option_or (find p (answer_types f)) (find p (local_types f)) ≡ None)
       one = neither _ _ (sym (parted m f) ∙ none_declared)
@@ -172,17 +180,16 @@ module _ (explicit : Bool) (m : Module) (info : ModuleInfo) (f : Function) (es :
       at_answer None r is = absurd cc
       at_answer (Some q) r is = let same : q ≡ r = cc in ap (λ r. Some r.ty) same
 
-      let_formed : (b : Bool) → b ≡ true → (if b then find told (block_emits f.body) else None) ≡ None →
-          (h : ℕ) (k : ExpressionInfo) → IsAmong (block_emits f.body) h → bound h ≡ true → slice_get es h ≡ Some k →
+      let_formed : (b : Bool) → b ≡ true → (if b then find annotated (block_lets bound f.body) else None) ≡ None →
+          (h : ℕ) (k : ExpressionInfo) → IsAmong (block_lets bound f.body) h → slice_get es h ≡ Some k →
           names_undeclared m k.ty ≡ false → is_spellable m k.ty ≡ true
-      let_formed false tells none h k among is_bound at declared = absurd cc
-      let_formed true tells none h k among is_bound at declared =
-          let place = there_among (block_emits f.body) h among in
-          let fails = none_passes told (block_emits f.body) none place.0 h place.1 in
-          let formed = turned_false (has_form m.types k.ty)
-          (sym (ap (λ b. b && option_map_or (λ k. is_told_formless m k.ty) (slice_get es h) false) is_bound
-          ∙ ap (λ o. option_map_or (λ k. is_told_formless m k.ty) o false) at
-          ∙ ap (λ b. not b && not (has_form m.types k.ty)) declared)
+      let_formed false tells none h k among at declared = absurd cc
+      let_formed true tells none h k among at declared =
+          let place = there_among (block_lets bound f.body) h among in
+          let fails = none_passes annotated (block_lets bound f.body) none place.0 h place.1 in
+          let formed = turned_false (is_spelled m.types k.ty)
+          (sym (ap (λ o. option_map_or (λ k. is_annotated_formless m k.ty) o false) at
+          ∙ ap (λ b. not b && not (is_spelled m.types k.ty)) declared)
           ∙ fails) in
           λ i. formed i && not (declared i)
 
@@ -193,8 +200,8 @@ module _ (explicit : Bool) (m : Module) (info : ModuleInfo) (f : Function) (es :
           turned_false (is_spellable m (Handle r.ty)) (none_passes p (answer_types f) two.0 0 r.ty (at_answer f.result r is))
       spelled _ (OfLocal l v at) =
           turned_false (is_spellable m (Handle v.ty)) (none_passes p (local_types f) two.1 l v.ty (map_at (λ l. l.ty) f.local_variables l v at))
-      spelled _ (OfLet h k tells among is_bound at declared) =
-          let_formed explicit tells none_told h k among is_bound at declared
+      spelled _ (OfLet h k tells among at declared) =
+          let_formed explicit tells none_annotated h k among at declared
 
   -- what the first search finds is spelled, and has no form
   pub declared_lacks : (ty : ℕ) → declared_formless m f ≡ Some ty → IsSpelledIn explicit m info f es (Handle ty) × IsFalse (is_spellable m (Handle ty))
@@ -231,24 +238,22 @@ module _ (explicit : Bool) (m : Module) (info : ModuleInfo) (f : Function) (es :
       by (inr is) = inside (either_one _ _ ty is)
 
   -- so it is with what the second finds
-  pub let_lacks : (h : ℕ) → told_formless explicit m es bound f ≡ Some h →
+  pub let_lacks : (h : ℕ) → annotated_formless explicit m es bound f ≡ Some h →
       IsSomeAnd (slice_get es h) (λ k. IsSpelledIn explicit m info f es k.ty × IsFalse (is_spellable m k.ty))
   let_lacks h is = by explicit refl is
     where
-      known : (o : Option ExpressionInfo) → slice_get es h ≡ o → explicit ≡ true → IsAmong (block_emits f.body) h →
-          bound h ≡ true → option_map_or (λ k. is_told_formless m k.ty) o false ≡ true →
-          IsSomeAnd o (λ k. IsSpelledIn explicit m info f es k.ty × IsFalse (is_spellable m k.ty))
-      known None at tells among is_bound lacks = absurd cc
-      known (Some k) at tells among is_bound lacks =
-          let parts = and_parts (not (names_undeclared m k.ty)) (not (has_form m.types k.ty)) lacks in (
-            OfLet h k tells among is_bound at (turned_true (names_undeclared m k.ty) parts.0),
-            ap (λ b. b && not (names_undeclared m k.ty)) (turned_true (has_form m.types k.ty) parts.1),
+      known : (o : Option ExpressionInfo) → slice_get es h ≡ o → explicit ≡ true → IsAmong (block_lets bound f.body) h →
+          option_map_or (λ k. is_annotated_formless m k.ty) o false ≡ true → IsSomeAnd o (λ k. IsSpelledIn explicit m info f es k.ty × IsFalse (is_spellable m k.ty))
+      known None at tells among lacks = absurd cc
+      known (Some k) at tells among lacks =
+          let parts = and_parts (not (names_undeclared m k.ty)) (not (is_spelled m.types k.ty)) lacks in (
+            OfLet h k tells among at (turned_true (names_undeclared m k.ty) parts.0),
+            ap (λ b. b && not (names_undeclared m k.ty)) (turned_true (is_spelled m.types k.ty) parts.1),
           )
 
-      by : (b : Bool) → explicit ≡ b → (if b then find told (block_emits f.body) else None) ≡ Some h →
+      by : (b : Bool) → explicit ≡ b → (if b then find annotated (block_lets bound f.body) else None) ≡ Some h →
           IsSomeAnd (slice_get es h) (λ k. IsSpelledIn explicit m info f es k.ty × IsFalse (is_spellable m k.ty))
       by false tells is = absurd cc
       by true tells is =
-          let found = found_passes told (block_emits f.body) h is in
-          let both = and_parts (bound h) (option_map_or (λ k. is_told_formless m k.ty) (slice_get es h) false) found.2 in
-          known (slice_get es h) refl tells (among_there (block_emits f.body) found.0 h found.1) both.0 both.1
+          let found = found_passes annotated (block_lets bound f.body) h is in
+          known (slice_get es h) refl tells (among_there (block_lets bound f.body) found.0 h found.1) found.2

@@ -65,14 +65,14 @@ from_there h j le = by (cases_order j h)
     by (inr (inr lt)) = inr lt
 
 -- ---- the sweep
-module _ (has_form : Expression → Bool) (es : List Expression) (roots : List ℕ) (first : List Bool) where
+module _ (expression_has_form : Expression → Bool) (es : List Expression) (roots : List ℕ) (first : List Bool) where
   -- Behind this handle, what is marked has a form and its operands are marked. What is marked is
   -- written, and what was is.
   pub record Swept (marks : List Bool) (end : ℕ) : Type 0 where
     pub sound : (h : ℕ) → is_marked marks h ≡ true → IsWritten es roots h
     pub kept : (h : ℕ) → is_marked first h ≡ true → is_marked marks h ≡ true
     pub formed : (h : ℕ) (e : Expression) → end ≤ h → is_marked marks h ≡ true →
-        slice_get es h ≡ Some e → IsTrue (has_form e)
+        slice_get es h ≡ Some e → IsTrue (expression_has_form e)
     pub closed : (h : ℕ) (e : Expression) (y : ℕ) → end ≤ h → is_marked marks h ≡ true →
         slice_get es h ≡ Some e → is_one_of (expression_operands e) y ≡ true → y < length es →
         is_marked marks y ≡ true
@@ -105,7 +105,7 @@ module _ (has_form : Expression → Bool) (es : List Expression) (roots : List �
 
     -- and has a form
     pub ended : (marks : List Bool) → Swept marks 0 → (h : ℕ) (e : Expression) →
-        slice_get es h ≡ Some e → IsWritten es roots h → IsTrue (has_form e)
+        slice_get es h ≡ Some e → IsWritten es roots h → IsTrue (expression_has_form e)
     ended marks swept h e at is =
         swept.formed h e (omega arith) (all_marked marks swept h (slice_get_within es h e at) is) at
 
@@ -129,7 +129,7 @@ module _ (has_form : Expression → Bool) (es : List Expression) (roots : List �
   -- what is marked has a form, and its operands are marked
   pub next : (old new : List Bool) (h : ℕ) (e : Expression) → length old ≡ length es →
       slice_get es h ≡ Some e → AllBelow h (expression_operands e) → is_marked old h ≡ true →
-      IsTrue (has_form e) →
+      IsTrue (expression_has_form e) →
       ((j : ℕ) → is_marked new j ≡ marked_with old (expression_operands e) j) → Swept old (suc h) →
       Swept new h
   next old new h e size at below marked formed marks swept = record {
@@ -167,9 +167,9 @@ module _ (has_form : Expression → Bool) (es : List Expression) (roots : List �
               absurd (omega (arith, lt, le))
 
       form : (j : ℕ) (d : Expression) → is_marked new j ≡ true → slice_get es j ≡ Some d →
-          (j ≡ h) ⊎ (suc h ≤ j) → IsTrue (has_form d)
+          (j ≡ h) ⊎ (suc h ≤ j) → IsTrue (expression_has_form d)
       form j d is there (inl same) =
-          subst (λ x. IsTrue (has_form x))
+          subst (λ x. IsTrue (expression_has_form x))
           (same_Some e d (sym at ∙ (ap (slice_get es) (sym same) ∙ there))) formed
       form j d is there (inr lt) = swept.formed j d lt (was j (omega (arith, lt)) is) there
 

@@ -1,6 +1,13 @@
-pub mod Standings
+pub mod Availabilities
+pub mod Changes
+pub mod Continues
+pub mod ExpressionNames
+pub mod FormlessStatements
 pub mod Forms
+pub mod KnownFunctions
+pub mod Log
 pub mod Marks
-pub mod GivenNames
 pub mod Plans
+pub mod Results
 pub mod SpelledTypes
+pub mod Walks

@@ -2,7 +2,7 @@
 use Rattle.std.specs.Prelude.{◌≡◌, ◌<◌, ℕ, Bool, false, List, ◌&&◌, ◌||◌, get_or, length, nat_eq, nat_lt}
 use Rattle.std.specs.Prelude.{IsFalse, IsSomeAnd, IsTrue, None, Option, Some, slice_get}
 use Rattle.std.specs.List.{list_any}
-use Rattle.module_meaning.specs.Part.{global_is_written}
+use Rattle.module_meaning.specs.WrittenSoFar.{global_is_written}
 use Rattle.module_meaning.specs.Premises.{OperandsStandBefore}
 use Rattle.module_meaning.specs.Writable.{is_written_out}
 use Rattle.module_meaning.specs.Written.{IsWritten}
@@ -23,6 +23,11 @@ is_one_of handles handle = list_any (nat_eq handle) handles
 abbrev pub marked_with : List Bool → (handles : List ℕ) → (handle : ℕ) → Bool
 marked_with marks handles handle =
     is_marked marks handle || (is_one_of handles handle && nat_lt handle (length marks))
+
+-- these handles are marked too
+pub record MarksAlso (old : List Bool) (handles : List ℕ) (new : List Bool) : Type 0 where
+  pub size : length new ≡ length old
+  pub marks : (h : ℕ) → is_marked new h ≡ marked_with old handles h
 
 -- these handles alone have marks, as many as the table has room for
 abbrev pub MarksJust : (handles : List ℕ) → List Bool → Type 0

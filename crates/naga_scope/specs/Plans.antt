@@ -6,7 +6,7 @@ use Rattle.std.specs.Prelude.{◌≡◌, ◌<◌, ◌^◌, ℕ, Bool, List, [], 
 use Rattle.std.specs.Prelude.{IsFalse, IsTrue, get_or, length, nat_le, slice_get}
 use Rattle.naga_ir.specs.declared.module.Function as ir
 use Rattle.naga_info.specs.declared.info.ExpressionInfo.{ExpressionInfo}
-use Rattle.module_meaning.specs.Part.{expression_has_form}
+use Rattle.module_meaning.specs.WrittenSoFar.{expression_has_form}
 use Rattle.module_meaning.specs.Undeclared.{is_spellable}
 use Rattle.module_meaning.specs.Written.{IsSpelledIn, IsWrittenIn, WrittenHaveForms}
 use Rattle.naga_ir.specs.declared.module.Module.{Module}
@@ -16,15 +16,19 @@ use Rattle.shader_runs.specs.Program.{Function}
 use Rattle.shader_runs.specs.Scope.{at_start}
 use Rattle.shader_runs.specs.ScopeRules.{ScopeHolds}
 use Rattle.module_meaning.specs.FunctionShapes.{function_shape, function_shapes}
-use Rattle.module_meaning.specs.GivenLabels.{given_labels}
-use Rattle.module_meaning.specs.Names.{given_name}
+use Rattle.module_meaning.specs.ExpressionLabels.{expression_labels}
+use Rattle.module_meaning.specs.Names.{expression_name}
 use Rattle.naga_names.specs.Naming.{HasNamed, Names}
-use Rattle.naga_scope.specs.GivenNames.{IsRefusalOfLabels}
-use Rattle.naga_scope.specs.Standings.{TextPoint, handles_of}
+use Rattle.naga_scope.specs.ExpressionNames.{IsRefusalOfLabels}
+use Rattle.naga_scope.specs.Availabilities.{TextPoint, handles_of}
+use Rattle.naga_scope.specs.Changes.{block_changes}
+use Rattle.naga_scope.specs.FormlessStatements.{formless_statement}
+use Rattle.naga_scope.specs.declared.known_function.KnownFunction.{KnownFunction}
+use Rattle.naga_scope.specs.Log.{HasRoom}
 use Rattle.naga_scope.specs.declared.plan.PlanError.{PlanError}
 use Rattle.naga_scope.specs.declared.plan.PlanError.TheVariants.{OutOfScope, WithoutForm, Unnamed}
 use Rattle.naga_scope.specs.declared.plan.PlanError.TheVariants.{TypeWithoutForm, LetWithoutForm}
-use Rattle.naga_scope.specs.declared.plan.PlanError.TheVariants.{Memory}
+use Rattle.naga_scope.specs.declared.plan.PlanError.TheVariants.{StatementWithoutForm, Memory}
 
 -- the shape of the function with this handle, if there is one
 abbrev pub function_shape_at : Module → ModuleInfo → (handle : ℕ) → Option Function
@@ -39,28 +43,33 @@ ScopeHoldsIn m info handle = IfSome (function_shape_at m info handle) ScopeHolds
 -- that front ends gave, in the order of the text
 pub record Planned : Type 0 where
   pub scope : TextPoint
-  pub given : List (List ℕ)
+  pub named : List (List ℕ)
 
 -- A plan of a function, of whose expressions es is known: the rules of scope hold in it, and its
 -- table of one cell for each of the expressions has what is in scope at the start, where no name is
--- given yet. Each written handle and each type that is spelled has a form. Handles, and labels that
--- front ends gave, are told apart in 64 bits.
+-- given yet, and room for all that its body introduces. Each statement, each written handle and
+-- each type that is spelled has a form. Handles, and labels that front ends gave, are told apart in
+-- 64 bits.
 pub record IsPlan (explicit : Bool) (m : Module) (info : ModuleInfo) (f : ir.Function) (es : List ExpressionInfo)
     (plan : Planned) : Type 0 where
   pub in_scope : ScopeHolds (function_shape m info f es)
-  pub starts : (given : ℕ → List ℕ) →
-      handles_of given plan.scope.table ≡ at_start (function_shape m info f es)
-  pub no_name : plan.scope.given ≡ 0
+  pub starts : (named : ℕ → List ℕ) →
+      handles_of named plan.scope.table ≡ at_start (function_shape m info f es)
+  pub no_name : plan.scope.named ≡ 0
   pub size : length plan.scope.table ≡ length f.expressions
   pub counted : IsTrue (nat_le (length f.expressions) (2 ^ 64))
-  pub room : length (given_labels f) < 2 ^ 64
+  pub room : length (expression_labels f) < 2 ^ 64
+  pub changes : HasRoom plan.scope (block_changes f.body)
   pub formed : WrittenHaveForms explicit m info f es
 
--- why there is no plan of it, where the namer was this: the rules of scope don't hold in it, a
--- written handle has no form, a type that is spelled has none, a label gets no name, or memory ran out
+-- why there is no plan of it, where the namer was this: the rules of scope don't hold in it, this
+-- statement is the first without a form, a written handle has none, a type that is spelled has none,
+-- a label gets no name, or memory ran out
 abbrev pub IsRefusalToPlan : (explicit : Bool) → Module → ModuleInfo → ir.Function →
     List ExpressionInfo → Names → PlanError → Type 0
 IsRefusalToPlan explicit m info f es namer OutOfScope = ScopeHolds (function_shape m info f es) → ⊥
+IsRefusalToPlan explicit m info f es namer (StatementWithoutForm it) =
+    formless_statement f.body ≡ Some it
 IsRefusalToPlan explicit m info f es namer (WithoutForm h) =
     IsWrittenIn m info f es h
     × IsSomeAnd (slice_get f.expressions h) (λ e. IsFalse (expression_has_form m es f.expressions e))
@@ -71,8 +80,17 @@ IsRefusalToPlan explicit m info f es namer (LetWithoutForm h) =
     (λ k. IsSpelledIn explicit m info f es k.ty × IsFalse (is_spellable m k.ty))
 IsRefusalToPlan explicit m info f es namer (Unnamed error) =
     (earlier : List (List ℕ)) → HasNamed namer earlier →
-    IsRefusalOfLabels namer earlier (given_labels f) error
+    IsRefusalOfLabels namer earlier (expression_labels f) error
 IsRefusalToPlan explicit m info f es namer (Memory e) = Unit {0}
+
+-- a plan of a function with what is known of it, and why there is none
+abbrev pub IsPlanFor : (explicit : Bool) → KnownFunction → Planned → Type 0
+IsPlanFor explicit k plan =
+    IsPlan explicit k.shader.now k.module_info.now k.function.now k.info.now plan
+
+abbrev pub IsRefusalToPlanFor : (explicit : Bool) → KnownFunction → Names → PlanError → Type 0
+IsRefusalToPlanFor explicit k namer error =
+    IsRefusalToPlan explicit k.shader.now k.module_info.now k.function.now k.info.now namer error
 
 -- what holds of the function with this handle and of what is known of its expressions, if there is one
 abbrev pub OfFunctionAt : Module → ModuleInfo → (handle : ℕ) →
@@ -92,5 +110,6 @@ IsRefusalToPlanOf explicit m info handle namer error =
     OfFunctionAt m info handle (λ f es. IsRefusalToPlan explicit m info f es namer error)
 
 -- these are the names that front ends gave in the function with this handle
-abbrev pub AreGivenNames : Module → (handle : ℕ) → (names : List (List ℕ)) → Type 0
-AreGivenNames m handle names = (number : ℕ) → get_or names number [] ≡ given_name m handle number
+abbrev pub AreExpressionNames : Module → (handle : ℕ) → (names : List (List ℕ)) → Type 0
+AreExpressionNames m handle names =
+    (number : ℕ) → get_or names number [] ≡ expression_name m handle number

@@ -8,9 +8,9 @@ use Rattle.std.specs.Prelude.{ℕ, Bool, false, List, ◌&&◌, ◌++◌, Option
 use Rattle.std.specs.Prelude.{slice_get}
 use Rattle.std.specs.List.{find}
 use Rattle.std.specs.Option.{option_map, option_map_or, option_to_list}
-use Rattle.module_meaning.specs.AlikeTypes.{has_form}
+use Rattle.module_meaning.specs.AlikeTypes.{is_spelled}
 use Rattle.module_meaning.specs.Undeclared.{is_spellable, names_undeclared}
-use Rattle.module_meaning.specs.Written.{block_emits}
+use Rattle.module_meaning.specs.Written.{block_lets}
 use Rattle.naga_info.specs.declared.info.ExpressionInfo.{ExpressionInfo}
 use Rattle.naga_info.specs.declared.info.TypeResolution.{TypeResolution}
 use Rattle.naga_info.specs.declared.info.TypeResolution.TheVariants.{Handle}
@@ -32,16 +32,15 @@ abbrev pub declared_formless : Module → Function → Option ℕ
 declared_formless m f = find (is_formless m) (declared_types f)
 
 -- a type is told, since it names no struct that no text declares, and has no form
-abbrev pub is_told_formless : Module → TypeResolution → Bool
-is_told_formless m r = not (names_undeclared m r) && not (has_form m.types r)
+abbrev pub is_annotated_formless : Module → TypeResolution → Bool
+is_annotated_formless m r = not (names_undeclared m r) && not (is_spelled m.types r)
 
--- a `let` binds the expression, and its type is told and has no form
-abbrev pub tells_formless : Module → List ExpressionInfo → (binds : ℕ → Bool) → (h : ℕ) → Bool
-tells_formless m es binds h =
-    binds h && option_map_or (λ k. is_told_formless m k.ty) (slice_get es h) false
+-- the type of the expression is known, told where a `let` names it, and has no form
+abbrev pub is_formless_let : Module → List ExpressionInfo → (h : ℕ) → Bool
+is_formless_let m es h = option_map_or (λ k. is_annotated_formless m k.ty) (slice_get es h) false
 
--- the first such one that a function emits, where `let`s tell types
-abbrev pub told_formless : (explicit : Bool) → Module → List ExpressionInfo →
+-- the first such one that a `let` of a function names, where `let`s tell types
+abbrev pub annotated_formless : (explicit : Bool) → Module → List ExpressionInfo →
     (binds : ℕ → Bool) → Function → Option ℕ
-told_formless explicit m es binds f =
-    if explicit then find (tells_formless m es binds) (block_emits f.body) else None
+annotated_formless explicit m es binds f =
+    if explicit then find (is_formless_let m es) (block_lets binds f.body) else None

@@ -4,14 +4,14 @@
 ghost use Rattle.std.specs.Prelude.{◌≡◌, ◌||◌, List, get_or, map, nat_le, slice_get};
 ghost use Rattle.std.specs.Option.{is_some, option_map};
 ghost use Rattle.module_meaning.specs.FunctionShapes.{function_shape};
-ghost use Rattle.module_meaning.specs.GivenLabels.{label_of};
+ghost use Rattle.module_meaning.specs.ExpressionLabels.{label_of};
 ghost use Rattle.naga_info.specs.declared.info.ModuleInfo.{ModuleInfo};
 ghost use Rattle.naga_ir.specs.declared.module.Module.{Module};
 ghost use Rattle.shader_runs.specs.Program.{binds};
-ghost use Rattle.naga_scope.specs.Standings.{is_constant_kind, is_emittable_kind, is_pure_kind};
-ghost use Rattle.naga_scope.specs.Standings.{is_image_operation, kind_at, uses_to_bind};
+ghost use Rattle.naga_scope.specs.Availabilities.{is_constant_kind, is_emittable_kind};
+ghost use Rattle.naga_scope.specs.Availabilities.{is_pure_kind};
+ghost use Rattle.naga_scope.specs.Availabilities.{is_image_operation, kind_at, uses_to_bind};
 
-use naga_acceptance::parts::known_has_parts;
 use naga_back::BakeRefCount;
 use naga_info::FunctionInfo;
 use naga_ir::{Expression, ExpressionKind, Function, Handle, Type_, UniqueArena};
@@ -111,20 +111,12 @@ fn asks_an_image(expression: &Expression) -> bool
 }
 
 /// From how many uses on a `let` binds an expression: naga's number, but one for the load of a
-/// cooperative matrix too, since that reads memory, and two for a part of what has no parts, which is an
-/// operator.
-fn uses_to_bind(types: &UniqueArena<Type_>, info: &FunctionInfo, expression: &Expression) -> usize
-    ensures { result ≡ uses_to_bind types.now info.now expression.now }
+/// cooperative matrix too, since that reads memory.
+fn uses_to_bind(expression: &Expression) -> usize
+    ensures { result ≡ uses_to_bind expression.now }
 {
     match expression {
         Expression::CooperativeLoad { .. } => 1,
-        Expression::AccessIndex { base, .. } => {
-            if known_has_parts(types, info.expressions.as_slice(), *base) {
-                expression.bake_ref_count()
-            } else {
-                2
-            }
-        }
         _ => expression.bake_ref_count(),
     }
 }
@@ -132,17 +124,16 @@ fn uses_to_bind(types: &UniqueArena<Type_>, info: &FunctionInfo, expression: &Ex
 /// Whether a front end named the expression with this handle, or it is used as often as its kind
 /// asks.
 fn is_asked_for(
-    types: &UniqueArena<Type_>,
     function: &Function,
     info: &FunctionInfo,
     handle: Handle<Expression>,
     expression: &Expression,
 ) -> bool
     ensures { result ≡ (is_some (label_of function.now handle)
-        || nat_le (uses_to_bind types.now info.now expression.now)
+        || nat_le (uses_to_bind expression.now)
         (get_or (map (λ e. e.ref_count) info.now) handle 0)) }
 {
-    is_named(function, handle) || count_of(info, handle) >= uses_to_bind(types, info, expression)
+    is_named(function, handle) || count_of(info, handle) >= uses_to_bind(expression)
 }
 
 /// Whether a `let` binds the expression with this handle where it is emitted: an operation on an
@@ -160,8 +151,7 @@ pub fn binds(
     match expression_at(function, handle) {
         Some(expression) => {
             is_emittable(expression.kind())
-                && (asks_an_image(expression)
-                    || is_asked_for(types, function, info, handle, expression))
+                && (asks_an_image(expression) || is_asked_for(function, info, handle, expression))
         }
         None => false,
     }

@@ -3,17 +3,23 @@
 #![tactic(auto)]
 
 pub mod binding;
+mod changes;
 pub mod check;
+pub mod continues;
 mod forms;
-mod given;
 pub mod global_expressions;
+mod known_function;
+mod named;
 pub mod plan;
 pub mod points;
 mod spelled;
+pub mod statements;
 mod written;
 
 pub use binding::binds;
+pub use continues::split_at_continue;
 pub use forms::{converted_scalar, sampling_has_form, scalar_behind, whole_known};
 pub use global_expressions::GlobalExpressions;
 pub use plan::{Plan, PlanError};
-pub use points::{BoundName, Scope, Standing};
+pub use points::{Availability, BoundName, Scope};
+pub use statements::FormlessStatement;

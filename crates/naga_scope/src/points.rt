@@ -1,13 +1,11 @@
 //! Where the expressions of a function stand at a point of its text.
 
-ghost use Rattle.std.specs.Prelude.{◌≡◌, ◌+◌, ◌<◌, ◌&&◌, ◌^◌, ℕ, List, [], length, nat_le, get_or};
-ghost use Rattle.std.specs.Prelude.{IsTrue, IfOk, Some, slice_set};
+ghost use Rattle.std.specs.Prelude.{◌≡◌, ◌+◌, ◌-◌, ◌<◌, ◌≤◌, ◌&&◌, ◌^◌, ◌∷◌, ◌++◌, ℕ, List, []};
+ghost use Rattle.std.specs.Prelude.{length, nat_le, get_or, IsTrue, IfOk, Some, slice_set};
 ghost use Rattle.std.specs.Option.{is_some, option_map, option_to_list};
 ghost use Rattle.module_meaning.specs.FunctionShapes.{function_shape};
-ghost use Rattle.module_meaning.specs.GivenLabels.{label_of};
-ghost use Rattle.module_meaning.specs.Names.{given_name};
-ghost use Rattle.module_meaning.specs.Namings.{function_naming};
-ghost use Rattle.module_meaning.specs.Part.{function_is_written};
+ghost use Rattle.module_meaning.specs.ExpressionLabels.{label_of};
+ghost use Rattle.module_meaning.specs.Namings.{function_naming, inner_names};
 ghost use Rattle.module_meaning.specs.Premises.{OperandsStandBefore};
 ghost use Rattle.naga_info.specs.declared.info.ExpressionInfo.{ExpressionInfo};
 ghost use Rattle.naga_ir.specs.Operands.{expression_operands};
@@ -15,18 +13,26 @@ ghost use Rattle.naga_info.specs.declared.info.ModuleInfo.{ModuleInfo};
 ghost use Rattle.naga_ir.specs.declared.module.Module.{Module};
 ghost use Rattle.naga_names.specs.Keys.{NameMap};
 ghost use Rattle.shader_runs.specs.Program.{binds, expression_of, operands_of};
-ghost use Rattle.shader_runs.specs.Scope.{all_constant, at_start, after_one};
-ghost use Rattle.shader_runs.specs.Scope.{is_new, is_present, is_pure, may_emit};
+ghost use Rattle.shader_runs.specs.Scope.{after_one, after_result, all_constant, at_start};
+ghost use Rattle.shader_runs.specs.Scope.{forgotten_handles, is_new, is_present, is_pure, may_emit};
 ghost use Rattle.shader_runs.specs.Scope.{usable, usable_all};
 ghost use Rattle.naga_ir.specs.Kinds.{kind_of};
-ghost use Rattle.naga_scope.specs.Standings.{KeepsStart, emitted_standing, first_standing};
-ghost use Rattle.naga_scope.specs.Standings.{handles_of};
-ghost use Rattle.naga_scope.specs.Standings.{is_constant_by, is_pure_kind, next_name, operands_at};
-ghost use Rattle.naga_scope.specs.Standings.{standing_of, unbound_standing, usable_by};
+ghost use Rattle.naga_scope.specs.Availabilities.{TextPoint, availability_of};
+ghost use Rattle.naga_scope.specs.Availabilities.{emitted_availability, first_availability};
+ghost use Rattle.naga_scope.specs.Availabilities.{forgotten_cell, handles_of, is_constant_by};
+ghost use Rattle.naga_scope.specs.Availabilities.{is_new_cell, is_pure_kind, next_name};
+ghost use Rattle.naga_scope.specs.Availabilities.{operands_at};
+ghost use Rattle.naga_scope.specs.Availabilities.{unbound_availability, usable_by};
+ghost use Rattle.naga_scope.specs.Changes.{block_changes};
+ghost use Rattle.naga_scope.specs.KnownFunctions.{IsPointOf, handles_at, shape_of};
+ghost use Rattle.naga_scope.specs.Log.{Counted, Extends, HasRoom, Reverts, Same, back_to};
+ghost use Rattle.naga_scope.specs.Log.{forget_at, grows};
 
 use crate::binding::{
     binds, expression_at, is_constant_leaf, is_emittable, is_named, is_operator, kind_at, label_of,
 };
+use crate::changes::count_in_block;
+use crate::known_function::KnownFunction;
 use naga_info::FunctionInfo;
 use naga_ir::{Expression, Function, Handle, Place, Type_, UniqueArena};
 use std::alloc::{AllocError, Global};
@@ -39,12 +45,12 @@ pub enum BoundName {
     Numbered,
     /// The one with this number, from zero on, of those that front ends gave in the function, in
     /// the order of its text.
-    Given(usize),
+    Named(usize),
 }
 
 /// Where an expression stands at a point of a function's text.
 #[derive(Clone, Copy, Debug, PartialEq, Eq)]
-pub enum Standing {
+pub enum Availability {
     /// No `Emit` gave it here.
     Absent,
     /// It was emitted where one of its operands was out of scope, so it is never written.
@@ -54,93 +60,159 @@ pub enum Standing {
     /// It was emitted, and is written wherever it is used.
     Inline,
     /// It was emitted, and a `let` bound it under this name.
-    Named(BoundName),
+    Bound(BoundName),
 }
 
-impl Standing {
+impl Availability {
     /// Whether it may be written.
     pub(crate) fn is_present(self) -> bool
-        ensures { (given : ℕ → List ℕ) (name : List ℕ) →
-            result ≡ is_present (standing_of given name self) }
+        ensures { (named : ℕ → List ℕ) (name : List ℕ) →
+            result ≡ is_present (availability_of named name self) }
     {
         match self {
-            Standing::Everywhere | Standing::Inline | Standing::Named(_) => true,
-            Standing::Absent | Standing::Barred => false,
+            Availability::Everywhere | Availability::Inline | Availability::Bound(_) => true,
+            Availability::Absent | Availability::Barred => false,
         }
     }
 
     /// Whether an `Emit` may give it.
     pub(crate) fn is_new(self) -> bool
-        ensures { (given : ℕ → List ℕ) (name : List ℕ) →
-            result ≡ is_new (standing_of given name self) }
+        ensures cell { result ≡ is_new_cell self }
+        ensures named { (named : ℕ → List ℕ) (name : List ℕ) →
+            result ≡ is_new (availability_of named name self) }
     {
         match self {
-            Standing::Absent | Standing::Everywhere => true,
-            Standing::Barred | Standing::Inline | Standing::Named(_) => false,
+            Availability::Absent | Availability::Everywhere => true,
+            Availability::Barred | Availability::Inline | Availability::Bound(_) => false,
         }
     }
 
     /// Where an operator that no `let` binds stands behind its `Emit`.
     fn unbound(self, has_operands: bool) -> Self
-        ensures { result ≡ unbound_standing has_operands self }
+        ensures { result ≡ unbound_availability has_operands self }
     {
         if has_operands {
-            Standing::Inline
-        } else if self == Standing::Absent {
-            Standing::Barred
+            Availability::Inline
+        } else if self == Availability::Absent {
+            Availability::Barred
+        } else {
+            self
+        }
+    }
+
+    /// What is left of it where what was introduced since is forgotten, `now` being where it
+    /// stands.
+    fn forgotten(self, now: Availability) -> Self
+        ensures { result ≡ forgotten_cell self now }
+    {
+        if self == Availability::Everywhere && !now.is_new() {
+            Availability::Inline
         } else {
             self
         }
     }
 }
 
+/// The index of a cell, and what stood in it.
+#[derive(Clone, Copy, Debug, PartialEq, Eq)]
+pub struct Change {
+    index: usize,
+    before: Availability,
+}
+
 /// Where each expression of a function stands at a point of its text, one cell for each, and how
 /// many names that front ends gave stand in front of the point.
+///
+/// A log of what was changed undoes it behind a block, so that the table is never copied. Room for
+/// all changes of a function's body is made once, and nothing inside asks for memory.
 #[derive(Debug, Drop)]
 pub struct Scope {
-    standings: Vec<Standing>,
-    given: usize,
+    availabilities: Vec<Availability>,
+    /// How many names that front ends gave stand in front of the point. It is never undone.
+    named: usize,
+    /// As long as there is room for changes; those behind `used` mean nothing.
+    log: Vec<Change>,
+    used: usize,
 }
 
 impl Model for Scope {
-    ghost use Rattle.naga_scope.specs.Standings.{TextPoint};
+    ghost use Rattle.std.specs.Prelude.{◌≤◌, length, take};
+    ghost use Rattle.naga_scope.specs.Availabilities.{TextPoint};
 
     ghost Value = { TextPoint };
 
-    ghost view = { λ s. record { table = s.standings.items; given = s.given } };
+    ghost view = { λ s. record {
+      table = s.availabilities.items;
+      named = s.named;
+      log = take s.used s.log.items;
+      room = length s.log.items;
+    } };
+
+    ghost invariant = { λ s. s.used ≤ length s.log.items };
+}
+
+/// The cell with this index, by a table of all up to some.
+fn availability_in(availabilities: &[Availability], index: usize) -> Availability
+    ensures { result ≡ get_or availabilities.now index Availability.Absent }
+{
+    match availabilities.get(index) {
+        Some(availability) => *availability,
+        None => Availability::Absent,
+    }
 }
 
 /// The cell of this handle, by a table of all handles up to some.
-fn standing_at(standings: &[Standing], handle: Handle<Expression>) -> Standing
-    ensures { result ≡ get_or standings.now handle Standing.Absent }
+fn availability_at(availabilities: &[Availability], handle: Handle<Expression>) -> Availability
+    ensures { result ≡ get_or availabilities.now handle Availability.Absent }
 {
-    match standings.get(handle.index()) {
-        Some(standing) => *standing,
-        None => Standing::Absent,
+    availability_in(availabilities, handle.index())
+}
+
+/// Lets the cell with this index, if there is one, stand so.
+fn stand_at(availabilities: &mut Vec<Availability>, index: usize, availability: Availability)
+    ensures { availabilities.new.items ≡ slice_set availabilities.old.items index availability }
+{
+    if index < availabilities.len() {
+        availabilities[index] = availability;
     }
+}
+
+/// A log with room for as many changes.
+fn room_for(alloc: Global, changes: usize) -> Result<Vec<Change>, AllocError>
+    ensures { IfOk result (λ log. length log.items ≡ changes) }
+{
+    let none = Change {
+        index: 0,
+        before: Availability::Absent,
+    };
+    vec![in alloc; none; changes]
 }
 
 /// Whether the expression with this handle is a constant, or one that the table has in scope
 /// everywhere.
-fn is_constant(standings: &[Standing], function: &Function, handle: Handle<Expression>) -> bool
-    ensures { result ≡ is_constant_by standings.now function.now.expressions handle }
+fn is_constant(
+    availabilities: &[Availability],
+    function: &Function,
+    handle: Handle<Expression>,
+) -> bool
+    ensures { result ≡ is_constant_by availabilities.now function.now.expressions handle }
 {
     is_constant_leaf(kind_at(function, handle))
-        || standing_at(standings, handle) == Standing::Everywhere
+        || availability_at(availabilities, handle) == Availability::Everywhere
 }
 
 /// Whether each operand of the expression is a constant, or one that the table has in scope
 /// everywhere.
 fn has_constant_operands(
-    standings: &[Standing],
+    availabilities: &[Availability],
     function: &Function,
     expression: &Expression,
 ) -> bool
-    ensures { result ≡ all_constant (is_constant_by standings.now function.now.expressions)
+    ensures { result ≡ all_constant (is_constant_by availabilities.now function.now.expressions)
         (expression_operands expression.now) }
 {
     for operand in expression.operands() {
-        if !is_constant(standings, function, operand) {
+        if !is_constant(availabilities, function, operand) {
             return false;
         }
     }
@@ -148,23 +220,33 @@ fn has_constant_operands(
 }
 
 /// The cell of an expression at the start of the function, by those of its operands.
-fn first_standing(standings: &[Standing], function: &Function, expression: &Expression) -> Standing
-    ensures { result ≡ first_standing
+fn first_availability(
+    availabilities: &[Availability],
+    function: &Function,
+    expression: &Expression,
+) -> Availability
+    ensures { result ≡ first_availability
         (is_pure_kind (kind_of expression.now)
-        && all_constant (is_constant_by standings.now function.now.expressions)
+        && all_constant (is_constant_by availabilities.now function.now.expressions)
         (expression_operands expression.now)) }
 {
-    if is_operator(expression.kind()) && has_constant_operands(standings, function, expression) {
-        Standing::Everywhere
+    if is_operator(expression.kind())
+        && has_constant_operands(availabilities, function, expression)
+    {
+        Availability::Everywhere
     } else {
-        Standing::Absent
+        Availability::Absent
     }
 }
 
 /// Whether the expression, if there is one, may be written where it stands so.
-fn stands_usable(function: &Function, expression: Option<&Expression>, standing: Standing) -> bool
-    ensures { (given : ℕ → List ℕ) (name : List ℕ) → result ≡ usable_by function.now
-        (option_map (λ e. e.now) expression.entry) (standing_of given name standing) }
+fn stands_usable(
+    function: &Function,
+    expression: Option<&Expression>,
+    availability: Availability,
+) -> bool
+    ensures { (named : ℕ → List ℕ) (name : List ℕ) → result ≡ usable_by function.now
+        (option_map (λ e. e.now) expression.entry) (availability_of named name availability) }
 {
     match expression {
         Some(expression) => match expression {
@@ -175,7 +257,7 @@ fn stands_usable(function: &Function, expression: Option<&Expression>, standing:
             | Expression::GlobalVariable(_) => true,
             Expression::FunctionArgument(number) => (*number as usize) < function.arguments.len(),
             Expression::LocalVariable(local) => local.index() < function.local_variables.len(),
-            _ => standing.is_present(),
+            _ => availability.is_present(),
         },
         None => false,
     }
@@ -183,21 +265,44 @@ fn stands_usable(function: &Function, expression: Option<&Expression>, standing:
 
 impl Scope {
     /// Where the expressions stand at the start of the function: operators over constants alone are
-    /// in scope everywhere, and all others are absent.
+    /// in scope everywhere, and all others are absent. It has room for all that the function's body
+    /// introduces, and where a `usize` doesn't hold the number of that, there is no memory for it.
     pub fn start(alloc: Global, function: &Function) -> Result<Scope, AllocError>
         requires ordered { OperandsStandBefore function.now.expressions }
-        ensures start { (given : ℕ → List ℕ) (m : Module) (known : ModuleInfo)
+        ensures start { (named : ℕ → List ℕ) (m : Module) (known : ModuleInfo)
             (es : List ExpressionInfo) → IfOk result (λ s.
-            handles_of given s.table ≡ at_start (function_shape m known function.now es)) }
-        ensures given { IfOk result (λ s. s.given ≡ 0) }
+            handles_of named s.table ≡ at_start (function_shape m known function.now es)) }
+        ensures named { IfOk result (λ s. s.named ≡ 0) }
         ensures size { IfOk result (λ s. length s.table ≡ length function.now.expressions) }
         ensures counted { IfOk result
             (λ _. IsTrue (nat_le (length function.now.expressions) (2 ^ 64))) }
+        ensures room { IfOk result (λ s. HasRoom s (block_changes function.now.body)) }
     {
-        let standings = vec![in alloc; Standing::Absent; function.expressions.len()]?;
+        match count_in_block(&function.body, 0) {
+            Some(changes) => Scope::with_room(alloc, function, changes),
+            None => Err(AllocError),
+        }
+    }
+
+    /// Where the expressions stand at the start of the function, with room for as many changes.
+    fn with_room(alloc: Global, function: &Function, changes: usize) -> Result<Scope, AllocError>
+        requires ordered { OperandsStandBefore function.now.expressions }
+        ensures start { (named : ℕ → List ℕ) (m : Module) (known : ModuleInfo)
+            (es : List ExpressionInfo) → IfOk result (λ s.
+            handles_of named s.table ≡ at_start (function_shape m known function.now es)) }
+        ensures named { IfOk result (λ s. s.named ≡ 0) }
+        ensures size { IfOk result (λ s. length s.table ≡ length function.now.expressions) }
+        ensures counted { IfOk result
+            (λ _. IsTrue (nat_le (length function.now.expressions) (2 ^ 64))) }
+        ensures room { IfOk result (λ s. HasRoom s changes) }
+    {
+        let log = room_for(alloc, changes)?;
+        let availabilities = vec![in alloc; Availability::Absent; function.expressions.len()]?;
         let mut scope = Scope {
-            standings,
-            given: 0,
+            availabilities,
+            named: 0,
+            log,
+            used: 0,
         };
         scope.restart(function);
         Ok(scope)
@@ -208,8 +313,10 @@ impl Scope {
         ensures { result.table ≡ [] }
     {
         Scope {
-            standings: Vec::new(alloc),
-            given: 0,
+            availabilities: Vec::new(alloc),
+            named: 0,
+            log: Vec::new(alloc),
+            used: 0,
         }
     }
 
@@ -217,46 +324,49 @@ impl Scope {
     pub fn restart(&mut self, function: &Function)
         requires ordered { OperandsStandBefore function.now.expressions }
         requires size { length self.old.table ≡ length function.now.expressions }
-        ensures start { (given : ℕ → List ℕ) (m : Module) (known : ModuleInfo)
+        ensures start { (named : ℕ → List ℕ) (m : Module) (known : ModuleInfo)
             (es : List ExpressionInfo) →
-            handles_of given self.new.table ≡ at_start (function_shape m known function.now es) }
-        ensures given { self.new.given ≡ 0 }
+            handles_of named self.new.table ≡ at_start (function_shape m known function.now es) }
+        ensures named { self.new.named ≡ 0 }
         ensures size { length self.new.table ≡ length self.old.table }
+        ensures log { self.new.log ≡ [] }
+        ensures room { self.new.room ≡ self.old.room }
     {
         for index in 0..function.expressions.len() {
             let expression = &function.expressions[Place::from_index(index)];
-            let standing = first_standing(&self.standings, function, expression);
-            self.standings[index] = standing;
+            let availability = first_availability(&self.availabilities, function, expression);
+            self.availabilities[index] = availability;
         }
-        self.given = 0;
+        self.named = 0;
+        self.used = 0;
     }
 
     /// Where the expression with this handle stands. One past the function's expressions is absent.
-    pub fn standing(&self, handle: Handle<Expression>) -> Standing
-        ensures { result ≡ get_or self.now.table handle Standing.Absent }
+    pub fn availability(&self, handle: Handle<Expression>) -> Availability
+        ensures { result ≡ get_or self.now.table handle Availability.Absent }
     {
-        standing_at(&self.standings, handle)
+        availability_at(&self.availabilities, handle)
     }
 
     /// Whether the expression with this handle is in scope here. A constant, a variable of the
     /// module, and an argument or a local that there is, is so everywhere.
     pub fn is_usable(&self, function: &Function, handle: Handle<Expression>) -> bool
-        ensures { (given : ℕ → List ℕ) (m : Module) (known : ModuleInfo)
+        ensures { (named : ℕ → List ℕ) (m : Module) (known : ModuleInfo)
             (es : List ExpressionInfo) → result
-            ≡ usable (function_shape m known function.now es) (handles_of given self.now.table) handle }
+            ≡ usable (function_shape m known function.now es) (handles_of named self.now.table) handle }
     {
         stands_usable(
             function,
             expression_at(function, handle),
-            self.standing(handle),
+            self.availability(handle),
         )
     }
 
     /// Whether each operand of the expression is in scope here.
     fn are_usable(&self, function: &Function, expression: &Expression) -> bool
-        ensures { (given : ℕ → List ℕ) (m : Module) (known : ModuleInfo)
+        ensures { (named : ℕ → List ℕ) (m : Module) (known : ModuleInfo)
             (es : List ExpressionInfo) → result
-            ≡ usable_all (function_shape m known function.now es) (handles_of given self.now.table)
+            ≡ usable_all (function_shape m known function.now es) (handles_of named self.now.table)
             (expression_operands expression.now) }
     {
         for operand in expression.operands() {
@@ -269,9 +379,9 @@ impl Scope {
 
     /// Whether each operand of the expression with this handle is in scope here.
     fn has_operands(&self, function: &Function, handle: Handle<Expression>) -> bool
-        ensures { (given : ℕ → List ℕ) (m : Module) (known : ModuleInfo)
+        ensures { (named : ℕ → List ℕ) (m : Module) (known : ModuleInfo)
             (es : List ExpressionInfo) → result
-            ≡ usable_all (function_shape m known function.now es) (handles_of given self.now.table)
+            ≡ usable_all (function_shape m known function.now es) (handles_of named self.now.table)
             (operands_at function.now.expressions handle) }
     {
         match expression_at(function, handle) {
@@ -283,35 +393,21 @@ impl Scope {
     /// Whether an `Emit` may give the expression with this handle here: none gave it before, it is
     /// one that is emitted, and where a `let` binds it, its operands are in scope. An offset that is
     /// written out as a constant is so from the start.
-    pub(crate) fn may_emit(
-        &self,
-        types: &UniqueArena<Type_>,
-        function: &Function,
-        info: &FunctionInfo,
-        handle: Handle<Expression>,
-    ) -> bool
-        requires written { IsTrue (function_is_written function.now) }
-        requires ordered { OperandsStandBefore function.now.expressions }
-        requires held { (m : Module) (known : ModuleInfo) →
-            m.types ≡ types.now →
-            KeepsStart (function_shape m known function.now info.now)
-            (handles_of (given_name m 0) self.now.table) }
-        ensures { (given : ℕ → List ℕ) (m : Module) (known : ModuleInfo) →
-            m.types ≡ types.now →
-            result ≡ may_emit (function_shape m known function.now info.now) handle
-            (handles_of given self.now.table) }
+    pub(crate) fn may_emit(&self, known: &KnownFunction<'_>, handle: Handle<Expression>) -> bool
+        requires { IsPointOf known.now self.now }
+        ensures { result ≡ may_emit (shape_of known.now) handle (handles_at self.now) }
     {
-        self.standing(handle).is_new()
-            && is_emittable(kind_at(function, handle))
-            && (!binds(types, function, info, handle) || self.has_operands(function, handle))
+        self.availability(handle).is_new()
+            && is_emittable(kind_at(known.function, handle))
+            && (!known.binds(handle) || self.has_operands(known.function, handle))
     }
 
     /// The name under which a `let` binds the expression with this handle here.
     pub fn next_name(&self, function: &Function, handle: Handle<Expression>) -> BoundName
-        ensures { result ≡ next_name (is_some (label_of function.now handle)) self.now.given }
+        ensures { result ≡ next_name (is_some (label_of function.now handle)) self.now.named }
     {
         if is_named(function, handle) {
-            BoundName::Given(self.given)
+            BoundName::Named(self.named)
         } else {
             BoundName::Numbered
         }
@@ -325,20 +421,20 @@ impl Scope {
         function: &Function,
         info: &FunctionInfo,
         handle: Handle<Expression>,
-    ) -> Standing
-        requires written { IsTrue (function_is_written function.now) }
-        ensures { (given : ℕ → List ℕ) (m : Module) (known : ModuleInfo) →
+    ) -> Availability
+        ensures grows { IsTrue (grows (get_or self.now.table handle Availability.Absent) result) }
+        ensures emitted { (named : ℕ → List ℕ) (m : Module) (known : ModuleInfo) →
             m.types ≡ types.now →
             let shape = function_shape m known function.now info.now in
             let evaluated = expression_of shape handle in
-            result ≡ emitted_standing (binds shape handle) (is_pure evaluated)
-            (usable_all shape (handles_of given self.now.table) (operands_of evaluated))
-            (next_name (is_some (label_of function.now handle)) self.now.given)
-            (get_or self.now.table handle Standing.Absent) }
+            result ≡ emitted_availability (binds shape handle) (is_pure evaluated)
+            (usable_all shape (handles_of named self.now.table) (operands_of evaluated))
+            (next_name (is_some (label_of function.now handle)) self.now.named)
+            (get_or self.now.table handle Availability.Absent) }
     {
-        let before = self.standing(handle);
+        let before = self.availability(handle);
         if binds(types, function, info, handle) {
-            return Standing::Named(self.next_name(function, handle));
+            return Availability::Bound(self.next_name(function, handle));
         }
         if is_operator(kind_at(function, handle)) {
             before.unbound(self.has_operands(function, handle))
@@ -358,45 +454,149 @@ impl Scope {
         info: &FunctionInfo,
         handle: Handle<Expression>,
     )
-        requires written { IsTrue (function_is_written function.now) }
         requires size { length self.old.table ≡ length function.now.expressions }
-        requires room { self.old.given + length (option_to_list (label_of function.now handle))
-            < 2 ^ 64 }
+        requires room { HasRoom self.old 1 }
         ensures handles { (names : NameMap) (m : Module) (known : ModuleInfo)
-            (given : ℕ → List ℕ) (g : ℕ) →
+            (named : ℕ → List ℕ) (g : ℕ) →
             m.types ≡ types.now →
-            handles_of given self.new.table ≡
-            after_one (function_naming names given m known g function.now info.now) self.old.given
+            handles_of named self.new.table ≡
+            after_one (function_naming names named m known g function.now info.now) self.old.named
             handle
-            (handles_of given self.old.table) }
-        ensures given { self.new.given
-            ≡ self.old.given + length (option_to_list (label_of function.now handle)) }
-        ensures size { length self.new.table ≡ length self.old.table }
+            (handles_of named self.old.table) }
+        ensures named { self.new.named
+            ≡ self.old.named + length (option_to_list (label_of function.now handle)) }
+        ensures kept { Extends self.old self.new }
+        ensures counted { Counted self.old self.new 1 }
     {
-        let standing = self.emitted(types, function, info, handle);
-        self.given = self.given_behind(function, handle);
-        self.stand(handle, standing);
+        let availability = self.emitted(types, function, info, handle);
+        self.named = self.named_behind(function, handle);
+        self.stand(handle, availability);
     }
 
     /// How many names are given behind an `Emit` of the expression with this handle.
-    fn given_behind(&self, function: &Function, handle: Handle<Expression>) -> usize
-        requires { self.now.given + length (option_to_list (label_of function.now handle)) < 2 ^ 64 }
-        ensures { result ≡ self.now.given + length (option_to_list (label_of function.now handle)) }
+    fn named_behind(&self, function: &Function, handle: Handle<Expression>) -> usize
+        requires { self.now.named + 1 < 2 ^ 64 }
+        ensures { result ≡ self.now.named + length (option_to_list (label_of function.now handle)) }
     {
         match label_of(function, handle) {
-            Some(_) => self.given + 1,
-            None => self.given,
+            Some(_) => self.named + 1,
+            None => self.named,
         }
     }
 
-    /// Lets the expression with this handle, if there is one, stand so.
-    fn stand(&mut self, handle: Handle<Expression>, standing: Standing)
-        ensures table { self.new.table ≡ slice_set self.old.table handle standing }
-        ensures given { self.new.given ≡ self.old.given }
+    /// Goes behind a statement that gives the expression with this handle: its result is bound
+    /// under the name that is made of the handle.
+    pub fn give(&mut self, handle: Handle<Expression>)
+        requires size { handle < length self.old.table }
+        requires room { HasRoom self.old 1 }
+        ensures handles { (names : NameMap) (m : Module) (named : ℕ → List ℕ) (g : ℕ) →
+            handles_of named self.new.table
+            ≡ after_result (inner_names names m named g) (Some handle)
+            (handles_of named self.old.table) }
+        ensures named { self.new.named ≡ self.old.named }
+        ensures kept { Extends self.old self.new }
+        ensures counted { Counted self.old self.new 1 }
+    {
+        self.stand(handle, Availability::Bound(BoundName::Numbered));
+    }
+
+    /// Lets the expression with this handle, if there is one, stand so, and logs how it stood.
+    fn stand(&mut self, handle: Handle<Expression>, availability: Availability)
+        requires room { length self.old.log < self.old.room }
+        requires grows { IsTrue
+            (grows (get_or self.old.table handle Availability.Absent) availability) }
+        ensures table { self.new.table ≡ slice_set self.old.table handle availability }
+        ensures named { self.new.named ≡ self.old.named }
+        ensures kept { Extends self.old self.new }
+        ensures counted { length self.new.log ≤ length self.old.log + 1 }
     {
         let index = handle.index();
-        if index < self.standings.len() {
-            self.standings[index] = standing;
+        if index < self.availabilities.len() {
+            self.change(index, availability);
+        }
+    }
+
+    /// Lets the cell with this index stand so, and logs how it stood.
+    fn change(&mut self, index: usize, availability: Availability)
+        requires index { index < length self.old.table }
+        requires room { length self.old.log < self.old.room }
+        ensures table { self.new.table ≡ slice_set self.old.table index availability }
+        ensures log { self.new.log ≡ self.old.log ++ record {
+          index = index;
+          before = get_or self.old.table index Availability.Absent;
+        } ∷ [] }
+        ensures room { self.new.room ≡ self.old.room }
+        ensures named { self.new.named ≡ self.old.named }
+    {
+        let before = self.availabilities[index];
+        self.log[self.used] = Change { index, before };
+        self.used += 1;
+        self.availabilities[index] = availability;
+    }
+
+    /// A point to come back to.
+    pub fn mark(&self) -> usize
+        ensures { result ≡ length self.now.log }
+    {
+        self.used
+    }
+
+    /// Undoes the last change.
+    #[tactic(auto, using(crate::proofs::Logs::last_undone))]
+    fn undo_last(&mut self)
+        requires { 0 < length self.old.log }
+        ensures { self.new ≡ back_to (length self.old.log - 1) self.old }
+    {
+        let last = self.used - 1;
+        let change = self.log[last];
+        self.used = last;
+        stand_at(&mut self.availabilities, change.index, change.before);
+    }
+
+    /// Goes back to where the mark was made: what was changed since is undone. The names that front
+    /// ends gave stay counted.
+    #[tactic(auto, using(crate::proofs::Logs::back_start, crate::proofs::Logs::back_more, crate::proofs::Logs::back_done, crate::proofs::Logs::back_named))]
+    pub fn back_to(&mut self, mark: usize)
+        requires { mark ≤ length self.old.log }
+        ensures restores { (before : TextPoint) → mark ≡ length before.log →
+            Reverts before self.old → Same before self.new }
+        ensures named { self.new.named ≡ self.old.named }
+    {
+        while mark < self.mark() {
+            self.undo_last();
+        }
+    }
+
+    /// Forgets what the change with this number introduced.
+    #[tactic(auto, using(crate::proofs::Logs::one_forgotten))]
+    fn forget_at(&mut self, number: usize)
+        requires { number < length self.old.log }
+        ensures { self.new ≡ forget_at number self.old }
+    {
+        let change = self.log[number];
+        let now = availability_in(&self.availabilities, change.index);
+        let left = change.before.forgotten(now);
+        stand_at(&mut self.availabilities, change.index, left);
+    }
+
+    /// Forgets what was introduced since the mark was made, and keeps the log, so that a mark that
+    /// was made before can be gone back to.
+    #[tactic(auto, using(crate::proofs::Logs::forget_start, crate::proofs::Logs::forget_more, crate::proofs::Logs::forget_done, crate::proofs::Logs::forget_log, crate::proofs::Logs::forget_named))]
+    pub fn forget_from(&mut self, mark: usize)
+        requires { mark ≤ length self.old.log }
+        ensures forgets { (before : TextPoint) (named : ℕ → List ℕ) → mark ≡ length before.log →
+            Extends before self.old →
+            handles_of named self.new.table
+            ≡ forgotten_handles (handles_of named before.table) (handles_of named self.old.table) }
+        ensures reverts { (before : TextPoint) → mark ≡ length before.log →
+            Extends before self.old → Reverts before self.new }
+        ensures counted { length self.new.log ≡ length self.old.log }
+        ensures named { self.new.named ≡ self.old.named }
+    {
+        let mut left = self.mark();
+        while mark < left {
+            left -= 1;
+            self.forget_at(left);
         }
     }
 }

@@ -1,25 +1,24 @@
 //! Which of the types that the text of a function spells no text can spell.
 
-ghost use Rattle.std.specs.Prelude.{◌≡◌, ◌-◌, IsTrue, false, map, not, slice_get};
-ghost use Rattle.std.specs.List.{find};
-ghost use Rattle.std.specs.Option.{option_map, option_map_or, option_to_list};
-ghost use Rattle.module_meaning.specs.FunctionShapes.{function_shape};
-ghost use Rattle.module_meaning.specs.Part.{function_is_written, statement_is_written};
-ghost use Rattle.module_meaning.specs.Written.{block_emits, statement_emits};
-ghost use Rattle.naga_info.specs.declared.info.ModuleInfo.{ModuleInfo};
-ghost use Rattle.naga_ir.specs.StatementViews.{tree_of};
-ghost use Rattle.naga_scope.specs.SpelledTypes.{declared_formless, is_formless, tells_formless};
-ghost use Rattle.naga_scope.specs.SpelledTypes.{is_told_formless, told_formless};
-ghost use Rattle.shader_runs.specs.Program.{binds, from};
+ghost use Rattle.std.specs.Prelude.{◌≡◌, ◌++◌, ◌-◌, ◌&&◌, map};
+ghost use Rattle.std.specs.List.{filter, find};
+ghost use Rattle.std.specs.Option.{option_map, option_to_list};
+ghost use Rattle.module_meaning.specs.Written.{block_lets, cases_lets, statement_lets};
+ghost use Rattle.naga_ir.specs.Operands.{own_result};
+ghost use Rattle.naga_ir.specs.StatementViews.{cases_of, tree_of};
+ghost use Rattle.naga_scope.specs.KnownFunctions.{bound_in};
+ghost use Rattle.naga_scope.specs.SpelledTypes.{annotated_formless, declared_formless};
+ghost use Rattle.naga_scope.specs.SpelledTypes.{is_formless, is_formless_let};
+ghost use Rattle.shader_runs.specs.Program.{from};
 
-use crate::binding::binds;
 use crate::forms::type_is_spellable;
+use crate::known_function::KnownFunction;
 use naga_acceptance::is_spelled;
 use naga_acceptance::undeclared::names_undeclared;
 use naga_info::FunctionInfo;
 use naga_ir::{
-    Expression, Function, FunctionArgument, FunctionResult, Handle, Module, Place, Range,
-    Statement, Type_,
+    Block, Expression, Function, FunctionArgument, FunctionResult, Handle, Module, Place, Range,
+    Statement, SwitchCase, Type_,
 };
 
 fn argument_without_form(module: &Module, arguments: &[FunctionArgument]) -> Option<Handle<Type_>>
@@ -33,7 +32,7 @@ fn argument_without_form(module: &Module, arguments: &[FunctionArgument]) -> Opt
     None
 }
 
-fn result_without_form(module: &Module, answer: &Option<FunctionResult>) -> Option<Handle<Type_>>
+fn answer_without_form(module: &Module, answer: &Option<FunctionResult>) -> Option<Handle<Type_>>
     ensures { result
         ≡ find (is_formless «module».now) (option_to_list (option_map (λ r. r.ty) answer.now)) }
 {
@@ -69,7 +68,7 @@ pub(crate) fn declared_without_form(module: &Module, function: &Function) -> Opt
     if let Some(ty) = argument_without_form(module, &function.arguments) {
         return Some(ty);
     }
-    if let Some(ty) = result_without_form(module, &function.result) {
+    if let Some(ty) = answer_without_form(module, &function.result) {
         return Some(ty);
     }
     local_without_form(module, function)
@@ -78,8 +77,7 @@ pub(crate) fn declared_without_form(module: &Module, function: &Function) -> Opt
 /// Whether the type of the expression with this handle is known, names no struct that no text
 /// declares, and has no form.
 fn is_known_formless(module: &Module, info: &FunctionInfo, handle: Handle<Expression>) -> bool
-    ensures { result
-        ≡ option_map_or (λ k. is_told_formless «module».now k.ty) (slice_get info.now handle) false }
+    ensures { result ≡ is_formless_let «module».now info.now handle }
 {
     match info.expressions.get(handle.index()) {
         Some(known) => {
@@ -89,75 +87,110 @@ fn is_known_formless(module: &Module, info: &FunctionInfo, handle: Handle<Expres
     }
 }
 
-/// Whether a `let` binds the expression with this handle, whose type has no form.
-fn tells_formless(
-    module: &Module,
-    function: &Function,
-    info: &FunctionInfo,
-    handle: Handle<Expression>,
-) -> bool
-    requires written { IsTrue (function_is_written function.now) }
-    ensures { (known : ModuleInfo) →
-        result ≡ tells_formless «module».now info.now
-        (binds (function_shape «module».now known function.now info.now)) handle }
+fn is_formless_let(known: &KnownFunction<'_>, handle: Handle<Expression>) -> bool
+    ensures { result ≡ is_formless_let known.now.shader.now known.now.info.now handle }
 {
-    binds(&module.types, function, info, handle) && is_known_formless(module, info, handle)
+    is_known_formless(known.shader, known.info, handle)
+}
+
+/// Whether a `let` binds the expression with this handle where it is emitted, and its type has no
+/// form.
+fn is_bound_formless(known: &KnownFunction<'_>, handle: Handle<Expression>) -> bool
+    ensures { result ≡ (bound_in known.now handle
+        && is_formless_let known.now.shader.now known.now.info.now handle) }
+{
+    known.binds(handle) && is_formless_let(known, handle)
 }
 
 /// The first of these expressions that a `let` binds and whose type has no form.
-fn emitted_without_form(
-    module: &Module,
-    function: &Function,
-    info: &FunctionInfo,
-    range: Range,
-) -> Option<Handle<Expression>>
-    requires written { IsTrue (function_is_written function.now) }
-    ensures { (known : ModuleInfo) →
-        result ≡ find (tells_formless «module».now info.now
-        (binds (function_shape «module».now known function.now info.now)))
-        (from range.first (range.end - range.first)) }
+fn emitted_without_form(known: &KnownFunction<'_>, range: Range) -> Option<Handle<Expression>>
+    ensures { result ≡ find (is_formless_let known.now.shader.now known.now.info.now)
+        (filter (bound_in known.now) (from range.first (range.end - range.first))) }
 {
     for index in range.first..range.end {
         let handle = Place::from_index(index);
-        if tells_formless(module, function, info, handle) {
+        if is_bound_formless(known, handle) {
             return Some(handle);
         }
     }
     None
 }
 
-fn statement_without_form(
-    module: &Module,
-    function: &Function,
-    info: &FunctionInfo,
+/// The expression whose value the statement gives, if its type has no form.
+fn result_without_form(
+    known: &KnownFunction<'_>,
     statement: &Statement,
 ) -> Option<Handle<Expression>>
-    requires line { IsTrue (statement_is_written (tree_of statement.now)) }
-    requires written { IsTrue (function_is_written function.now) }
-    ensures { (known : ModuleInfo) →
-        result ≡ find (tells_formless «module».now info.now
-        (binds (function_shape «module».now known function.now info.now)))
-        (statement_emits (tree_of statement.now)) }
+    ensures { result ≡ find (is_formless_let known.now.shader.now known.now.info.now)
+        (option_to_list (own_result (tree_of statement.now))) }
 {
-    match statement {
-        Statement::Emit(range) => emitted_without_form(module, function, info, *range),
-        Statement::Store { .. } | Statement::Return { .. } => None,
-        _ => unreachable!(),
+    match statement.result() {
+        Some(handle) => {
+            if is_formless_let(known, handle) {
+                Some(handle)
+            } else {
+                None
+            }
+        }
+        None => None,
     }
 }
 
-fn let_without_form(
-    module: &Module,
-    function: &Function,
-    info: &FunctionInfo,
-) -> Option<Handle<Expression>>
-    requires written { IsTrue (function_is_written function.now) }
-    ensures { (known : ModuleInfo) →
-        result ≡ find (tells_formless «module».now info.now
-        (binds (function_shape «module».now known function.now info.now))) (block_emits function.now.body) }
+/// The first expression of the block whose `let` tells a type without a form.
+#[cycle(lets)]
+fn let_in_block(known: &KnownFunction<'_>, block: &Block) -> Option<Handle<Expression>>
+    ensures { result ≡ find (is_formless_let known.now.shader.now known.now.info.now)
+        (block_lets (bound_in known.now) block.now) }
 {
-    for statement in function.body.as_slice() {
-        if let Some(handle) = statement_without_form(module, function, info, statement) {
+    for statement in block.as_slice() {
+        if let Some(handle) = let_in_statement(known, statement) {
+            return Some(handle);
+        }
+    }
+    None
+}
+
+#[cycle(lets)]
+fn let_in_statement(known: &KnownFunction<'_>, statement: &Statement) -> Option<Handle<Expression>>
+    ensures { result ≡ find (is_formless_let known.now.shader.now known.now.info.now)
+        (statement_lets (bound_in known.now) (tree_of statement.now)) }
+{
+    match statement {
+        Statement::Emit(range) => emitted_without_form(known, *range),
+        Statement::Block(block) => let_in_block(known, block),
+        Statement::If { accept, reject, .. } => let_in_either(known, accept, reject),
+        Statement::Switch { cases, .. } => let_in_cases(known, cases),
+        Statement::Loop {
+            body,
+            continuing,
+            ..
+        } => let_in_either(known, body, continuing),
+        _ => result_without_form(known, statement),
+    }
+}
+
+#[cycle(lets)]
+fn let_in_either(
+    known: &KnownFunction<'_>,
+    first: &Block,
+    second: &Block,
+) -> Option<Handle<Expression>>
+    ensures { result ≡ find (is_formless_let known.now.shader.now known.now.info.now)
+        (block_lets (bound_in known.now) first.now ++ block_lets (bound_in known.now) second.now) }
+{
+    match let_in_block(known, first) {
+        Some(handle) => Some(handle),
+        None => let_in_block(known, second),
+    }
+}
+
+#[cycle(lets)]
+fn let_in_cases(known: &KnownFunction<'_>, cases: &[SwitchCase]) -> Option<Handle<Expression>>
+    ensures { result ≡ find (is_formless_let known.now.shader.now known.now.info.now)
+        (cases_lets (bound_in known.now) (cases_of cases.now)) }
+{
+    for case in cases {
+        if let Some(handle) = let_in_block(known, &case.body) {
             return Some(handle);
         }
     }
@@ -166,19 +199,15 @@ fn let_without_form(
 
 /// The first expression whose `let` tells a type without a form, if there is one and `let`s tell
 /// types.
-pub(crate) fn told_without_form(
-    module: &Module,
-    function: &Function,
-    info: &FunctionInfo,
+pub(crate) fn annotated_without_form(
+    known: &KnownFunction<'_>,
     explicit: bool,
 ) -> Option<Handle<Expression>>
-    requires written { IsTrue (function_is_written function.now) }
-    ensures { (known : ModuleInfo) →
-        result ≡ told_formless explicit «module».now info.now
-        (binds (function_shape «module».now known function.now info.now)) function.now }
+    ensures { result ≡ annotated_formless explicit known.now.shader.now known.now.info.now
+        (bound_in known.now) known.now.function.now }
 {
     if explicit {
-        let_without_form(module, function, info)
+        let_in_block(known, &known.function.body)
     } else {
         None
     }

@@ -1,42 +1,39 @@
 //! Which expressions of a function are written, and which of these has no form.
 
 ghost use Rattle.std.specs.Prelude.{IfOk, false, replicate};
-ghost use Rattle.std.specs.Prelude.{[], ◌∷◌, ◌≡◌, ◌-◌, ℕ, List, IsTrue, if◌then◌else◌, length};
+ghost use Rattle.std.specs.Prelude.{[], ◌∷◌, ◌≡◌, ◌-◌, ℕ, List, if◌then◌else◌, length};
 ghost use Rattle.std.specs.List.{filter, flat_map, list_all};
 ghost use Rattle.std.specs.Option.{option_to_list};
-ghost use Rattle.naga_ir.specs.Operands.{expression_operands};
-ghost use Rattle.module_meaning.specs.FunctionShapes.{function_shape};
-ghost use Rattle.module_meaning.specs.Part.{expression_has_form, function_is_written};
-ghost use Rattle.module_meaning.specs.Names.{HasNamesOf};
-ghost use Rattle.module_meaning.specs.Part.{statement_is_written};
-ghost use Rattle.module_meaning.specs.Sampling.{own_offset_is_written};
-ghost use Rattle.module_meaning.specs.Writable.{written_out_over};
-ghost use Rattle.module_meaning.specs.Written.{block_roots, function_roots, statement_roots};
-ghost use Rattle.naga_info.specs.declared.info.ModuleInfo.{ModuleInfo};
-ghost use Rattle.naga_ir.specs.StatementViews.{tree_of};
-ghost use Rattle.naga_ir.specs.declared.module.Module.{Module};
-ghost use Rattle.module_meaning.specs.Premises.{OperandsStandBefore};
+ghost use Rattle.naga_ir.specs.Operands.{expression_operands, own_operands};
+ghost use Rattle.naga_ir.specs.StatementTree.{branch, loop, switch};
+ghost use Rattle.naga_ir.specs.StatementViews.{cases_of, tree_of};
 ghost use Rattle.naga_ir.specs.declared.expression.Expression.{Expression};
 ghost use Rattle.naga_names.specs.Keys.{names_in};
+ghost use Rattle.module_meaning.specs.Names.{HasNamesOf};
+ghost use Rattle.module_meaning.specs.Premises.{OperandsStandBefore};
+ghost use Rattle.module_meaning.specs.Sampling.{own_offset_is_written};
+ghost use Rattle.module_meaning.specs.Writable.{written_out_over};
+ghost use Rattle.module_meaning.specs.Written.{block_roots, cases_roots, function_roots};
+ghost use Rattle.module_meaning.specs.Written.{statement_roots};
+ghost use Rattle.module_meaning.specs.WrittenSoFar.{expression_has_form};
 ghost use Rattle.naga_scope.specs.Forms.{AreKnownIn};
-ghost use Rattle.naga_scope.specs.Marks.{MarksConstants, MarksGlobals, MarksJust, Sweeps};
-ghost use Rattle.naga_scope.specs.Marks.{is_marked};
-ghost use Rattle.naga_scope.specs.Marks.{marked_with};
-ghost use Rattle.shader_runs.specs.Program.{binds, from};
+ghost use Rattle.naga_scope.specs.KnownFunctions.{bound_in, expressions_of, has_form_in};
+ghost use Rattle.naga_scope.specs.Marks.{MarksAlso, MarksConstants, MarksGlobals, MarksJust};
+ghost use Rattle.naga_scope.specs.Marks.{Sweeps, is_marked};
+ghost use Rattle.shader_runs.specs.Program.{from};
 
-use crate::binding::binds;
 use crate::forms::is_written;
 use crate::global_expressions::GlobalExpressions;
+use crate::known_function::KnownFunction;
 use naga_info::FunctionInfo;
-use naga_ir::{Expression, Function, Handle, Module, Place, Range, Statement, Type_, UniqueArena};
+use naga_ir::{Block, Expression, Function, Handle, Module, Place, Range, Statement, SwitchCase};
 use naga_names::NameKey;
 use std::alloc::{AllocError, Global};
 use std::collections::HashMap;
 
 /// Notes that the expression with this handle is written, if there is one.
 fn mark(marks: &mut [bool], handle: Handle<Expression>)
-    ensures size { length marks.new ≡ length marks.old }
-    ensures marks { (h : ℕ) → is_marked marks.new h ≡ marked_with marks.old (handle ∷ []) h }
+    ensures { MarksAlso marks.old (handle ∷ []) marks.new }
 {
     if handle.index() < marks.len() {
         marks[handle.index()] = true;
@@ -44,9 +41,7 @@ fn mark(marks: &mut [bool], handle: Handle<Expression>)
 }
 
 fn mark_if(marks: &mut [bool], handle: Handle<Expression>, is_written: bool)
-    ensures size { length marks.new ≡ length marks.old }
-    ensures marks { (h : ℕ) → is_marked marks.new h
-        ≡ marked_with marks.old (if is_written then handle ∷ [] else []) h }
+    ensures { MarksAlso marks.old (if is_written then handle ∷ [] else []) marks.new }
 {
     if is_written {
         mark(marks, handle);
@@ -118,7 +113,7 @@ fn offset_has_form(constants: &[bool], expression: &Expression) -> bool
 }
 
 /// Whether an expression has a form, by marks of those that may be written out as constants.
-fn has_form(
+fn expression_has_form(
     constants: &[bool],
     module: &Module,
     globals: &GlobalExpressions,
@@ -136,84 +131,135 @@ fn has_form(
 }
 
 /// Marks what these handles of an `Emit` write: those that a `let` binds.
-fn mark_emitted(
-    marks: &mut [bool],
-    types: &UniqueArena<Type_>,
-    function: &Function,
-    info: &FunctionInfo,
-    range: Range,
-)
-    requires written { IsTrue (function_is_written function.now) }
-    ensures size { length marks.new ≡ length marks.old }
-    ensures marks { (m : Module) (known : ModuleInfo) (h : ℕ) →
-        m.types ≡ types.now →
-        let shape = function_shape m known function.now info.now in
-        is_marked marks.new h
-        ≡ marked_with marks.old (filter (binds shape) (from range.first (range.end - range.first))) h }
+fn mark_emitted(marks: &mut [bool], known: &KnownFunction<'_>, range: Range)
+    ensures { MarksAlso marks.old
+        (filter (bound_in known.now) (from range.first (range.end - range.first))) marks.new }
 {
     for index in range.first..range.end {
         let handle = Place::from_index(index);
-        mark_if(marks, handle, binds(types, function, info, handle));
+        mark_if(marks, handle, known.binds(handle));
     }
 }
 
-/// Marks what a statement writes by itself.
-fn mark_statement(
-    marks: &mut [bool],
-    types: &UniqueArena<Type_>,
-    function: &Function,
-    info: &FunctionInfo,
-    statement: &Statement,
-)
-    requires line { IsTrue (statement_is_written (tree_of statement.now)) }
-    requires written { IsTrue (function_is_written function.now) }
-    ensures size { length marks.new ≡ length marks.old }
-    ensures marks { (m : Module) (known : ModuleInfo) (h : ℕ) →
-        m.types ≡ types.now →
-        let shape = function_shape m known function.now info.now in
-        is_marked marks.new h
-        ≡ marked_with marks.old (statement_roots (binds shape) (tree_of statement.now)) h }
+/// Marks the operands of a statement itself.
+fn mark_own(marks: &mut [bool], statement: &Statement)
+    ensures { MarksAlso marks.old (own_operands (tree_of statement.now)) marks.new }
+{
+    for operand in statement.operands() {
+        mark(marks, operand);
+    }
+}
+
+/// Marks what the statements of a block write by themselves.
+#[cycle(mark)]
+#[tactic(auto, using(crate::proofs::Marking::marks_none, crate::proofs::Marking::marks_then))]
+fn mark_block(marks: &mut [bool], known: &KnownFunction<'_>, block: &Block)
+    ensures { MarksAlso marks.old (block_roots (bound_in known.now) block.now) marks.new }
+{
+    for statement in block.as_slice() {
+        mark_statement(marks, known, statement);
+    }
+}
+
+/// Marks what a statement and those in its blocks write by themselves.
+#[cycle(mark)]
+#[tactic(auto, using(crate::proofs::Marking::marks_then))]
+fn mark_statement(marks: &mut [bool], known: &KnownFunction<'_>, statement: &Statement)
+    ensures { MarksAlso marks.old (statement_roots (bound_in known.now) (tree_of statement.now))
+        marks.new }
 {
     match statement {
-        Statement::Emit(range) => mark_emitted(marks, types, function, info, *range),
-        Statement::Store { pointer, value } => {
-            mark(marks, *pointer);
-            mark(marks, *value);
-        }
-        Statement::Return { value } => {
-            if let Some(value) = value {
-                mark(marks, *value);
-            }
-        }
-        _ => unreachable!(),
+        Statement::Emit(range) => mark_emitted(marks, known, *range),
+        Statement::Block(block) => mark_block(marks, known, block),
+        Statement::If {
+            condition,
+            accept,
+            reject,
+        } => mark_branch(marks, known, *condition, accept, reject),
+        Statement::Switch { selector, cases } => mark_switch(marks, known, *selector, cases),
+        Statement::Loop {
+            body,
+            continuing,
+            break_if,
+        } => mark_loop(marks, known, body, continuing, *break_if),
+        _ => mark_own(marks, statement),
     }
 }
 
-/// Marks what the statements of a function write by themselves.
-fn mark_body(
+#[cycle(mark)]
+#[tactic(auto, using(crate::proofs::Marking::marks_then))]
+fn mark_branch(
     marks: &mut [bool],
-    types: &UniqueArena<Type_>,
-    function: &Function,
-    info: &FunctionInfo,
+    known: &KnownFunction<'_>,
+    condition: Handle<Expression>,
+    accept: &Block,
+    reject: &Block,
 )
-    requires written { IsTrue (function_is_written function.now) }
-    ensures size { length marks.new ≡ length marks.old }
-    ensures marks { (m : Module) (known : ModuleInfo) (h : ℕ) →
-        m.types ≡ types.now →
-        let shape = function_shape m known function.now info.now in
-        is_marked marks.new h
-        ≡ marked_with marks.old (block_roots (binds shape) function.now.body) h }
+    ensures { MarksAlso marks.old
+        (statement_roots (bound_in known.now) (branch condition accept.now reject.now)) marks.new }
 {
-    for statement in function.body.as_slice() {
-        mark_statement(marks, types, function, info, statement);
+    mark(marks, condition);
+    mark_block(marks, known, accept);
+    mark_block(marks, known, reject);
+}
+
+#[cycle(mark)]
+#[tactic(auto, using(crate::proofs::Marking::marks_then))]
+fn mark_switch(
+    marks: &mut [bool],
+    known: &KnownFunction<'_>,
+    selector: Handle<Expression>,
+    cases: &[SwitchCase],
+)
+    ensures { MarksAlso marks.old
+        (statement_roots (bound_in known.now) (switch selector (cases_of cases.now))) marks.new }
+{
+    mark(marks, selector);
+    mark_cases(marks, known, cases);
+}
+
+#[cycle(mark)]
+#[tactic(auto, using(crate::proofs::Marking::marks_none, crate::proofs::Marking::marks_then))]
+fn mark_cases(marks: &mut [bool], known: &KnownFunction<'_>, cases: &[SwitchCase])
+    ensures { MarksAlso marks.old (cases_roots (bound_in known.now) (cases_of cases.now))
+        marks.new }
+{
+    for case in cases {
+        mark_block(marks, known, &case.body);
+    }
+}
+
+#[cycle(mark)]
+#[tactic(auto, using(crate::proofs::Marking::marks_then))]
+fn mark_loop(
+    marks: &mut [bool],
+    known: &KnownFunction<'_>,
+    body: &Block,
+    continuing: &Block,
+    break_if: Option<Handle<Expression>>,
+)
+    ensures { MarksAlso marks.old
+        (statement_roots (bound_in known.now) (loop body.now continuing.now break_if)) marks.new }
+{
+    mark_block(marks, known, body);
+    mark_block(marks, known, continuing);
+    mark_present(marks, break_if);
+}
+
+/// Notes that the expression with this handle, if there is one, is written.
+#[tactic(auto, using(crate::proofs::Marking::marks_none))]
+fn mark_present(marks: &mut [bool], handle: Option<Handle<Expression>>)
+    ensures { MarksAlso marks.old (option_to_list handle) marks.new }
+{
+    if let Some(handle) = handle {
+        mark(marks, handle);
     }
 }
 
 /// Marks the first values of a function's locals.
 fn mark_first_values(marks: &mut [bool], function: &Function)
-    ensures size { length marks.new ≡ length marks.old }
-    ensures marks { (h : ℕ) → is_marked marks.new h ≡ marked_with marks.old
-        (flat_map (λ l. option_to_list l.init) function.now.local_variables) h }
+    ensures { MarksAlso marks.old
+        (flat_map (λ l. option_to_list l.init) function.now.local_variables) marks.new }
 {
     for (_, local) in function.local_variables.iter() {
         if let Some(value) = local.init {
@@ -224,9 +270,7 @@ fn mark_first_values(marks: &mut [bool], function: &Function)
 
 /// Marks the operands of an expression.
 fn mark_operands(marks: &mut [bool], expression: &Expression)
-    ensures size { length marks.new ≡ length marks.old }
-    ensures marks { (h : ℕ) → is_marked marks.new h
-        ≡ marked_with marks.old (expression_operands expression.now) h }
+    ensures { MarksAlso marks.old (expression_operands expression.now) marks.new }
 {
     for operand in expression.operands() {
         mark(marks, operand);
@@ -267,7 +311,7 @@ fn sweep(
         if marks[end] {
             let handle = Place::from_index(end);
             let expression = &function.expressions[handle];
-            if !has_form(constants, module, globals, names, info, expression) {
+            if !expression_has_form(constants, module, globals, names, info, expression) {
                 return Some(handle);
             }
             mark_operands(marks, expression);
@@ -281,52 +325,48 @@ fn sweep(
 fn without_form(
     marks: &mut [bool],
     constants: &[bool],
-    module: &Module,
+    known: &KnownFunction<'_>,
     globals: &GlobalExpressions,
     names: &HashMap<NameKey, String>,
-    function: &Function,
-    info: &FunctionInfo,
 ) -> Option<Handle<Expression>>
-    requires ordered { OperandsStandBefore function.now.expressions }
-    requires written { IsTrue (function_is_written function.now) }
-    requires marks { marks.old ≡ replicate (length function.now.expressions) false }
-    requires constants { MarksConstants function.now.expressions constants.now }
-    requires globals { MarksGlobals «module».now globals.now }
-    requires named { HasNamesOf «module».now (names_in names.now) }
-    requires known { AreKnownIn «module».now.types info.now }
-    ensures { (known : ModuleInfo) →
-        let shape = function_shape «module».now known function.now info.now in
-        Sweeps (expression_has_form «module».now info.now function.now.expressions)
-        function.now.expressions (function_roots (binds shape) function.now) result }
+    requires ordered { OperandsStandBefore (expressions_of known.now) }
+    requires marks { marks.old ≡ replicate (length (expressions_of known.now)) false }
+    requires constants { MarksConstants (expressions_of known.now) constants.now }
+    requires globals { MarksGlobals known.now.shader.now globals.now }
+    requires named { HasNamesOf known.now.shader.now (names_in names.now) }
+    requires types { AreKnownIn known.now.shader.now.types known.now.info.now }
+    ensures { Sweeps (has_form_in known.now) (expressions_of known.now)
+        (function_roots (bound_in known.now) known.now.function.now) result }
 {
-    mark_first_values(marks, function);
-    mark_body(marks, &module.types, function, info);
-    sweep(marks, constants, module, globals, names, function, info)
+    mark_first_values(marks, known.function);
+    mark_block(marks, known, &known.function.body);
+    sweep(
+        marks,
+        constants,
+        known.shader,
+        globals,
+        names,
+        known.function,
+        known.info,
+    )
 }
 
 /// The last written expression of the function that has no form, if there is one.
 pub(crate) fn written_without_form(
     alloc: Global,
-    module: &Module,
+    known: &KnownFunction<'_>,
     globals: &GlobalExpressions,
     names: &HashMap<NameKey, String>,
-    function: &Function,
-    info: &FunctionInfo,
 ) -> Result<Option<Handle<Expression>>, AllocError>
-    requires ordered { OperandsStandBefore function.now.expressions }
-    requires written { IsTrue (function_is_written function.now) }
-    requires globals { MarksGlobals «module».now globals.now }
-    requires named { HasNamesOf «module».now (names_in names.now) }
-    requires known { AreKnownIn «module».now.types info.now }
-    ensures { (known : ModuleInfo) →
-        let shape = function_shape «module».now known function.now info.now in
-        IfOk result (Sweeps (expression_has_form «module».now info.now function.now.expressions)
-        function.now.expressions (function_roots (binds shape) function.now)) }
+    requires ordered { OperandsStandBefore (expressions_of known.now) }
+    requires globals { MarksGlobals known.now.shader.now globals.now }
+    requires named { HasNamesOf known.now.shader.now (names_in names.now) }
+    requires types { AreKnownIn known.now.shader.now.types known.now.info.now }
+    ensures { IfOk result (Sweeps (has_form_in known.now) (expressions_of known.now)
+        (function_roots (bound_in known.now) known.now.function.now)) }
 {
-    let mut constants = no_marks(alloc, function)?;
-    mark_constants(&mut constants, function);
-    let mut marks = no_marks(alloc, function)?;
-    Ok(without_form(
-        &mut marks, &constants, module, globals, names, function, info,
-    ))
+    let mut constants = no_marks(alloc, known.function)?;
+    mark_constants(&mut constants, known.function);
+    let mut marks = no_marks(alloc, known.function)?;
+    Ok(without_form(&mut marks, &constants, known, globals, names))
 }

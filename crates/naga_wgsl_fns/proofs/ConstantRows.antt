@@ -8,13 +8,13 @@ use Rattle.std.specs.Option.{is_some, option_map_or}
 use Rattle.std.proofs.lemmas.Bool.{and_parts, ltb-true}
 use Rattle.std.proofs.lemmas.Option.{same_Some, slice_get_within}
 use Rattle.module_meaning.proofs.Stepwise.{by_those_before}
-use Rattle.module_meaning.specs.AlikeTypes.{has_form}
+use Rattle.module_meaning.specs.AlikeTypes.{is_spelled}
 use Rattle.module_meaning.specs.OperatorTable.{Splat, run_word}
 use Rattle.module_meaning.specs.Names.{constant_name, module_names}
-use Rattle.module_meaning.specs.Part.{constant_is_written, global_is_written}
-use Rattle.module_meaning.specs.Part.{global_is_written_over, global_is_written_within}
-use Rattle.module_meaning.specs.Part.{is_written_literal}
-use Rattle.module_meaning.specs.Surroundings.{surroundings}
+use Rattle.module_meaning.specs.WrittenSoFar.{constant_is_written, global_is_written}
+use Rattle.module_meaning.specs.WrittenSoFar.{global_is_written_over, global_is_written_within}
+use Rattle.module_meaning.specs.WrittenSoFar.{is_written_literal}
+use Rattle.module_meaning.specs.ExpressionContexts.{expression_context}
 use Rattle.naga_form.proofs.Operators.{constructor_called, typed_notation}
 use Rattle.naga_form.proofs.SameValues.{or_nothing}
 use Rattle.naga_form.proofs.WrittenOut.{global_names_in_range}
@@ -46,7 +46,7 @@ use Rattle.naga_names.specs.declared.key.NameKey.TheVariants as key
 use Rattle.naga_wgsl_fns.specs.Literals.{literal_text}
 use Rattle.naga_wgsl_fns.specs.Names.{name_of_constant, name_of_override}
 use Rattle.naga_wgsl_fns.specs.Types.{spelled_text}
-use Rattle.module_meaning.proofs.Part.{form_of_spellable}
+use Rattle.module_meaning.proofs.WrittenSoFar.{spelled_of_spellable}
 use Rattle.module_meaning.specs.Undeclared.{is_spellable}
 use Rattle.shader_runs.specs.Premises.{AllBelow}
 use Rattle.wgsl_text.proofs.Expressions.{argument_text as argument_row_text}
@@ -76,7 +76,8 @@ ArePartsBelow m h xs = AllByRecursion (λ x. (x < h) × (global_is_written m x �
 
 -- the form of one of the module's own expressions, over those of others
 abbrev over : Module → TypeNames → (ℕ → Expression) → ir.Expression → Expression
-over m t own e = constant_form_over (surroundings m (λ x. None)) t (constant_form_by m own) own e
+over m t own e = constant_form_over (expression_context m (λ x. None)) t (constant_form_by m own)
+    own e
 
 -- ---- what is written among the module's own expressions
 module _ (m : Module) (ordered : GlobalsStandInOrder m) where
@@ -185,15 +186,15 @@ module _ (m : Module) (ordered : GlobalsStandInOrder m) where
 
   pub zero_passes : (h : ℕ) (e : ir.Expression) (ty : ℕ) → slice_get m.global_expressions h ≡ Some e →
       e ≡ expression.ZeroValue ty → global_is_written m h ≡ true →
-      has_form m.types (Handle ty) ≡ true
+      is_spelled m.types (Handle ty) ≡ true
   zero_passes h e ty at same is =
-      form_of_spellable m (Handle ty) (written_over h (expression.ZeroValue ty) (at ∙ ap Some same) is)
+      spelled_of_spellable m (Handle ty) (written_over h (expression.ZeroValue ty) (at ∙ ap Some same) is)
 
   pub composed_passes : (h : ℕ) (e : ir.Expression) (ty : ℕ) (parts : _) →
       slice_get m.global_expressions h ≡ Some e → e ≡ expression.Compose ty parts →
-      global_is_written m h ≡ true → has_form m.types (Handle ty) ≡ true
+      global_is_written m h ≡ true → is_spelled m.types (Handle ty) ≡ true
   composed_passes h e ty parts at same is =
-      form_of_spellable m (Handle ty)
+      spelled_of_spellable m (Handle ty)
       (and_parts (is_spellable m (Handle ty)) (list_all (global_is_written m) parts.items)
       (written_over h (expression.Compose ty parts) (at ∙ ap Some same) is)).0
 
@@ -224,7 +225,7 @@ module _ (m : Module) (ordered : GlobalsStandInOrder m) where
     over_alike h (expression.Constant c) at a b same =
         constant_alike a b h c (λ k there. ordered.initialisers h c k at there) same
     over_alike h (expression.Compose ty components) at a b same =
-        ap (built_form (surroundings m (λ x. None)) t ty (length components.items))
+        ap (built_form (expression_context m (λ x. None)) t ty (length components.items))
         (map_same a b h components.items
         (ordered.operands h (expression.Compose ty components) at) same)
     over_alike h (expression.Splat size value) at a b same =
@@ -311,8 +312,8 @@ literal_row m can h e value at same =
 -- a value of a type, from the parts of its expression
 made_of : (m : Module) → CanWriteOf m → (h ty components : ℕ) (e own : ir.Expression) →
     slice_get m.global_expressions h ≡ Some e → e ≡ own →
-    has_form m.types (Handle ty) ≡ true →
-    built_form (surroundings m (λ x. None)) (type_names m) ty components
+    is_spelled m.types (Handle ty) ≡ true →
+    built_form (expression_context m (λ x. None)) (type_names m) ty components
     (map (global_at m) (expression_operands own)) ≡
     over m (type_names m) (global_at m) own →
     made_global_text m ty h ≡ global_text m h
@@ -320,7 +321,7 @@ unfolding made_global_text global_text
 made_of m can h ty components e own at same formed is =
     let tree = tree_there (type_names m) (Handle ty) formed in
     let parts = map (global_at m) (expression_operands own) in
-    let a = surroundings m (λ x. None) in
+    let a = expression_context m (λ x. None) in
     ap₂
     (λ o x. expression_layout
     (Call (unwrap_or o (Named []))
@@ -334,13 +335,13 @@ made_of m can h ty components e own at same formed is =
 
 pub zero_row : (m : Module) → CanWriteOf m → (h ty : ℕ) (e : ir.Expression) →
     slice_get m.global_expressions h ≡ Some e → e ≡ expression.ZeroValue ty →
-    has_form m.types (Handle ty) ≡ true → made_global_text m ty h ≡ global_text m h
+    is_spelled m.types (Handle ty) ≡ true → made_global_text m ty h ≡ global_text m h
 zero_row m can h ty e at same formed =
     made_of m can h ty 0 e (expression.ZeroValue ty) at same formed refl
 
 pub composed_row : (m : Module) → CanWriteOf m → (h ty : ℕ) (parts : _) (e : ir.Expression) →
     slice_get m.global_expressions h ≡ Some e → e ≡ expression.Compose ty parts →
-    has_form m.types (Handle ty) ≡ true → made_global_text m ty h ≡ global_text m h
+    is_spelled m.types (Handle ty) ≡ true → made_global_text m ty h ≡ global_text m h
 composed_row m can h ty parts e at same formed =
     made_of m can h ty (length parts.items) e (expression.Compose ty parts) at same formed refl
 

@@ -5,8 +5,8 @@ use Rattle.std.proofs.lemmas.Option.{same_Some}
 use Rattle.std.specs.Prelude.{slice_get, unwrap_or, if◌then◌else◌}
 use Rattle.module_meaning.specs.Conversions.{conversion_target, keeps_bits}
 use Rattle.module_meaning.specs.ExpressionOperators.{type_known}
-use Rattle.module_meaning.specs.AlikeTypes.{has_form}
-use Rattle.module_meaning.specs.Part.{expression_is_written}
+use Rattle.module_meaning.specs.AlikeTypes.{is_spelled}
+use Rattle.module_meaning.specs.WrittenSoFar.{expression_is_written}
 use Rattle.module_meaning.specs.Ranges.{resolution_fits}
 use Rattle.naga_form.proofs.AllowedParts.{conversion}
 use Rattle.naga_form.proofs.Operators.{bits_text, cast_called, conversion_is, typed_notation}
@@ -19,13 +19,14 @@ use Rattle.naga_ir.specs.declared.expression.Expression.TheVariants.{As}
 use Rattle.naga_ir.specs.declared.types.ScalarKind.{ScalarKind}
 use Rattle.naga_ir.specs.declared.types.TypeInner.{TypeInner}
 use Rattle.naga_ir.specs.declared.types.TypeInner.TheVariants as inner
-use Rattle.naga_scope.specs.declared.points.Standing.{Standing}
+use Rattle.naga_scope.specs.declared.points.Availability.{Availability}
 use Rattle.naga_words.specs.Output.{joined_texts}
 use Rattle.naga_wgsl_fns.proofs.ExpressionRows.{own_typed}
 use Rattle.naga_wgsl_fns.specs.Expressions.{bitcast_text, callee_text, cast_text, conversion_callee}
 use Rattle.naga_wgsl_fns.specs.Expressions.{form_at}
 use Rattle.naga_wgsl_fns.specs.Expressions.{made_text, operands_at, operands_text, own_text}
-use Rattle.naga_wgsl_fns.specs.FunctionText.{CanWrite, IsInText, around, expressions, type_names_of}
+use Rattle.naga_wgsl_fns.specs.FunctionText.{CanWrite, IsInText, context, expressions}
+use Rattle.naga_wgsl_fns.specs.FunctionText.{type_names_of}
 use Rattle.naga_wgsl_fns.specs.Types.{resolution_text}
 use Rattle.naga_wgsl_fns.specs.declared.functions.FunctionText.{FunctionText}
 use Rattle.naga_form.specs.Expressions.{value_forms}
@@ -34,7 +35,8 @@ use Rattle.wgsl_text.specs.Expressions.{operands as arguments_of}
 use Rattle.wgsl_text.specs.Reading.{type_layout}
 use Rattle.wgsl_text.specs.Types.{TypeSpecifier, Named as NamedType}
 
-pub conversion_row : (f : FunctionText) (table : List Standing) (operand : ℕ) (kind : ScalarKind)
+pub conversion_row : (f : FunctionText) (table : List Availability) (operand : ℕ)
+    (kind : ScalarKind)
     (convert : Option ℕ) (handle : ℕ) →
     made_text f table (conversion_callee f operand kind convert) handle ≡
     joined_texts (callee_text f operand kind convert)
@@ -64,9 +66,9 @@ target_fits overrides types (inner.Matrix columns rows s) to kind convert is =
 target_fits overrides types _ to kind convert is = absurd cc
 
 module _ (f : FunctionText) (operand : ℕ) (kind : ScalarKind) (convert : Option ℕ)
-    (from to : TypeInner) (known : type_known (around f) operand ≡ Some from)
+    (from to : TypeInner) (known : type_known (context f) operand ≡ Some from)
     (target : conversion_target from kind convert ≡ Some to)
-    (formed : has_form f.shader.now.types (Value to) ≡ true) where
+    (formed : is_spelled f.shader.now.types (Value to) ≡ true) where
   abbrev tree : TypeSpecifier
   tree = (tree_there (type_names_of f) (Value to) formed).0
 
@@ -74,7 +76,7 @@ module _ (f : FunctionText) (operand : ℕ) (kind : ScalarKind) (convert : Optio
   callee_is : conversion_callee f operand kind convert ≡ cast_tree (keeps_bits from convert) tree
   callee_is =
       ap (λ o. unwrap_or o (NamedType []))
-      (conversion_is (around f) (type_names_of f) operand kind convert from to _ known target
+      (conversion_is (context f) (type_names_of f) operand kind convert from to _ known target
       (tree_there (type_names_of f) (Value to) formed).1)
 
   resolution_is : resolution_text f (Value to) ≡ type_layout tree
@@ -110,17 +112,17 @@ unfolding cast_text
 cast_else f bits ty is = sym (ap (λ b. if b then bitcast_text f ty else resolution_text f ty) is)
 
 -- ---- what an expression is made of that is a conversion
-pub own_conversion : (f : FunctionText) (table : List Standing) (handle : ℕ) (e : ir.Expression)
-    (operand : ℕ) (kind : ScalarKind) (convert : Option ℕ) → CanWrite f → IsInText f handle →
+pub own_conversion : (f : FunctionText) (table : List Availability) {handle : ℕ} {e : ir.Expression}
+    {operand : ℕ} {kind : ScalarKind} {convert : Option ℕ} → CanWrite f → IsInText f handle →
     expression_is_written f.shader.now f.info.now (As operand kind convert) ≡ true →
     slice_get (expressions f) handle ≡ Some e → e ≡ As operand kind convert →
     made_text f table (conversion_callee f operand kind convert) handle ≡ own_text f table handle
-own_conversion f table handle e operand kind convert can within may here is =
+own_conversion f table {handle} {e} {operand} {kind} {convert} can within may here is =
     let c = conversion f.shader.now f.module_info.now f.info.now operand kind convert may in
     let called =
-    conversion_is (around f) (type_names_of f) operand kind convert c.from c.to c.tree c.known
+    conversion_is (context f) (type_names_of f) operand kind convert c.from c.to c.tree c.known
     c.target c.is in
-    let op = cast_called (around f) kind convert (type_known (around f) operand) in
+    let op = cast_called (context f) kind convert (type_known (context f) operand) in
     ap (λ o. made_text f table (unwrap_or o (NamedType [])) handle) called
     ∙ own_typed f table handle e (As operand kind convert)
     (cast_tree (keeps_bits c.from convert) c.tree) _ can within (typed_notation _ op _ _ called)

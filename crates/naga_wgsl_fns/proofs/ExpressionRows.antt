@@ -1,5 +1,7 @@
 -- The text of an expression by its kind and by where it stands, and from what is written of it in
 -- turn.
+use Rattle.module_meaning.specs.WrittenSoFar.{expression_is_written}
+use Rattle.naga_wgsl_fns.proofs.Wanted.{IsNoOther, expression_formed}
 use Rattle.std.proofs.Common.{ap₂}
 use Rattle.std.proofs.Common.{◌≡◌, ℕ, zero, suc, ◌<◌, Bool, true, false, List, [], ◌∷◌, length, Option, Some}
 use Rattle.std.proofs.Common.{None, codes, refl, sym, ap, ◌∙◌, arith, get_or}
@@ -29,7 +31,7 @@ use Rattle.naga_form.proofs.SameValues.{or_nothing}
 use Rattle.naga_names.specs.declared.key.NameKey.TheVariants as key
 use Rattle.module_meaning.specs.ExpressionOperators.{applied_operator, constructor}
 use Rattle.module_meaning.specs.ExpressionOperators.{load_operator}
-use Rattle.module_meaning.specs.AlikeTypes.{has_form}
+use Rattle.module_meaning.specs.AlikeTypes.{is_spelled}
 use Rattle.naga_info.specs.declared.info.TypeResolution.TheVariants.{Handle}
 use Rattle.naga_form.proofs.WrittenTypes.{tree_there}
 use Rattle.naga_form.specs.Expressions.{operator_type}
@@ -38,9 +40,9 @@ use Rattle.wgsl_text.specs.Types.{TypeSpecifier}
 use Rattle.wgsl_text.specs.Expressions.{Call}
 use Rattle.naga_wgsl_fns.specs.Types.{type_text}
 use Rattle.naga_wgsl_fns.specs.Expressions.{made_text, made_type}
-use Rattle.naga_wgsl_fns.specs.FunctionText.{given_in}
+use Rattle.naga_wgsl_fns.specs.FunctionText.{named_in}
 use Rattle.naga_wgsl_fns.specs.FunctionText.{type_names_of}
-use Rattle.module_meaning.specs.ExpressionOperators.{points_to_atomic}
+use Rattle.module_meaning.specs.ExpressionOperators.{is_atomic_pointer}
 use Rattle.module_meaning.specs.OperatorTable.{AtomicLoad, Operator, run_word}
 use Rattle.module_meaning.specs.OperatorTable.{WithoutForm}
 use Rattle.naga_form.specs.Operators.{Called, Infix, Notation, Prefix, applied_form, notation}
@@ -55,7 +57,8 @@ use Rattle.wgsl_text.specs.Expressions.{operands as arguments_of}
 use Rattle.wgsl_text.specs.Literals.{Truth}
 use Rattle.wgsl_text.specs.Types.{Named as NamedType}
 use Rattle.naga_form.specs.Expressions.{PlainForm, ValueForm, as_value, as_reference, value_forms}
-use Rattle.naga_form.specs.Expressions.{applied_plain, no_form, own_plain, own_if, standing_plain}
+use Rattle.naga_form.specs.Expressions.{applied_plain, no_form, own_plain, own_if}
+use Rattle.naga_form.specs.Expressions.{availability_plain}
 use Rattle.naga_form.specs.Expressions.{plain_below, plain_form, unnamed_form, value_form, Source}
 use Rattle.wgsl_text.proofs.Expressions.{name_text, binary_text as binary_row_text}
 use Rattle.wgsl_text.proofs.Expressions.{unary_text as unary_row_text}
@@ -63,17 +66,17 @@ use Rattle.wgsl_text.proofs.Expressions.{call_text as call_row_text}
 use Rattle.wgsl_text.proofs.Expressions.{argument_text as argument_row_text}
 use Rattle.wgsl_text.proofs.Expressions.{next_argument_text as next_argument_row_text}
 use Rattle.wgsl_text.proofs.Expressions.{address_text as address_row_text, dereference_text}
-use Rattle.naga_scope.specs.Standings.{standing_of}
+use Rattle.naga_scope.specs.Availabilities.{availability_of}
 use Rattle.naga_wgsl_fns.specs.Names.{bound_text, name_of_global, name_of_override}
-use Rattle.naga_scope.specs.declared.points.Standing.{Standing}
-use Rattle.naga_scope.specs.declared.points.Standing.TheVariants.{Absent, Barred, Everywhere}
-use Rattle.naga_scope.specs.declared.points.Standing.TheVariants.{Inline, Named}
+use Rattle.naga_scope.specs.declared.points.Availability.{Availability}
+use Rattle.naga_scope.specs.declared.points.Availability.TheVariants.{Absent, Barred, Everywhere}
+use Rattle.naga_scope.specs.declared.points.Availability.TheVariants.{Inline, Bound}
 use Rattle.naga_words.specs.Output.{joined_texts}
 use Rattle.naga_wgsl_fns.specs.Constants.{constant_text}
 use Rattle.naga_wgsl_fns.specs.Literals.{literal_text}
 use Rattle.wgsl_text.specs.Reading.{expression_layout}
 use Rattle.naga_wgsl_fns.specs.declared.functions.FunctionText.{FunctionText}
-use Rattle.naga_wgsl_fns.specs.FunctionText.{CanWrite, IsInText, around, expressions, handles_in}
+use Rattle.naga_wgsl_fns.specs.FunctionText.{CanWrite, IsInText, context, expressions, handles_in}
 use Rattle.naga_wgsl_fns.specs.FunctionText.{naming, source}
 use Rattle.naga_wgsl_fns.specs.Names.{name_of_argument, name_of_local}
 use Rattle.naga_wgsl_fns.specs.Expressions.{address_text, applied_text, called_text, form_at}
@@ -83,11 +86,11 @@ use Rattle.naga_wgsl_fns.specs.Expressions.{next_operand_text, operands_at, oper
 use Rattle.naga_wgsl_fns.specs.Expressions.{operands_text, own_form, own_text}
 use Rattle.naga_wgsl_fns.specs.Expressions.{pointed_text, reference_text, value_text}
 use Rattle.naga_wgsl_fns.proofs.PartForms.{part_form, referred_part, valued_part}
-use Rattle.naga_wgsl_fns.proofs.VariableRows.{held_reference, kept_reference}
+use Rattle.naga_wgsl_fns.proofs.VariableRows.{handle_variable_reference, kept_reference}
 use Rattle.naga_wgsl_fns.proofs.Wanted.{ordered}
 use Rattle.naga_wgsl_fns.specs.Expressions.{base_of, part_reference_text, part_value_text}
 use Rattle.naga_wgsl_fns.specs.Expressions.{plain_address_text, plain_text, plain_tree}
-use Rattle.naga_form.specs.Expressions.{is_held, part_plain, points, selected_part}
+use Rattle.naga_form.specs.Expressions.{is_handle_variable, part_plain, points, selected_part}
 use Rattle.naga_form.specs.Expressions.{variable_plain}
 use Rattle.module_meaning.specs.ExpressionShapes.{part_selector}
 use Rattle.module_meaning.specs.OperatorTable.{PartAt}
@@ -125,14 +128,14 @@ module _ (n : Naming) (code : Source) (before : OperandsStandBefore code.express
   own_same a b h (expression.Load p) below same =
       applied_same a b h same (ValueForm (as_reference (a p))) (ValueForm (as_reference (b p)))
       (ap (λ q. ValueForm (as_reference q)) (same p below.0)) None (p ∷ []) below
-      (load_operator code.declared.around p)
+      (load_operator code.declared.context p)
   own_same a b h (expression.ZeroValue ty) below same = refl
   own_same a b h (expression.Access base index) below same =
-      λ i. part_plain (points code.declared.around base)
+      λ i. part_plain (points code.declared.context base)
       (λ e. Index e (as_value (same index below.1.0 i))) (same base below.0 i)
   own_same a b h (expression.AccessIndex base index) below same =
       λ i. option_map_or
-      (λ x. part_plain (points code.declared.around base) (selected_part x) (same base below.0 i))
+      (λ x. part_plain (points code.declared.context base) (selected_part x) (same base below.0 i))
       (part_selector code.declared base index)
       (applied_same a b h same no_form no_form refl None (base ∷ []) below
       (Some (WithoutForm (PartAt index))) i)
@@ -143,7 +146,7 @@ module _ (n : Naming) (code : Source) (before : OperandsStandBefore code.express
       image sampler gather coordinate array_index offset level depth_ref clamp) below same =
       let e = expression.ImageSample
       image sampler gather coordinate array_index offset level depth_ref clamp in
-      let of_depths = option_map_or is_depth_image (type_known code.declared.around image) false in
+      let of_depths = option_map_or is_depth_image (type_known code.declared.context image) false in
       let op =
       sample_operator of_depths gather (level_of level) (is_some depth_ref) clamp
       (is_some array_index) (is_some offset) in
@@ -165,8 +168,8 @@ module _ (n : Naming) (code : Source) (before : OperandsStandBefore code.express
   own_same a b h (expression.GlobalVariable v) below same = refl
   own_same a b h (expression.LocalVariable handle) below same = refl
   own_same a b h e below same =
-      applied_same a b h same no_form no_form refl (operator_type code.declared.around code.type_names e)
-      (expression_operands e) below (applied_operator code.declared.around e)
+      applied_same a b h same no_form no_form refl (operator_type code.declared.context code.type_names e)
+      (expression_operands e) below (applied_operator code.declared.context e)
 
   own_if_same : (a b : ℕ → PlainForm) (h : ℕ) (o : Option ir.Expression) →
       slice_get code.expressions h ≡ o → ((x : ℕ) → x < h → a x ≡ b x) →
@@ -179,44 +182,46 @@ module _ (n : Naming) (code : Source) (before : OperandsStandBefore code.express
   below_same zero k h lt_j lt_k = absurd (omega (arith, lt_j))
   below_same (suc j) zero h lt_j lt_k = absurd (omega (arith, lt_k))
   below_same (suc j) (suc k) h lt_j lt_k =
-      ap (standing_plain (s h))
+      ap (availability_plain (s h))
       (own_if_same (plain_below n code s j) (plain_below n code s k) h
       (slice_get code.expressions h) refl
       (λ x lt. below_same j k x (omega (arith, lt, lt_j)) (omega (arith, lt, lt_k))))
 
   -- a handle's form
   pub plain_level : (h : ℕ) → h < length code.expressions →
-      plain_form n code s h ≡ standing_plain (s h) (unnamed_form n code s h)
+      plain_form n code s h ≡ availability_plain (s h) (unnamed_form n code s h)
   plain_level h lt = by (length code.expressions) lt
     where
       by : (k : ℕ) → h < k →
           plain_below n code s k h ≡
-          standing_plain (s h)
+          availability_plain (s h)
           (own_if n code (plain_below n code s k) (slice_get code.expressions h))
       by zero lt = absurd (omega (arith, lt))
       by (suc k) lt =
-          ap (standing_plain (s h))
+          ap (availability_plain (s h))
           (own_if_same (plain_below n code s k) (plain_below n code s (suc k)) h
           (slice_get code.expressions h) refl
           (λ x x_lt. below_same k (suc k) x (omega (arith, x_lt, lt)) (omega (arith, x_lt, lt))))
 
 -- ---- rows
 -- a handle's form, by its cell in the table
-pub cell_form : (f : FunctionText) (table : List Standing) (handle : ℕ) → CanWrite f → handle < length (expressions f)
-    → plain_form (naming f) (source f) (handles_in f table) handle ≡ standing_plain (standing_of (given_in f) (numbered_name handle) (get_or table handle Absent)) (own_form f table handle)
+pub cell_form : (f : FunctionText) (table : List Availability) (handle : ℕ) → CanWrite f → handle < length (expressions f)
+    → plain_form (naming f) (source f) (handles_in f table) handle ≡ availability_plain (availability_of (named_in f) (numbered_name handle) (get_or table handle Absent)) (own_form f table handle)
 cell_form f table handle can lt = plain_level (naming f) (source f) (ordered f can) (handles_in f table) handle lt
 
 -- a value, by its cell
-abbrev pub value_at : FunctionText → (table : List Standing) → (handle : ℕ) → (cell : Standing) → List ℕ
-value_at f table handle (Named name) = bound_text f handle name
+abbrev pub value_at : FunctionText → (table : List Availability) → (handle : ℕ) → (cell : Availability) → List ℕ
+value_at f table handle (Bound name) = bound_text f handle name
 value_at f table handle _ = own_text f table handle
 
-pub value_row : (f : FunctionText) (table : List Standing) (handle : ℕ) → CanWrite f → handle < length (expressions f) → value_text f table handle ≡ value_at f table handle (get_or table handle Absent)
+pub value_row : (f : FunctionText) (table : List Availability) (handle : ℕ) → CanWrite f →
+    handle < length (expressions f) → value_text f table handle ≡ value_at f table handle
+    (get_or table handle Absent)
 unfolding value_text own_text bound_text
 value_row f table handle can lt = ap (λ form. expression_layout (as_value form)) (cell_form f table handle can lt) ∙ by (get_or table handle Absent)
   where
-    by : (cell : Standing) → expression_layout (as_value (standing_plain (standing_of (given_in f) (numbered_name handle) cell) (own_form f table handle))) ≡ value_at f table handle cell
-    by (Named name) = name_text (bound_text f handle name)
+    by : (cell : Availability) → expression_layout (as_value (availability_plain (availability_of (named_in f) (numbered_name handle) cell) (own_form f table handle))) ≡ value_at f table handle cell
+    by (Bound name) = name_text (bound_text f handle name)
     by Absent = refl
     by Barred = refl
     by Everywhere = refl
@@ -224,20 +229,21 @@ value_row f table handle can lt = ap (λ form. expression_layout (as_value form)
 
 -- what is applied, in its notation
 abbrev pub application_at :
-    FunctionText → (table : List Standing) → (type : Option TypeSpecifier) → List ℕ →
+    FunctionText → (table : List Availability) → (type : Option TypeSpecifier) → List ℕ →
     Option Operator → List ℕ
 application_at f table type hs (Some op) = applied_text f table (notation type op) hs
 application_at f table type hs None = expression_layout (as_value no_form)
 
 -- what an expression is made of, by its kind
-abbrev pub own_at : FunctionText → (table : List Standing) → (handle : ℕ) → Option ir.Expression →
+abbrev pub own_at : FunctionText → (table : List Availability) →
+    (handle : ℕ) → Option ir.Expression →
     List ℕ
 own_at f table handle (Some (expression.Literal value)) = literal_text value
 own_at f table handle (Some (expression.Constant c)) = constant_text f.shader.now c
 own_at f table handle (Some (expression.Override o)) = name_of_override f.shader.now o
 own_at f table handle (Some (expression.ZeroValue ty)) =
     applied_text f table
-    (notation (type_tree (type_names_of f) ty) (constructor (around f) (Handle ty) 0)) []
+    (notation (type_tree (type_names_of f) ty) (constructor (context f) (Handle ty) 0)) []
 own_at f table handle (Some (expression.Access base index)) =
     part_value_text f table handle base
 own_at f table handle (Some (expression.AccessIndex base index)) =
@@ -254,14 +260,16 @@ own_at f table handle
     image sampler gather coordinate array_index offset level depth_ref clamp)) =
     own_text f table handle
 own_at f table handle (Some e) =
-    application_at f table (operator_type (around f) (type_names_of f) e) (expression_operands e)
-    (applied_operator (around f) e)
+    application_at f table (operator_type (context f) (type_names_of f) e) (expression_operands e)
+    (applied_operator (context f) e)
 own_at f table handle None = expression_layout (as_value no_form)
 
-pub own_row : (f : FunctionText) (table : List Standing) (handle : ℕ) → CanWrite f →
+pub own_row : (f : FunctionText) (table : List Availability) (handle : ℕ) → CanWrite f →
     IsInText f handle →
     own_text f table handle ≡ own_at f table handle (slice_get (expressions f) handle)
-unfolding own_text literal_text constant_text name_of_argument name_of_override name_of_global address_text global_value_text global_address_text load_text reference_text applied_text member_text part_value_text plain_address_text plain_text
+unfolding own_text literal_text constant_text name_of_argument name_of_override name_of_global
+    address_text global_value_text global_address_text load_text reference_text applied_text
+    member_text part_value_text plain_address_text plain_text
 own_row f table handle can within = by (slice_get (expressions f) handle) refl
   where
     operand : ℕ → PlainForm
@@ -291,12 +299,12 @@ own_row f table handle can within = by (slice_get (expressions f) handle) refl
         let p = part_form f table can handle within e at base is in
         let same = ap (own_if (naming f) (source f) operand) at in
         ap (λ q. expression_layout (as_value q)) (sym same)
-        ∙ valued_part (points (around f) base) p.part (operand base) (own_form f table handle)
+        ∙ valued_part (points (context f) base) p.part (operand base) (own_form f table handle)
         (same ∙ p.is)
 
-    of_module : (variable : ℕ) (held : Bool) →
-        expression_layout (as_value (variable_plain held (Name (name_of_global f variable)))) ≡
-        (if held then name_of_global f variable else global_address_text f variable)
+    of_module : (variable : ℕ) (is_handle : Bool) →
+        expression_layout (as_value (variable_plain is_handle (Name (name_of_global f variable)))) ≡
+        (if is_handle then name_of_global f variable else global_address_text f variable)
     of_module variable true = name_text (name_of_global f variable)
     of_module variable false = refl
 
@@ -314,10 +322,10 @@ own_row f table handle can within = by (slice_get (expressions f) handle) refl
         name_text ((type_names_of f).override_name o)
         ∙ or_nothing (module_names f.shader.now (key.Override o))
     by (Some (expression.GlobalVariable variable)) at =
-        of_module variable (is_held f.shader.now variable)
+        of_module variable (is_handle_variable f.shader.now variable)
     by (Some (expression.LocalVariable local)) at = refl
     by (Some (expression.Load pointer)) at =
-        loaded pointer (points_to_atomic (around f) pointer)
+        loaded pointer (is_atomic_pointer (context f) pointer)
     by
         (Some
         (expression.ImageSample
@@ -326,12 +334,13 @@ own_row f table handle can within = by (slice_get (expressions f) handle) refl
     by (Some (expression.ZeroValue ty)) at = refl
     by (Some (expression.Swizzle size vector pattern)) at = refl
     by (Some e) at =
-        applied (operator_type (around f) (type_names_of f) e) (expression_operands e)
-        (applied_operator (around f) e)
+        applied (operator_type (context f) (type_names_of f) e) (expression_operands e)
+        (applied_operator (context f) e)
     by None at = refl
 
 -- a reference, by its cell and its kind
-abbrev reference_by : FunctionText → (table : List Standing) → (handle : ℕ) → Option ir.Expression →
+abbrev reference_by : FunctionText → (table : List Availability) →
+    (handle : ℕ) → Option ir.Expression →
     List ℕ
 reference_by f table handle (Some (expression.GlobalVariable variable)) =
     global_reference_text f table handle variable
@@ -342,12 +351,12 @@ reference_by f table handle (Some (expression.AccessIndex base index)) =
     part_reference_text f table handle base
 reference_by f table handle _ = pointed_text f table handle
 
-abbrev pub reference_at : FunctionText → (table : List Standing) → (handle : ℕ) → (cell : Standing) →
+abbrev pub reference_at : FunctionText → (table : List Availability) → (handle : ℕ) → (cell : Availability) →
     Option ir.Expression → List ℕ
-reference_at f table handle (Named name) e = pointed_text f table handle
+reference_at f table handle (Bound name) e = pointed_text f table handle
 reference_at f table handle _ e = reference_by f table handle e
 
-pub reference_row : (f : FunctionText) (table : List Standing) (handle : ℕ) → CanWrite f →
+pub reference_row : (f : FunctionText) (table : List Availability) (handle : ℕ) → CanWrite f →
     IsInText f handle →
     reference_text f table handle ≡
     reference_at f table handle (get_or table handle Absent) (slice_get (expressions f) handle)
@@ -355,7 +364,7 @@ unfolding reference_text pointed_text name_of_local name_of_global part_referenc
 reference_row f table handle can within =
     ap (λ form. expression_layout (as_reference form)) is ∙ by cell is
   where
-    cell : Standing
+    cell : Availability
     cell = get_or table handle Absent
 
     operand : ℕ → PlainForm
@@ -367,8 +376,8 @@ reference_row f table handle can within =
     e : Option ir.Expression
     e = slice_get (expressions f) handle
 
-    form : Standing → PlainForm
-    form c = standing_plain (standing_of (given_in f) (numbered_name handle) c) (own e)
+    form : Availability → PlainForm
+    form c = availability_plain (availability_of (named_in f) (numbered_name handle) c) (own e)
 
     is : plain_form (naming f) (source f) (handles_in f table) handle ≡ form cell
     is = cell_form f table handle can within.there
@@ -395,14 +404,14 @@ reference_row f table handle can within =
         expression_layout (as_reference (own o)) ≡ part_reference_text f table handle base
     parted mine o at base here =
         let p = part_form f table can handle within o at base here in
-        let b = points (around f) base in
+        let b = points (context f) base in
         ap (λ o. expression_layout (as_reference (own o))) (sym at)
         ∙ (referred_part b p.part (operand base) (own e) (ap own at ∙ p.is)
         ∙ ap (λ w. if b then expression_layout (plain_tree (own e)) else w) (pointed mine))
 
     of_module : form_at f table handle ≡ own e → (variable : ℕ) →
-        e ≡ Some (expression.GlobalVariable variable) → (held : Bool) →
-        is_held f.shader.now variable ≡ held →
+        e ≡ Some (expression.GlobalVariable variable) → (is_handle : Bool) →
+        is_handle_variable f.shader.now variable ≡ is_handle →
         expression_layout (as_reference (own (Some (expression.GlobalVariable variable)))) ≡
         global_reference_text f table handle variable
     of_module mine variable at true is =
@@ -410,7 +419,7 @@ reference_row f table handle can within =
         pointed_by mine (Some (expression.GlobalVariable variable)) at
         (ap (λ b. as_reference (variable_plain b name)) is
         ∙ sym (ap (λ b. Dereference (as_value (variable_plain b name))) is))
-        ∙ held_reference f table handle variable is
+        ∙ handle_variable_reference f table handle variable is
     of_module mine variable at false is =
         let name = Name (name_of_global f variable) in
         ap (λ b. expression_layout (as_reference (variable_plain b name))) is
@@ -419,7 +428,7 @@ reference_row f table handle can within =
     kind : form_at f table handle ≡ own e → (o : Option ir.Expression) → e ≡ o →
         expression_layout (as_reference (own o)) ≡ reference_by f table handle o
     kind mine (Some (expression.GlobalVariable variable)) at =
-        of_module mine variable at (is_held f.shader.now variable) refl
+        of_module mine variable at (is_handle_variable f.shader.now variable) refl
     kind mine (Some (expression.Override o)) at =
         pointed_by mine (Some (expression.Override o)) at refl
     kind mine (Some (expression.LocalVariable local)) at = name_text (name_of_local f local)
@@ -438,7 +447,7 @@ reference_row f table handle can within =
     kind mine (Some (expression.Load pointer)) at =
         pointed_by mine (Some (expression.Load pointer)) at
         (valued (as_reference (operand pointer)) None (pointer ∷ [])
-        (load_operator (around f) pointer))
+        (load_operator (context f) pointer))
     kind mine
         (Some
         (expression.ImageSample
@@ -449,19 +458,19 @@ reference_row f table handle can within =
         image sampler gather coordinate array_index offset level depth_ref clamp)) at refl
     kind mine (Some x) at =
         pointed_by mine (Some x) at
-        (valued (Constant (Truth false)) (operator_type (around f) (type_names_of f) x)
-        (expression_operands x) (applied_operator (around f) x))
+        (valued (Constant (Truth false)) (operator_type (context f) (type_names_of f) x)
+        (expression_operands x) (applied_operator (context f) x))
     kind mine None at = pointed_by mine None at refl
 
-    by : (c : Standing) → form_at f table handle ≡ form c →
+    by : (c : Availability) → form_at f table handle ≡ form c →
         expression_layout (as_reference (form c)) ≡ reference_at f table handle c e
-    by (Named name) mine = ap (λ q. expression_layout (Dereference (as_value q))) (sym mine)
+    by (Bound name) mine = ap (λ q. expression_layout (Dereference (as_value q))) (sym mine)
     by Absent mine = kind mine e refl
     by Barred mine = kind mine e refl
     by Everywhere mine = kind mine e refl
     by Inline mine = kind mine e refl
 
-pub prefix_row : (f : FunctionText) (table : List Standing) (op : ir_unary.UnaryOperator)
+pub prefix_row : (f : FunctionText) (table : List Availability) (op : ir_unary.UnaryOperator)
     (operand : ℕ)
     → applied_text f table (Prefix (unary_form op)) (operand ∷ []) ≡
     joined_texts (unary_text op)
@@ -472,7 +481,7 @@ prefix_row f table op operand =
     unary_row_text (unary_form op) (form operand)
     ∙ ap (λ w. joined_texts w (joined_texts (codes "(") (joined_texts (expression_layout (form operand)) (codes ")")))) (sym (unary_row op))
 
-pub infix_row : (f : FunctionText) (table : List Standing) (op : ir_operator.BinaryOperator)
+pub infix_row : (f : FunctionText) (table : List Availability) (op : ir_operator.BinaryOperator)
     (left right : ℕ)
     → applied_text f table (Infix (operator_form op)) (left ∷ right ∷ []) ≡
     joined_texts
@@ -485,10 +494,15 @@ unfolding applied_text value_text joined_texts
 infix_row f table op left right =
     let form = value_form (naming f) (source f) (handles_in f table) in
     binary_row_text (form left) (operator_form op) (form right)
-    ∙ ap (λ w. joined_texts (codes "(") (joined_texts (expression_layout (form left)) (joined_texts (codes " ") (joined_texts w (joined_texts (codes " ") (joined_texts (expression_layout (form right)) (codes ")"))))))) (sym (operator_row op))
+    ∙ ap (λ w. joined_texts (codes "(")
+    (joined_texts (expression_layout (form left))
+    (joined_texts (codes " ")
+    (joined_texts w
+    (joined_texts (codes " ") (joined_texts (expression_layout (form right)) (codes ")")))))))
+    (sym (operator_row op))
 
 -- ---- calls
-pub called_row : (f : FunctionText) (table : List Standing) (word : List ℕ) (handle : ℕ)
+pub called_row : (f : FunctionText) (table : List Availability) (word : List ℕ) (handle : ℕ)
     → called_text f table word handle ≡
     joined_texts word (joined_texts (codes "(") (operands_text f table handle))
 unfolding called_text applied_text operands_text joined_texts
@@ -496,7 +510,7 @@ called_row f table word handle =
     call_row_text (NamedType word) (arguments_of (value_forms (form_at f table) (operands_at f handle)))
     ∙ ap (λ w. joined_texts w (joined_texts (codes "(") (operands_left f table true (operands_at f handle)))) (named_text word)
 
-pub made_row : (f : FunctionText) (table : List Standing) (ty handle : ℕ)
+pub made_row : (f : FunctionText) (table : List Availability) (ty handle : ℕ)
     → made_text f table (made_type f ty) handle ≡
     joined_texts (type_text f ty) (joined_texts (codes "(") (operands_text f table handle))
 unfolding made_text type_text operands_text joined_texts
@@ -504,7 +518,7 @@ made_row f table ty handle =
     call_row_text (made_type f ty) (arguments_of (value_forms (form_at f table) (operands_at f handle)))
 
 -- what an expression is made of whose operator is called by a type
-pub own_typed : (f : FunctionText) (table : List Standing) (handle : ℕ) (e own : ir.Expression)
+pub own_typed : (f : FunctionText) (table : List Availability) (handle : ℕ) (e own : ir.Expression)
     (t : TypeSpecifier) (n : Notation) → CanWrite f → IsInText f handle → n ≡ Called t →
     slice_get (expressions f) handle ≡ Some e → e ≡ own →
     own_at f table handle (Some own) ≡ applied_text f table n (expression_operands own) →
@@ -521,31 +535,31 @@ own_typed f table handle e own t n can within called here is made =
     ∙ sym (own_row f table handle can within ∙ (ap (own_at f table handle) there ∙ made))
 
 -- or makes a value of a type of the module
-pub own_made : (f : FunctionText) (table : List Standing) (handle ty components : ℕ)
-    (e own : ir.Expression) → CanWrite f → IsInText f handle →
-    IsTrue (has_form f.shader.now.types (Handle ty)) →
+pub own_made : (f : FunctionText) (table : List Availability) {handle : ℕ} (ty components : ℕ)
+    {e own : ir.Expression} → CanWrite f → IsInText f handle →
+    IsTrue (is_spelled f.shader.now.types (Handle ty)) →
     slice_get (expressions f) handle ≡ Some e → e ≡ own →
     own_at f table handle (Some own) ≡
     applied_text f table
-    (notation (type_tree (type_names_of f) ty) (constructor (around f) (Handle ty) components))
+    (notation (type_tree (type_names_of f) ty) (constructor (context f) (Handle ty) components))
     (expression_operands own) →
     made_text f table (made_type f ty) handle ≡ own_text f table handle
-own_made f table handle ty components e own can within value here is made =
+own_made f table {handle} ty components {e} {own} can within value here is made =
     let tree = tree_there (type_names_of f) (Handle ty) value in
     ap (λ o. made_text f table (unwrap_or o (NamedType [])) handle) tree.1
     ∙ own_typed f table handle e own tree.0 _ can within
-    (typed_notation _ (constructor_called (around f) (Handle ty) components)
+    (typed_notation _ (constructor_called (context f) (Handle ty) components)
     (type_tree (type_names_of f) ty) tree.0 tree.1)
     here is made
 
-pub next_operand_row : (f : FunctionText) (table : List Standing) (first : Bool) (operand : ℕ)
+pub next_operand_row : (f : FunctionText) (table : List Availability) (first : Bool) (operand : ℕ)
     → next_operand_text f table first operand ≡
     joined_texts (if first then [] else codes ", ") (value_text f table operand)
 unfolding next_operand_text joined_texts
 next_operand_row f table first operand = refl
 
 -- the next operand, and those behind it
-pub operands_more : (f : FunctionText) (table : List Standing) (first : Bool) (operand : ℕ)
+pub operands_more : (f : FunctionText) (table : List Availability) (first : Bool) (operand : ℕ)
     (more : List ℕ) →
     operands_left f table first (operand ∷ more) ≡
     joined_texts (next_operand_text f table first operand) (operands_left f table false more)
@@ -555,25 +569,25 @@ operands_more f table true operand more =
 operands_more f table false operand more =
     next_argument_row_text (as_value (form_at f table operand)) (arguments_of (value_forms (form_at f table) more))
 
-pub operands_none : (f : FunctionText) (table : List Standing) (first : Bool) →
+pub operands_none : (f : FunctionText) (table : List Availability) (first : Bool) →
     operands_left f table first [] ≡ codes ")"
 operands_none f table true = refl
 operands_none f table false = refl
 
-pub operands_start : (f : FunctionText) (table : List Standing) (handle : ℕ) →
+pub operands_start : (f : FunctionText) (table : List Availability) (handle : ℕ) →
     operands_text f table handle ≡ operands_left f table true (operands_at f handle)
 unfolding operands_text
 operands_start f table handle = refl
 
 -- what is made of an operator's word that is called with the expression's operands
-pub own_called : (f : FunctionText) (table : List Standing) (handle : ℕ) (e own : ir.Expression)
-    (word its : List ℕ) → CanWrite f → IsInText f handle →
+pub own_called : (f : FunctionText) (table : List Availability) {handle : ℕ} {e own : ir.Expression}
+    {word its : List ℕ} → CanWrite f → IsInText f handle →
     slice_get (expressions f) handle ≡ Some e → e ≡ own → word ≡ its →
     own_at f table handle (Some own) ≡
     applied_text f table (Called (NamedType its)) (expression_operands own) →
     called_text f table word handle ≡ own_text f table handle
 unfolding called_text
-own_called f table handle e own word its can within here is named called =
+own_called f table {handle} {e} {own} {word} {its} can within here is named called =
     let there = here ∙ ap Some is in
     ap₂
     (λ w o. applied_text f table (Called (NamedType w)) (option_map_or expression_operands o []))
@@ -584,6 +598,51 @@ pub address_row : (f : FunctionText) (local : ℕ) → address_text f local ≡ 
 unfolding address_text name_of_local joined_texts
 address_row f local = address_row_text (Name (name_of_local f local)) ∙ ap (λ w. joined_texts (codes "(&") (joined_texts w (codes ")"))) (name_text (name_of_local f local))
 
-pub pointed_row : (f : FunctionText) (table : List Standing) (handle : ℕ) → pointed_text f table handle ≡ joined_texts (codes "(*") (joined_texts (value_text f table handle) (codes ")"))
+pub pointed_row : (f : FunctionText) (table : List Availability) (handle : ℕ) → pointed_text f table handle ≡ joined_texts (codes "(*") (joined_texts (value_text f table handle) (codes ")"))
 unfolding pointed_text value_text joined_texts
 pointed_row f table handle = dereference_text (value_form (naming f) (source f) (handles_in f table) handle)
+
+-- no other expression is written but the result of a statement, which has no value of its own
+pub no_value_row : (f : FunctionText) (table : List Availability) (handle : ℕ) → CanWrite f → IsInText f handle →
+    (e : ir.Expression) → slice_get (expressions f) handle ≡ Some e → IsNoOther e → codes "false" ≡ own_text f table handle
+no_value_row f table handle can within e here none =
+    sym (own_row f table handle can within ∙ (ap (own_at f table handle) here ∙ by e (expression_formed f can handle e here within) none))
+  where
+    by : (e : ir.Expression) → IsTrue (expression_is_written f.shader.now f.info.now e) → IsNoOther e → own_at f table handle (Some e) ≡ codes "false"
+    by (expression.Literal v) is none = absurd (none.literal v refl)
+    by (expression.Constant c) is none = absurd (none.constant c refl)
+    by (expression.Override o) is none = absurd (none.overridden o refl)
+    by (expression.ZeroValue t) is none = absurd (none.zero_value t refl)
+    by (expression.Compose t xs) is none = absurd (none.composed t xs refl)
+    by (expression.Access b i) is none = absurd (none.element b i refl)
+    by (expression.AccessIndex b i) is none = absurd (none.part b i refl)
+    by (expression.FunctionArgument n) is none = absurd (none.argument n refl)
+    by (expression.GlobalVariable v) is none = absurd (none.global v refl)
+    by (expression.LocalVariable v) is none = absurd (none.local_ v refl)
+    by (expression.Load p) is none = absurd (none.load p refl)
+    by (expression.Unary op x) is none = absurd (none.unary op x refl)
+    by (expression.Binary op l r) is none = absurd (none.binary op l r refl)
+    by (expression.Select c a r) is none = absurd (none.choice c a r refl)
+    by (expression.Splat size x) is none = absurd (none.splat size x refl)
+    by (expression.Swizzle size x pattern) is none = absurd (none.swizzle size x pattern refl)
+    by (expression.As x kind convert) is none = absurd (none.converted x kind convert refl)
+    by (expression.Derivative axis how x) is none = absurd (none.derivative axis how x refl)
+    by (expression.Math fun x y z w) is none = absurd (none.mathematical fun x y z w refl)
+    by (expression.Relational fun x) is none = absurd (none.relational fun x refl)
+    by
+        (expression.ImageSample
+        image sampler gather coordinate array_index offset level depth_ref clamp) is none =
+        absurd (none.sampled image sampler gather coordinate array_index offset level depth_ref clamp refl)
+    by (expression.ImageLoad image coordinate array_index sample level) is none =
+        absurd (none.loaded image coordinate array_index sample level refl)
+    by (expression.ImageQuery image query) is none = absurd (none.asked image query refl)
+    by (expression.ArrayLength array) is none = absurd (none.counted array refl)
+    by (expression.CooperativeLoad columns rows role place) is none =
+        absurd (none.matrix_load columns rows role place refl)
+    by (expression.CooperativeMultiplyAdd x y z) is none = absurd (none.product x y z refl)
+    by (expression.CallResult function) is none = refl
+    by (expression.AtomicResult ty comparison) is none = refl
+    by (expression.WorkGroupUniformLoadResult ty) is none = refl
+    by expression.SubgroupBallotResult is none = refl
+    by (expression.SubgroupOperationResult ty) is none = refl
+    by _ is none = absurd cc

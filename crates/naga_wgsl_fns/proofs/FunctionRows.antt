@@ -20,7 +20,7 @@ use Rattle.naga_info.specs.declared.info.ExpressionInfo.{ExpressionInfo}
 use Rattle.naga_info.specs.declared.info.ModuleInfo.{ModuleInfo}
 use Rattle.module_meaning.specs.Accepted.{is_accepted}
 use Rattle.module_meaning.specs.InfoSizes.{sizes_fit, type_is_fit}
-use Rattle.module_meaning.specs.Part.{function_is_written, is_written_so_far}
+use Rattle.module_meaning.specs.WrittenSoFar.{is_written_so_far}
 use Rattle.module_meaning.specs.Ranges.{all_placed, declarations_in_range, function_in_range}
 use Rattle.module_meaning.specs.Ranges.{module_in_range, module_ranges_fit}
 use Rattle.naga_form.specs.Expressions.{value_form}
@@ -40,12 +40,12 @@ use Rattle.wgsl_text.proofs.Functions.{value_text as value_row_text, locals_text
 use Rattle.wgsl_text.proofs.Functions.{function_text as function_row_text}
 use Rattle.naga_names.specs.Keys.{names_in}
 use Rattle.shader_runs.specs.Scope.{Handles}
-use Rattle.module_meaning.specs.GivenLabels.{given_labels}
+use Rattle.module_meaning.specs.ExpressionLabels.{expression_labels}
 use Rattle.module_meaning.specs.Names.{HasNamesOf, module_names}
 use Rattle.module_meaning.specs.Written.{WrittenHaveForms}
-use Rattle.module_meaning.proofs.Part.{written_so_far_parts}
-use Rattle.naga_scope.specs.Standings.{TextPoint}
-use Rattle.naga_scope.specs.declared.points.Standing.{Standing}
+use Rattle.module_meaning.proofs.WrittenSoFar.{written_so_far_parts}
+use Rattle.naga_scope.specs.Availabilities.{TextPoint}
+use Rattle.naga_scope.specs.declared.points.Availability.{Availability}
 use Rattle.naga_words.specs.declared.error.TypeTextError.{TypeTextError}
 use Rattle.naga_words.specs.declared.error.TypeTextError.TheVariants.{Sink, Memory, NoForm}
 use Rattle.naga_words.specs.declared.sink.SinkError.TheVariants.{Failed, Memory as SinkMemory}
@@ -55,8 +55,8 @@ use Rattle.naga_wgsl_fns.specs.declared.error.Error.{Error}
 use Rattle.wgsl_text.specs.Reading.{expression_layout, type_layout}
 use Rattle.wgsl_text.specs.Text.{text}
 use Rattle.naga_wgsl_fns.specs.declared.functions.FunctionText.{FunctionText}
-use Rattle.naga_wgsl_fns.specs.FunctionText.{given_in}
-use Rattle.naga_wgsl_fns.specs.FunctionText.{CanWrite, source, naming, tells_types}
+use Rattle.naga_wgsl_fns.specs.FunctionText.{handles_in, named_in}
+use Rattle.naga_wgsl_fns.specs.FunctionText.{CanWrite, source, naming, annotates_types}
 use Rattle.naga_wgsl_fns.specs.FunctionText.{let_annotation}
 use Rattle.naga_wgsl_fns.specs.FunctionText.{type_names_of}
 use Rattle.naga_wgsl_fns.specs.Names.{name_of_argument, name_of_function, name_of_local}
@@ -94,27 +94,32 @@ function_names_there m info fit g f here =
     sym (ap (λ n. function_in_range m n f) at) ∙ placed_at (function_in_range m) 0 m.functions g f five.0 here
 
 -- of each of its expressions one thing is known
-one_is_known : (m : Module) (info : ModuleInfo) → IsTrue (is_accepted m info) → (g : ℕ) (f : Function) (es : List ExpressionInfo) → slice_get m.functions g ≡ Some f → slice_get info.functions.items g ≡ Some es → length f.expressions ≡ length es
+one_is_known : (m : Module) (info : ModuleInfo) → IsTrue (is_accepted m info) →
+    (g : ℕ) (f : Function) (es : List ExpressionInfo) → slice_get m.functions g ≡ Some f →
+    slice_get info.functions.items g ≡ Some es → length f.expressions ≡ length es
 one_is_known m info accepted g f es here known =
     let both = zip_at m.functions info.functions.items g f es here known in
     (accepted_at m info accepted g f es (in_left (zip m.functions info.functions.items) (entry_points_known m info) g (f, es) both)).size
 
-pub can_write : (t : FunctionText) → IsTrue (is_accepted t.shader.now t.module_info.now) → IsTrue (is_written_so_far t.shader.now) → HasNamesOf t.shader.now (names_in t.names.now) → slice_get t.shader.now.functions t.handle ≡ Some t.function.now → slice_get t.module_info.now.functions.items t.handle ≡ Some t.info.now → WrittenHaveForms (tells_types t.flags) t.shader.now t.module_info.now t.function.now t.info.now →
-    length (given_labels t.function.now) < 2 ^ 64 → CanWrite t
+pub can_write : (t : FunctionText) → IsTrue (is_accepted t.shader.now t.module_info.now) →
+    IsTrue (is_written_so_far t.shader.now) → HasNamesOf t.shader.now (names_in t.names.now) →
+    slice_get t.shader.now.functions t.handle ≡ Some t.function.now →
+    slice_get t.module_info.now.functions.items t.handle ≡ Some t.info.now →
+    WrittenHaveForms (annotates_types t.flags) t.shader.now t.module_info.now t.function.now
+    t.info.now →
+    length (expression_labels t.function.now) < 2 ^ 64 → CanWrite t
 can_write t accepted written named here known formed room =
     let m = t.shader.now in
     let info = t.module_info.now in
     let f = t.function.now in
-    let part = written_so_far_parts m written in
     record {
       named = named;
       accepted = accepted;
-      of_part = written;
+      is_supported = written;
       function = here;
       infos = known;
       ranges = function_names_there m info (names_are_there m info accepted) t.handle f here;
       size = one_is_known m info accepted t.handle f t.info.now here known;
-      written = list_all_at function_is_written m.functions t.handle f part.2 here;
       formed = formed;
       room = room;
     }
@@ -126,24 +131,31 @@ names_read (name ∷ names) zero = refl
 names_read (name ∷ names) (suc number) = names_read names number
 
 -- the same where they were put into a slice
-pub names_same : {Y : Type 0} (slice names : List (String Y)) (given : List (List ℕ)) →
-    slice ≡ names → map string_bytes names ≡ given → (number : ℕ) →
-    option_map_or string_bytes (slice_get slice number) [] ≡ get_or given number []
-names_same slice names given same are number =
+pub names_same : {Y : Type 0} (slice names : List (String Y)) (named : List (List ℕ)) →
+    slice ≡ names → map string_bytes names ≡ named → (number : ℕ) →
+    option_map_or string_bytes (slice_get slice number) [] ≡ get_or named number []
+names_same slice names named same are number =
     ap (λ xs. option_map_or string_bytes (slice_get xs number) []) same
     ∙ (names_read names number ∙ ap (λ ns. get_or ns number []) are)
 
 -- the text of a function that there is
-pub text_under_names : (t : FunctionText) → slice_get t.shader.now.functions t.handle ≡ Some t.function.now → slice_get t.module_info.now.functions.items t.handle ≡ Some t.info.now → text_under t.shader.now t.module_info.now t.flags (given_in t) t.handle ≡ function_text t
+pub text_under_names : (t : FunctionText) →
+    slice_get t.shader.now.functions t.handle ≡ Some t.function.now →
+    slice_get t.module_info.now.functions.items t.handle ≡ Some t.info.now →
+    text_under t.shader.now t.module_info.now t.flags (named_in t) t.handle ≡ function_text t
 unfolding function_text
 text_under_names t here known =
     let m = t.shader.now in
     let info = t.module_info.now in
-    let form = λ (f : Function) (es : List ExpressionInfo). text (function_pieces (function_form (tells_types t.flags) (module_names m) (given_in t) m info t.handle f es)) in
+    let form = λ (f : Function) (es : List ExpressionInfo). text (function_pieces (function_form (annotates_types t.flags) (module_names m) (named_in t) m info t.handle f es)) in
     ap (λ o. option_map_or (λ f. form f (known_of info t.handle)) o []) here ∙ ap (form t.function.now) (known_is info t.handle t.info.now known)
 
 -- ---- the head
-pub head_row : (f : FunctionText) → head_text f ≡ joined_texts (codes "fn ") (joined_texts (name_of_function f) (joined_texts (codes "(") (joined_texts (arguments_text f) (joined_texts (result_text f) (codes " {\n")))))
+pub head_row : (f : FunctionText) →
+    head_text f ≡ joined_texts (codes "fn ")
+    (joined_texts (name_of_function f)
+    (joined_texts (codes "(")
+    (joined_texts (arguments_text f) (joined_texts (result_text f) (codes " {\n")))))
 unfolding head_text joined_texts
 head_row f = refl
 
@@ -180,7 +192,9 @@ pub arguments_start : (f : FunctionText) → arguments_text f ≡ arguments_left
 unfolding arguments_text
 arguments_start f = refl
 
-arguments_row : (f : FunctionText) (n : ℕ) (a : FunctionArgument) (more : List FunctionArgument) → arguments_left f n (a ∷ more) ≡ joined_texts (next_argument_text f n a) (arguments_left f (n + 1) more)
+arguments_row : (f : FunctionText) (n : ℕ) (a : FunctionArgument) (more : List FunctionArgument) →
+    arguments_left f n (a ∷ more) ≡ joined_texts (next_argument_text f n a)
+    (arguments_left f (n + 1) more)
 unfolding next_argument_text argument_text joined_texts
 arguments_row f n a more = by n
   where
@@ -190,7 +204,11 @@ arguments_row f n a more = by n
     later : (n : ℕ) → text (more_parameters_pieces (form (n + 1) more)) ≡ arguments_left f (n + 1) more
     later n = rw add-one refl
 
-    split : (n : ℕ) → text (parameter_pieces (parameter_form (module_names f.shader.now) f.shader.now.types f.handle n a) ++ more_parameters_pieces (form (n + 1) more)) ≡ argument_text f n a ++ arguments_left f (n + 1) more
+    split : (n : ℕ) →
+        text (parameter_pieces
+        (parameter_form (module_names f.shader.now) f.shader.now.types f.handle n a) ++
+        more_parameters_pieces (form (n + 1) more)) ≡ argument_text f n a ++ arguments_left f
+        (n + 1) more
     split n =
         text-append (parameter_pieces (parameter_form (module_names f.shader.now) f.shader.now.types f.handle n a)) (more_parameters_pieces (form (n + 1) more))
         ∙ ap (λ t. argument_text f n a ++ t) (later n)
@@ -214,7 +232,10 @@ arguments_none f n items past = ap (arguments_left f n) (drop_all n items past) 
     by (suc n) = refl
 
 -- ---- the locals
-pub first_value_row : (f : FunctionText) (table : List Standing) (value : ℕ) → StartsAt f table → joined_texts (codes " = ") (joined_texts (value_text f table value) (codes ";\n")) ≡ first_value_text f value
+pub first_value_row : (f : FunctionText) (table : List Availability) (value : ℕ) →
+    StartsAt f table →
+    joined_texts (codes " = ") (joined_texts (value_text f table value) (codes ";\n")) ≡
+    first_value_text f value
 unfolding first_value_text value_text joined_texts
 first_value_row f table value start =
     ap (λ (s : Handles). codes " = " ++ (expression_layout (value_form (naming f) (source f) s value) ++ codes ";\n")) start
@@ -242,7 +263,9 @@ local_row f handle local at =
 abbrev pub locals_left : FunctionText → ℕ → List LocalVariable → List ℕ
 locals_left f handle locals = text (locals_pieces (locals_form (naming f) (type_names_of f) (source f) handle locals))
 
-locals_step : (f : FunctionText) (handle : ℕ) (local : LocalVariable) (more : List LocalVariable) → locals_left f handle (local ∷ more) ≡ local_text_of f handle local ++ locals_left f (handle + 1) more
+locals_step : (f : FunctionText) (handle : ℕ) (local : LocalVariable) (more : List LocalVariable) →
+    locals_left f handle (local ∷ more) ≡ local_text_of f handle local ++ locals_left f
+    (handle + 1) more
 locals_step f handle local more =
     let form = local_form f handle local in
     let behind = locals_form (naming f) (type_names_of f) (source f) (handle + 1) more in
@@ -282,7 +305,9 @@ locals_row f = ap (λ t. locals_left f 0 f.function.now.local_variables ++ t) (s
     by (local ∷ more) = ap (λ b. if b then [] else codes "\n") (ne_eqb (suc (length more)) 0 (λ same. absurd (omega arith)))
 
 -- ---- the whole
-pub body_row : (f : FunctionText) (at : TextPoint) → StartsAt f at.table → at.given ≡ 0 → joined_texts (locals_text f) (joined_texts (block_text f at 1 f.function.now.body) (codes "}\n")) ≡ body_text f
+pub body_row : (f : FunctionText) (at : TextPoint) → StartsAt f at.table → at.named ≡ 0 →
+    joined_texts (locals_text f)
+    (joined_texts (block_text f at.named (handles_in f at.table) 1 f.function.now.body) (codes "}\n")) ≡ body_text f
 unfolding body_text block_text joined_texts
 body_row f at start none =
     λ i. locals_text f ++ (lines_text 1 (lines_form (naming f) (let_annotation f) (source f) (none i) f.function.now.body (start i)) ++ codes "}\n")
@@ -302,12 +327,12 @@ function_row f =
     ∙ ap (λ t. result_text f ++ (codes " {\n" ++ t)) (append_assoc locals end behind)))))
 
 -- why a function was not written
-pub reason_told : (failed failures : ℕ) (want : TypeTextError) (error : Error)
+pub reason_reported : (failed failures : ℕ) (want : TypeTextError) (error : Error)
     → IsReason ⊥ failed failures want → IsErrorOf want error → IsWant failed failures error
-reason_told failed failures (Sink Failed) error reason is =
+reason_reported failed failures (Sink Failed) error reason is =
     subst (IsWant failed failures) (sym is) reason
-reason_told failed failures (Sink (SinkMemory a)) error reason is =
+reason_reported failed failures (Sink (SinkMemory a)) error reason is =
     subst (IsWant failed failures) (sym is) tt
-reason_told failed failures (Memory a) error reason is =
+reason_reported failed failures (Memory a) error reason is =
     subst (IsWant failed failures) (sym is) tt
-reason_told failed failures NoForm error reason is = absurd reason
+reason_reported failed failures NoForm error reason is = absurd reason

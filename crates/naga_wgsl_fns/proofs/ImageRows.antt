@@ -28,13 +28,13 @@ use Rattle.naga_ir.specs.declared.expression.SampleLevel.{SampleLevel}
 use Rattle.naga_ir.specs.declared.expression.SwizzleComponent.{SwizzleComponent}
 use Rattle.naga_ir.specs.declared.expression.SwizzleComponent.TheVariants as component
 use Rattle.std.specs.Fmt.{digits}
-use Rattle.naga_scope.specs.declared.points.Standing.{Standing}
+use Rattle.naga_scope.specs.declared.points.Availability.{Availability}
 use Rattle.naga_words.specs.Output.{joined_texts}
 use Rattle.naga_wgsl_fns.proofs.ExpressionRows.{application_at, cell_form}
-use Rattle.naga_wgsl_fns.proofs.Wanted.{all_before, expression_formed}
+use Rattle.naga_wgsl_fns.proofs.Wanted.{all_before, written_as}
 use Rattle.naga_wgsl_fns.specs.Expressions.{applied_text, form_at, next_operand_text}
 use Rattle.naga_wgsl_fns.specs.Expressions.{own_text, value_text}
-use Rattle.naga_wgsl_fns.specs.FunctionText.{CanWrite, IsInText, around, expressions, naming, source}
+use Rattle.naga_wgsl_fns.specs.FunctionText.{CanWrite, IsInText, context, expressions, naming, source}
 use Rattle.naga_wgsl_fns.specs.FunctionText.{type_names_of}
 use Rattle.naga_wgsl_fns.specs.Images.{component_text, depths_at, furthers_text, head_text}
 use Rattle.naga_wgsl_fns.specs.Images.{level_text, offset_text}
@@ -58,18 +58,16 @@ texel_row arrayed None (Some l) is = refl
 texel_row arrayed (Some s) None is = refl
 texel_row arrayed (Some s) (Some l) is = absurd cc
 
-pub texel_word : (f : FunctionText) → CanWrite f → (h : ℕ) (e : ir.Expression)
-    (image coordinate : ℕ) (array_index sample level : Option ℕ) →
+pub texel_word : (f : FunctionText) → CanWrite f → {h : ℕ} {e : ir.Expression}
+    {image coordinate : ℕ} {array_index sample level : Option ℕ} →
     slice_get (expressions f) h ≡ Some e → IsInText f h →
     e ≡ expression.ImageLoad image coordinate array_index sample level →
     codes "textureLoad" ≡
     run_word (Texel (is_some array_index) (texel_of (is_some sample) (is_some level)))
-texel_word f can h e image coordinate array_index sample level here within is =
-    texel_row (is_some array_index) sample level
-    (expression_formed f can h (expression.ImageLoad image coordinate array_index sample level)
-    (here ∙ ap Some is) within)
+texel_word f can {h} {e} {image} {coordinate} {array_index} {sample} {level} here within is =
+    texel_row (is_some array_index) sample level (written_as f can here within is)
 
-pub query_called : (f : FunctionText) (table : List Standing) (image : ℕ) (q : ImageQuery) →
+pub query_called : (f : FunctionText) (table : List Availability) (image : ℕ) (q : ImageQuery) →
     application_at f table None (image ∷ query_operands q) (Some (query_operator q)) ≡
     applied_text f table (Called (Named (run_word (query_operator q)))) (image ∷ query_operands q)
 query_called f table image q =
@@ -90,11 +88,11 @@ module _ (f : FunctionText) (can : CanWrite f) where
       ((x : ℕ) → x < h → may x ≡ true → as_value (form_at f [] x) ≡ part x) →
       (e : ir.Expression) → AllBelow h (expression_operands e) → written_out_over may e ≡ true →
       as_value (own_plain (naming f) (source f) (form_at f []) e) ≡
-      constant_form_over (around f) (type_names_of f) (source f).constant part e
+      constant_form_over (context f) (type_names_of f) (source f).constant part e
   over_same part may h same (expression.Literal value) below is = refl
   over_same part may h same (expression.ZeroValue ty) below is = refl
   over_same part may h same (expression.Compose ty components) below is =
-      ap (built_form (around f) (type_names_of f) ty (length components.items))
+      ap (built_form (context f) (type_names_of f) ty (length components.items))
       (parts_same part may h same components.items below is)
   over_same part may h same (expression.Splat size value) below is =
       ap (λ e. applied_form (notation None (Splat size)) (e ∷ [])) (same value below.0 is)
@@ -105,7 +103,8 @@ module _ (f : FunctionText) (can : CanWrite f) where
   pub constant_same : (levels h : ℕ) → h < length (expressions f) →
       written_out_within levels (expressions f) h ≡ true →
       as_value (form_at f [] h) ≡
-      constant_form_within levels (around f) (type_names_of f) (source f).constant (expressions f) h
+      constant_form_within levels (context f) (type_names_of f) (source f).constant
+      (expressions f) h
   constant_same zero h lt is = absurd cc
   constant_same (suc levels) h lt is =
       ap as_value (cell_form f [] h can lt)
@@ -116,15 +115,15 @@ module _ (f : FunctionText) (can : CanWrite f) where
           ((x : ℕ) → x < length (expressions f) →
           written_out_within levels (expressions f) x ≡ true →
           as_value (form_at f [] x) ≡
-          constant_form_within levels (around f) (type_names_of f) (source f).constant (expressions f) x) →
+          constant_form_within levels (context f) (type_names_of f) (source f).constant (expressions f) x) →
           as_value (own_if (naming f) (source f) (form_at f []) o) ≡
           option_map_or
-          (constant_form_over (around f) (type_names_of f) (source f).constant
-          (constant_form_within levels (around f) (type_names_of f) (source f).constant (expressions f))) o
+          (constant_form_over (context f) (type_names_of f) (source f).constant
+          (constant_form_within levels (context f) (type_names_of f) (source f).constant (expressions f))) o
           no_constant_form
       by None at is each = absurd cc
       by (Some e) at is each =
-          over_same (constant_form_within levels (around f) (type_names_of f) (source f).constant (expressions f))
+          over_same (constant_form_within levels (context f) (type_names_of f) (source f).constant (expressions f))
           (written_out_within levels (expressions f)) h
           (λ x below is. each x (omega (arith, below, lt)) is) e
           (all_before f can h e at) is
@@ -143,7 +142,8 @@ no_offset f = refl
 
 -- ---- arguments
 -- an operand behind others, and several
-next_then : (f : FunctionText) (table : List Standing) (h : ℕ) (hs : List ℕ) (args : Arguments) →
+next_then : (f : FunctionText) (table : List Availability) (h : ℕ) (hs : List ℕ)
+    (args : Arguments) →
     text (more_arguments_pieces (operands_then (value_forms (form_at f table) (h ∷ hs)) args)) ≡
     joined_texts (next_operand_text f table false h)
     (text (more_arguments_pieces (operands_then (value_forms (form_at f table) hs) args)))
@@ -152,7 +152,7 @@ next_then f table h hs args =
     next_argument_text (as_value (form_at f table h))
     (operands_then (value_forms (form_at f table) hs) args)
 
-furthers_then : (f : FunctionText) (table : List Standing) (hs ks : List ℕ) (args : Arguments) →
+furthers_then : (f : FunctionText) (table : List Availability) (hs ks : List ℕ) (args : Arguments) →
     text (more_arguments_pieces (operands_then (value_forms (form_at f table) (hs ++ ks)) args)) ≡
     joined_texts (furthers_text f table hs)
     (text (more_arguments_pieces (operands_then (value_forms (form_at f table) ks) args)))
@@ -165,11 +165,11 @@ furthers_then f table (h ∷ hs) ks args =
     (append_assoc (next_operand_text f table false h) (furthers_text f table hs)
     (text (more_arguments_pieces (operands_then (value_forms (form_at f table) ks) args)))))
 
-level_then : (l : SampleLevel) (is_told : Bool) (args : Arguments) →
-    text (more_arguments_pieces (zero_then (zero_is_written l is_told) args)) ≡
-    joined_texts (level_text l is_told) (text (more_arguments_pieces args))
+level_then : (l : SampleLevel) (is_in_word : Bool) (args : Arguments) →
+    text (more_arguments_pieces (zero_then (zero_is_written l is_in_word) args)) ≡
+    joined_texts (level_text l is_in_word) (text (more_arguments_pieces args))
 unfolding joined_texts
-level_then l is_told args = by (zero_is_written l is_told)
+level_then l is_in_word args = by (zero_is_written l is_in_word)
   where
     by : (b : Bool) →
         text (more_arguments_pieces (zero_then b args)) ≡
@@ -187,16 +187,16 @@ offset_then f None = refl
 offset_then f (Some h) = next_argument_text (constant_form (source f) h) NoArguments
 
 -- what is written of operands behind others
-pub furthers_none : (f : FunctionText) (table : List Standing) → [] ≡ furthers_text f table []
+pub furthers_none : (f : FunctionText) (table : List Availability) → [] ≡ furthers_text f table []
 unfolding furthers_text
 furthers_none f table = refl
 
-pub furthers_one : (f : FunctionText) (table : List Standing) (h : ℕ) →
+pub furthers_one : (f : FunctionText) (table : List Availability) (h : ℕ) →
     next_operand_text f table false h ≡ furthers_text f table (h ∷ [])
 unfolding furthers_text
 furthers_one f table h = sym (append-nil (next_operand_text f table false h))
 
-pub furthers_two : (f : FunctionText) (table : List Standing) (x y : ℕ) →
+pub furthers_two : (f : FunctionText) (table : List Availability) (x y : ℕ) →
     joined_texts (next_operand_text f table false x) (next_operand_text f table false y) ≡
     furthers_text f table (x ∷ y ∷ [])
 unfolding furthers_text joined_texts
@@ -280,7 +280,7 @@ unfolding head_text joined_texts
 head_row f image gather l compares clamped = refl
 
 -- ---- samplings
-pub sampling_row : (f : FunctionText) (table : List Standing) (handle : ℕ) (image sampler : ℕ)
+pub sampling_row : (f : FunctionText) (table : List Availability) (handle : ℕ) (image sampler : ℕ)
     (gather : Option SwizzleComponent) (coordinate : ℕ) (array_index offset : Option ℕ)
     (l : SampleLevel) (depth_ref : Option ℕ) (clamp : Bool) →
     slice_get (expressions f) handle ≡
@@ -301,9 +301,9 @@ sampling_row f table handle image sampler gather coordinate array_index offset l
     let form = form_at f table in
     let a = option_to_list array_index in
     let d = option_to_list depth_ref in
-    let told = is_some gather || (is_some depth_ref || clamp) in
+    let in_word = is_some gather || (is_some depth_ref || clamp) in
     let offsets = arguments_of (map (constant_form (source f)) (option_to_list offset)) in
-    let last = zero_then (zero_is_written l told) offsets in
+    let last = zero_then (zero_is_written l in_word) offsets in
     let behind = a ++ (d ++ (level_operands l ++ [])) in
     let word = is_some depth_ref in
     let op =
@@ -312,7 +312,7 @@ sampling_row f table handle image sampler gather coordinate array_index offset l
     ap (λ o. expression_layout (as_value (own_if (naming f) (source f) form o))) at
     ∙ (ap
     (λ hs. expression_layout
-    (sampling_form op (zero_is_written l told)
+    (sampling_form op (zero_is_written l in_word)
     (value_forms form (image ∷ sampler ∷ coordinate ∷ hs))
     (map (constant_form (source f)) (option_to_list offset))))
     (append_assoc (a ++ d) (level_operands l) [] ∙ append_assoc a d (level_operands l ++ []))
@@ -332,12 +332,12 @@ sampling_row f table handle image sampler gather coordinate array_index offset l
     ∙ ap (joined_texts (furthers_text f table d))
     (furthers_then f table (level_operands l) [] last
     ∙ ap (joined_texts (furthers_text f table (level_operands l)))
-    (level_then l told offsets
-    ∙ ap (joined_texts (level_text l told)) (offset_then f offset)))))))))
+    (level_then l in_word offsets
+    ∙ ap (joined_texts (level_text l in_word)) (offset_then f offset)))))))))
 
 -- the same from what is written, where whether something is compared, and the text of the level, are
 -- said in another way
-pub sampling_whole : (f : FunctionText) (table : List Standing) (handle : ℕ) (image sampler : ℕ)
+pub sampling_whole : (f : FunctionText) (table : List Availability) (handle : ℕ) (image sampler : ℕ)
     (gather : Option SwizzleComponent) (coordinate : ℕ) (array_index offset : Option ℕ)
     (l : SampleLevel) (depth_ref : Option ℕ) (clamp : Bool) →
     slice_get (expressions f) handle ≡

@@ -4,10 +4,10 @@ use Rattle.std.proofs.Common.{◌≡◌, ℕ, Bool, true, false, List, [], ◌�
 use Rattle.std.proofs.Common.{codes, ap, refl, sym, ◌∙◌}
 use Rattle.std.specs.Prelude.{slice_get, unwrap_or, if◌then◌else◌}
 use Rattle.std.specs.Option.{option_map_or}
-use Rattle.module_meaning.specs.AlikeTypes.{has_form}
-use Rattle.module_meaning.specs.ExpressionOperators.{points_to_atomic}
+use Rattle.module_meaning.specs.AlikeTypes.{is_spelled}
+use Rattle.module_meaning.specs.ExpressionOperators.{is_atomic_pointer}
 use Rattle.module_meaning.specs.OperatorTable.{AtomicLoad, run_word}
-use Rattle.module_meaning.specs.Part.{expression_is_written}
+use Rattle.module_meaning.specs.WrittenSoFar.{expression_is_written}
 use Rattle.naga_form.proofs.AllowedParts.{loaded_matrix}
 use Rattle.naga_form.proofs.Operators.{load_called, load_text as loaded_text, matrix_is}
 use Rattle.naga_form.proofs.Operators.{typed_notation}
@@ -25,13 +25,14 @@ use Rattle.naga_ir.specs.declared.types.CooperativeSize.{CooperativeSize}
 use Rattle.naga_ir.specs.declared.types.Scalar.{Scalar}
 use Rattle.naga_ir.specs.declared.types.TypeInner.{TypeInner}
 use Rattle.naga_ir.specs.declared.types.TypeInner.TheVariants as inner
-use Rattle.naga_scope.specs.declared.points.Standing.{Standing}
+use Rattle.naga_scope.specs.declared.points.Availability.{Availability}
 use Rattle.naga_words.specs.Output.{joined_texts}
 use Rattle.naga_wgsl_fns.proofs.ExpressionRows.{own_typed}
 use Rattle.naga_wgsl_fns.specs.Expressions.{applied_text, called_text, form_at, load_text, load_word}
 use Rattle.naga_wgsl_fns.specs.Expressions.{made_text, matrix_callee, matrix_callee_text, operands_at}
 use Rattle.naga_wgsl_fns.specs.Expressions.{operands_text, own_text, reference_text, taking_text}
-use Rattle.naga_wgsl_fns.specs.FunctionText.{CanWrite, IsInText, around, expressions, type_names_of}
+use Rattle.naga_wgsl_fns.specs.FunctionText.{CanWrite, IsInText, context, expressions}
+use Rattle.naga_wgsl_fns.specs.FunctionText.{type_names_of}
 use Rattle.naga_wgsl_fns.specs.Types.{resolution_text}
 use Rattle.naga_wgsl_fns.specs.declared.functions.FunctionText.{FunctionText}
 use Rattle.wgsl_text.proofs.Expressions.{call_text as call_row_text}
@@ -40,9 +41,9 @@ use Rattle.wgsl_text.specs.Reading.{type_layout}
 use Rattle.wgsl_text.specs.Types.{TypeSpecifier, Named as NamedType}
 
 -- ---- atomics
-pub atomic_loaded : (f : FunctionText) (table : List Standing) (handle pointer : ℕ) →
+pub atomic_loaded : (f : FunctionText) (table : List Availability) (handle pointer : ℕ) →
     slice_get (expressions f) handle ≡ Some (Load pointer) →
-    points_to_atomic (around f) pointer ≡ true →
+    is_atomic_pointer (context f) pointer ≡ true →
     called_text f table (codes "atomicLoad") handle ≡ load_text f table pointer
 unfolding called_text load_text
 atomic_loaded f table handle pointer at is =
@@ -54,8 +55,8 @@ atomic_loaded f table handle pointer at is =
     (λ b. if b then applied_text f table (Called (NamedType (run_word AtomicLoad))) (pointer ∷ [])
     else reference_text f table pointer) is)
 
-pub other_loaded : (f : FunctionText) (table : List Standing) (pointer : ℕ) →
-    points_to_atomic (around f) pointer ≡ false →
+pub other_loaded : (f : FunctionText) (table : List Availability) (pointer : ℕ) →
+    is_atomic_pointer (context f) pointer ≡ false →
     reference_text f table pointer ≡ load_text f table pointer
 unfolding load_text
 other_loaded f table pointer is =
@@ -65,7 +66,7 @@ other_loaded f table pointer is =
     else reference_text f table pointer) is)
 
 -- ---- cooperative matrices
-pub matrix_row : (f : FunctionText) (table : List Standing) (columns rows : CooperativeSize)
+pub matrix_row : (f : FunctionText) (table : List Availability) (columns rows : CooperativeSize)
     (role : CooperativeRole) (place : CooperativeData) (handle : ℕ) →
     made_text f table (matrix_callee f columns rows role place) handle ≡
     joined_texts (matrix_callee_text f columns rows role place)
@@ -77,40 +78,41 @@ matrix_row f table columns rows role place handle =
 
 module _ (f : FunctionText) (columns rows : CooperativeSize) (role : CooperativeRole)
     (place : CooperativeData) (s : Scalar)
-    (known : scalar_pointed (around f) place.pointer ≡ Some s)
+    (known : scalar_pointed (context f) place.pointer ≡ Some s)
     (formed :
-    has_form f.shader.now.types (Value (inner.CooperativeMatrix columns rows s role)) ≡ true) where
-  abbrev it : TypeInner
-  it = inner.CooperativeMatrix columns rows s role
+    is_spelled f.shader.now.types (Value (inner.CooperativeMatrix columns rows s role)) ≡ true)
+  where
+    abbrev it : TypeInner
+    it = inner.CooperativeMatrix columns rows s role
 
-  abbrev tree : TypeSpecifier
-  tree = (tree_there (type_names_of f) (Value it) formed).0
+    abbrev tree : TypeSpecifier
+    tree = (tree_there (type_names_of f) (Value it) formed).0
 
-  -- what is called, by the tree of the type
-  callee_is : matrix_callee f columns rows role place ≡ load_tree place.row_major tree
-  callee_is =
-      ap (λ o. unwrap_or o (NamedType []))
-      (matrix_is (around f) (type_names_of f) columns rows role place s _ known
-      (tree_there (type_names_of f) (Value it) formed).1)
+    -- what is called, by the tree of the type
+    callee_is : matrix_callee f columns rows role place ≡ load_tree place.row_major tree
+    callee_is =
+        ap (λ o. unwrap_or o (NamedType []))
+        (matrix_is (context f) (type_names_of f) columns rows role place s _ known
+        (tree_there (type_names_of f) (Value it) formed).1)
 
-  resolution_is : resolution_text f (Value it) ≡ type_layout tree
-  unfolding resolution_text
-  resolution_is =
-      ap (λ o. type_layout (unwrap_or o (NamedType [])))
-      (tree_there (type_names_of f) (Value it) formed).1
+    resolution_is : resolution_text f (Value it) ≡ type_layout tree
+    unfolding resolution_text
+    resolution_is =
+        ap (λ o. type_layout (unwrap_or o (NamedType [])))
+        (tree_there (type_names_of f) (Value it) formed).1
 
-  pub matrix_callee_row : (word : List ℕ) → word ≡ load_word place.row_major →
-      taking_text f word (Value it) ≡ matrix_callee_text f columns rows role place
-  unfolding taking_text matrix_callee_text
-  matrix_callee_row word is =
-      (λ i. is i ++ (codes "<" ++ (resolution_is i ++ codes ">")))
-      ∙ (by place.row_major ∙ sym (ap type_layout callee_is))
-    where
-      by : (b : Bool) →
-          load_word b ++ (codes "<" ++ (type_layout tree ++ codes ">")) ≡
-          type_layout (load_tree b tree)
-      by true = sym (loaded_text true tree)
-      by false = sym (loaded_text false tree)
+    pub matrix_callee_row : (word : List ℕ) → word ≡ load_word place.row_major →
+        taking_text f word (Value it) ≡ matrix_callee_text f columns rows role place
+    unfolding taking_text matrix_callee_text
+    matrix_callee_row word is =
+        (λ i. is i ++ (codes "<" ++ (resolution_is i ++ codes ">")))
+        ∙ (by place.row_major ∙ sym (ap type_layout callee_is))
+      where
+        by : (b : Bool) →
+            load_word b ++ (codes "<" ++ (type_layout tree ++ codes ">")) ≡
+            type_layout (load_tree b tree)
+        by true = sym (loaded_text true tree)
+        by false = sym (loaded_text false tree)
 
 pub taking_row : (f : FunctionText) (word : List ℕ) (ty : TypeResolution) →
     taking_text f word ty ≡
@@ -119,18 +121,19 @@ unfolding taking_text joined_texts
 taking_row f word ty = refl
 
 -- what an expression is made of that loads a matrix
-pub own_matrix_load : (f : FunctionText) (table : List Standing) (handle : ℕ) (e : ir.Expression)
-    (columns rows : CooperativeSize) (role : CooperativeRole) (place : CooperativeData) →
+pub own_matrix_load : (f : FunctionText) (table : List Availability) {handle : ℕ}
+    {e : ir.Expression}
+    {columns rows : CooperativeSize} {role : CooperativeRole} {place : CooperativeData} →
     CanWrite f → IsInText f handle →
     expression_is_written f.shader.now f.info.now (CooperativeLoad columns rows role place) ≡ true →
     slice_get (expressions f) handle ≡ Some e → e ≡ CooperativeLoad columns rows role place →
     made_text f table (matrix_callee f columns rows role place) handle ≡ own_text f table handle
-own_matrix_load f table handle e columns rows role place can within may here is =
+own_matrix_load f table {handle} {e} {columns} {rows} {role} {place} can within may here is =
     let c =
     loaded_matrix f.shader.now f.module_info.now f.info.now columns rows role place may in
     let called =
-    matrix_is (around f) (type_names_of f) columns rows role place c.scalar c.tree c.known c.is in
-    let op = load_called (around f) columns rows role place in
+    matrix_is (context f) (type_names_of f) columns rows role place c.scalar c.tree c.known c.is in
+    let op = load_called (context f) columns rows role place in
     ap (λ o. made_text f table (unwrap_or o (NamedType [])) handle) called
     ∙ own_typed f table handle e (CooperativeLoad columns rows role place)
     (load_tree place.row_major c.tree) _ can within (typed_notation _ op _ _ called) here is refl

@@ -75,7 +75,7 @@ module _ (m : Module) where
       by None at is = absurd cc
 
   -- the struct of which a part is taken has it as a member
-  pub member_selected : (d : Declared) → d.around.types ≡ m.types → (r : TypeResolution)
+  pub member_selected : (d : Declared) → d.context.types ≡ m.types → (r : TypeResolution)
       (it : TypeInner) (index h : ℕ) → inner_of r m.types ≡ Some it →
       option_and_then (struct_at m.types) (whole_of r it) ≡ Some h →
       selector d (handle_of r) it index ≡ Some (MemberNamed (d.member h index))

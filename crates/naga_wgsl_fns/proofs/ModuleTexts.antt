@@ -8,7 +8,12 @@ use Rattle.naga_wgsl_fns.specs.declared.functions.FunctionText.{FunctionText}
 use Rattle.naga_wgsl_fns.specs.declared.module_text.ModuleText.{ModuleText}
 
 pub can_of : (f : FunctionText) → CanWrite f → CanWriteOf f.shader.now
-can_of f can = record { info = f.module_info.now; accepted = can.accepted; of_part = can.of_part }
+can_of f can = record {
+  info = f.module_info.now;
+  accepted = can.accepted;
+  is_supported =
+      can.is_supported;
+}
 
 -- a text of its module under its names
 pub can_in : (f : FunctionText) → CanWrite f → (t : ModuleText) → t.shader.now ≡ f.shader.now →

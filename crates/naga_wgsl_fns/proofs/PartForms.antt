@@ -7,16 +7,16 @@ use Rattle.std.proofs.lemmas.Option.{same_Some}
 use Rattle.naga_ir.specs.declared.expression.Expression as ir
 use Rattle.naga_ir.specs.declared.expression.Expression.TheVariants as expression
 use Rattle.module_meaning.specs.OperatorTable.{WithoutForm, PartAt}
-use Rattle.module_meaning.specs.Part.{expression_is_written}
+use Rattle.module_meaning.specs.WrittenSoFar.{expression_is_written}
 use Rattle.naga_form.proofs.AllowedParts.{selected}
 use Rattle.naga_form.specs.Expressions.{PlainForm, as_value, as_reference, applied_plain, no_form}
 use Rattle.naga_form.specs.Expressions.{own_if, part_plain, points, selected_part}
-use Rattle.naga_scope.specs.declared.points.Standing.{Standing}
+use Rattle.naga_scope.specs.declared.points.Availability.{Availability}
 use Rattle.naga_wgsl_fns.specs.Expressions.{base_of, form_at, index_text, is_signed, number_text}
 use Rattle.naga_wgsl_fns.specs.Expressions.{part_end, plain_tree, selector_end, selector_text}
 use Rattle.naga_wgsl_fns.specs.Expressions.{value_text, word_text}
 use Rattle.naga_wgsl_fns.proofs.Wanted.{expression_formed}
-use Rattle.naga_wgsl_fns.specs.FunctionText.{CanWrite, IsInText, around, expressions, naming, source}
+use Rattle.naga_wgsl_fns.specs.FunctionText.{CanWrite, IsInText, context, expressions, naming, source}
 use Rattle.naga_wgsl_fns.specs.declared.functions.FunctionText.{FunctionText}
 use Rattle.shader_runs.specs.Value.{Selector, MemberNamed, ElementAt}
 use Rattle.wgsl_text.proofs.Expressions.{index_text as index_row_text, index_at_text, member_text}
@@ -25,11 +25,11 @@ use Rattle.wgsl_text.specs.Reading.{expression_layout}
 use Rattle.wgsl_text.specs.Text.{text}
 
 -- a part of this base: a part of its form, written as the base and what stands behind it
-pub record PartForm (f : FunctionText) (table : List Standing) (e : Option ir.Expression)
+pub record PartForm (f : FunctionText) (table : List Availability) (e : Option ir.Expression)
     (base : ℕ) : Type 0 where
   pub part : tree.Expression → tree.Expression
   pub is : own_if (naming f) (source f) (form_at f table) e ≡
-      part_plain (points (around f) base) part (form_at f table base)
+      part_plain (points (context f) base) part (form_at f table base)
   pub ends : (b : tree.Expression) →
       expression_layout (part b) ≡
       text (tree.base_pieces b (tree.expression_pieces b)) ++ part_end f table e
@@ -46,7 +46,7 @@ pub selected_unsigned : (x : Selector) (b : tree.Expression) → is_signed (sele
 selected_unsigned (MemberNamed word) b = refl
 selected_unsigned (ElementAt index) b = refl
 
-module _ (f : FunctionText) (table : List Standing) (can : CanWrite f) where
+module _ (f : FunctionText) (table : List Availability) (can : CanWrite f) where
   element_form : (base index : ℕ) → PartForm f table (Some (expression.Access base index)) base
   unfolding index_text value_text
   element_form base index = record {
@@ -66,7 +66,7 @@ module _ (f : FunctionText) (table : List Standing) (can : CanWrite f) where
         part = selected_part x.0;
         is = ap
             (λ o. option_map_or
-            (λ x. part_plain (points (around f) base) (selected_part x) (form_at f table base)) o
+            (λ x. part_plain (points (context f) base) (selected_part x) (form_at f table base)) o
             (applied_plain no_form None (form_at f table) (base ∷ []) (Some (WithoutForm (PartAt index)))))
             x.1;
         ends = λ b. selected_ends x.0 b

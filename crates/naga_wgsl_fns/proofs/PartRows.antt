@@ -12,7 +12,7 @@ use Rattle.naga_ir.specs.declared.operators.UnaryOperator.{UnaryOperator}
 use Rattle.naga_ir.specs.declared.types.VectorSize.{VectorSize}
 use Rattle.naga_ir.specs.declared.types.VectorSize.TheVariants.{Bi, Tri, Quad}
 use Rattle.module_meaning.specs.ExpressionShapes.{letter, swizzle_letters}
-use Rattle.naga_scope.specs.declared.points.Standing.{Standing}
+use Rattle.naga_scope.specs.declared.points.Availability.{Availability}
 use Rattle.naga_words.specs.Output.{joined_texts}
 use Rattle.naga_wgsl_fns.specs.declared.functions.FunctionText.{FunctionText}
 use Rattle.naga_wgsl_fns.specs.Expressions.{base_text, form_at, is_signed, letter_at, member_text}
@@ -31,7 +31,8 @@ use Rattle.module_meaning.specs.ExpressionOperators.{query_operator}
 use Rattle.naga_ir.specs.Operands.{cooperative_operands, query_operands}
 use Rattle.naga_wgsl_fns.proofs.PartForms.{part_form, part_unsigned, selected_unsigned}
 use Rattle.naga_wgsl_fns.proofs.PartForms.{tree_of_part}
-use Rattle.naga_form.specs.Expressions.{is_held, no_form, part_plain, points, selected_part}
+use Rattle.naga_form.specs.Expressions.{is_handle_variable, no_form, part_plain, points}
+use Rattle.naga_form.specs.Expressions.{selected_part}
 use Rattle.naga_form.specs.Expressions.{variable_plain}
 use Rattle.module_meaning.specs.ExpressionShapes.{part_selector}
 use Rattle.module_meaning.specs.OperatorTable.{PartAt}
@@ -42,41 +43,42 @@ use Rattle.naga_form.specs.Expressions.{as_value}
 use Rattle.wgsl_text.proofs.Expressions.{member_text as member_row_text}
 use Rattle.wgsl_text.proofs.Text.{text-append}
 use Rattle.wgsl_text.specs.Expressions as tree
-use Rattle.module_meaning.specs.ExpressionOperators.{Surroundings, applied_operator}
-use Rattle.module_meaning.specs.Surroundings.{surroundings}
+use Rattle.module_meaning.specs.ExpressionOperators.{ExpressionContext, applied_operator}
+use Rattle.module_meaning.specs.ExpressionContexts.{expression_context}
 use Rattle.naga_form.specs.ConstantForms.{constant_form_over, global_form, global_form_within}
 use Rattle.naga_form.specs.ConstantForms.{constant_form_by, no_constant_form, written_constant_form}
 use Rattle.naga_ir.specs.declared.module.Constant as ir_constant
 use Rattle.naga_ir.specs.declared.module.Module.{Module}
 use Rattle.naga_words.specs.Contexts.{Names as TypeNames}
-use Rattle.naga_wgsl_fns.specs.FunctionText.{given_in}
+use Rattle.naga_wgsl_fns.specs.FunctionText.{named_in}
 use Rattle.naga_wgsl_fns.specs.FunctionText.{type_names_of}
-use Rattle.module_meaning.specs.ExpressionOperators.{load_operator, points_to_atomic}
+use Rattle.module_meaning.specs.ExpressionOperators.{load_operator, is_atomic_pointer}
 use Rattle.module_meaning.specs.OperatorTable.{AtomicLoad, Operator, WithoutForm}
 use Rattle.module_meaning.specs.Names.{numbered_name}
 use Rattle.naga_form.specs.Expressions.{PlainForm, Source, ValueForm, applied_plain, as_reference}
 use Rattle.module_meaning.specs.ExpressionOperators.{type_known}
 use Rattle.naga_form.proofs.Operators.{IsCalled, cast_called, constructor_called, load_called}
 use Rattle.naga_form.specs.Expressions.{operator_type, own_if, own_plain, plain_below, plain_form}
-use Rattle.naga_form.specs.Expressions.{standing_plain, value_forms}
+use Rattle.naga_form.specs.Expressions.{availability_plain, value_forms}
 use Rattle.naga_form.specs.TypeTrees.{type_tree}
 use Rattle.naga_form.specs.Operators.{applied_form, notation}
 use Rattle.naga_info.specs.declared.info.TypeResolution.TheVariants.{Handle}
-use Rattle.naga_scope.specs.Standings.{standing_of}
+use Rattle.naga_scope.specs.Availabilities.{availability_of}
 use Rattle.naga_scope.specs.declared.points.BoundName.{BoundName}
-use Rattle.naga_scope.specs.declared.points.Standing.TheVariants as cell
+use Rattle.naga_scope.specs.declared.points.Availability.TheVariants as cell
 use Rattle.naga_wgsl_fns.proofs.ExpressionRows.{cell_form}
 use Rattle.naga_wgsl_fns.specs.Expressions.{own_form}
-use Rattle.naga_wgsl_fns.specs.FunctionText.{CanWrite, IsInText, around, expressions, handles_in}
+use Rattle.naga_wgsl_fns.specs.FunctionText.{CanWrite, IsInText, context, expressions, handles_in}
 use Rattle.naga_wgsl_fns.specs.FunctionText.{naming, source}
-use Rattle.shader_runs.specs.Scope.{Handles, Naming, Named as RunNamed, Standing as RunStanding}
+use Rattle.shader_runs.specs.Scope.{Handles, Naming, Bound as RunNamed}
+use Rattle.shader_runs.specs.Scope.{Availability as RunAvailability}
 use Rattle.wgsl_text.specs.Literals.{Truth}
 use Rattle.wgsl_text.specs.Text.{text}
 use Rattle.wgsl_text.specs.Types.{TypeSpecifier}
 use Rattle.wgsl_text.specs.Reading.{expression_layout}
 
 -- ---- components
-pub swizzle_row : (f : FunctionText) (table : List Standing) (vector : ℕ) (word : List ℕ)
+pub swizzle_row : (f : FunctionText) (table : List Availability) (vector : ℕ) (word : List ℕ)
     → member_text f table vector word ≡
     joined_texts (base_text f table vector) (joined_texts (codes ".") word)
 unfolding member_text base_text joined_texts
@@ -121,7 +123,7 @@ base_by (tree.IndexAt e n) = sym (append-nil (expression_layout (tree.IndexAt e 
 base_by (tree.AddressOf e) = sym (append-nil (expression_layout (tree.AddressOf e)))
 base_by (tree.Dereference e) = sym (append-nil (expression_layout (tree.Dereference e)))
 
-base_row : (f : FunctionText) (table : List Standing) (handle : ℕ) (signed : Bool) →
+base_row : (f : FunctionText) (table : List Availability) (handle : ℕ) (signed : Bool) →
     signed ≡ is_signed (as_value (form_at f table handle)) →
     base_text f table handle ≡
     joined_texts (if signed then codes "(" else [])
@@ -136,13 +138,13 @@ base_row f table handle signed is =
     (sym is)
 
 -- ---- parts at an index
-pub plain_address_row : (f : FunctionText) (table : List Standing) (handle : ℕ)
+pub plain_address_row : (f : FunctionText) (table : List Availability) (handle : ℕ)
     → plain_address_text f table handle ≡
     joined_texts (codes "(&") (joined_texts (plain_text f table handle) (codes ")"))
 unfolding plain_address_text plain_text joined_texts
 plain_address_row f table handle = address_row_text (plain_tree (own_form f table handle))
 
-pub plain_row : (f : FunctionText) (table : List Standing) (handle base : ℕ) → CanWrite f →
+pub plain_row : (f : FunctionText) (table : List Availability) (handle base : ℕ) → CanWrite f →
     IsInText f handle → base_of (slice_get (expressions f) handle) ≡ Some base →
     plain_text f table handle ≡
     joined_texts (part_base_text f table base) (part_end_text f table handle)
@@ -150,10 +152,10 @@ unfolding plain_text part_base_text part_end_text joined_texts
 plain_row f table handle base can within is =
     let p = part_form f table can handle within (slice_get (expressions f) handle) refl base is in
     ap (λ q. expression_layout (plain_tree q)) p.is
-    ∙ (ap expression_layout (tree_of_part (points (around f) base) p.part (form_at f table base))
+    ∙ (ap expression_layout (tree_of_part (points (context f) base) p.part (form_at f table base))
     ∙ p.ends (part_base f table base))
 
-pub index_row : (f : FunctionText) (table : List Standing) (index : ℕ)
+pub index_row : (f : FunctionText) (table : List Availability) (index : ℕ)
     → index_text f table index ≡
     joined_texts (codes "[") (joined_texts (value_text f table index) (codes "]"))
 unfolding index_text joined_texts
@@ -188,14 +190,15 @@ unfolding named_member_text selector_text
 member_selector_row f base index h is = sym (ap (λ o. option_map_or selector_end o []) is)
 
 -- what stands behind the base
-pub element_end : (f : FunctionText) (table : List Standing) (handle : ℕ) (e : ir.Expression)
+pub element_end : (f : FunctionText) (table : List Availability) (handle : ℕ) (e : ir.Expression)
     (b index : ℕ) → slice_get (expressions f) handle ≡ Some e → e ≡ expression.Access b index →
     index_text f table index ≡ part_end_text f table handle
 unfolding part_end_text
 element_end f table handle e b index here is =
     sym (ap (part_end f table) (here ∙ ap Some is))
 
-pub selected_end : (f : FunctionText) (table : List Standing) (handle base : ℕ) (e : ir.Expression)
+pub selected_end : (f : FunctionText) (table : List Availability) (handle base : ℕ)
+    (e : ir.Expression)
     (b index : ℕ) → slice_get (expressions f) handle ≡ Some e → e ≡ expression.AccessIndex b index →
     base_of (slice_get (expressions f) handle) ≡ Some base →
     selector_text f base index ≡ part_end_text f table handle
@@ -206,47 +209,47 @@ selected_end f table handle base e b index here is part =
     ap (λ b. selector_text f b index) (sym same) ∙ sym (ap (part_end f table) there)
 
 -- by whether the base points
-pub value_pointed : (f : FunctionText) (table : List Standing) (handle base : ℕ) →
-    points (around f) base ≡ true →
+pub value_pointed : (f : FunctionText) (table : List Availability) (handle base : ℕ) →
+    points (context f) base ≡ true →
     plain_address_text f table handle ≡ part_value_text f table handle base
 unfolding part_value_text
 value_pointed f table handle base is =
     sym (ap (λ b. if b then plain_address_text f table handle else plain_text f table handle) is)
 
-pub value_unpointed : (f : FunctionText) (table : List Standing) (handle base : ℕ) →
-    points (around f) base ≡ false →
+pub value_unpointed : (f : FunctionText) (table : List Availability) (handle base : ℕ) →
+    points (context f) base ≡ false →
     plain_text f table handle ≡ part_value_text f table handle base
 unfolding part_value_text
 value_unpointed f table handle base is =
     sym (ap (λ b. if b then plain_address_text f table handle else plain_text f table handle) is)
 
-pub reference_pointed : (f : FunctionText) (table : List Standing) (handle base : ℕ) →
-    points (around f) base ≡ true →
+pub reference_pointed : (f : FunctionText) (table : List Availability) (handle base : ℕ) →
+    points (context f) base ≡ true →
     plain_text f table handle ≡ part_reference_text f table handle base
 unfolding part_reference_text
 reference_pointed f table handle base is =
     sym (ap (λ b. if b then plain_text f table handle else pointed_text f table handle) is)
 
-pub reference_unpointed : (f : FunctionText) (table : List Standing) (handle base : ℕ) →
-    points (around f) base ≡ false →
+pub reference_unpointed : (f : FunctionText) (table : List Availability) (handle base : ℕ) →
+    points (context f) base ≡ false →
     pointed_text f table handle ≡ part_reference_text f table handle base
 unfolding part_reference_text
 reference_unpointed f table handle base is =
     sym (ap (λ b. if b then plain_text f table handle else pointed_text f table handle) is)
 
-pub parenthesized_row : (f : FunctionText) (table : List Standing) (handle : ℕ)
+pub parenthesized_row : (f : FunctionText) (table : List Availability) (handle : ℕ)
     → parenthesized_text f table handle ≡
     joined_texts (codes "(") (joined_texts (value_text f table handle) (codes ")"))
 unfolding parenthesized_text joined_texts
 parenthesized_row f table handle = refl
 
-pub base_signed : (f : FunctionText) (table : List Standing) (handle : ℕ) →
+pub base_signed : (f : FunctionText) (table : List Availability) (handle : ℕ) →
     true ≡ is_signed (as_value (form_at f table handle)) →
     parenthesized_text f table handle ≡ base_text f table handle
 unfolding parenthesized_text joined_texts
 base_signed f table handle is = sym (base_row f table handle true is)
 
-pub base_unsigned : (f : FunctionText) (table : List Standing) (handle : ℕ) →
+pub base_unsigned : (f : FunctionText) (table : List Availability) (handle : ℕ) →
     false ≡ is_signed (as_value (form_at f table handle)) →
     value_text f table handle ≡ base_text f table handle
 unfolding joined_texts
@@ -266,9 +269,9 @@ applied_unsigned one type operand hs None = refl
 applied_unsigned one type operand hs (Some op) = refl
 
 -- nor does a variable of the module
-variable_unsigned : (held : Bool) (w : List ℕ) →
-    (is_signed (as_value (variable_plain held (tree.Name w))) ≡ false)
-    × (is_signed (as_reference (variable_plain held (tree.Name w))) ≡ false)
+variable_unsigned : (is_handle : Bool) (w : List ℕ) →
+    (is_signed (as_value (variable_plain is_handle (tree.Name w))) ≡ false)
+    × (is_signed (as_reference (variable_plain is_handle (tree.Name w))) ≡ false)
 variable_unsigned true w = (refl, refl)
 variable_unsigned false w = (refl, refl)
 
@@ -278,11 +281,11 @@ module _ (n : Naming) (code : Source) (s : Handles) where
       is_signed
       (as_reference
       (option_map_or
-      (λ x. part_plain (points code.declared.around base) (selected_part x) (operand base)) o
+      (λ x. part_plain (points code.declared.context base) (selected_part x) (operand base)) o
       (applied_plain no_form None operand (base ∷ []) (Some (WithoutForm (PartAt index)))))) ≡ false
   selected_none operand base index None = refl
   selected_none operand base index (Some x) =
-      (part_unsigned (points code.declared.around base) (selected_part x) (operand base) _
+      (part_unsigned (points code.declared.context base) (selected_part x) (operand base) _
       (selected_unsigned x) refl).1
 
   own_unsigned : (operand : ℕ → PlainForm) (o : Option ir.Expression) →
@@ -294,17 +297,17 @@ module _ (n : Naming) (code : Source) (s : Handles) where
   own_unsigned operand (Some (expression.FunctionArgument number)) = refl
   own_unsigned operand (Some (expression.Override o)) = refl
   own_unsigned operand (Some (expression.GlobalVariable v)) =
-      (variable_unsigned (code.is_held v) (n.names.outer.global v)).1
+      (variable_unsigned (code.declared.is_held v) (n.names.outer.global v)).1
   own_unsigned operand (Some (expression.LocalVariable handle)) = refl
   own_unsigned operand (Some (expression.Access base index)) =
-      (part_unsigned (points code.declared.around base)
+      (part_unsigned (points code.declared.context base)
       (λ e. tree.Index e (as_value (operand index))) (operand base) _ (λ b. refl) refl).1
   own_unsigned operand (Some (expression.AccessIndex base index)) =
       selected_none operand base index (part_selector code.declared base index)
   own_unsigned operand (Some (expression.Swizzle size vector pattern)) = refl
   own_unsigned operand (Some (expression.Load pointer)) =
       applied_unsigned (as_reference (operand pointer)) None operand (pointer ∷ [])
-      (load_operator code.declared.around pointer)
+      (load_operator code.declared.context pointer)
   own_unsigned operand
       (Some
       (expression.ImageSample
@@ -312,24 +315,25 @@ module _ (n : Naming) (code : Source) (s : Handles) where
       refl
   own_unsigned operand (Some e) =
       applied_unsigned (tree.Constant (Truth false))
-      (operator_type code.declared.around code.type_names e) operand (expression_operands e)
-      (applied_operator code.declared.around e)
+      (operator_type code.declared.context code.type_names e) operand (expression_operands e)
+      (applied_operator code.declared.context e)
 
-  standing_unsigned : (x : RunStanding) (own : PlainForm) →
-      is_signed (as_reference own) ≡ false → is_signed (as_reference (standing_plain x own)) ≡ false
-  standing_unsigned (RunNamed w) own is = refl
-  standing_unsigned _ own is = is
+  availability_unsigned : (x : RunAvailability) (own : PlainForm) →
+      is_signed (as_reference own) ≡ false → is_signed (as_reference (availability_plain x own)) ≡
+      false
+  availability_unsigned (RunNamed w) own is = refl
+  availability_unsigned _ own is = is
 
   below_unsigned : (k h : ℕ) → is_signed (as_reference (plain_below n code s k h)) ≡ false
   below_unsigned zero h = refl
   below_unsigned (suc k) h =
-      standing_unsigned (s h)
+      availability_unsigned (s h)
       (own_if n code (plain_below n code s k) (slice_get code.expressions h))
       (own_unsigned (plain_below n code s k) (slice_get code.expressions h))
 
 -- the base of a part
-pub base_pointed : (f : FunctionText) (table : List Standing) (base : ℕ) →
-    points (around f) base ≡ true →
+pub base_pointed : (f : FunctionText) (table : List Availability) (base : ℕ) →
+    points (context f) base ≡ true →
     reference_text f table base ≡ part_base_text f table base
 unfolding reference_text part_base_text joined_texts
 base_pointed f table base is =
@@ -346,8 +350,8 @@ base_pointed f table base is =
     (joined_texts (expression_layout e) (if b then codes ")" else []))) none
     ∙ append-nil (expression_layout e))))
 
-pub base_unpointed : (f : FunctionText) (table : List Standing) (base : ℕ) →
-    points (around f) base ≡ false →
+pub base_unpointed : (f : FunctionText) (table : List Availability) (base : ℕ) →
+    points (context f) base ≡ false →
     base_text f table base ≡ part_base_text f table base
 unfolding base_text part_base_text
 base_unpointed f table base is =
@@ -384,8 +388,8 @@ module _ (m : Module) (t : TypeNames) where
       own : ℕ → tree.Expression
       own = global_form_within levels m t
 
-      a : Surroundings
-      a = surroundings m (λ x. None)
+      a : ExpressionContext
+      a = expression_context m (λ x. None)
 
       by : (o : Option ir.Expression) → ((x : ℕ) → is_signed (own x) ≡ false) →
           is_signed
@@ -411,11 +415,11 @@ is_prefix (Some (expression.Unary op x)) = true
 is_prefix _ = false
 
 -- by its cell
-abbrev pub signed_at : Option ir.Expression → (cell : Standing) → Bool
-signed_at e (cell.Named name) = false
+abbrev pub signed_at : Option ir.Expression → (cell : Availability) → Bool
+signed_at e (cell.Bound name) = false
 signed_at e _ = is_prefix e
 
-pub signed_row : (f : FunctionText) (table : List Standing) (handle : ℕ) → CanWrite f →
+pub signed_row : (f : FunctionText) (table : List Availability) (handle : ℕ) → CanWrite f →
     IsInText f handle →
     is_signed (as_value (form_at f table handle)) ≡
     signed_at (slice_get (expressions f) handle) (get_or table handle cell.Absent)
@@ -440,7 +444,7 @@ signed_row f table handle can within =
         is_signed (as_value (own_if (naming f) (source f) operand o)) ≡ false
     parted o at base is =
         let p = part_form f table can handle within o at base is in
-        (part_unsigned (points (around f) base) p.part (operand base) _ p.unsigned p.is).0
+        (part_unsigned (points (context f) base) p.part (operand base) _ p.unsigned p.is).0
 
     own : (o : Option ir.Expression) → slice_get (expressions f) handle ≡ o →
         is_signed (as_value (own_if (naming f) (source f) operand o)) ≡ is_prefix o
@@ -452,14 +456,14 @@ signed_row f table handle can within =
         of_expression (expression.Literal value) at = refl
         of_expression (expression.Constant c) at = constant_unsigned f.shader.now (type_names_of f) c
         of_expression (expression.ZeroValue ty) at =
-            called_unsigned _ (constructor_called (around f) (Handle ty) 0)
+            called_unsigned _ (constructor_called (context f) (Handle ty) 0)
             (type_tree (source f).type_names ty) []
         of_expression (expression.Compose ty components) at =
-            called_unsigned _ (constructor_called (around f) (Handle ty) (length components.items))
+            called_unsigned _ (constructor_called (context f) (Handle ty) (length components.items))
             (type_tree (source f).type_names ty) (value_forms operand components.items)
         of_expression (expression.As x kind convert) at =
-            called_unsigned _ (cast_called (around f) kind convert (type_known (around f) x))
-            (operator_type (around f) (source f).type_names (expression.As x kind convert))
+            called_unsigned _ (cast_called (context f) kind convert (type_known (context f) x))
+            (operator_type (context f) (source f).type_names (expression.As x kind convert))
             (value_forms operand (x ∷ []))
         of_expression (expression.Access base index) at =
             parted (Some (expression.Access base index)) at base refl
@@ -468,10 +472,10 @@ signed_row f table handle can within =
         of_expression (expression.FunctionArgument number) at = refl
         of_expression (expression.Override o) at = refl
         of_expression (expression.GlobalVariable v) at =
-            (variable_unsigned (is_held f.shader.now v) (global_name (module_names f.shader.now) v)).0
+            (variable_unsigned (is_handle_variable f.shader.now v) (global_name (module_names f.shader.now) v)).0
         of_expression (expression.LocalVariable local) at = refl
         of_expression (expression.Load pointer) at =
-            loaded pointer (points_to_atomic (around f) pointer)
+            loaded pointer (is_atomic_pointer (context f) pointer)
         of_expression (expression.Unary op x) at = refl
         of_expression (expression.Binary op l r) at = refl
         of_expression (expression.Select c a r) at = refl
@@ -490,8 +494,8 @@ signed_row f table handle can within =
             (value_forms operand (image ∷ query_operands query))
         of_expression (expression.ArrayLength array) at = refl
         of_expression (expression.CooperativeLoad columns rows role place) at =
-            called_unsigned _ (load_called (around f) columns rows role place)
-            (operator_type (around f) (source f).type_names
+            called_unsigned _ (load_called (context f) columns rows role place)
+            (operator_type (context f) (source f).type_names
             (expression.CooperativeLoad columns rows role place))
             (value_forms operand (cooperative_operands place))
         of_expression (expression.CooperativeMultiplyAdd x y z) at = refl
@@ -507,28 +511,28 @@ signed_row f table handle can within =
     whole : is_signed (as_value (own_form f table handle)) ≡ is_prefix (slice_get (expressions f) handle)
     whole = own (slice_get (expressions f) handle) refl
 
-    by : (c : Standing) →
+    by : (c : Availability) →
         is_signed
         (as_value
-        (standing_plain (standing_of (given_in f) (numbered_name handle) c)
+        (availability_plain (availability_of (named_in f) (numbered_name handle) c)
         (own_form f table handle))) ≡
         signed_at (slice_get (expressions f) handle) c
-    by (cell.Named name) = refl
+    by (cell.Bound name) = refl
     by cell.Absent = whole
     by cell.Barred = whole
     by cell.Everywhere = whole
     by cell.Inline = whole
 
 -- ---- what is found of a handle tells it
-module _ (f : FunctionText) (table : List Standing) (handle : ℕ) (can : CanWrite f)
-    (within : IsInText f handle) (c : Standing) (at : c ≡ get_or table handle cell.Absent) where
-  pub signed_named : (name : BoundName) → c ≡ cell.Named name →
+module _ (f : FunctionText) (table : List Availability) (handle : ℕ) (can : CanWrite f)
+    (within : IsInText f handle) (c : Availability) (at : c ≡ get_or table handle cell.Absent) where
+  pub signed_named : (name : BoundName) → c ≡ cell.Bound name →
       false ≡ is_signed (as_value (form_at f table handle))
   signed_named name is =
       sym (signed_row f table handle can within
       ∙ ap (signed_at (slice_get (expressions f) handle)) (sym at ∙ is))
 
-  pub signed_unnamed : ((name : BoundName) → c ≡ cell.Named name → ⊥) → (e : ir.Expression) →
+  pub signed_unnamed : ((name : BoundName) → c ≡ cell.Bound name → ⊥) → (e : ir.Expression) →
       slice_get (expressions f) handle ≡ Some e →
       is_prefix (Some e) ≡ is_signed (as_value (form_at f table handle))
   signed_unnamed not_named e here =
@@ -536,9 +540,9 @@ module _ (f : FunctionText) (table : List Standing) (handle : ℕ) (can : CanWri
       ∙ (ap (signed_at (slice_get (expressions f) handle)) (sym at)
       ∙ (by c not_named ∙ ap is_prefix here)))
     where
-      by : (c : Standing) → ((name : BoundName) → c ≡ cell.Named name → ⊥) →
+      by : (c : Availability) → ((name : BoundName) → c ≡ cell.Bound name → ⊥) →
           signed_at (slice_get (expressions f) handle) c ≡ is_prefix (slice_get (expressions f) handle)
-      by (cell.Named name) not_named = absurd (not_named name refl)
+      by (cell.Bound name) not_named = absurd (not_named name refl)
       by cell.Absent not_named = refl
       by cell.Barred not_named = refl
       by cell.Everywhere not_named = refl

@@ -1,4 +1,9 @@
 -- What a plan of a function says, and what is told of one that has none.
+use Rattle.naga_scope.specs.declared.plan.PlanError.TheVariants.{StatementWithoutForm}
+use Rattle.naga_wgsl_fns.specs.Refusals.{NamesStatement}
+use Rattle.naga_scope.specs.declared.statements.FormlessStatement.TheVariants as formless_statement
+use Rattle.naga_scope.specs.declared.statements.FormlessStatement.{FormlessStatement}
+use Rattle.naga_scope.proofs.FormedStatements.{some_formless}
 use Rattle.naga_form.proofs.AcceptedFunctions.{accepted_at, function_there, names_are_in_range}
 use Rattle.module_meaning.specs.Ranges.{names_in_range}
 use Rattle.std.proofs.lemmas.Bool.{ltb-true}
@@ -22,10 +27,10 @@ use Rattle.naga_info.specs.declared.info.ModuleInfo.{ModuleInfo}
 use Rattle.shader_runs.specs.Program.{Function}
 use Rattle.shader_runs.specs.ScopeRules.{ScopeHolds}
 use Rattle.module_meaning.specs.Accepted.{is_accepted}
-use Rattle.module_meaning.specs.Part.{expression_has_form, function_is_written}
-use Rattle.module_meaning.specs.Part.{is_written_so_far}
+use Rattle.module_meaning.specs.WrittenSoFar.{expression_has_form, function_is_written}
+use Rattle.module_meaning.specs.WrittenSoFar.{is_written_so_far}
 use Rattle.module_meaning.proofs.Lists.{list_all_at}
-use Rattle.module_meaning.proofs.Part.{functions_are_written}
+use Rattle.module_meaning.proofs.WrittenSoFar.{functions_are_written}
 use Rattle.module_meaning.specs.LackingScalars.{lacking_scalar}
 use Rattle.module_meaning.specs.Written.{IsSpelledIn}
 use Rattle.module_meaning.specs.FunctionShapes.{function_shape, function_shapes}
@@ -39,9 +44,9 @@ use Rattle.naga_names.specs.Naming.{HasNamed, Names, label_base, labels_with_bas
 use Rattle.naga_names.specs.declared.error.NamerError.{NamerError}
 use Rattle.naga_names.specs.declared.error.NamerError.TheVariants as namer_error
 use Rattle.naga_names.proofs.Refusal.{element}
-use Rattle.module_meaning.specs.GivenLabels.{SomeLabelIsFull, given_labels}
-use Rattle.module_meaning.specs.Names.{labels_given, wgsl_names}
-use Rattle.naga_scope.specs.GivenNames.{HasOtherUses, IsRefusalOfLabels}
+use Rattle.module_meaning.specs.ExpressionLabels.{SomeLabelIsFull, expression_labels}
+use Rattle.module_meaning.specs.Names.{labels_named_in, wgsl_names}
+use Rattle.naga_scope.specs.ExpressionNames.{HasOtherUses, IsRefusalOfLabels}
 use Rattle.naga_scope.specs.Plans.{IsPlanOf, IsRefusalToPlanOf, Planned, ScopeHoldsIn}
 use Rattle.naga_scope.specs.declared.plan.PlanError.{PlanError}
 use Rattle.naga_scope.specs.declared.plan.PlanError.TheVariants.{LetWithoutForm, OutOfScope}
@@ -53,13 +58,14 @@ use Rattle.naga_wgsl_fns.specs.declared.error.Error.{Error}
 use Rattle.naga_wgsl_fns.specs.declared.error.Error.TheVariants.{Custom, FmtError, Memory}
 use Rattle.naga_words.specs.declared.sink.SinkError.{SinkError}
 use Rattle.naga_wgsl_fns.specs.Errors.{IsCustom}
-use Rattle.naga_wgsl_fns.specs.Refusals.{GivenAreFullIn, IsErrorOfNames, IsFault, IsWritableAt}
+use Rattle.naga_wgsl_fns.specs.Refusals.{ExpressionNamesAreFullIn, IsErrorOfNames, IsFault}
+use Rattle.naga_wgsl_fns.specs.Refusals.{IsWritableAt}
 use Rattle.naga_wgsl_fns.specs.Refusals.{IsOfPlan, IsPlanRefusal}
 use Rattle.naga_wgsl_fns.specs.Refusals.{HasFormlessIn, NamesConversion, NamesExpression}
 use Rattle.naga_wgsl_fns.specs.Refusals.{NamesFormlessType, NamesPart, NamesType}
 use Rattle.naga_wgsl_fns.specs.Refusals.{NamesUnspelled}
 use Rattle.module_meaning.specs.ExpressionOperators.{has_parts}
-use Rattle.module_meaning.specs.Part.{known_passes}
+use Rattle.module_meaning.specs.WrittenSoFar.{known_passes}
 use Rattle.naga_wgsl_fns.specs.Refusals.{NamesFormless, NamesLiteral, NamesMatrix, converted}
 use Rattle.naga_wgsl_fns.specs.Refusals.{NamesItemsOf, NamesGlobal, OfConstant, OfLiteral}
 use Rattle.naga_wgsl_fns.specs.Refusals.{OfOperand, OfOperation, OfType, pointed_scalar}
@@ -83,12 +89,12 @@ of_shape m info (f ∷ fs) (es ∷ ess) (suc i) Q each = of_shape m info fs ess 
 
 pub planned_holds : (explicit : Bool) (m : Module) (info : ModuleInfo) (earlier : List (List ℕ))
     (i : ℕ) (planned : Planned) → IsPlanOf explicit m info i planned →
-    (GivenAreFullIn m earlier i → ⊥) → IsWritableAt explicit m info earlier i
-planned_holds explicit m info earlier i planned plan told = record {
+    (ExpressionNamesAreFullIn m earlier i → ⊥) → IsWritableAt explicit m info earlier i
+planned_holds explicit m info earlier i planned plan nameable = record {
   in_scope = of_shape m info m.functions info.functions.items i ScopeHolds
       (λ f es at known. (plan f es at known).in_scope);
   formed = λ f es at known. (plan f es at known).formed;
-  told = told;
+  nameable = nameable;
 }
 
 -- ---- functions without one
@@ -122,9 +128,13 @@ module _ (explicit : Bool) (m : Module) (info : ModuleInfo) (i : ℕ) (error : E
   pub formless_fails : HasFormlessIn explicit m info i error → (earlier : List (List ℕ)) →
       IsWritableAt explicit m info earlier i → ⊥
   formless_fails (inl n) earlier w = expression_fails m info i error n explicit earlier w
-  formless_fails (inr n) earlier w =
+  formless_fails (inr (inl n)) earlier w =
       let formed = (w.formed n.function n.known n.stands n.is_known).types n.type n.spelled in
       let formless = n.formless in
+      absurd cc
+  formless_fails (inr (inr n)) earlier w =
+      let formed = (w.formed n.function n.known n.stands n.is_known).statements in
+      let formless = some_formless n.function.body n.statement n.formless in
       absurd cc
 
 -- a fault
@@ -134,7 +144,7 @@ pub fault_fails : (explicit : Bool) (m : Module) (info : ModuleInfo) (earlier : 
 fault_fails explicit m info earlier i error (inl scope) w = scope.1 w.in_scope
 fault_fails explicit m info earlier i error (inr (inl formless)) w =
     formless_fails explicit m info i error formless earlier w
-fault_fails explicit m info earlier i error (inr (inr full)) w = w.told full.1
+fault_fails explicit m info earlier i error (inr (inr full)) w = w.nameable full.1
 
 -- ---- what is told of a plan's error
 -- no refusal that names a type is the sink's
@@ -146,6 +156,13 @@ no_type_sink m r reason is = by (names_undeclared m r) (lacking_scalar m.types r
     by true o is = is
     by false (Some s) is = is
     by false None is = is
+
+-- nor one that names a statement
+no_statement_sink : (statement : FormlessStatement) (reason : SinkError) → NamesStatement statement (FmtError reason) → ⊥
+no_statement_sink formless_statement.RayQuery reason is = is
+no_statement_sink formless_statement.SubgroupOperation reason is = is
+no_statement_sink formless_statement.FallThrough reason is = is
+no_statement_sink formless_statement.ImageCompareExchange reason is = is
 
 -- nor one that names a literal, or one of the module's own expressions
 no_literal_sink : (value : LiteralValue) (reason : SinkError) → NamesLiteral value (FmtError reason) → ⊥
@@ -221,10 +238,6 @@ module _ (explicit : Bool) (m : Module) (info : ModuleInfo) (accepted : IsTrue (
   known : (es : List ExpressionInfo) × (slice_get info.functions.items i ≡ Some es)
   known = element info.functions.items i (omega (arith, within, counted))
 
-  pub function_written : IsTrue (function_is_written f)
-  function_written =
-      list_all_at function_is_written m.functions i f (functions_are_written m written) stands
-
   -- where the check of the function fails, the rules don't hold in it
   out_of_scope : (namer : Names) → IsRefusalToPlanOf explicit m info i namer OutOfScope →
       ScopeHoldsIn m info i → ⊥
@@ -245,6 +258,7 @@ module _ (explicit : Bool) (m : Module) (info : ModuleInfo) (accepted : IsTrue (
       (namer : Names) (error : PlanError) → IsRefusalToPlanOf explicit m info i namer error →
       IsOfPlan m f es error
   is_of_plan es here namer OutOfScope refusal = tt
+  is_of_plan es here namer (StatementWithoutForm statement) refusal = tt
   is_of_plan es here namer (WithoutForm h) refusal = (refusal f es stands here).1
   is_of_plan es here namer (TypeWithoutForm ty) refusal = tt
   is_of_plan es here namer (LetWithoutForm h) refusal =
@@ -256,32 +270,34 @@ module _ (explicit : Bool) (m : Module) (info : ModuleInfo) (accepted : IsTrue (
 
   -- behind these labels
   module _ (earlier : List (List ℕ)) where
-    for_scope : (told : Error) → IsCustom (codes "operand out of scope") told →
-        (ScopeHoldsIn m info i → ⊥) → IsPlanRefusal explicit m info earlier i told
+    for_scope : (reported : Error) → IsCustom (codes "operand out of scope") reported →
+        (ScopeHoldsIn m info i → ⊥) → IsPlanRefusal explicit m info earlier i reported
     for_scope (Custom message) is fails = (tt, inl (is, fails))
     for_scope (Memory e) is fails = tt
     for_scope _ is fails = absurd is
 
-    for_form : (told : Error) → HasFormlessIn explicit m info i told → IsPlanRefusal explicit m info earlier i told
+    for_form : (reported : Error) → HasFormlessIn explicit m info i reported → IsPlanRefusal explicit m info earlier i reported
     for_form (FmtError reason) (inl n) =
         let at = named m info i (FmtError reason) n in
         absurd (names_no_sink m n.known n.function.expressions at.0 reason at.3)
-    for_form (FmtError reason) (inr n) = absurd (no_type_sink m n.type reason n.named)
+    for_form (FmtError reason) (inr (inl n)) = absurd (no_type_sink m n.type reason n.named)
+    for_form (FmtError reason) (inr (inr n)) = absurd (no_statement_sink n.statement reason n.named)
     for_form (Memory e) n = tt
     for_form _ n = (tt, inr (inl n))
 
-    for_full : (told : Error) → IsCustom (codes "namer is full") told → GivenAreFullIn m earlier i →
-        IsPlanRefusal explicit m info earlier i told
+    for_full : (reported : Error) → IsCustom (codes "namer is full") reported →
+        ExpressionNamesAreFullIn m earlier i →
+        IsPlanRefusal explicit m info earlier i reported
     for_full (Custom message) is full = (tt, inr (inr (is, full)))
     for_full (Memory e) is full = tt
     for_full _ is full = absurd is
 
     -- the labels of the function are those of its handle
-    labels_are : given_labels f ≡ labels_given m i
-    labels_are = sym (ap (λ o. option_map_or given_labels o []) stands)
+    labels_are : expression_labels f ≡ labels_named_in m i
+    labels_are = sym (ap (λ o. option_map_or expression_labels o []) stands)
 
     full_is : (namer : Names) → HasOtherUses wgsl_names namer →
-        SomeLabelIsFull namer earlier (given_labels f) → GivenAreFullIn m earlier i
+        SomeLabelIsFull namer earlier (expression_labels f) → ExpressionNamesAreFullIn m earlier i
     full_is namer words full = record {
       named = full.named;
       label = full.label;
@@ -291,20 +307,20 @@ module _ (explicit : Bool) (m : Module) (info : ModuleInfo) (accepted : IsTrue (
           (label_base n full.label)) words) ∙ full.full;
     }
 
-    for_names : (namer : Names) → HasOtherUses wgsl_names namer → (error : NamerError) (told : Error) →
-        IsRefusalOfLabels namer earlier (given_labels f) error →
-        IsErrorOfNames error told → IsPlanRefusal explicit m info earlier i told
-    for_names namer words namer_error.Full told refusal is =
-        for_full told is (full_is namer words refusal)
-    for_names namer words namer_error.KeyFull told refusal is = absurd refusal
-    for_names namer words (namer_error.Memory e) told refusal is =
+    for_names : (namer : Names) → HasOtherUses wgsl_names namer → (error : NamerError) (reported : Error) →
+        IsRefusalOfLabels namer earlier (expression_labels f) error →
+        IsErrorOfNames error reported → IsPlanRefusal explicit m info earlier i reported
+    for_names namer words namer_error.Full reported refusal is =
+        for_full reported is (full_is namer words refusal)
+    for_names namer words namer_error.KeyFull reported refusal is = absurd refusal
+    for_names namer words (namer_error.Memory e) reported refusal is =
         subst (IsPlanRefusal explicit m info earlier i) (sym is) tt
 
     type_named : (es : List ExpressionInfo) → slice_get info.functions.items i ≡ Some es →
-        (told : Error) (r : TypeResolution) → IsSpelledIn explicit m info f es r →
-        IsFalse (is_spellable m r) → NamesType m r told →
-        NamesFormlessType explicit m info i told
-    type_named es at told r spelled formless is = record {
+        (reported : Error) (r : TypeResolution) → IsSpelledIn explicit m info f es r →
+        IsFalse (is_spellable m r) → NamesType m r reported →
+        NamesFormlessType explicit m info i reported
+    type_named es at reported r spelled formless is = record {
       function = f;
       known = es;
       stands = stands;
@@ -317,16 +333,26 @@ module _ (explicit : Bool) (m : Module) (info : ModuleInfo) (accepted : IsTrue (
 
     pub plan_refusal : (es : List ExpressionInfo) → slice_get info.functions.items i ≡ Some es →
         (namer : Names) → HasOtherUses wgsl_names namer → HasNamed namer earlier →
-        (error : PlanError) (told : Error) →
-        IsRefusalToPlanOf explicit m info i namer error → TellsPlanError m f es error told →
-        IsPlanRefusal explicit m info earlier i told
-    plan_refusal es at namer words has (Unnamed e) told refusal is =
-        for_names namer words e told (refusal f es stands at earlier has) is
-    plan_refusal es at namer words has OutOfScope told refusal is =
-        for_scope told is (out_of_scope namer refusal)
-    plan_refusal es at namer words has (WithoutForm h) told refusal is =
+        (error : PlanError) (reported : Error) →
+        IsRefusalToPlanOf explicit m info i namer error → TellsPlanError m f es error reported →
+        IsPlanRefusal explicit m info earlier i reported
+    plan_refusal es at namer words has (Unnamed e) reported refusal is =
+        for_names namer words e reported (refusal f es stands at earlier has) is
+    plan_refusal es at namer words has OutOfScope reported refusal is =
+        for_scope reported is (out_of_scope namer refusal)
+    plan_refusal es at namer words has (StatementWithoutForm statement) reported refusal is =
+        for_form reported (inr (inr (record {
+          function = f;
+          known = es;
+          stands = stands;
+          is_known = at;
+          statement = statement;
+          formless = refusal f es stands at;
+          named = is;
+        })))
+    plan_refusal es at namer words has (WithoutForm h) reported refusal is =
         let here = refusal f es stands at in
-        for_form told (inl (record {
+        for_form reported (inl (record {
           function = f;
           known = es;
           stands = stands;
@@ -340,18 +366,20 @@ module _ (explicit : Bool) (m : Module) (info : ModuleInfo) (accepted : IsTrue (
             IsSomeAnd o Q → IsSomeAnd o (λ e. P e × Q e)
         both P Q None p q = absurd p
         both P Q (Some e) p q = (p, q)
-    plan_refusal es at namer words has (TypeWithoutForm ty) told refusal is =
+    plan_refusal es at namer words has (TypeWithoutForm ty) reported refusal is =
         let here = refusal f es stands at in
-        for_form told (inr (type_named es at told (Handle ty) here.0 here.1 is))
-    plan_refusal es at namer words has (LetWithoutForm h) told refusal is =
+        for_form reported (inr (inl (type_named es at reported (Handle ty) here.0 here.1 is)))
+    plan_refusal es at namer words has (LetWithoutForm h) reported refusal is =
         by (slice_get es h) (refusal f es stands at) is
       where
         by : (o : Option ExpressionInfo) →
             IsSomeAnd o (λ k. IsSpelledIn explicit m info f es k.ty × IsFalse (is_spellable m k.ty)) →
-            IsSomeAnd o (λ k. NamesType m k.ty told) → IsPlanRefusal explicit m info earlier i told
+            IsSomeAnd o (λ k. NamesType m k.ty reported) →
+            IsPlanRefusal explicit m info earlier i reported
         by None here is = absurd here
-        by (Some k) here is = for_form told (inr (type_named es at told k.ty here.0 here.1 is))
-    plan_refusal es at namer words has (plan_error.Memory e) told refusal is =
+        by (Some k) here is =
+            for_form reported (inr (inl (type_named es at reported k.ty here.0 here.1 is)))
+    plan_refusal es at namer words has (plan_error.Memory e) reported refusal is =
         subst (IsPlanRefusal explicit m info earlier i) (sym is) tt
 
 -- each constant and variable that an expression of an accepted function names is there
@@ -362,11 +390,11 @@ pub items_there : (m : Module) (info : ModuleInfo) → IsTrue (is_accepted m inf
 items_there m info accepted i f stands es stand h e at =
     let numbered = function_there m info accepted i f stands in
     let is = accepted_at m info accepted i f numbered.0 numbered.1 in
-    by is.callees e (names_are_in_range m is.callees f is.ranges h e at)
+    by e (names_are_in_range m is.callees f is.ranges h e at)
   where
-    by : (callees : ℕ) (e : Expression) →
-        names_in_range m callees (length f.arguments.items) (length f.local_variables) e ≡ true →
+    by : (e : Expression) →
+        names_in_range m (length f.arguments.items) (length f.local_variables) e ≡ true →
         NamesItemsOf m e
-    by callees (Constant c) range = ltb-true c (length m.constants) range
-    by callees (GlobalVariable v) range = range
-    by callees _ range = tt
+    by (Constant c) range = ltb-true c (length m.constants) range
+    by (GlobalVariable v) range = range
+    by _ range = tt

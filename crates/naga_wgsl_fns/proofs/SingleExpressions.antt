@@ -4,7 +4,7 @@ use Rattle.std.specs.Prelude.{Err, IfErr, IsErrAnd, IsFalse, IsTrue, Ok, OnErr, 
 use Rattle.naga_ir.specs.declared.module.Module.{Module}
 use Rattle.naga_info.specs.declared.info.ModuleInfo.{ModuleInfo}
 use Rattle.module_meaning.specs.Accepted.{is_accepted}
-use Rattle.module_meaning.specs.Part.{global_is_written, is_written_so_far}
+use Rattle.module_meaning.specs.WrittenSoFar.{global_is_written, is_written_so_far}
 use Rattle.module_meaning.specs.Types.{type_names}
 use Rattle.naga_form.proofs.Programs.{written_global}
 use Rattle.naga_form.specs.ConstantForms.{global_form}
@@ -21,17 +21,17 @@ use Rattle.naga_wgsl_fns.proofs.SingleFunctions.{want_tells_nothing}
 use Rattle.naga_wgsl_fns.proofs.PlanRefusals.{no_global_sink}
 
 module _ (m : Module) (handle : ℕ) where
-  module _ (held : List ℕ) (before : ℕ) where
+  module _ (content : List ℕ) (before : ℕ) where
     pub global_refused : (r : Result Unit Error) (error : Error) → IsErrAnd r (λ e. e ≡ error) →
         IsGlobalRefusal m handle before before error →
-        GlobalWriting m handle r held held before before
-    global_refused (Ok _) error told refusal = absurd told
-    global_refused (Err e) error told refusal = record {
-      refusals = subst (IsGlobalRefusal m handle before before) (sym told) refusal;
+        GlobalWriting m handle r content content before before
+    global_refused (Ok _) error reported refusal = absurd reported
+    global_refused (Err e) error reported refusal = record {
+      refusals = subst (IsGlobalRefusal m handle before before) (sym reported) refusal;
       text_ok = tt;
       reading = tt;
       failures_ok = tt;
-      text_err = ([], global_text m handle, refl, sym (append-nil held));
+      text_err = ([], global_text m handle, refl, sym (append-nil content));
       untouched = λ tells. (refl, refl);
     }
 
@@ -63,20 +63,20 @@ module _ (m : Module) (handle : ℕ) where
         expression_has_one_reading (global_form m (type_names m) handle)
         (written_global false m info accepted written handle formed)
 
-    pub global_writes : (r : Result Unit Error) (held now : List ℕ) (before after : ℕ) →
-        OnOk r (now ≡ held ++ global_text m handle) →
-        OnErr r (IsBehind held (global_text m handle) now) →
+    pub global_writes : (r : Result Unit Error) (content now : List ℕ) (before after : ℕ) →
+        OnOk r (now ≡ content ++ global_text m handle) →
+        OnErr r (IsBehind content (global_text m handle) now) →
         OnOk r (after ≡ before) → IfErr r (IsWant before after) →
-        GlobalWriting m handle r held now before after
-    global_writes (Ok _) held now before after text_ok text_err kept reason = record {
-      refusals = record { of_part = written; formed = formed };
+        GlobalWriting m handle r content now before after
+    global_writes (Ok _) content now before after text_ok text_err kept reason = record {
+      refusals = record { is_supported = written; formed = formed };
       text_ok = text_ok;
       reading = one_expression;
       failures_ok = kept;
       text_err = tt;
       untouched = tt;
     }
-    global_writes (Err e) held now before after text_ok text_err kept reason = record {
+    global_writes (Err e) content now before after text_ok text_err kept reason = record {
       refusals = global_for_want before after e reason;
       text_ok = tt;
       reading = tt;

@@ -14,16 +14,16 @@ use Rattle.naga_info.specs.declared.info.ModuleInfo.{ModuleInfo}
 use Rattle.naga_names.specs.Naming.{HasNamed, Names, name_after}
 use Rattle.naga_names.proofs.Refusal.{element}
 use Rattle.module_meaning.specs.Accepted.{is_accepted}
-use Rattle.module_meaning.specs.GivenLabels.{given_labels, name_of_label}
-use Rattle.module_meaning.specs.Names.{item_labels, labels_given, module_names, wgsl_names}
-use Rattle.module_meaning.specs.Part.{is_written_so_far}
-use Rattle.module_meaning.proofs.Part.{written_so_far_parts}
+use Rattle.module_meaning.specs.ExpressionLabels.{expression_labels, name_of_label}
+use Rattle.module_meaning.specs.Names.{item_labels, labels_named_in, module_names, wgsl_names}
+use Rattle.module_meaning.specs.WrittenSoFar.{is_written_so_far}
+use Rattle.module_meaning.proofs.WrittenSoFar.{written_so_far_parts}
 use Rattle.naga_form.proofs.AcceptedFunctions.{functions_counted}
 use Rattle.naga_form.proofs.Names.{is_identifier}
 use Rattle.naga_form.proofs.Programs.{one_is}
 use Rattle.naga_form.specs.Functions.{function_form}
 use Rattle.naga_back.specs.declared.flags.WriterFlags.{WriterFlags}
-use Rattle.naga_scope.specs.GivenNames.{HasNamedSome, HasOtherUses, NamesLabels}
+use Rattle.naga_scope.specs.ExpressionNames.{HasNamedSome, HasOtherUses, NamesLabels}
 use Rattle.naga_scope.specs.Plans.{IsPlanOf, Planned}
 use Rattle.naga_words.specs.Sink.{IsBehind}
 use Rattle.wgsl_text.specs.Functions.{Function, IsFunction}
@@ -31,17 +31,17 @@ use Rattle.wgsl_text.specs.Reading.{HasOneReading, ReadsFunction}
 use Rattle.wgsl_text.specs.Words.{IsIdentifier}
 use Rattle.wgsl_text.proofs.Reading.{function_has_one_reading}
 use Rattle.naga_wgsl_fns.specs.Errors.{IsNotYetWritten, IsWant}
-use Rattle.naga_wgsl_fns.specs.FunctionText.{tells_types}
+use Rattle.naga_wgsl_fns.specs.FunctionText.{annotates_types}
 use Rattle.naga_wgsl_fns.specs.Functions.{known_of, names_of, text_of, text_under}
 use Rattle.naga_wgsl_fns.specs.Items.{FunctionWriting, IsFunctionRefusal}
-use Rattle.naga_wgsl_fns.specs.Items.{HasNamedItemsOf, OfFunction, given_behind, text_behind}
+use Rattle.naga_wgsl_fns.specs.Items.{HasNamedItemsOf, OfFunction, named_behind, text_behind}
 use Rattle.naga_back.specs.declared.context.FunctionType.{FunctionType}
 use Rattle.naga_back.specs.declared.context.FunctionType.TheVariants as item
 use Rattle.naga_wgsl_fns.specs.Refusals.{IsPlanRefusal, TellsOfModule}
 use Rattle.naga_wgsl_fns.specs.declared.error.Error.{Error}
 use Rattle.naga_wgsl_fns.specs.declared.error.Error.TheVariants.{FmtError, Memory, Unimplemented}
-use Rattle.naga_wgsl_fns.proofs.GivenNames.{given_are, none_full}
-use Rattle.naga_wgsl_fns.proofs.PlanRefusals.{function_written, planned_holds}
+use Rattle.naga_wgsl_fns.proofs.ExpressionNames.{named_are, none_full}
+use Rattle.naga_wgsl_fns.proofs.PlanRefusals.{planned_holds}
 
 -- a module that is written so far has no entry points
 pub no_entry_point : (m : Module) → IsTrue (is_written_so_far m) → (index : ℕ) →
@@ -76,8 +76,8 @@ of_one ty handle is Holds holds = subst (λ t. OfFunction t Holds) (sym is) hold
 pub items_named : (m : Module) (handle : ℕ) (old new : Names) → HasNamedItemsOf m old →
     HasOtherUses old new → (r : Result Unit Error) →
     ((earlier : List (List ℕ)) → HasNamed old earlier →
-    OnOk r (HasNamed new (earlier ++ labels_given m handle)) ×
-    OnErr r (HasNamedSome new earlier (labels_given m handle))) →
+    OnOk r (HasNamed new (earlier ++ labels_named_in m handle)) ×
+    OnErr r (HasNamedSome new earlier (labels_named_in m handle))) →
     HasNamedItemsOf m new
 items_named m handle old new items same r named =
     by r (named (item_labels m ++ items.later) items.named.labels)
@@ -93,19 +93,19 @@ items_named m handle old new items same r named =
     }
 
     by : (r : Result Unit Error) →
-        OnOk r (HasNamed new ((item_labels m ++ items.later) ++ labels_given m handle)) ×
-        OnErr r (HasNamedSome new (item_labels m ++ items.later) (labels_given m handle)) →
+        OnOk r (HasNamed new ((item_labels m ++ items.later) ++ labels_named_in m handle)) ×
+        OnErr r (HasNamedSome new (item_labels m ++ items.later) (labels_named_in m handle)) →
         HasNamedItemsOf m new
-    by (Ok _) has = with_more (labels_given m handle) has.0
+    by (Ok _) has = with_more (labels_named_in m handle) has.0
     by (Err e) has = with_more has.1.named has.1.has
 
 module _ (m : Module) (info : ModuleInfo) (flags : WriterFlags) (earlier : List (List ℕ))
     (handle : ℕ) where
   abbrev explicit : Bool
-  explicit = tells_types flags
+  explicit = annotates_types flags
 
   abbrev labels : List (List ℕ)
-  labels = labels_given m handle
+  labels = labels_named_in m handle
 
   abbrev whole : List ℕ
   whole = text_behind m info flags earlier handle
@@ -124,19 +124,19 @@ module _ (m : Module) (info : ModuleInfo) (flags : WriterFlags) (earlier : List 
   all_named : (namer : Names) → HasNamed namer (earlier ++ labels) → HasNamedSome namer earlier labels
   all_named namer has = record { named = labels; left = []; all = sym (append-nil labels); has = has }
 
-  module _ (held : List ℕ) (before : ℕ) where
+  module _ (content : List ℕ) (before : ℕ) where
     pub refused : (r : Result Unit Error) (error : Error) (namer : Names) →
         IsErrAnd r (λ e. e ≡ error) →
         IsFunctionRefusal explicit m info earlier handle before before error →
         HasNamedSome namer earlier labels →
-        FunctionWriting m info flags earlier handle r namer held held before before
-    refused (Ok _) error namer told refusal some = absurd told
-    refused (Err e) error namer told refusal some = record {
-      refusals = subst (IsFunctionRefusal explicit m info earlier handle before before) (sym told) refusal;
+        FunctionWriting m info flags earlier handle r namer content content before before
+    refused (Ok _) error namer reported refusal some = absurd reported
+    refused (Err e) error namer reported refusal some = record {
+      refusals = subst (IsFunctionRefusal explicit m info earlier handle before before) (sym reported) refusal;
       text_ok = tt;
       reading = tt;
       failures_ok = tt;
-      text_err = ([], whole, refl, sym (append-nil held));
+      text_err = ([], whole, refl, sym (append-nil content));
       untouched = λ tells. (refl, refl);
       named_ok = tt;
       named_err = some;
@@ -163,18 +163,18 @@ module _ (m : Module) (info : ModuleInfo) (flags : WriterFlags) (earlier : List 
   for_want before after _ is = absurd is
 
   identifiers : (f : ir_function.Function) → slice_get m.functions handle ≡ Some f → (k : ℕ) →
-      k < length (given_labels f) → IsIdentifier (given_behind m earlier handle k)
+      k < length (expression_labels f) → IsIdentifier (named_behind m earlier handle k)
   identifiers f stands k lt =
-      let label = element (given_labels f) k lt in
-      let same = ap (λ o. name_of_label wgsl_names earlier (option_map_or given_labels o []) k) stands in
-      let name = ap (λ o. option_map_or (name_after wgsl_names (earlier ++ take k (given_labels f))) o [])
+      let label = element (expression_labels f) k lt in
+      let same = ap (λ o. name_of_label wgsl_names earlier (option_map_or expression_labels o []) k) stands in
+      let name = ap (λ o. option_map_or (name_after wgsl_names (earlier ++ take k (expression_labels f))) o [])
       label.1 in
-      subst IsIdentifier (sym (same ∙ name)) (is_identifier (earlier ++ take k (given_labels f)) label.0)
+      subst IsIdentifier (sym (same ∙ name)) (is_identifier (earlier ++ take k (expression_labels f)) label.0)
 
   module _ (accepted : IsTrue (is_accepted m info)) (written : IsTrue (is_written_so_far m))
       (there : handle < length m.functions) (old new : Names) (words : HasOtherUses wgsl_names old)
       (has : HasNamed old earlier) (planned : Planned) (plan : IsPlanOf explicit m info handle planned)
-      (given : NamesLabels old [] labels new planned.given) where
+      (named : NamesLabels old [] labels new planned.named) where
     abbrev f : ir_function.Function
     f = (element m.functions handle there).0
 
@@ -187,7 +187,7 @@ module _ (m : Module) (info : ModuleInfo) (flags : WriterFlags) (earlier : List 
         element info.functions.items handle (omega (arith, there, counted))
 
     abbrev form : Function
-    form = function_form explicit (module_names m) (given_behind m earlier handle) m info handle f
+    form = function_form explicit (module_names m) (named_behind m earlier handle) m info handle f
         (known_of info handle)
 
     is_function : IsFunction form
@@ -195,19 +195,18 @@ module _ (m : Module) (info : ModuleInfo) (flags : WriterFlags) (earlier : List 
         let here = plan f known.0 stands known.1 in
         let same : known_of info handle ≡ known.0 = ap (λ o. unwrap_or o []) known.1 in
         subst
-        (λ es. IsFunction (function_form explicit (module_names m) (given_behind m earlier handle) m info
+        (λ es. IsFunction (function_form explicit (module_names m) (named_behind m earlier handle) m info
         handle f es))
         (sym same)
-        (one_is explicit m info accepted written (given_behind m earlier handle) handle f stands known.0
-        known.1 (identifiers f stands) (function_written explicit m info accepted written handle f stands)
-        here.formed (leb-true (length f.expressions) (2 ^ 64) here.counted))
+        (one_is explicit m info accepted written (named_behind m earlier handle) handle f stands known.0
+        known.1 (identifiers f stands) here.formed (leb-true (length f.expressions) (2 ^ 64) here.counted))
 
     one_reading : HasOneReading ReadsFunction whole form
     one_reading =
         subst (λ t. HasOneReading ReadsFunction t form)
         (sym (ap
         (λ o. option_map_or
-        (λ f. text_of m info flags (given_behind m earlier handle) handle f (known_of info handle)) o [])
+        (λ f. text_of m info flags (named_behind m earlier handle) handle f (known_of info handle)) o [])
         stands))
         (function_has_one_reading form is_function)
 
@@ -215,21 +214,21 @@ module _ (m : Module) (info : ModuleInfo) (flags : WriterFlags) (earlier : List 
     text_same : text_under m info flags (names_of planned) handle ≡ whole
     text_same =
         ap (λ names. text_under m info flags names handle)
-        (λ i number. given_are m handle earlier old words planned.given (given.names earlier has) number i)
+        (λ i number. named_are m handle earlier old words planned.named (named.names earlier has) number i)
 
     new_words : HasOtherUses wgsl_names new
-    new_words = given.words ∙ ap (λ (o : Names). record o { uses = new.uses }) words
+    new_words = named.words ∙ ap (λ (o : Names). record o { uses = new.uses }) words
 
     new_named : HasNamed new (earlier ++ labels)
-    new_named = given.labels_named earlier has
+    new_named = named.labels_named earlier has
 
-    pub writes : (r : Result Unit Error) (held now : List ℕ) (before after : ℕ) →
-        OnOk r (now ≡ held ++ text_under m info flags (names_of planned) handle) →
-        OnErr r (IsBehind held (text_under m info flags (names_of planned) handle) now) →
+    pub writes : (r : Result Unit Error) (content now : List ℕ) (before after : ℕ) →
+        OnOk r (now ≡ content ++ text_under m info flags (names_of planned) handle) →
+        OnErr r (IsBehind content (text_under m info flags (names_of planned) handle) now) →
         OnOk r (after ≡ before) → IfErr r (IsWant before after) →
-        FunctionWriting m info flags earlier handle r new held now before after
-    writes (Ok _) held now before after text_ok text_err kept reason =
-        let appended = text_ok ∙ ap (λ t. held ++ t) text_same in
+        FunctionWriting m info flags earlier handle r new content now before after
+    writes (Ok _) content now before after text_ok text_err kept reason =
+        let appended = text_ok ∙ ap (λ t. content ++ t) text_same in
         record {
           refusals = planned_holds explicit m info earlier handle planned plan
               (none_full m handle earlier new new_words new_named);
@@ -246,12 +245,12 @@ module _ (m : Module) (info : ModuleInfo) (flags : WriterFlags) (earlier : List 
           named_ok = new_named;
           named_err = tt;
         }
-    writes (Err e) held now before after text_ok text_err kept reason = record {
+    writes (Err e) content now before after text_ok text_err kept reason = record {
       refusals = for_want before after e reason;
       text_ok = tt;
       reading = tt;
       failures_ok = tt;
-      text_err = subst (λ t. IsBehind held t now) text_same text_err;
+      text_err = subst (λ t. IsBehind content t now) text_same text_err;
       untouched = λ tells. absurd (want_tells_nothing before after e reason tells);
       named_ok = tt;
       named_err = all_named new new_named;

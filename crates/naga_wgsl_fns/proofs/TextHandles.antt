@@ -1,35 +1,51 @@
 -- The handles that a function's statements and locals write by themselves are in its text.
+use Rattle.naga_form.proofs.WrittenHandles.{all_among}
+use Rattle.module_meaning.specs.Written.{block_lets}
+use Rattle.naga_wgsl_fns.specs.FunctionText.{CanWriteBlock}
+use Rattle.std.proofs.Common.{subst}
+use Rattle.naga_wgsl_fns.specs.FunctionText.{CanWriteStatement, AreLets, IsLet}
+use Rattle.module_meaning.specs.Written.{simple_lets}
+use Rattle.naga_ir.specs.Operands.{own_result}
+use Rattle.std.proofs.Common.{ap, sym, ◌∙◌}
+use Rattle.std.specs.Prelude.{◌&&◌, nat_lt}
+use Rattle.std.proofs.lemmas.Bool.{and_parts, ltb-true}
+use Rattle.module_meaning.specs.Numbers.{label_fits_32_bits}
+use Rattle.module_meaning.specs.Ranges.{all_below, atomic_in_range, block_in_range, cases_in_range, cooperative_in_range}
+use Rattle.module_meaning.specs.Ranges.{gather_in_range, is_below, statement_in_range}
+use Rattle.module_meaning.specs.Written.{IsWrittenIn, block_roots, cases_roots, simple_roots, statement_roots}
+use Rattle.naga_ir.specs.Operands.{atomic_operands, gather_operands, simple_result}
+use Rattle.naga_ir.specs.StatementTree.{SimpleStatement, emit, return, store, image_store, atomic, image_atomic}
+use Rattle.naga_ir.specs.StatementTree.{work_group_uniform_load, call, ray_query, subgroup_ballot, subgroup_gather}
+use Rattle.naga_ir.specs.StatementTree.{subgroup_collective_operation, cooperative_store, ray_pipeline_function}
+use Rattle.naga_ir.specs.StatementTree.{StatementTree, simple, block, branch, switch, loop, BlockTree, no_statements, statement}
+use Rattle.naga_ir.specs.StatementTree.{CaseTrees, no_cases, case}
+use Rattle.naga_ir.specs.declared.operators.AtomicFunction.{AtomicFunction}
+use Rattle.naga_ir.specs.declared.operators.AtomicFunction.TheVariants as atomic_function
+use Rattle.naga_ir.specs.declared.operators.GatherMode.{GatherMode}
+use Rattle.naga_ir.specs.declared.operators.GatherMode.TheVariants as gather
+use Rattle.naga_ir.specs.declared.statement.RayPipelineFunction.TheVariants.{TraceRay}
+use Rattle.naga_wgsl_fns.proofs.StatementRows.{emit_within}
 use Rattle.std.proofs.Common.{◌≡◌, ℕ, suc, zero, ◌<◌, ◌≤◌, ◌+◌, ◌-◌, Bool, true, false, List, [], ◌∷◌, ◌++◌}
 use Rattle.std.proofs.Common.{Option, Some, None, IsTrue, length, arith, refl}
 use Rattle.std.specs.Prelude.{if◌then◌else◌, slice_get}
 use Rattle.std.specs.List.{AllByRecursion, filter}
 use Rattle.std.specs.Option.{option_to_list}
-use Rattle.std.proofs.lemmas.Bool.{ltb-true}
-use Rattle.module_meaning.specs.Part.{block_is_written, statement_is_written}
-use Rattle.module_meaning.specs.Ranges.{block_in_range, is_below, statement_in_range}
-use Rattle.module_meaning.specs.Written.{IsWrittenIn, block_roots, statement_roots}
 use Rattle.naga_form.proofs.AcceptedFunctions.{ranges_are}
-use Rattle.naga_form.proofs.PartFits.{body_is_written}
 use Rattle.naga_form.proofs.WrittenHandles.{written_are_closed}
-use Rattle.naga_ir.specs.StatementTree.{BlockTree, StatementTree, emit, no_statements, return, simple}
-use Rattle.naga_ir.specs.StatementTree.{statement, store}
 use Rattle.naga_ir.specs.declared.module.LocalVariable.{LocalVariable}
 use Rattle.shader_runs.specs.Program.{from}
-use Rattle.naga_wgsl_fns.proofs.StatementRows.{emit_within, range_parts, store_within, written_parts}
 use Rattle.naga_wgsl_fns.proofs.Wanted.{first_within}
 use Rattle.naga_wgsl_fns.specs.FunctionText.{AreInText, CanWrite, IsInText, bound}
 use Rattle.naga_wgsl_fns.specs.declared.functions.FunctionText.{FunctionText}
 
 -- ---- the handles of an `Emit`
-pub first_in_text : (f : FunctionText) (b : Bool) (h : ℕ) (hs : List ℕ) →
-    AreInText f (if b then h ∷ hs else hs) → IsTrue b → IsInText f h
-first_in_text f true h hs are is = are.0
-first_in_text f false h hs are is = absurd cc
+pub first_of : (P : ℕ → Type 0) (b : Bool) (h : ℕ) (hs : List ℕ) → AllByRecursion P (if b then h ∷ hs else hs) → IsTrue b → P h
+first_of P true h hs are is = are.0
+first_of P false h hs are is = absurd cc
 
-pub others_in_text : (f : FunctionText) (b : Bool) (h : ℕ) (hs : List ℕ) →
-    AreInText f (if b then h ∷ hs else hs) → AreInText f hs
-others_in_text f true h hs are = are.1
-others_in_text f false h hs are = are
+pub others_of : (P : ℕ → Type 0) (b : Bool) (h : ℕ) (hs : List ℕ) → AllByRecursion P (if b then h ∷ hs else hs) → AllByRecursion P hs
+others_of P true h hs are = are.1
+others_of P false h hs are = are
 
 -- ---- what is in range
 abbrev AllWithin : ℕ → List ℕ → Type 0
@@ -54,30 +70,146 @@ both_within : (count : ℕ) (xs ys : List ℕ) → AllWithin count xs → AllWit
 both_within count [] ys one other = other
 both_within count (x ∷ xs) ys one other = (one.0, both_within count xs ys one.1 other)
 
+module _ (count : ℕ) where
+  -- a handle, perhaps one, and several
+  one_within : (h : ℕ) → IsTrue (nat_lt h count) → AllWithin count (h ∷ [])
+  one_within h is = (ltb-true h count is, tt)
+
+  some_within : (o : Option ℕ) → IsTrue (is_below count o) → AllWithin count (option_to_list o)
+  some_within None is = tt
+  some_within (Some h) is = one_within h is
+
+  listed_within : (hs : List ℕ) → IsTrue (all_below count hs) → AllWithin count hs
+  listed_within [] is = tt
+  listed_within (h ∷ hs) is =
+      let parts = and_parts (nat_lt h count) (all_below count hs) is in
+      (ltb-true h count parts.0, listed_within hs parts.1)
+
+  compared_within : (fun : AtomicFunction) → IsTrue (atomic_in_range count fun) → AllWithin count (atomic_operands fun)
+  compared_within (atomic_function.Exchange compare) is = some_within compare is
+  compared_within _ is = tt
+
+  told_within : (mode : GatherMode) → IsTrue (gather_in_range count mode) → AllWithin count (gather_operands mode)
+  told_within gather.BroadcastFirst is = tt
+  told_within (gather.Broadcast h) is = one_within h is
+  told_within (gather.Shuffle h) is = one_within h is
+  told_within (gather.ShuffleDown h) is = one_within h is
+  told_within (gather.ShuffleUp h) is = one_within h is
+  told_within (gather.ShuffleXor h) is = one_within h is
+  told_within (gather.QuadBroadcast h) is = one_within h is
+  told_within (gather.QuadSwap direction) is = tt
+
 module _ (binds : ℕ → Bool) (callees count : ℕ) where
   emitted_within : (first end n : ℕ) → end - first ≡ n → end ≤ count → AllWithin count (from first n)
   emitted_within first end zero e le = tt
   emitted_within first end (suc n) e le = ranged count first (suc n) (omega (arith, e, le))
 
-  statement_within : (st : StatementTree) → IsTrue (statement_is_written st) →
-      IsTrue (statement_in_range callees count st) → AllWithin count (statement_roots binds st)
-  statement_within (simple (emit first end)) written range =
+  line_within : (st : SimpleStatement) → IsTrue (statement_in_range callees count (simple st)) → AllWithin count (simple_roots binds st)
+  line_within (emit first end) range =
       let le = emit_within callees count first end range in
       filtered count binds (from first (end - first)) (emitted_within first end (end - first) refl le)
-  statement_within (simple (store pointer value)) written range =
-      let parts = store_within callees count pointer value range in (parts.0, (parts.1, tt))
-  statement_within (simple (return None)) written range = tt
-  statement_within (simple (return (Some value))) written range = (ltb-true value count range, tt)
-  statement_within _ written range = absurd cc
+  line_within (return value) range = some_within count value range
+  line_within (store pointer value) range =
+      let parts = and_parts (nat_lt pointer count) (nat_lt value count) range in
+      (ltb-true pointer count parts.0, one_within count value parts.1)
+  line_within (image_store image coordinate array_index value) range =
+      let one = and_parts (nat_lt image count) (nat_lt coordinate count && (is_below count array_index && nat_lt value count)) range in
+      let two = and_parts (nat_lt coordinate count) (is_below count array_index && nat_lt value count) one.1 in
+      let three = and_parts (is_below count array_index) (nat_lt value count) two.1 in (
+        ltb-true image count one.0,
+        (ltb-true coordinate count two.0, both_within count (option_to_list array_index) (value ∷ []) (some_within count array_index three.0) (one_within count value three.1)),
+      )
+  line_within (atomic pointer fun value outcome) range =
+      let one = and_parts (nat_lt pointer count) (atomic_in_range count fun && (nat_lt value count && is_below count outcome)) range in
+      let two = and_parts (atomic_in_range count fun) (nat_lt value count && is_below count outcome) one.1 in
+      let three = and_parts (nat_lt value count) (is_below count outcome) two.1 in
+      (ltb-true pointer count one.0, both_within count (atomic_operands fun) (value ∷ []) (compared_within count fun two.0) (one_within count value three.0))
+  line_within (image_atomic image coordinate array_index fun value) range =
+      let one = and_parts (nat_lt image count) (nat_lt coordinate count && (is_below count array_index && (atomic_in_range count fun && nat_lt value count))) range in
+      let two = and_parts (nat_lt coordinate count) (is_below count array_index && (atomic_in_range count fun && nat_lt value count)) one.1 in
+      let three = and_parts (is_below count array_index) (atomic_in_range count fun && nat_lt value count) two.1 in
+      let four = and_parts (atomic_in_range count fun) (nat_lt value count) three.1 in (
+        ltb-true image count one.0,
+        (
+          ltb-true coordinate count two.0,
+          both_within count (option_to_list array_index ++ atomic_operands fun) (value ∷ [])
+              (both_within count (option_to_list array_index) (atomic_operands fun) (some_within count array_index three.0) (compared_within count fun four.0))
+              (one_within count value four.1),
+        ),
+      )
+  line_within (work_group_uniform_load pointer outcome) range = one_within count pointer (and_parts (nat_lt pointer count) (nat_lt outcome count) range).0
+  line_within (call function arguments outcome) range =
+      let one = and_parts (nat_lt function callees) (all_below count arguments && is_below count outcome) range in
+      listed_within count arguments (and_parts (all_below count arguments) (is_below count outcome) one.1).0
+  line_within (ray_query query) range = one_within count query range
+  line_within (subgroup_ballot outcome predicate) range = some_within count predicate (and_parts (nat_lt outcome count) (is_below count predicate) range).1
+  line_within (subgroup_gather mode argument outcome) range =
+      let one = and_parts (gather_in_range count mode) (nat_lt argument count && nat_lt outcome count) range in
+      (ltb-true argument count (and_parts (nat_lt argument count) (nat_lt outcome count) one.1).0, told_within count mode one.0)
+  line_within (subgroup_collective_operation op collective argument outcome) range = one_within count argument (and_parts (nat_lt argument count) (nat_lt outcome count) range).0
+  line_within (cooperative_store target place) range =
+      let one = and_parts (nat_lt target count) (cooperative_in_range count place) range in
+      let two = and_parts (nat_lt place.pointer count) (nat_lt place.stride count) one.1 in
+      (ltb-true target count one.0, (ltb-true place.pointer count two.0, one_within count place.stride two.1))
+  line_within (ray_pipeline_function (TraceRay structure descriptor payload)) range =
+      let one = and_parts (nat_lt structure count) (nat_lt descriptor count && nat_lt payload count) range in
+      let two = and_parts (nat_lt descriptor count) (nat_lt payload count) one.1 in
+      (ltb-true structure count one.0, (ltb-true descriptor count two.0, one_within count payload two.1))
+  line_within _ range = tt
 
-  block_within : (b : BlockTree) → IsTrue (block_is_written b) →
-      IsTrue (block_in_range callees count b) → AllWithin count (block_roots binds b)
-  block_within no_statements written range = tt
-  block_within (statement st b) written range =
-      let parts = written_parts (statement st b) b st written refl in
-      let ranges = range_parts callees count (statement st b) b st range refl in
-      both_within count (statement_roots binds st) (block_roots binds b)
-      (statement_within st parts.0 ranges.0) (block_within b parts.1 ranges.1)
+  -- the result of a statement
+  pub result_within : (st : SimpleStatement) (h : ℕ) → IsTrue (statement_in_range callees count (simple st)) → simple_result st ≡ Some h → h < count
+  result_within st h range is = by (simple_result st) (below st range) is
+    where
+      by : (o : Option ℕ) → IsTrue (is_below count o) → o ≡ Some h → h < count
+      by None below is = absurd cc
+      by (Some r) below is = ltb-true h count (ap (λ o. is_below count o) (sym is) ∙ below)
+
+      below : (st : SimpleStatement) → IsTrue (statement_in_range callees count (simple st)) → IsTrue (is_below count (simple_result st))
+      below (atomic pointer fun value outcome) range =
+          let one = and_parts (nat_lt pointer count) (atomic_in_range count fun && (nat_lt value count && is_below count outcome)) range in
+          let two = and_parts (atomic_in_range count fun) (nat_lt value count && is_below count outcome) one.1 in
+          (and_parts (nat_lt value count) (is_below count outcome) two.1).1
+      below (work_group_uniform_load pointer outcome) range = (and_parts (nat_lt pointer count) (nat_lt outcome count) range).1
+      below (call function arguments outcome) range =
+          let one = and_parts (nat_lt function callees) (all_below count arguments && is_below count outcome) range in
+          (and_parts (all_below count arguments) (is_below count outcome) one.1).1
+      below (subgroup_ballot outcome predicate) range = (and_parts (nat_lt outcome count) (is_below count predicate) range).0
+      below (subgroup_gather mode argument outcome) range =
+          let one = and_parts (gather_in_range count mode) (nat_lt argument count && nat_lt outcome count) range in
+          (and_parts (nat_lt argument count) (nat_lt outcome count) one.1).1
+      below (subgroup_collective_operation op collective argument outcome) range = (and_parts (nat_lt argument count) (nat_lt outcome count) range).1
+      below _ range = refl
+
+  mutual
+    statement_within : (st : StatementTree) → IsTrue (statement_in_range callees count st) → AllWithin count (statement_roots binds st)
+    statement_within (simple st) range = line_within st range
+    statement_within (block b) range = block_within b range
+    statement_within (branch c a r) range =
+        let one = and_parts (nat_lt c count) (block_in_range callees count a && block_in_range callees count r) range in
+        let two = and_parts (block_in_range callees count a) (block_in_range callees count r) one.1 in
+        (ltb-true c count one.0, both_within count (block_roots binds a) (block_roots binds r) (block_within a two.0) (block_within r two.1))
+    statement_within (switch h cs) range =
+        let one = and_parts (nat_lt h count) (cases_in_range callees count cs) range in
+        (ltb-true h count one.0, cases_within cs one.1)
+    statement_within (loop b c e) range =
+        let one = and_parts (block_in_range callees count b) (block_in_range callees count c && is_below count e) range in
+        let two = and_parts (block_in_range callees count c) (is_below count e) one.1 in
+        both_within count (block_roots binds b) (block_roots binds c ++ option_to_list e) (block_within b one.0)
+        (both_within count (block_roots binds c) (option_to_list e) (block_within c two.0) (some_within count e two.1))
+
+    block_within : (b : BlockTree) → IsTrue (block_in_range callees count b) → AllWithin count (block_roots binds b)
+    block_within no_statements range = tt
+    block_within (statement st b) range =
+        let ranges = and_parts (statement_in_range callees count st) (block_in_range callees count b) range in
+        both_within count (statement_roots binds st) (block_roots binds b) (statement_within st ranges.0) (block_within b ranges.1)
+
+    cases_within : (cs : CaseTrees) → IsTrue (cases_in_range callees count cs) → AllWithin count (cases_roots binds cs)
+    cases_within no_cases range = tt
+    cases_within (case v b falls cs) range =
+        let one = and_parts (label_fits_32_bits v) (block_in_range callees count b && cases_in_range callees count cs) range in
+        let two = and_parts (block_in_range callees count b) (cases_in_range callees count cs) one.1 in
+        both_within count (block_roots binds b) (cases_roots binds cs) (block_within b two.0) (cases_within cs two.1)
 
 -- ---- what is in the text
 module _ (t : FunctionText) (can : CanWrite t) where
@@ -94,7 +226,7 @@ module _ (t : FunctionText) (can : CanWrite t) where
       let closed = written_are_closed t.shader.now t.module_info.now f t.info.now in
       in_text (block_roots (bound t) f.body)
       (block_within (bound t) t.handle (length f.expressions) f.body
-      (body_is_written f can.written) (ranges_are t.shader.now t.handle f can.ranges).1)
+      (ranges_are t.shader.now t.handle f can.ranges).1)
       closed.body
 
   pub first_in_range : (l : ℕ) (v : LocalVariable) →
@@ -107,3 +239,24 @@ module _ (t : FunctionText) (can : CanWrite t) where
           AllWithin (length t.function.now.expressions) (option_to_list o)
       within None is = tt
       within (Some h) is = (ltb-true h (length t.function.now.expressions) is, tt)
+
+-- ---- results
+let_named : (binds : ℕ → Bool) (st : SimpleStatement) (h : ℕ) → simple_result st ≡ Some h → simple_lets binds st ≡ h ∷ []
+let_named binds (emit first end) h is = absurd cc
+let_named binds _ h is = ap option_to_list is
+
+-- the result of a statement of a function is one of its expressions, and a `let` names it
+pub outcome_inside : (t : FunctionText) (st : StatementTree) (h : ℕ) → CanWriteStatement t st → own_result st ≡ Some h →
+    (h < length t.function.now.expressions) × IsLet t h
+outcome_inside t (simple st) h w is =
+    (result_within (bound t) t.handle (length t.function.now.expressions) st h w.in_range is, (subst (AreLets t) (let_named (bound t) st h is) w.lets).0)
+outcome_inside t _ h w is = absurd cc
+
+-- ---- the body
+pub body_of : (t : FunctionText) → CanWrite t → CanWriteBlock t t.function.now.body
+body_of t can = record {
+  in_range = (ranges_are t.shader.now t.handle t.function.now can.ranges).1;
+  formed = can.formed.statements;
+  roots = body_in_text t can;
+  lets = all_among (block_lets (bound t) t.function.now.body) (λ h among. among);
+}

@@ -13,24 +13,25 @@ use Rattle.naga_form.proofs.TypeTrees.{only_text, lacks_unknown, type_row, inner
 use Rattle.naga_names.specs.Keys.{NameMap, names_in}
 use Rattle.naga_info.specs.declared.info.TypeResolution.{TypeResolution}
 use Rattle.naga_info.specs.declared.info.TypeResolution.TheVariants as resolution
-use Rattle.naga_words.specs.Parts.{Part, Word, Shown, Missing}
-use Rattle.naga_words.specs.Parts.{IsText, before_missing, known_text, lacks}
-use Rattle.naga_words.proofs.PartWriting.{reason_as}
+use Rattle.naga_words.specs.Segments.{Segment, Word, Shown, Missing}
+use Rattle.naga_words.specs.Segments.{IsText, before_missing, known_text, lacks}
+use Rattle.naga_words.proofs.SegmentWriting.{reason_as}
 use Rattle.naga_words.specs.Contexts.{names_of, names_context}
 use Rattle.naga_words.specs.Spelling.{FitsResolution, IsInOrder}
-use Rattle.naga_words.specs.Spelling.{knows_override, type_parts, resolution_parts}
+use Rattle.naga_words.specs.Spelling.{knows_override, type_segments, resolution_segments}
 use Rattle.naga_words.specs.Sink.{IsBehind}
 use Rattle.naga_form.specs.TypeTrees.{resolution_tree}
 use Rattle.naga_words.specs.declared.error.TypeTextError.{TypeTextError}
 use Rattle.wgsl_text.specs.Reading.{type_layout}
 use Rattle.module_meaning.specs.Names.{HasNamesOf, module_names}
-use Rattle.naga_words.specs.Output.{Follows, Goes, Lies, PartsFollow, PartsGo, PartsLie, OutputView}
-use Rattle.naga_words.specs.Output.{SpelledParts, Wrote, joined_texts}
+use Rattle.naga_words.specs.Output.{Follows, Goes, Lies, SegmentsFollow, SegmentsGo, SegmentsLie}
+use Rattle.naga_words.specs.Output.{OutputView}
+use Rattle.naga_words.specs.Output.{SpelledSegments, Wrote, joined_texts}
 use Rattle.naga_wgsl_fns.specs.declared.functions.FunctionText.{FunctionText}
 use Rattle.naga_wgsl_fns.specs.FunctionText.{CanWrite}
 use Rattle.naga_wgsl_fns.specs.ModuleText.{CanWriteOf}
 use Rattle.naga_wgsl_fns.proofs.ModuleTexts.{can_of}
-use Rattle.module_meaning.specs.AlikeTypes.{form_within, found_form_by, handle_form, has_form}
+use Rattle.module_meaning.specs.AlikeTypes.{key_within, found_key_by, handle_key, is_spelled}
 use Rattle.module_meaning.specs.Ranges.{resolution_fits}
 use Rattle.module_meaning.specs.Types.{type_names}
 use Rattle.naga_form.proofs.PartTypes.{known_before, known_within, named_alike, no_overrides}
@@ -44,42 +45,44 @@ use Rattle.std.proofs.lemmas.Bool.{ltb-true}
 use Rattle.naga_wgsl_fns.specs.Types.{annotation_text, resolution_text, spelled_text, type_text}
 
 -- where each part is known, none is refused
-whole_word : (w : List ℕ) (ps : List Part) (t : List ℕ) (o : Option (List ℕ)) → known_text ps ≡ o → ((u : List ℕ) → known_text ps ≡ Some u → before_missing ps ≡ ps) → option_map (λ r. w ++ r) o ≡ Some t → before_missing (Word w ∷ ps) ≡ Word w ∷ ps
+whole_word : (w : List ℕ) (ps : List Segment) (t : List ℕ) (o : Option (List ℕ)) →
+    known_text ps ≡ o → ((u : List ℕ) → known_text ps ≡ Some u → before_missing ps ≡ ps) →
+    option_map (λ r. w ++ r) o ≡ Some t → before_missing (Word w ∷ ps) ≡ Word w ∷ ps
 whole_word w ps t None k same e = absurd (cc)
 whole_word w ps t (Some u) k same e = ap (λ qs. Word w ∷ qs) (same u k)
 
-known_whole : (ps : List Part) (t : List ℕ) → known_text ps ≡ Some t → before_missing ps ≡ ps
+known_whole : (ps : List Segment) (t : List ℕ) → known_text ps ≡ Some t → before_missing ps ≡ ps
 known_whole [] t e = refl
 known_whole (Word w ∷ ps) t e = whole_word w ps t (known_text ps) refl (λ u k. known_whole ps u k) e
 known_whole (Shown ∷ ps) t e = absurd (cc)
 known_whole (Missing ∷ ps) t e = absurd (cc)
 
 -- parts of known text, written to an output
-module _ (ps : List Part) (t : List ℕ) (known : known_text ps ≡ Some t) where
+module _ (ps : List Segment) (t : List ℕ) (known : known_text ps ≡ Some t) where
   lacks_nothing : lacks ps ≡ true → ⊥
   lacks_nothing lack = let none : Some t ≡ None = sym known ∙ lacks_unknown ps lack in cc
 
   module _ (refuses : Bool) (before after : OutputView) where
-    known_lies : (want : Option TypeTextError) → PartsLie refuses ps before after want
-        → Lies before.held before.failures t after.held after.failures want
+    known_lies : (want : Option TypeTextError) → SegmentsLie refuses ps before after want
+        → Lies before.content before.failures t after.content after.failures want
     known_lies None lies =
         let only = only_text ps lies.0.text t lies.0.is_text known in
-        (lies.0.behind ∙ ap (λ u. before.held ++ u) only, lies.1)
+        (lies.0.behind ∙ ap (λ u. before.content ++ u) only, lies.1)
     known_lies (Some want) lies =
         let whole = subst (λ qs. IsText qs lies.0.whole) (known_whole ps t known) lies.0.is_text in
         let only = only_text ps lies.0.whole t whole known in (
-          subst (λ u. IsBehind before.held u after.held) only lies.0.behind,
+          subst (λ u. IsBehind before.content u after.content) only lies.0.behind,
           reason_as (λ refused. lacks_nothing refused.1) before.failures after.failures want lies.1,
         )
 
-    known_follows : (want : Option TypeTextError) → PartsFollow want refuses ps before after
+    known_follows : (want : Option TypeTextError) → SegmentsFollow want refuses ps before after
         → Follows want before t after
     known_follows None follow = known_lies after.want follow
     known_follows (Some want) follow = follow
 
-  pub known_wrote : {refuses : Bool} {before after : OutputView} → SpelledParts refuses before after ps
+  pub known_wrote : {refuses : Bool} {before after : OutputView} → SpelledSegments refuses before after ps
       → Wrote before after t
-  unfolding PartsGo Goes
+  unfolding SegmentsGo Goes
   known_wrote {refuses} {before} {after} w =
       record { goes = (known_follows refuses before after before.want w.goes.0, w.goes.1) }
 
@@ -88,16 +91,18 @@ pub annotation_row : (f : FunctionText) (ty : TypeResolution) → annotation_tex
 unfolding annotation_text joined_texts
 annotation_row f ty = refl
 
-row_of : (types : List Type_) (names : NameMap) (r : TypeResolution) → known_text (resolution_parts (names_context types names) r) ≡ option_map type_layout (resolution_tree (names_of types names) r)
+row_of : (types : List Type_) (names : NameMap) (r : TypeResolution) →
+    known_text (resolution_segments (names_context types names) r) ≡ option_map type_layout
+    (resolution_tree (names_of types names) r)
 row_of types names (resolution.Handle h) = type_row text-append (names_of types names) (λ handle. true) h
 row_of types names (resolution.Value i) = inner_tree_row text-append (names_of types names) (λ handle. true) i
 
 -- a type of the module that has a form is there
-pub formed_within : (types : List Type_) (ty : ℕ) → IsTrue (has_form types (resolution.Handle ty)) → ty < length types
-unfolding handle_form
+pub formed_within : (types : List Type_) (ty : ℕ) → IsTrue (is_spelled types (resolution.Handle ty)) → ty < length types
+unfolding handle_key
 formed_within types ty is = by (slice_get types ty) refl is
   where
-    by : (o : Option Type_) → slice_get types ty ≡ o → is_some (found_form_by (form_within ty types) ty o) ≡ true → ty < length types
+    by : (o : Option Type_) → slice_get types ty ≡ o → is_some (found_key_by (key_within ty types) ty o) ≡ true → ty < length types
     by None at is = absurd (cc)
     by (Some t) at is = slice_get_within types ty t at
 
@@ -130,22 +135,28 @@ module _ (m : Module) (can : CanWriteOf m) (names : NameMap) where
 
   module _ (named : HasNamesOf m names) where
     -- the spelling of a type that has a form, under the map's names, which are the module's
-    formed_known : (r : TypeResolution) → IsTrue (has_form m.types r) → ((it : TypeInner) → r ≡ resolution.Value it → length_within 0 it ≡ true) → known_text (resolution_parts (names_context m.types names) r) ≡ Some (type_layout (unwrap_or (resolution_tree (type_names m) r) (Named [])))
+    formed_known : (r : TypeResolution) → IsTrue (is_spelled m.types r) →
+        ((it : TypeInner) → r ≡ resolution.Value it → length_within 0 it ≡ true) →
+        known_text (resolution_segments (names_context m.types names) r) ≡
+        Some (type_layout (unwrap_or (resolution_tree (type_names m) r) (Named [])))
     formed_known r formed within =
         let t = tree_there (type_names m) r formed in
         let same = resolution_same m.types names (module_names m)
-        (named_alike m can.info can.accepted can.of_part names named) r within in
+        (named_alike m can.info can.accepted can.is_supported names named) r within in
         row_of m.types names r ∙ ap (option_map type_layout) (same ∙ t.1)
         ∙ ap (λ o. Some (type_layout (unwrap_or o (Named [])))) (sym t.1)
 
-    pub type_known : (ty : ℕ) → IsTrue (has_form m.types (resolution.Handle ty)) → known_text (type_parts (names_context m.types names) ty) ≡ Some (spelled_text m ty)
+    pub type_known : (ty : ℕ) → IsTrue (is_spelled m.types (resolution.Handle ty)) → known_text (type_segments (names_context m.types names) ty) ≡ Some (spelled_text m ty)
     unfolding spelled_text
     type_known ty formed = formed_known (resolution.Handle ty) formed (λ it is. absurd (cc))
 
-    pub resolution_spelled : (r : TypeResolution) → IsTrue (has_form m.types r) → IsTrue (resolution_fits (length m.overrides) (length m.types) r) → known_text (resolution_parts (names_context m.types names) r) ≡ Some (type_layout (unwrap_or (resolution_tree (type_names m) r) (Named [])))
+    pub resolution_spelled : (r : TypeResolution) → IsTrue (is_spelled m.types r) →
+        IsTrue (resolution_fits (length m.overrides) (length m.types) r) →
+        known_text (resolution_segments (names_context m.types names) r) ≡
+        Some (type_layout (unwrap_or (resolution_tree (type_names m) r) (Named [])))
     resolution_spelled r formed fits =
         formed_known r formed
-        (λ it is. subst (λ n. length_within n it ≡ true) (no_overrides m can.info can.accepted can.of_part)
+        (λ it is. subst (λ n. length_within n it ≡ true) (no_overrides m can.info can.accepted can.is_supported)
         (known_within m can.info can.accepted r fits it is))
 
 -- ---- of a function's module
@@ -154,9 +165,9 @@ unfolding spelled_text type_text
 type_same f ty = refl
 
 pub resolution_known : (f : FunctionText) (can : CanWrite f) (r : TypeResolution) →
-    IsTrue (has_form f.shader.now.types r) →
+    IsTrue (is_spelled f.shader.now.types r) →
     IsTrue (resolution_fits (length f.shader.now.overrides) (length f.shader.now.types) r) →
-    known_text (resolution_parts (names_context f.shader.now.types (names_in f.names.now)) r) ≡
+    known_text (resolution_segments (names_context f.shader.now.types (names_in f.names.now)) r) ≡
     Some (resolution_text f r)
 unfolding resolution_text
 resolution_known f can = resolution_spelled f.shader.now (can_of f can) (names_in f.names.now) can.named

@@ -1,8 +1,8 @@
 -- The texts of variables of the module, as values and as references.
 use Rattle.std.proofs.Common.{◌≡◌, ℕ, true, false, List, codes, sym, ap, ◌∙◌}
 use Rattle.std.specs.Prelude.{if◌then◌else◌}
-use Rattle.naga_form.specs.Expressions.{is_held}
-use Rattle.naga_scope.specs.declared.points.Standing.{Standing}
+use Rattle.naga_form.specs.Expressions.{is_handle_variable}
+use Rattle.naga_scope.specs.declared.points.Availability.{Availability}
 use Rattle.naga_words.specs.Output.{joined_texts}
 use Rattle.naga_wgsl_fns.specs.Expressions.{global_address_text, global_reference_text}
 use Rattle.naga_wgsl_fns.specs.Expressions.{global_value_text, pointed_text}
@@ -21,26 +21,28 @@ global_address_row f variable =
     (name_text (name_of_global f variable))
 
 -- one that is held is a value, and any other a reference
-pub held_value : (f : FunctionText) (variable : ℕ) → is_held f.shader.now variable ≡ true →
+pub handle_variable_value : (f : FunctionText) (variable : ℕ) →
+    is_handle_variable f.shader.now variable ≡ true →
     name_of_global f variable ≡ global_value_text f variable
 unfolding global_value_text
-held_value f variable is =
+handle_variable_value f variable is =
     sym (ap (λ b. if b then name_of_global f variable else global_address_text f variable) is)
 
-pub kept_value : (f : FunctionText) (variable : ℕ) → is_held f.shader.now variable ≡ false →
+pub kept_value : (f : FunctionText) (variable : ℕ) →
+    is_handle_variable f.shader.now variable ≡ false →
     global_address_text f variable ≡ global_value_text f variable
 unfolding global_value_text
 kept_value f variable is =
     sym (ap (λ b. if b then name_of_global f variable else global_address_text f variable) is)
 
-module _ (f : FunctionText) (table : List Standing) (handle variable : ℕ) where
-  pub held_reference : is_held f.shader.now variable ≡ true →
+module _ (f : FunctionText) (table : List Availability) (handle variable : ℕ) where
+  pub handle_variable_reference : is_handle_variable f.shader.now variable ≡ true →
       pointed_text f table handle ≡ global_reference_text f table handle variable
   unfolding global_reference_text
-  held_reference is =
+  handle_variable_reference is =
       sym (ap (λ b. if b then pointed_text f table handle else name_of_global f variable) is)
 
-  pub kept_reference : is_held f.shader.now variable ≡ false →
+  pub kept_reference : is_handle_variable f.shader.now variable ≡ false →
       name_of_global f variable ≡ global_reference_text f table handle variable
   unfolding global_reference_text
   kept_reference is =

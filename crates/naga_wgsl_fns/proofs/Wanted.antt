@@ -29,19 +29,18 @@ use Rattle.naga_ir.specs.declared.types.CooperativeSize.{CooperativeSize}
 use Rattle.naga_ir.specs.declared.types.VectorSize.{VectorSize}
 use Rattle.naga_info.specs.declared.info.ExpressionInfo.{ExpressionInfo}
 use Rattle.module_meaning.proofs.Lists.{list_all_at}
-use Rattle.module_meaning.proofs.Part.{form_of_spellable, has_form_parts, written_so_far_parts}
+use Rattle.module_meaning.proofs.WrittenSoFar.{spelled_of_spellable, has_form_parts}
+use Rattle.module_meaning.proofs.WrittenSoFar.{written_so_far_parts}
 use Rattle.module_meaning.specs.Sampling.{own_offset_is_written}
 use Rattle.naga_ir.specs.declared.expression.ImageQuery.{ImageQuery}
 use Rattle.naga_ir.specs.declared.expression.SampleLevel.{SampleLevel}
 use Rattle.std.proofs.Common.{Bool, max}
-use Rattle.naga_wgsl_fns.specs.FunctionText.{given_in}
+use Rattle.naga_wgsl_fns.specs.FunctionText.{named_in}
 use Rattle.naga_wgsl_fns.specs.FunctionText.{AreInText}
 use Rattle.module_meaning.specs.FunctionShapes.{statement_shape}
 use Rattle.module_meaning.specs.Names.{module_names, name_in, numbered_name}
-use Rattle.module_meaning.specs.OperatorTable.{relational_word}
-use Rattle.module_meaning.specs.AlikeTypes.{has_form}
-use Rattle.module_meaning.specs.Part.{constant_is_written, expression_is_written, known_passes}
-use Rattle.module_meaning.specs.Part.{is_written_literal}
+use Rattle.module_meaning.specs.AlikeTypes.{is_spelled}
+use Rattle.module_meaning.specs.WrittenSoFar.{expression_is_written, known_passes}
 use Rattle.naga_form.proofs.AcceptedGroups.{fits_in_range, known_fits, known_is_fit}
 use Rattle.naga_form.proofs.PartTypes.{known_before}
 use Rattle.naga_info.specs.declared.info.ModuleInfo.{ModuleInfo}
@@ -80,29 +79,28 @@ use Rattle.module_meaning.specs.Ranges.{is_below, local_in_range, names_in_range
 use Rattle.module_meaning.specs.Premises.{OperandsStandBefore}
 use Rattle.module_meaning.specs.Types.{type_names}
 use Rattle.shader_runs.specs.Premises.{AllBelow}
-use Rattle.shader_runs.specs.Scope.{given_after, given_by}
+use Rattle.shader_runs.specs.Scope.{named_after, named_by}
 use Rattle.naga_form.proofs.AcceptedFunctions.{locals_are_in_range, names_are_in_range}
-use Rattle.naga_form.proofs.Fits.{given_by_is, given_is, given_one}
-use Rattle.module_meaning.specs.GivenLabels.{label_of, labels_in}
-use Rattle.naga_scope.specs.Standings.{name_of_bound, next_name}
+use Rattle.naga_form.proofs.Fits.{named_by_is, named_is, named_one}
+use Rattle.module_meaning.specs.ExpressionLabels.{label_of, labels_in}
+use Rattle.naga_scope.specs.Availabilities.{name_of_bound, next_name}
 use Rattle.naga_wgsl_fns.specs.Names.{bound_text, next_name_text}
 use Rattle.naga_form.proofs.Ordered.{operands_stand_before}
 use Rattle.naga_form.proofs.WrittenTypes.{struct_undeclared, tree_there}
 use Rattle.naga_wgsl_fns.proofs.Members.{found_none, found_struct, member_selected, no_struct}
 use Rattle.naga_form.specs.TypeTrees.{resolution_tree}
-use Rattle.naga_form.specs.Types.{told_type}
+use Rattle.naga_form.specs.Types.{annotated_type}
 use Rattle.wgsl_text.specs.Reading.{type_layout}
-use Rattle.wgsl_words.specs.Words.{math_word}
 use Rattle.wgsl_text.specs.Types.{Named, TypeSpecifier}
 use Rattle.naga_wgsl_fns.specs.declared.functions.FunctionText.{FunctionText}
-use Rattle.naga_wgsl_fns.specs.FunctionText.{CanWrite, IsEmitted, IsInText, around, bound, naming}
-use Rattle.naga_wgsl_fns.specs.FunctionText.{tells_types}
+use Rattle.naga_wgsl_fns.specs.FunctionText.{CanWrite, IsInText, IsLet, context, naming}
+use Rattle.naga_wgsl_fns.specs.FunctionText.{annotates_types}
 use Rattle.module_meaning.specs.Written.{IsWrittenIn, OfArgument, OfLet, OfLocal, OfResult}
 use Rattle.naga_form.proofs.WrittenHandles.{all_front, all_rest, written_are_closed}
 use Rattle.std.specs.List.{AllByRecursion}
 use Rattle.std.proofs.Common.{◌∷◌}
-use Rattle.naga_wgsl_fns.specs.Types.{annotation_text, resolution_text, told_text}
-use Rattle.naga_wgsl_fns.specs.Types.{told_type_text}
+use Rattle.naga_wgsl_fns.specs.Types.{annotation_text, resolution_text, let_annotation_text}
+use Rattle.naga_wgsl_fns.specs.Types.{annotation_if}
 
 -- an expression is of none of these kinds, which are those that are written so far
 pub record IsNoOther (e : Expression) : Type 0 where
@@ -211,36 +209,38 @@ module _ (t : FunctionText) (can : CanWrite t) where
 
   -- ---- types
   -- the types of arguments, of the result and of locals have forms
-  pub argument_is_formed : (n : ℕ) (a : argument.FunctionArgument) → slice_get f.arguments.items n ≡ Some a → IsTrue (has_form m.types (resolution.Handle a.ty))
+  pub argument_is_formed : (n : ℕ) (a : argument.FunctionArgument) → slice_get f.arguments.items n ≡ Some a → IsTrue (is_spelled m.types (resolution.Handle a.ty))
   argument_is_formed n a here =
-      form_of_spellable m (resolution.Handle a.ty)
+      spelled_of_spellable m (resolution.Handle a.ty)
       (can.formed.types (resolution.Handle a.ty) (OfArgument n a here))
 
-  pub answer_is_formed : (r : FunctionResult) → f.result ≡ Some r → IsTrue (has_form m.types (resolution.Handle r.ty))
+  pub answer_is_formed : (r : FunctionResult) → f.result ≡ Some r → IsTrue (is_spelled m.types (resolution.Handle r.ty))
   answer_is_formed r is =
-      form_of_spellable m (resolution.Handle r.ty)
+      spelled_of_spellable m (resolution.Handle r.ty)
       (can.formed.types (resolution.Handle r.ty) (OfResult r is))
 
-  pub local_is_formed : (l : ℕ) (v : LocalVariable) → slice_get f.local_variables l ≡ Some v → IsTrue (has_form m.types (resolution.Handle v.ty))
+  pub local_is_formed : (l : ℕ) (v : LocalVariable) → slice_get f.local_variables l ≡ Some v → IsTrue (is_spelled m.types (resolution.Handle v.ty))
   local_is_formed l v here =
-      form_of_spellable m (resolution.Handle v.ty)
+      spelled_of_spellable m (resolution.Handle v.ty)
       (can.formed.types (resolution.Handle v.ty) (OfLocal l v here))
 
   -- a local's first value is one of the function's expressions
   local_is_in_range : (l : ℕ) (v : LocalVariable) → slice_get f.local_variables l ≡ Some v → IsTrue (nat_lt v.ty (length m.types)) × IsTrue (is_below (length f.expressions) v.init)
   local_is_in_range l v here =
-      and_parts (nat_lt v.ty (length m.types)) (is_below (length f.expressions) v.init) (list_all_at (local_in_range (length m.types) (length f.expressions)) f.local_variables l v (locals_are_in_range m g f can.ranges) here)
+      and_parts (nat_lt v.ty (length m.types)) (is_below (length f.expressions) v.init)
+      (list_all_at (local_in_range (length m.types) (length f.expressions)) f.local_variables l
+      v (locals_are_in_range m g f can.ranges) here)
 
   pub first_within : (l : ℕ) (v : LocalVariable) → slice_get f.local_variables l ≡ Some v → IsTrue (is_below (length f.expressions) v.init)
   first_within l v here = (local_is_in_range l v here).1
 
   -- ---- what is known of an expression
   -- the type that a `let` tells has a form
-  pub told_is_formed : (h : ℕ) (k : ExpressionInfo) → slice_get es h ≡ Some k →
-      tells_types t.flags ≡ true → IsEmitted t h → bound t h ≡ true →
-      names_undeclared m k.ty ≡ false → IsTrue (has_form m.types k.ty)
-  told_is_formed h k at tells emitted is_bound declared =
-      form_of_spellable m k.ty (can.formed.types k.ty (OfLet h k tells emitted is_bound at declared))
+  pub annotated_is_formed : (h : ℕ) (k : ExpressionInfo) → slice_get es h ≡ Some k →
+      annotates_types t.flags ≡ true → IsLet t h →
+      names_undeclared m k.ty ≡ false → IsTrue (is_spelled m.types k.ty)
+  annotated_is_formed h k at tells named declared =
+      spelled_of_spellable m k.ty (can.formed.types k.ty (OfLet h k tells named at declared))
 
   pub known_resolution_fits : (h : ℕ) (k : ExpressionInfo) → slice_get es h ≡ Some k → IsTrue (resolution_fits (length m.overrides) (length m.types) k.ty)
   known_resolution_fits h k at = known_is_fit m info can.accepted g es can.infos h k at
@@ -249,12 +249,12 @@ module _ (t : FunctionText) (can : CanWrite t) where
   known_in_range h k at = fits_in_range (length m.overrides) m.types k.ty (known_resolution_fits h k at)
 
   pub type_known_is : (h : ℕ) (k : ExpressionInfo) → slice_get es h ≡ Some k →
-      type_known (around t) h ≡ inner_of k.ty m.types
+      type_known (context t) h ≡ inner_of k.ty m.types
   type_known_is h k at = known_type_is m t.module_info.now es h k at
 
   -- what is pointed at is a type of the module
   pub pointee_within : (h : ℕ) (it : TypeInner) (base : ℕ) (at : AddressSpace) → h < length es →
-      type_known (around t) h ≡ Some it → it ≡ inner.Pointer base at → base < length m.types
+      type_known (context t) h ≡ Some it → it ≡ inner.Pointer base at → base < length m.types
   pointee_within h it base at lt known is =
       let k = element es h lt in
       let inside = sym (type_known_is h k.0 k.1) ∙ (known ∙ ap Some is) in
@@ -286,7 +286,7 @@ module _ (t : FunctionText) (can : CanWrite t) where
       let written = (and_parts (known_passes m.types es (has_parts m.types) base) _ may).1 in
       let lt =
       by s.type.inner s.is whole.0
-      (struct_undeclared m (written_so_far_parts m can.of_part).1 whole.0 s.type s.there s.is)
+      (struct_undeclared m (written_so_far_parts m can.is_supported).1 whole.0 s.type s.there s.is)
       (sym
       (ap (λ o. option_map_or
       (λ ty. not (is_struct ty.inner) || member_is_written m whole.0 (members_of ty.inner) index) o
@@ -387,41 +387,41 @@ module _ (t : FunctionText) (can : CanWrite t) where
   known_within_infos h lt = subst (λ n. h < n) can.size lt
 
   -- what is told of a type that is known
-  abbrev told_of : Option ExpressionInfo → Option TypeSpecifier
-  told_of o =
+  abbrev annotated_of : Option ExpressionInfo → Option TypeSpecifier
+  annotated_of o =
       option_and_then
       (λ e. if names_undeclared m e.ty then None else resolution_tree (type_names m) e.ty) o
 
   -- the type that a `let` tells, where it tells one
-  pub told_row : (h : ℕ) (k : ExpressionInfo) → slice_get es h ≡ Some k → tells_types t.flags ≡ true →
-      names_undeclared m k.ty ≡ false → IsTrue (has_form m.types k.ty) →
-      annotation_text t k.ty ≡ told_text t h
-  unfolding annotation_text resolution_text told_text
-  told_row h k at is declared formed =
+  pub annotated_row : (h : ℕ) (k : ExpressionInfo) → slice_get es h ≡ Some k → annotates_types t.flags ≡ true →
+      names_undeclared m k.ty ≡ false → IsTrue (is_spelled m.types k.ty) →
+      annotation_text t k.ty ≡ let_annotation_text t h
+  unfolding annotation_text resolution_text let_annotation_text
+  annotated_row h k at is declared formed =
       let has = tree_there (type_names m) k.ty formed in
       ap (λ o. codes ": " ++ type_layout (unwrap_or o (Named []))) has.1
-      ∙ ap told_type_text
+      ∙ ap annotation_if
       (sym
-      (ap (λ b. told_type b m (type_names m) es h) is
-      ∙ ap told_of at
+      (ap (λ b. annotated_type b m (type_names m) es h) is
+      ∙ ap annotated_of at
       ∙ ap (λ b. if b then None else resolution_tree (type_names m) k.ty) declared ∙ has.1))
 
   -- where it names what no text declares, none is told
   pub undeclared_row : (h : ℕ) (k : ExpressionInfo) → slice_get es h ≡ Some k →
-      names_undeclared m k.ty ≡ true → told_text t h ≡ []
-  unfolding told_text
-  undeclared_row h k at named = by (tells_types t.flags)
+      names_undeclared m k.ty ≡ true → let_annotation_text t h ≡ []
+  unfolding let_annotation_text
+  undeclared_row h k at named = by (annotates_types t.flags)
     where
-      by : (b : Bool) → told_type_text (told_type b m (type_names m) es h) ≡ []
+      by : (b : Bool) → annotation_if (annotated_type b m (type_names m) es h) ≡ []
       by true =
-          ap told_type_text
-          (ap told_of at
+          ap annotation_if
+          (ap annotated_of at
           ∙ ap (λ b. if b then None else resolution_tree (type_names m) k.ty) named)
       by false = refl
 
-  pub untold_row : (h : ℕ) → tells_types t.flags ≡ false → told_text t h ≡ []
-  unfolding told_text
-  untold_row h is = ap (λ b. told_type_text (told_type b m (type_names m) es h)) is
+  pub unannotated_row : (h : ℕ) → annotates_types t.flags ≡ false → let_annotation_text t h ≡ []
+  unfolding let_annotation_text
+  unannotated_row h is = ap (λ b. annotation_if (annotated_type b m (type_names m) es h)) is
 
   -- ---- expressions
   -- one that is written has a form
@@ -433,24 +433,29 @@ module _ (t : FunctionText) (can : CanWrite t) where
       IsTrue (own_offset_is_written f.expressions e)
   offset_has_form h e here is = (has_form_parts m es f.expressions e (can.formed.expressions h e here is.written)).1
 
-  pub literal_is_written : (h : ℕ) (e : Expression) (value : ir_literal.Literal) → slice_get f.expressions h ≡ Some e → IsInText t h → e ≡ expression.Literal value → IsTrue (is_written_literal value)
-  literal_is_written h e value here within is = ap (expression_is_written m es) (sym is) ∙ expression_formed h e here within
+  -- so it is written as what it is: a literal of a type that is written, a constant that has a name or
+  -- whose initialiser is written, a conversion or a load of a matrix that has a form, a function of
+  -- mathematics or a relation that has a word
+  pub written_as : {h : ℕ} {e own : Expression} → slice_get f.expressions h ≡ Some e → IsInText t h →
+      e ≡ own → expression_is_written m es own ≡ true
+  written_as {h} {e} {own} here within is =
+      ap (expression_is_written m es) (sym is) ∙ expression_formed h e here within
 
   -- what an expression names is there
-  names_there : (h : ℕ) (e own : Expression) → slice_get f.expressions h ≡ Some e → e ≡ own → IsTrue (names_in_range m g (length f.arguments.items) (length f.local_variables) own)
-  names_there h e own here is = ap (names_in_range m g (length f.arguments.items) (length f.local_variables)) (sym is) ∙ names_are_in_range m g f can.ranges h e here
+  names_there : (h : ℕ) (e own : Expression) → slice_get f.expressions h ≡ Some e → e ≡ own → IsTrue (names_in_range m (length f.arguments.items) (length f.local_variables) own)
+  names_there h e own here is = ap (names_in_range m (length f.arguments.items) (length f.local_variables)) (sym is) ∙ names_are_in_range m g f can.ranges h e here
 
-  pub argument_within : (h : ℕ) (e : Expression) (n : ℕ) → slice_get f.expressions h ≡ Some e → e ≡ expression.FunctionArgument n → n < length f.arguments.items
-  argument_within h e n here is = ltb-true n (length f.arguments.items) (names_there h e (expression.FunctionArgument n) here is)
+  pub argument_within : (h : ℕ) {e : Expression} {n : ℕ} → slice_get f.expressions h ≡ Some e → e ≡ expression.FunctionArgument n → n < length f.arguments.items
+  argument_within h {e} {n} here is = ltb-true n (length f.arguments.items) (names_there h e (expression.FunctionArgument n) here is)
 
-  pub local_within : (h : ℕ) (e : Expression) (v : ℕ) → slice_get f.expressions h ≡ Some e → e ≡ expression.LocalVariable v → v < length f.local_variables
-  local_within h e v here is = ltb-true v (length f.local_variables) (names_there h e (expression.LocalVariable v) here is)
+  pub local_within : (h : ℕ) {e : Expression} {v : ℕ} → slice_get f.expressions h ≡ Some e → e ≡ expression.LocalVariable v → v < length f.local_variables
+  local_within h {e} {v} here is = ltb-true v (length f.local_variables) (names_there h e (expression.LocalVariable v) here is)
 
-  pub global_within : (h : ℕ) (e : Expression) (v : ℕ) → slice_get f.expressions h ≡ Some e → e ≡ expression.GlobalVariable v → v < length m.global_variables
-  global_within h e v here is = ltb-true v (length m.global_variables) (names_there h e (expression.GlobalVariable v) here is)
+  pub global_within : (h : ℕ) {e : Expression} {v : ℕ} → slice_get f.expressions h ≡ Some e → e ≡ expression.GlobalVariable v → v < length m.global_variables
+  global_within h {e} {v} here is = ltb-true v (length m.global_variables) (names_there h e (expression.GlobalVariable v) here is)
 
-  pub override_within : (h : ℕ) (e : Expression) (o : ℕ) → slice_get f.expressions h ≡ Some e → e ≡ expression.Override o → o < length m.overrides
-  override_within h e o here is = ltb-true o (length m.overrides) (names_there h e (expression.Override o) here is)
+  pub override_within : (h : ℕ) {e : Expression} {o : ℕ} → slice_get f.expressions h ≡ Some e → e ≡ expression.Override o → o < length m.overrides
+  override_within h {e} {o} here is = ltb-true o (length m.overrides) (names_there h e (expression.Override o) here is)
 
   pub ordered : OperandsStandBefore f.expressions
   ordered h e at = operands_stand_before m g f can.ranges h e at
@@ -459,9 +464,9 @@ module _ (t : FunctionText) (can : CanWrite t) where
   all_before h e here = ordered h e here
 
   -- the operands of what is written stand before it, and are written
-  pub operands_in : (h : ℕ) (e own : Expression) → slice_get f.expressions h ≡ Some e → e ≡ own →
+  pub operands_in : {h : ℕ} {e own : Expression} → slice_get f.expressions h ≡ Some e → e ≡ own →
       IsInText t h → AllByRecursion (IsOperand t h) (expression_operands own)
-  operands_in h e own here is within =
+  operands_in {h} {e} {own} here is within =
       subst (λ e. AllByRecursion (IsOperand t h) (expression_operands e)) is
       (both (expression_operands e) (all_before h e here)
       ((written_are_closed m t.module_info.now f es).operands h e here within.written))
@@ -482,10 +487,10 @@ module _ (t : FunctionText) (can : CanWrite t) where
       base_of o ≡ Some base → IsInText t h → IsOperand t h base
   part_in h base (Some (expression.Access b i)) at is within =
       subst (IsOperand t h) (same_Some b base is)
-      (operands_in h (expression.Access b i) (expression.Access b i) at refl within).0
+      (operands_in at refl within).0
   part_in h base (Some (expression.AccessIndex b i)) at is within =
       subst (IsOperand t h) (same_Some b base is)
-      (operands_in h (expression.AccessIndex b i) (expression.AccessIndex b i) at refl within).0
+      (operands_in at refl within).0
   part_in h base (Some _) at is within = absurd cc
   part_in h base None at is within = absurd cc
 
@@ -504,19 +509,11 @@ module _ (t : FunctionText) (can : CanWrite t) where
       subst (λ b. expression_is_written m es (expression.AccessIndex b i) ≡ true) same
       (expression_formed h (expression.AccessIndex b i) there within)
 
-  -- a conversion that is written has a form
-  pub conversion_formed : (h : ℕ) (e : Expression) (x : ℕ) (kind : ScalarKind)
-      (convert : Option ℕ) → slice_get f.expressions h ≡ Some e → IsInText t h →
-      e ≡ expression.As x kind convert →
-      expression_is_written m es (expression.As x kind convert) ≡ true
-  conversion_formed h e x kind convert here within is =
-      ap (expression_is_written m es) (sym is) ∙ expression_formed h e here within
-
   -- what the operand of a conversion is converted to
   pub converted_is : (x : ℕ) (kind : ScalarKind) (convert : Option ℕ) →
       expression_is_written m es (expression.As x kind convert) ≡ true → (from : TypeInner) →
-      type_known (around t) x ≡ Some from →
-      (to : TypeInner) × ((conversion_target from kind convert ≡ Some to) × (has_form m.types (resolution.Value to) ≡ true))
+      type_known (context t) x ≡ Some from →
+      (to : TypeInner) × ((conversion_target from kind convert ≡ Some to) × (is_spelled m.types (resolution.Value to) ≡ true))
   converted_is x kind convert may from known =
       let c = conversion m info es x kind convert may in
       let same = same_Some c.from from (sym c.known ∙ known) in
@@ -536,100 +533,32 @@ module _ (t : FunctionText) (can : CanWrite t) where
       by (expression.AccessIndex b i) is one two = two b i refl
       by _ is one two = absurd cc
 
-  -- a constant has a name, or an initialiser that is written
-  pub constant_passes : (h : ℕ) (e : Expression) (c : ℕ) → slice_get f.expressions h ≡ Some e →
-      IsInText t h → e ≡ expression.Constant c → IsTrue (constant_is_written m c)
-  constant_passes h e c here within is =
-      ap (expression_is_written m es) (sym is) ∙ expression_formed h e here within
-
-  -- functions of mathematics and relations have words
-  pub math_is_written : (h : ℕ) (e : Expression) (fun : MathFunction) (x : ℕ) (y z w : Option ℕ) →
-      slice_get f.expressions h ≡ Some e → IsInText t h → e ≡ expression.Math fun x y z w →
-      IsTrue (is_some (math_word fun))
-  math_is_written h e fun x y z w here within is =
-      ap (expression_is_written m es) (sym is) ∙ expression_formed h e here within
-
-  pub relation_is_written : (h : ℕ) (e : Expression) (fun : RelationalFunction) (x : ℕ) →
-      slice_get f.expressions h ≡ Some e → IsInText t h → e ≡ expression.Relational fun x →
-      IsTrue (is_some (relational_word fun))
-  relation_is_written h e fun x here within is =
-      ap (expression_is_written m es) (sym is) ∙ expression_formed h e here within
-
-  -- the load of a matrix that is written has a form, and is from scalars that are known
-  pub matrix_load_formed : (h : ℕ) (e : Expression) (columns rows : CooperativeSize)
-      (role : CooperativeRole) (place : CooperativeData) → slice_get f.expressions h ≡ Some e →
-      IsInText t h → e ≡ expression.CooperativeLoad columns rows role place →
-      expression_is_written m es (expression.CooperativeLoad columns rows role place) ≡ true
-  matrix_load_formed h e columns rows role place here within is =
-      ap (expression_is_written m es) (sym is) ∙ expression_formed h e here within
-
+  -- the load of a matrix that is written is from scalars that are known
   pub matrix_loaded : (columns rows : CooperativeSize) (role : CooperativeRole)
       (place : CooperativeData) →
       expression_is_written m es (expression.CooperativeLoad columns rows role place) ≡ true →
-      LoadedMatrix m (around t) columns rows role place.pointer
+      LoadedMatrix m (context t) columns rows role place.pointer
   matrix_loaded columns rows role place may = loaded_matrix m info es columns rows role place may
 
   -- the type of which an expression that is written makes a value has a form
-  pub made_value : (h : ℕ) (e own : Expression) (ty : ℕ) → slice_get f.expressions h ≡ Some e →
+  pub made_value : {h : ℕ} {e own : Expression} (ty : ℕ) → slice_get f.expressions h ≡ Some e →
       IsInText t h → e ≡ own →
       expression_is_written m es own ≡ is_spellable m (resolution.Handle ty) →
-      IsTrue (has_form m.types (resolution.Handle ty))
-  made_value h e own ty here within is names =
-      form_of_spellable m (resolution.Handle ty)
-      (sym names ∙ (ap (expression_is_written m es) (sym is) ∙ expression_formed h e here within))
-
-  -- no other expression is written
-  pub no_other_expression : (h : ℕ) (e : Expression) → slice_get f.expressions h ≡ Some e → IsInText t h → IsNoOther e → ⊥
-  no_other_expression h e here within none = by e (expression_formed h e here within) none
-    where
-      by : (e : Expression) → IsTrue (expression_is_written m es e) → IsNoOther e → ⊥
-      by (expression.Literal v) is none = none.literal v refl
-      by (expression.Constant c) is none = none.constant c refl
-      by (expression.Override o) is none = none.overridden o refl
-      by (expression.ZeroValue t) is none = none.zero_value t refl
-      by (expression.Compose t xs) is none = none.composed t xs refl
-      by (expression.Access b i) is none = none.element b i refl
-      by (expression.AccessIndex b i) is none = none.part b i refl
-      by (expression.FunctionArgument n) is none = none.argument n refl
-      by (expression.GlobalVariable v) is none = none.global v refl
-      by (expression.LocalVariable v) is none = none.local_ v refl
-      by (expression.Load p) is none = none.load p refl
-      by (expression.Unary op x) is none = none.unary op x refl
-      by (expression.Binary op l r) is none = none.binary op l r refl
-      by (expression.Select c a r) is none = none.choice c a r refl
-      by (expression.Splat size x) is none = none.splat size x refl
-      by (expression.Swizzle size x pattern) is none = none.swizzle size x pattern refl
-      by (expression.As x kind convert) is none = none.converted x kind convert refl
-      by (expression.Derivative axis how x) is none = none.derivative axis how x refl
-      by (expression.Math fun x y z w) is none = none.mathematical fun x y z w refl
-      by (expression.Relational fun x) is none = none.relational fun x refl
-      by
-          (expression.ImageSample
-          image sampler gather coordinate array_index offset level depth_ref clamp) is none =
-          none.sampled image sampler gather coordinate array_index offset level depth_ref clamp refl
-      by (expression.ImageLoad image coordinate array_index sample level) is none =
-          none.loaded image coordinate array_index sample level refl
-      by (expression.ImageQuery image query) is none = none.asked image query refl
-      by (expression.ArrayLength array) is none = none.counted array refl
-      by (expression.CooperativeLoad columns rows role place) is none =
-          none.matrix_load columns rows role place refl
-      by (expression.CooperativeMultiplyAdd x y z) is none = none.product x y z refl
-      by _ is none = absurd cc
+      IsTrue (is_spelled m.types (resolution.Handle ty))
+  made_value {h} {e} {own} ty here within is names =
+      spelled_of_spellable m (resolution.Handle ty) (sym names ∙ written_as here within is)
 
   -- ---- names of handles
-  pub given_after_one : (h k : ℕ) → given_after (naming t).function h k ≡ k + length (option_to_list (label_of f h))
-  given_after_one h k = given_one m t.module_info.now f es h k
-
-  pub given_after_statement : (st : StatementTree) (k : ℕ) → given_by (naming t).function (statement_shape (around t) st) k ≡ k + length (labels_in f st)
-  given_after_statement st k = given_by_is m t.module_info.now f es st k
+  pub named_after_one : (h k : ℕ) → named_after (naming t).function h k ≡ k + length (option_to_list (label_of f h))
+  named_after_one h k = named_one m t.module_info.now f es h k
 
   -- what a `let` names a handle behind so many given names
   pub next_row : (k h : ℕ) → bound_text t h (next_name (is_some (label_of f h)) k) ≡ next_name_text t k h
   unfolding bound_text next_name_text
   next_row k h =
       by (is_some (label_of f h))
-      ∙ sym (ap (λ b. cond b (given_in t k) (numbered_name h)) (given_is m t.module_info.now f es h))
+      ∙ sym (ap (λ b. cond b (named_in t k) (numbered_name h)) (named_is m t.module_info.now f es h))
     where
-      by : (b : Bool) → name_of_bound (given_in t) (numbered_name h) (next_name b k) ≡ cond b (given_in t k) (numbered_name h)
+      by : (b : Bool) → name_of_bound (named_in t) (numbered_name h) (next_name b k) ≡ cond b (named_in t k) (numbered_name h)
       by true = refl
       by false = refl

@@ -6,19 +6,19 @@ use Rattle.naga_wgsl_fns.specs.declared.error.Error.{Error}
 use Rattle.naga_wgsl_fns.specs.Errors.{IsWant}
 
 -- the text stands behind what the sink held, and the sink has not failed
-pub record Wrote (held : List ℕ) (failed : ℕ) (text now : List ℕ) (failures : ℕ) : Type 0 where
-  pub appended : now ≡ held ++ text
+pub record Wrote (content : List ℕ) (failed : ℕ) (text now : List ℕ) (failures : ℕ) : Type 0 where
+  pub appended : now ≡ content ++ text
   pub kept : failures ≡ failed
 
 -- a beginning of the text stands there, for want of memory or because the sink failed
-pub record StoppedWithin (held : List ℕ) (failed : ℕ) (text now : List ℕ) (failures : ℕ)
+pub record StoppedWithin (content : List ℕ) (failed : ℕ) (text now : List ℕ) (failures : ℕ)
     (error : Error) : Type 0 where
-  pub behind : IsBehind held text now
+  pub behind : IsBehind content text now
   pub reason : IsWant failed failures error
 
 -- one or the other, as the answer says
-abbrev pub Appends : Result Unit Error → (held : List ℕ) (failed : ℕ) (text now : List ℕ)
+abbrev pub Appends : Result Unit Error → (content : List ℕ) (failed : ℕ) (text now : List ℕ)
     (failures : ℕ) → Type 0
-Appends (Ok _) held failed text now failures = Wrote held failed text now failures
-Appends (Err error) held failed text now failures =
-    StoppedWithin held failed text now failures error
+Appends (Ok _) content failed text now failures = Wrote content failed text now failures
+Appends (Err error) content failed text now failures =
+    StoppedWithin content failed text now failures error

@@ -8,6 +8,7 @@ use Rattle.naga_words.specs.declared.sink.SinkError.TheVariants.{Failed, Memory}
 use Rattle.naga_wgsl_fns.specs.declared.error.Error.{Error}
 use Rattle.naga_wgsl_fns.specs.declared.error.Error.TheVariants.{Custom as CustomError, FmtError}
 use Rattle.naga_wgsl_fns.specs.declared.error.Error.TheVariants.{Memory as Want, Unimplemented}
+use Rattle.naga_wgsl_fns.specs.declared.error.Error.TheVariants.{Unsupported}
 
 -- want of memory is told as such, whoever wanted it
 abbrev pub error_of_sink : SinkError → Error
@@ -47,3 +48,9 @@ abbrev pub IsCustom : List ℕ → Error → Type 0
 IsCustom text (CustomError message) = string_bytes message ≡ text
 IsCustom text (Want e) = ⊤
 IsCustom text _ = ⊥
+
+-- the refusal of a value of this kind that has no word, or want of memory for it
+abbrev pub IsUnsupported : (kind : List ℕ) → Error → Type 0
+IsUnsupported kind (Unsupported told value) = told.now ≡ kind
+IsUnsupported kind (Want e) = ⊤
+IsUnsupported kind _ = ⊥

@@ -3,8 +3,8 @@ use Rattle.std.specs.Prelude.{ℕ, Bool, true, false, List, [], ◌∷◌, ◌++
 use Rattle.std.specs.Prelude.{if◌then◌else◌, nat_lt, decimal, Option, Some, None, unwrap_or}
 use Rattle.naga_ir.specs.declared.expression.Expression as ir
 use Rattle.naga_ir.specs.declared.expression.Expression.TheVariants as expression
-use Rattle.naga_form.specs.Expressions.{ValueForm, ReferenceForm, is_held, points}
-use Rattle.module_meaning.specs.ExpressionOperators.{is_atomic, points_to_atomic, type_known}
+use Rattle.naga_form.specs.Expressions.{ValueForm, ReferenceForm, is_handle_variable, points}
+use Rattle.module_meaning.specs.ExpressionOperators.{is_atomic_pointer, type_known}
 use Rattle.module_meaning.specs.ExpressionOperators.{type_with}
 use Rattle.module_meaning.specs.OperatorTable.{AtomicLoad, run_word}
 use Rattle.naga_ir.specs.declared.expression.CooperativeData.{CooperativeData}
@@ -14,7 +14,7 @@ use Rattle.module_meaning.specs.ExpressionShapes.{part_selector}
 use Rattle.naga_ir.specs.declared.types.Type_.{Type_}
 use Rattle.naga_ir.specs.declared.types.TypeInner.{TypeInner}
 use Rattle.naga_ir.specs.declared.types.TypeInner.TheVariants as inner
-use Rattle.naga_wgsl_fns.specs.FunctionText.{around}
+use Rattle.naga_wgsl_fns.specs.FunctionText.{context}
 use Rattle.shader_runs.specs.Value.{Selector, MemberNamed, ElementAt}
 use Rattle.std.specs.Option.{option_and_then, option_map_or}
 use Rattle.naga_names.specs.declared.key.NameKey.TheVariants as key
@@ -26,6 +26,7 @@ use Rattle.wgsl_text.specs.Expressions.{Expression, Name, AddressOf, Call, Deref
 use Rattle.wgsl_text.specs.Expressions.{Unary, arguments_pieces, base_pieces, expression_pieces}
 use Rattle.module_meaning.specs.ExpressionShapes.{letter}
 use Rattle.module_meaning.specs.TypeIdentity.{vector_number}
+use Rattle.module_meaning.specs.TypeParts.{is_atomic}
 use Rattle.naga_ir.specs.declared.expression.SwizzleComponent.{SwizzleComponent}
 use Rattle.naga_ir.specs.declared.types.VectorSize.{VectorSize}
 use Rattle.wgsl_text.specs.Expressions.{more_arguments_pieces, operands as arguments_of}
@@ -39,7 +40,7 @@ use Rattle.naga_wgsl_fns.specs.Types.{resolution_text}
 use Rattle.naga_form.specs.Expressions.{PlainForm, as_value, as_reference, value_forms}
 use Rattle.naga_form.specs.Expressions.{plain_form, unnamed_form}
 use Rattle.naga_form.specs.Operators.{Notation, Called, applied_form}
-use Rattle.naga_scope.specs.declared.points.Standing.{Standing}
+use Rattle.naga_scope.specs.declared.points.Availability.{Availability}
 use Rattle.wgsl_text.specs.Reading.{expression_layout}
 use Rattle.naga_wgsl_fns.specs.declared.functions.FunctionText.{FunctionText}
 use Rattle.naga_form.specs.Types.{type_form}
@@ -48,27 +49,27 @@ use Rattle.naga_wgsl_fns.specs.FunctionText.{type_names_of}
 use Rattle.naga_wgsl_fns.specs.Names.{name_of_global}
 
 -- the form of a handle
-abbrev pub form_at : FunctionText → (table : List Standing) → (handle : ℕ) → PlainForm
+abbrev pub form_at : FunctionText → (table : List Availability) → (handle : ℕ) → PlainForm
 form_at f table handle = plain_form (naming f) (source f) (handles_in f table) handle
 
 -- the same whether it has a name or not
-abbrev pub own_form : FunctionText → (table : List Standing) → (handle : ℕ) → PlainForm
+abbrev pub own_form : FunctionText → (table : List Availability) → (handle : ℕ) → PlainForm
 own_form f table handle = unnamed_form (naming f) (source f) (handles_in f table) handle
 
 -- as a value: its name where it has one, else what it is made of
-unfoldable pub value_text : FunctionText → (table : List Standing) → (handle : ℕ) → List ℕ
+unfoldable pub value_text : FunctionText → (table : List Availability) → (handle : ℕ) → List ℕ
 value_text f table handle = expression_layout (as_value (form_at f table handle))
 
 -- what it is made of
-unfoldable pub own_text : FunctionText → (table : List Standing) → (handle : ℕ) → List ℕ
+unfoldable pub own_text : FunctionText → (table : List Availability) → (handle : ℕ) → List ℕ
 own_text f table handle = expression_layout (as_value (own_form f table handle))
 
 -- as a reference
-unfoldable pub reference_text : FunctionText → (table : List Standing) → (handle : ℕ) → List ℕ
+unfoldable pub reference_text : FunctionText → (table : List Availability) → (handle : ℕ) → List ℕ
 reference_text f table handle = expression_layout (as_reference (form_at f table handle))
 
 -- what its value points at
-unfoldable pub pointed_text : FunctionText → (table : List Standing) → (handle : ℕ) → List ℕ
+unfoldable pub pointed_text : FunctionText → (table : List Availability) → (handle : ℕ) → List ℕ
 pointed_text f table handle = expression_layout (Dereference (as_value (form_at f table handle)))
 
 -- a pointer to a local
@@ -83,13 +84,13 @@ global_address_text f variable =
 -- such a variable as a value, and as a reference where its handle has no name
 unfoldable pub global_value_text : FunctionText → (variable : ℕ) → List ℕ
 global_value_text f variable =
-    if is_held f.shader.now variable then name_of_global f variable
+    if is_handle_variable f.shader.now variable then name_of_global f variable
     else global_address_text f variable
 
-unfoldable pub global_reference_text : FunctionText → (table : List Standing) →
+unfoldable pub global_reference_text : FunctionText → (table : List Availability) →
     (handle variable : ℕ) → List ℕ
 global_reference_text f table handle variable =
-    if is_held f.shader.now variable then pointed_text f table handle
+    if is_handle_variable f.shader.now variable then pointed_text f table handle
     else name_of_global f variable
 
 -- the operands of the expression with this handle
@@ -98,7 +99,7 @@ operands_at f handle = option_map_or expression_operands (slice_get (expressions
 
 -- operands that are written behind `(`, and behind others where they are no first ones, with the
 -- `)` behind them
-abbrev pub operands_left : FunctionText → (table : List Standing) → (first : Bool) → List ℕ →
+abbrev pub operands_left : FunctionText → (table : List Availability) → (first : Bool) → List ℕ →
     List ℕ
 operands_left f table true operands =
     text (arguments_pieces (arguments_of (value_forms (form_at f table) operands)))
@@ -106,23 +107,23 @@ operands_left f table false operands =
     text (more_arguments_pieces (arguments_of (value_forms (form_at f table) operands)))
 
 -- the operands of an expression, up to the `)`
-unfoldable pub operands_text : FunctionText → (table : List Standing) → (handle : ℕ) → List ℕ
+unfoldable pub operands_text : FunctionText → (table : List Availability) → (handle : ℕ) → List ℕ
 operands_text f table handle = operands_left f table true (operands_at f handle)
 
 -- an operand, and what stands between it and the one before
-unfoldable pub next_operand_text : FunctionText → (table : List Standing) → (first : Bool) → ℕ →
+unfoldable pub next_operand_text : FunctionText → (table : List Availability) → (first : Bool) → ℕ →
     List ℕ
 next_operand_text f table first operand =
     (if first then [] else codes ", ") ++ value_text f table operand
 
 -- an operator in its notation
-unfoldable pub applied_text : FunctionText → (table : List Standing) → Notation
+unfoldable pub applied_text : FunctionText → (table : List Availability) → Notation
     → (operands : List ℕ) → List ℕ
 applied_text f table notation operands =
     expression_layout (applied_form notation (value_forms (form_at f table) operands))
 
 -- a value of a type, made of the operands of an expression
-unfoldable pub made_text : FunctionText → (table : List Standing) → (type : TypeSpecifier) →
+unfoldable pub made_text : FunctionText → (table : List Availability) → (type : TypeSpecifier) →
     (handle : ℕ) → List ℕ
 made_text f table type handle =
     expression_layout
@@ -133,9 +134,9 @@ abbrev pub made_type : FunctionText → (ty : ℕ) → TypeSpecifier
 made_type f ty = type_form (type_names_of f) ty
 
 -- what is behind a pointer: an atomic by its word, and anything else as the pointer's reference
-unfoldable pub load_text : FunctionText → (table : List Standing) → (pointer : ℕ) → List ℕ
+unfoldable pub load_text : FunctionText → (table : List Availability) → (pointer : ℕ) → List ℕ
 load_text f table pointer =
-    if points_to_atomic (around f) pointer then
+    if is_atomic_pointer (context f) pointer then
     applied_text f table (Called (Named (run_word AtomicLoad))) (pointer ∷ [])
     else reference_text f table pointer
 
@@ -148,7 +149,7 @@ abbrev pub matrix_callee : FunctionText → (columns rows : CooperativeSize) →
     CooperativeData → TypeSpecifier
 matrix_callee f columns rows role place =
     unwrap_or
-    (operator_type (around f) (type_names_of f)
+    (operator_type (context f) (type_names_of f)
     (expression.CooperativeLoad columns rows role place)) (Named [])
 
 unfoldable pub matrix_callee_text : FunctionText → (columns rows : CooperativeSize) →
@@ -168,7 +169,7 @@ abbrev pub conversion_callee : FunctionText → (operand : ℕ) → ScalarKind �
     TypeSpecifier
 conversion_callee f operand kind convert =
     unwrap_or
-    (operator_type (around f) (type_names_of f) (expression.As operand kind convert)) (Named [])
+    (operator_type (context f) (type_names_of f) (expression.As operand kind convert)) (Named [])
 
 unfoldable pub callee_text : FunctionText → (operand : ℕ) → ScalarKind → (convert : Option ℕ) →
     List ℕ
@@ -181,7 +182,7 @@ unfoldable pub cast_text : FunctionText → (bits : Bool) → TypeResolution →
 cast_text f bits ty = if bits then bitcast_text f ty else resolution_text f ty
 
 -- a word that is called with the operands of an expression
-unfoldable pub called_text : FunctionText → (table : List Standing) → (word : List ℕ) →
+unfoldable pub called_text : FunctionText → (table : List Availability) → (word : List ℕ) →
     (handle : ℕ) → List ℕ
 called_text f table word handle =
     applied_text f table (Called (Named word)) (operands_at f handle)
@@ -193,18 +194,18 @@ is_signed (Unary op e) = true
 is_signed _ = false
 
 -- what a member or an index follows: in parentheses where it starts with an operator
-unfoldable pub base_text : FunctionText → (table : List Standing) → (handle : ℕ) → List ℕ
+unfoldable pub base_text : FunctionText → (table : List Availability) → (handle : ℕ) → List ℕ
 base_text f table handle =
     let base = as_value (form_at f table handle) in text (base_pieces base (expression_pieces base))
 
 -- What a part is taken of: a reference where it points, so that the part is one too, else a value.
-abbrev pub part_base : FunctionText → (table : List Standing) → (base : ℕ) → Expression
+abbrev pub part_base : FunctionText → (table : List Availability) → (base : ℕ) → Expression
 part_base f table base =
-    if points (around f) base then as_reference (form_at f table base)
+    if points (context f) base then as_reference (form_at f table base)
     else as_value (form_at f table base)
 
 -- the same where a part follows
-unfoldable pub part_base_text : FunctionText → (table : List Standing) → (base : ℕ) → List ℕ
+unfoldable pub part_base_text : FunctionText → (table : List Availability) → (base : ℕ) → List ℕ
 part_base_text f table base =
     let e = part_base f table base in text (base_pieces e (expression_pieces e))
 
@@ -224,10 +225,10 @@ is_of_components types it = is_vector it
 -- the expression with this handle has such a type
 abbrev pub has_components : FunctionText → ℕ → Bool
 has_components f handle =
-    option_map_or (is_of_components f.shader.now.types) (type_known (around f) handle) false
+    option_map_or (is_of_components f.shader.now.types) (type_known (context f) handle) false
 
 -- an index, in brackets
-unfoldable pub index_text : FunctionText → (table : List Standing) → (index : ℕ) → List ℕ
+unfoldable pub index_text : FunctionText → (table : List Availability) → (index : ℕ) → List ℕ
 index_text f table index = codes "[" ++ (value_text f table index ++ codes "]")
 
 -- a known index: a component or a member by its word, and any other part by its number
@@ -266,12 +267,12 @@ abbrev pub selector_of : (letter : Option (List ℕ)) → (index : ℕ) → Sele
 selector_of letter index = option_map_or MemberNamed letter (ElementAt index)
 
 -- what stands behind the base of a part at an index
-abbrev pub part_end : FunctionText → (table : List Standing) → Option ir.Expression → List ℕ
+abbrev pub part_end : FunctionText → (table : List Availability) → Option ir.Expression → List ℕ
 part_end f table (Some (expression.Access base index)) = index_text f table index
 part_end f table (Some (expression.AccessIndex base index)) = selector_text f base index
 part_end f table _ = []
 
-unfoldable pub part_end_text : FunctionText → (table : List Standing) → (handle : ℕ) → List ℕ
+unfoldable pub part_end_text : FunctionText → (table : List Availability) → (handle : ℕ) → List ℕ
 part_end_text f table handle = part_end f table (slice_get (expressions f) handle)
 
 -- the tree of a form, a value or a reference
@@ -280,23 +281,26 @@ plain_tree (ValueForm e) = e
 plain_tree (ReferenceForm e) = e
 
 -- what an expression is made of, in its plain form, and a pointer to what that refers to
-unfoldable pub plain_text : FunctionText → (table : List Standing) → (handle : ℕ) → List ℕ
+unfoldable pub plain_text : FunctionText → (table : List Availability) → (handle : ℕ) → List ℕ
 plain_text f table handle = expression_layout (plain_tree (own_form f table handle))
 
-unfoldable pub plain_address_text : FunctionText → (table : List Standing) → (handle : ℕ) → List ℕ
+unfoldable pub plain_address_text : FunctionText → (table : List Availability) →
+    (handle : ℕ) → List ℕ
 plain_address_text f table handle =
     expression_layout (AddressOf (plain_tree (own_form f table handle)))
 
 -- a part of this base as a value, and as a reference where it has no name
-unfoldable pub part_value_text : FunctionText → (table : List Standing) → (handle base : ℕ) → List ℕ
+unfoldable pub part_value_text : FunctionText → (table : List Availability) →
+    (handle base : ℕ) → List ℕ
 part_value_text f table handle base =
-    if points (around f) base then plain_address_text f table handle
+    if points (context f) base then plain_address_text f table handle
     else plain_text f table handle
 
-unfoldable pub part_reference_text : FunctionText → (table : List Standing) → (handle base : ℕ) →
+unfoldable pub part_reference_text : FunctionText → (table : List Availability) →
+    (handle base : ℕ) →
     List ℕ
 part_reference_text f table handle base =
-    if points (around f) base then plain_text f table handle else pointed_text f table handle
+    if points (context f) base then plain_text f table handle else pointed_text f table handle
 
 -- what an expression takes a part of, if it is a part at an index
 abbrev pub base_of : Option ir.Expression → Option ℕ
@@ -305,11 +309,12 @@ base_of (Some (expression.AccessIndex base index)) = Some base
 base_of _ = None
 
 -- a value in parentheses
-unfoldable pub parenthesized_text : FunctionText → (table : List Standing) → (handle : ℕ) → List ℕ
+unfoldable pub parenthesized_text : FunctionText → (table : List Availability) →
+    (handle : ℕ) → List ℕ
 parenthesized_text f table handle = codes "(" ++ (value_text f table handle ++ codes ")")
 
 -- a member of a value
-unfoldable pub member_text : FunctionText → (table : List Standing) → (handle : ℕ) →
+unfoldable pub member_text : FunctionText → (table : List Availability) → (handle : ℕ) →
     (word : List ℕ) → List ℕ
 member_text f table handle word =
     expression_layout (Member (as_value (form_at f table handle)) word)

@@ -9,7 +9,7 @@ use Rattle.naga_ir.specs.declared.module.Module.{Module}
 use Rattle.naga_info.specs.declared.info.ExpressionInfo.{ExpressionInfo}
 use Rattle.naga_info.specs.declared.info.ModuleInfo.{ModuleInfo}
 use Rattle.shader_runs.specs.Scope.{at_start}
-use Rattle.module_meaning.specs.Names.{given_name, module_names}
+use Rattle.module_meaning.specs.Names.{expression_name, module_names}
 use Rattle.wgsl_text.specs.Expressions.{Expression}
 use Rattle.naga_form.specs.Expressions.{value_form}
 use Rattle.wgsl_text.specs.Functions.{Local, Function, value_pieces, parameter_pieces}
@@ -18,12 +18,12 @@ use Rattle.wgsl_text.specs.Functions.{function_pieces}
 use Rattle.naga_form.specs.Functions.{parameter_form, function_form}
 use Rattle.naga_form.specs.Types.{type_form}
 use Rattle.naga_scope.specs.Plans.{Planned}
-use Rattle.naga_scope.specs.declared.points.Standing.{Standing}
+use Rattle.naga_scope.specs.declared.points.Availability.{Availability}
 use Rattle.wgsl_text.specs.Text.{text}
 use Rattle.naga_back.specs.declared.flags.WriterFlags.{WriterFlags}
 use Rattle.naga_wgsl_fns.specs.declared.functions.FunctionText.{FunctionText}
-use Rattle.naga_wgsl_fns.specs.FunctionText.{given_in, handles_in, source, naming}
-use Rattle.naga_wgsl_fns.specs.FunctionText.{tells_types, type_names_of}
+use Rattle.naga_wgsl_fns.specs.FunctionText.{named_in, handles_in, source, naming}
+use Rattle.naga_wgsl_fns.specs.FunctionText.{annotates_types, type_names_of}
 use Rattle.naga_wgsl_fns.specs.Names.{name_of_function}
 use Rattle.naga_wgsl_fns.specs.Statements.{lines_text}
 use Rattle.naga_wgsl_fns.specs.Types.{type_text}
@@ -34,34 +34,35 @@ known_of info handle = unwrap_or (slice_get info.functions.items handle) []
 
 -- the names that a plan has
 abbrev pub names_of : Planned → (number : ℕ) → List ℕ
-names_of plan number = get_or plan.given number []
+names_of plan number = get_or plan.named number []
 
 -- the text of a function of the module, with what is known of its expressions and the names that front
 -- ends gave in it
 abbrev pub text_of :
-    Module → ModuleInfo → WriterFlags → (given : ℕ → List ℕ) → (handle : ℕ) → ir.Function →
+    Module → ModuleInfo → WriterFlags → (named : ℕ → List ℕ) → (handle : ℕ) → ir.Function →
     List ExpressionInfo → List ℕ
-text_of m info flags given handle f known =
-    let form = function_form (tells_types flags) (module_names m) given m info handle f known in
+text_of m info flags named handle f known =
+    let form = function_form (annotates_types flags) (module_names m) named m info handle f known in
     text (function_pieces form)
 
 -- the same of the module's function with this handle; nothing, where there is none
 abbrev pub text_under :
-    Module → ModuleInfo → WriterFlags → (given : ℕ → List ℕ) → (handle : ℕ) → List ℕ
-text_under m info flags given handle =
-    option_map_or (λ f. text_of m info flags given handle f (known_of info handle))
+    Module → ModuleInfo → WriterFlags → (named : ℕ → List ℕ) → (handle : ℕ) → List ℕ
+text_under m info flags named handle =
+    option_map_or (λ f. text_of m info flags named handle f (known_of info handle))
     (slice_get m.functions handle) []
 
 -- and in a text of the whole module
 abbrev pub text_of_function : Module → ModuleInfo → WriterFlags → (handle : ℕ) → List ℕ
-text_of_function m info flags handle = text_under m info flags (given_name m handle) handle
+text_of_function m info flags handle = text_under m info flags (expression_name m handle) handle
 
 -- the form of a function
 abbrev pub form_of : FunctionText → Function
 form_of f =
     let m = f.shader.now in
     let info = f.module_info.now in
-    function_form (tells_types f.flags) (module_names m) (given_in f) m info f.handle f.function.now
+    function_form (annotates_types f.flags) (module_names m) (named_in f) m info f.handle
+    f.function.now
     f.info.now
 
 unfoldable pub function_text : FunctionText → List ℕ
@@ -99,7 +100,7 @@ answer_text f ty = codes " -> " ++ type_text f ty
 
 -- ---- the body
 -- the table has what is in scope at the start
-abbrev pub StartsAt : FunctionText → (table : List Standing) → Type 0
+abbrev pub StartsAt : FunctionText → (table : List Availability) → Type 0
 StartsAt f table = handles_in f table ≡ at_start (naming f).function
 
 -- the locals, and an empty line behind them if there are any

@@ -4,7 +4,7 @@
 use Rattle.std.specs.Prelude.{◌≡◌, ⊤, ℕ, ◌++◌, List, ◌⊎◌, codes, string_bytes, IfErr, IsFalse}
 use Rattle.std.specs.Prelude.{IsTrue, Ok, Err, OnErr, OnOk, Result}
 use Rattle.naga_ir.specs.declared.module.Module.{Module}
-use Rattle.module_meaning.specs.Part.{global_is_written, is_written_so_far}
+use Rattle.module_meaning.specs.WrittenSoFar.{global_is_written, is_written_so_far}
 use Rattle.wgsl_text.specs.Reading.{HasOneReading, ReadsExpression}
 use Rattle.naga_words.specs.Sink.{IsBehind}
 use Rattle.naga_wgsl_fns.specs.Constants.{global_at, global_text}
@@ -25,7 +25,7 @@ IsGlobalRefusal m handle before now error =
 
 -- no reason stands there
 pub record IsWritableGlobal (m : Module) (handle : ℕ) : Type 0 where
-  pub of_part : IsTrue (is_written_so_far m)
+  pub is_supported : IsTrue (is_written_so_far m)
   pub formed : IsTrue (global_is_written m handle)
 
 abbrev pub RefusesGlobalOnlyFor : Result Unit Error → Module → (handle : ℕ) → (before now : ℕ) →
@@ -35,16 +35,17 @@ RefusesGlobalOnlyFor (Err error) m handle before now = IsGlobalRefusal m handle 
 
 -- A call was asked to write the expression behind the text that its sink held; it answered, and the
 -- sink holds another text now. The sink had failed so often before, and has failed so often now.
-pub record GlobalWriting (m : Module) (handle : ℕ) (answer : Result Unit Error) (held now : List ℕ)
+pub record GlobalWriting (m : Module) (handle : ℕ) (answer : Result Unit Error)
+    (content now : List ℕ)
     (before after : ℕ) : Type 0 where
   -- It refuses only for a reason that stands in the expression, for what is not written so far, for
   -- memory or the sink; and where it does not, no reason stands there.
   pub refusals : RefusesGlobalOnlyFor answer m handle before after
   -- Otherwise it appends the expression's text, which has exactly one reading, its form.
-  pub text_ok : OnOk answer (now ≡ held ++ global_text m handle)
+  pub text_ok : OnOk answer (now ≡ content ++ global_text m handle)
   pub reading : OnOk answer
       (HasOneReading ReadsExpression (global_text m handle) (global_at m handle))
   pub failures_ok : OnOk answer (after ≡ before)
   -- A call that gives up leaves a beginning of it, and nothing where it tells of the module.
-  pub text_err : OnErr answer (IsBehind held (global_text m handle) now)
-  pub untouched : IfErr answer (λ e. TellsOfModule e → (now ≡ held) × (after ≡ before))
+  pub text_err : OnErr answer (IsBehind content (global_text m handle) now)
+  pub untouched : IfErr answer (λ e. TellsOfModule e → (now ≡ content) × (after ≡ before))

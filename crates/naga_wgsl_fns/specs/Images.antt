@@ -11,9 +11,9 @@ use Rattle.naga_ir.specs.declared.expression.Expression.TheVariants as expressio
 use Rattle.naga_ir.specs.declared.expression.SampleLevel.{SampleLevel}
 use Rattle.naga_ir.specs.declared.expression.SwizzleComponent.{SwizzleComponent}
 use Rattle.naga_ir.specs.declared.expression.SwizzleComponent.TheVariants as component
-use Rattle.naga_scope.specs.declared.points.Standing.{Standing}
+use Rattle.naga_scope.specs.declared.points.Availability.{Availability}
 use Rattle.naga_wgsl_fns.specs.Expressions.{next_operand_text}
-use Rattle.naga_wgsl_fns.specs.FunctionText.{around, source}
+use Rattle.naga_wgsl_fns.specs.FunctionText.{context, source}
 use Rattle.naga_wgsl_fns.specs.declared.functions.FunctionText.{FunctionText}
 use Rattle.wgsl_text.specs.Reading.{expression_layout}
 
@@ -28,7 +28,7 @@ is_sampled _ = false
 
 -- the expression with this handle is an image of depths
 abbrev pub depths_at : FunctionText → (image : ℕ) → Bool
-depths_at f image = option_map_or is_depth_image (type_known (around f) image) false
+depths_at f image = option_map_or is_depth_image (type_known (context f) image) false
 
 -- the component of a gather, in front of its operands
 abbrev pub component_text : (of_depths : Bool) → Option SwizzleComponent → List ℕ
@@ -47,13 +47,13 @@ head_text f image gather level compares clamped =
     ++ (codes "(" ++ component_text of_depths gather)
 
 -- operands behind others
-unfoldable pub furthers_text : FunctionText → (table : List Standing) → List ℕ → List ℕ
+unfoldable pub furthers_text : FunctionText → (table : List Availability) → List ℕ → List ℕ
 furthers_text f table [] = []
 furthers_text f table (h ∷ hs) = next_operand_text f table false h ++ furthers_text f table hs
 
 -- the level `0.0`, where it is written
-abbrev pub level_text : SampleLevel → (is_told : Bool) → List ℕ
-level_text level is_told = if zero_is_written level is_told then codes ", 0.0" else []
+abbrev pub level_text : SampleLevel → (is_in_word : Bool) → List ℕ
+level_text level is_in_word = if zero_is_written level is_in_word then codes ", 0.0" else []
 
 -- an offset, as a constant
 unfoldable pub offset_text : FunctionText → (offset : Option ℕ) → List ℕ

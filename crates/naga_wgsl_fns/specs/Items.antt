@@ -7,18 +7,18 @@ use Rattle.std.specs.Prelude.{Ok, Err, OnErr, OnOk, Result, length, vec_len}
 use Rattle.naga_ir.specs.declared.module.Module.{Module}
 use Rattle.naga_info.specs.declared.info.ModuleInfo.{ModuleInfo}
 use Rattle.naga_names.specs.Naming.{HasNamed, Names}
-use Rattle.module_meaning.specs.GivenLabels.{name_of_label}
-use Rattle.module_meaning.specs.Names.{item_labels, labels_given, wgsl_names}
-use Rattle.module_meaning.specs.Part.{is_written_so_far}
+use Rattle.module_meaning.specs.ExpressionLabels.{name_of_label}
+use Rattle.module_meaning.specs.Names.{item_labels, labels_named_in, wgsl_names}
+use Rattle.module_meaning.specs.WrittenSoFar.{is_written_so_far}
 use Rattle.wgsl_text.specs.Functions.{Function}
 use Rattle.wgsl_text.specs.Reading.{HasOneReading, ReadsFunction}
 use Rattle.naga_back.specs.declared.context.FunctionType.{FunctionType}
 use Rattle.naga_back.specs.declared.context.FunctionType.TheVariants as item
 use Rattle.naga_back.specs.declared.flags.WriterFlags.{WriterFlags}
-use Rattle.naga_scope.specs.GivenNames.{HasNamedSome}
+use Rattle.naga_scope.specs.ExpressionNames.{HasNamedSome}
 use Rattle.naga_words.specs.Sink.{IsBehind}
 use Rattle.naga_wgsl_fns.specs.Errors.{IsSinkWant}
-use Rattle.naga_wgsl_fns.specs.FunctionText.{tells_types}
+use Rattle.naga_wgsl_fns.specs.FunctionText.{annotates_types}
 use Rattle.naga_wgsl_fns.specs.Functions.{text_under}
 use Rattle.naga_wgsl_fns.specs.Refusals.{HasNamedLabels, IsFault, IsWritableAt, TellsOfModule}
 use Rattle.naga_wgsl_fns.specs.declared.error.Error.{Error}
@@ -46,14 +46,14 @@ pub record HasNamedItemsOf (m : Module) (namer : Names) : Type 0 where
   pub named : HasNamedLabels (item_labels m ++ later) namer
 
 -- the names that front ends gave in the function, where these labels were named before
-abbrev pub given_behind : Module → (earlier : List (List ℕ)) → (handle number : ℕ) → List ℕ
-given_behind m earlier handle = name_of_label wgsl_names earlier (labels_given m handle)
+abbrev pub named_behind : Module → (earlier : List (List ℕ)) → (handle number : ℕ) → List ℕ
+named_behind m earlier handle = name_of_label wgsl_names earlier (labels_named_in m handle)
 
 -- the text of the function under these names
 abbrev pub text_behind :
     Module → ModuleInfo → WriterFlags → (earlier : List (List ℕ)) → (handle : ℕ) → List ℕ
 text_behind m info flags earlier handle =
-    text_under m info flags (given_behind m earlier handle) handle
+    text_under m info flags (named_behind m earlier handle) handle
 
 -- Why the function is refused, where the sink had failed so often before and has failed so often
 -- now: the sink failed, memory ran out, the function has a fault, or the module holds what is not
@@ -77,9 +77,9 @@ RefusesFunctionOnlyFor (Err error) explicit m info earlier handle before now =
     IsFunctionRefusal explicit m info earlier handle before now error
 
 -- a text stands behind what the sink held, and it is read as one function and as no other
-pub record AppendsOneFunction (held now : List ℕ) : Type 0 where
+pub record AppendsOneFunction (content now : List ℕ) : Type 0 where
   pub text : List ℕ
-  pub appended : now ≡ held ++ text
+  pub appended : now ≡ content ++ text
   pub function : Function
   pub reading : HasOneReading ReadsFunction text function
 
@@ -88,18 +88,18 @@ pub record AppendsOneFunction (held now : List ℕ) : Type 0 where
 -- The namer is that behind the call.
 pub record FunctionWriting (m : Module) (info : ModuleInfo) (flags : WriterFlags)
     (earlier : List (List ℕ)) (handle : ℕ) (answer : Result Unit Error) (namer : Names)
-    (held now : List ℕ) (before after : ℕ) : Type 0 where
+    (content now : List ℕ) (before after : ℕ) : Type 0 where
   -- It refuses only for a reason that stands in the function, for what is not written so far, for
   -- memory or the sink; and where it does not, no reason stands there.
-  pub refusals : RefusesFunctionOnlyFor answer (tells_types flags) m info earlier handle before after
+  pub refusals : RefusesFunctionOnlyFor answer (annotates_types flags) m info earlier handle before after
   -- Otherwise it appends the function's text, which has exactly one reading.
-  pub text_ok : OnOk answer (now ≡ held ++ text_behind m info flags earlier handle)
-  pub reading : OnOk answer (AppendsOneFunction held now)
+  pub text_ok : OnOk answer (now ≡ content ++ text_behind m info flags earlier handle)
+  pub reading : OnOk answer (AppendsOneFunction content now)
   pub failures_ok : OnOk answer (after ≡ before)
   -- A call that gives up leaves a beginning of it, and nothing where it tells of the module.
-  pub text_err : OnErr answer (IsBehind held (text_behind m info flags earlier handle) now)
-  pub untouched : IfErr answer (λ e. TellsOfModule e → (now ≡ held) × (after ≡ before))
+  pub text_err : OnErr answer (IsBehind content (text_behind m info flags earlier handle) now)
+  pub untouched : IfErr answer (λ e. TellsOfModule e → (now ≡ content) × (after ≡ before))
   -- The namer has named the labels that front ends gave in the function; where the call gives up,
   -- some first ones of them.
-  pub named_ok : OnOk answer (HasNamed namer (earlier ++ labels_given m handle))
-  pub named_err : OnErr answer (HasNamedSome namer earlier (labels_given m handle))
+  pub named_ok : OnOk answer (HasNamed namer (earlier ++ labels_named_in m handle))
+  pub named_err : OnErr answer (HasNamedSome namer earlier (labels_named_in m handle))

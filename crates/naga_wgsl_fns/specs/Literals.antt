@@ -8,14 +8,14 @@ use Rattle.wgsl_text.specs.Text.{text}
 unfoldable pub literal_text : Literal → List ℕ
 literal_text value = text (literal_pieces (literal_form value))
 
-unfoldable pub integer_text : ℤ → List ℕ
-integer_text value = text (literal_pieces (integer_form value))
+unfoldable pub i32_text : ℤ → List ℕ
+i32_text value = text (literal_pieces (integer_form value))
 
-unfoldable pub long_text : ℤ → List ℕ
-long_text value = text (literal_pieces (long_form value))
+unfoldable pub i64_text : ℤ → List ℕ
+i64_text value = text (literal_pieces (long_form value))
 
-unfoldable pub short_text : ℤ → List ℕ
-short_text value = text (literal_pieces (short_form value))
+unfoldable pub i16_text : ℤ → List ℕ
+i16_text value = text (literal_pieces (short_form value))
 
-unfoldable pub unsigned_short_text : ℕ → List ℕ
-unsigned_short_text value = text (literal_pieces (UnsignedShort value))
+unfoldable pub u16_text : ℕ → List ℕ
+u16_text value = text (literal_pieces (UnsignedShort value))

@@ -3,10 +3,10 @@ use Rattle.std.specs.Prelude.{ℕ, List}
 use Rattle.module_meaning.specs.Names.{argument_name, constant_name, function_name, global_name}
 use Rattle.module_meaning.specs.Names.{local_name, module_names, numbered_name, override_name}
 use Rattle.naga_ir.specs.declared.module.Module.{Module}
-use Rattle.naga_scope.specs.Standings.{name_of_bound}
+use Rattle.naga_scope.specs.Availabilities.{name_of_bound}
 use Rattle.naga_scope.specs.declared.points.BoundName.{BoundName}
 use Rattle.shader_runs.specs.Scope.{bound_name}
-use Rattle.naga_wgsl_fns.specs.FunctionText.{given_in}
+use Rattle.naga_wgsl_fns.specs.FunctionText.{named_in}
 use Rattle.naga_wgsl_fns.specs.FunctionText.{naming}
 use Rattle.naga_wgsl_fns.specs.declared.functions.FunctionText.{FunctionText}
 
@@ -21,7 +21,7 @@ name_of_argument f number = argument_name (module_names f.shader.now) f.handle n
 -- an expression that a `let` binds under this name
 unfoldable pub bound_text : FunctionText → (handle : ℕ) → BoundName → List ℕ
 bound_text f handle name =
-    name_of_bound (given_in f) (numbered_name handle) name
+    name_of_bound (named_in f) (numbered_name handle) name
 
 -- the one that a `let` binds behind so many given names
 unfoldable pub next_name_text : FunctionText → (number handle : ℕ) → List ℕ

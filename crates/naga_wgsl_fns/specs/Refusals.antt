@@ -14,11 +14,7 @@ use Rattle.naga_ir.specs.declared.expression.Expression.TheVariants.{GlobalVaria
 use Rattle.naga_ir.specs.declared.expression.Expression.TheVariants.{Literal, Math}
 use Rattle.naga_ir.specs.declared.expression.Expression.TheVariants.{ImageSample, ImageLoad}
 use Rattle.naga_ir.specs.declared.expression.Expression.TheVariants.{Relational, ZeroValue}
-use Rattle.naga_ir.specs.declared.expression.Expression.TheVariants.{CooperativeLoad, CallResult}
-use Rattle.naga_ir.specs.declared.expression.Expression.TheVariants.{AtomicResult}
-use Rattle.naga_ir.specs.declared.expression.Expression.TheVariants.{WorkGroupUniformLoadResult}
-use Rattle.naga_ir.specs.declared.expression.Expression.TheVariants.{SubgroupOperationResult}
-use Rattle.naga_ir.specs.declared.expression.Expression.TheVariants.{SubgroupBallotResult}
+use Rattle.naga_ir.specs.declared.expression.Expression.TheVariants.{CooperativeLoad}
 use Rattle.naga_ir.specs.declared.expression.Expression.TheVariants.{RayQueryProceedResult}
 use Rattle.naga_ir.specs.declared.expression.Expression.TheVariants.{RayQueryGetIntersection}
 use Rattle.naga_ir.specs.declared.expression.Expression.TheVariants.{RayQueryVertexPositions}
@@ -34,7 +30,7 @@ use Rattle.naga_ir.specs.declared.expression.Literal.TheVariants as literal
 use Rattle.naga_ir.specs.declared.module.Constant as constant
 use Rattle.naga_ir.specs.declared.module.Function.{Function}
 use Rattle.naga_ir.specs.declared.module.Module.{Module}
-use Rattle.module_meaning.specs.Part.{expression_has_form, is_written_literal, known_passes}
+use Rattle.module_meaning.specs.WrittenSoFar.{expression_has_form, is_written_literal, known_passes}
 use Rattle.module_meaning.specs.Sampling.{offset_is_written, sampling_is_written}
 use Rattle.module_meaning.specs.LackingScalars.{lacking_scalar}
 use Rattle.module_meaning.specs.Written.{IsSpelledIn, IsWrittenIn, WrittenHaveForms}
@@ -46,26 +42,30 @@ use Rattle.naga_info.specs.declared.info.ExpressionInfo.{ExpressionInfo}
 use Rattle.naga_info.specs.declared.info.ModuleInfo.{ModuleInfo}
 use Rattle.naga_names.specs.declared.error.NamerError.{NamerError}
 use Rattle.naga_names.specs.declared.error.NamerError.TheVariants as namer_error
-use Rattle.module_meaning.specs.GivenLabels.{SomeLabelIsFull}
-use Rattle.module_meaning.specs.Names.{labels_given, wgsl_names}
+use Rattle.module_meaning.specs.ExpressionLabels.{SomeLabelIsFull}
+use Rattle.module_meaning.specs.Names.{labels_named_in, wgsl_names}
 use Rattle.naga_names.specs.Naming.{HasNamed, Names}
-use Rattle.naga_scope.specs.GivenNames.{HasOtherUses}
+use Rattle.naga_scope.specs.ExpressionNames.{HasOtherUses}
 use Rattle.naga_scope.specs.Plans.{OfFunctionAt, ScopeHoldsIn}
 use Rattle.naga_scope.specs.declared.plan.PlanError.{PlanError}
 use Rattle.naga_scope.specs.declared.plan.PlanError.TheVariants.{LetWithoutForm, OutOfScope}
 use Rattle.naga_scope.specs.declared.plan.PlanError.TheVariants.{TypeWithoutForm, Unnamed}
-use Rattle.naga_scope.specs.declared.plan.PlanError.TheVariants.{WithoutForm}
+use Rattle.naga_scope.specs.declared.plan.PlanError.TheVariants.{StatementWithoutForm, WithoutForm}
+use Rattle.naga_scope.specs.declared.statements.FormlessStatement.{FormlessStatement}
+use Rattle.naga_scope.specs.declared.statements.FormlessStatement.TheVariants as formless_statement
+use Rattle.naga_scope.specs.FormlessStatements.{formless_statement as formless_statement_of}
 use Rattle.naga_scope.specs.declared.plan.PlanError.TheVariants as plan_error
-use Rattle.naga_wgsl_fns.specs.Errors.{IsCustom, IsUnimplemented}
+use Rattle.naga_wgsl_fns.specs.Errors.{IsCustom, IsUnimplemented, IsUnsupported}
 use Rattle.naga_wgsl_fns.specs.declared.error.Error.{Error}
 use Rattle.naga_wgsl_fns.specs.declared.error.Error.TheVariants.{FmtError, Custom}
-use Rattle.naga_wgsl_fns.specs.declared.error.Error.TheVariants.{Memory, Unsupported}
+use Rattle.naga_wgsl_fns.specs.declared.error.Error.TheVariants.{Memory}
 use Rattle.naga_wgsl_fns.specs.declared.error.Error.TheVariants.{UnsupportedRelationalFunction}
 
 -- the names of some labels that front ends gave in the function with this handle can't be told
 -- behind these earlier labels, since so many of them have one base
-abbrev pub GivenAreFullIn : Module → (earlier : List (List ℕ)) → (handle : ℕ) → Type 0
-GivenAreFullIn m earlier handle = SomeLabelIsFull wgsl_names earlier (labels_given m handle)
+abbrev pub ExpressionNamesAreFullIn : Module → (earlier : List (List ℕ)) → (handle : ℕ) → Type 0
+ExpressionNamesAreFullIn m earlier handle =
+    SomeLabelIsFull wgsl_names earlier (labels_named_in m handle)
 
 -- what is told where a `Namer` answers an error: of its memory as such, else by name
 abbrev pub IsErrorOfNames : NamerError → Error → Type 0
@@ -93,15 +93,11 @@ NamesLiteral (literal.AbstractFloat bits) error = AbstractLiteral error
 NamesLiteral _ error = ⊥
 
 abbrev pub NamesFunction : Error → Type 0
-NamesFunction (Unsupported kind value) = kind.now ≡ codes "math function"
-NamesFunction (Memory e) = ⊤
-NamesFunction _ = ⊥
+NamesFunction error = IsUnsupported (codes "math function") error
 
 -- a scalar that WGSL has no word for
 abbrev pub NamesScalar : Error → Type 0
-NamesScalar (Unsupported kind value) = kind.now ≡ codes "scalar type"
-NamesScalar (Memory e) = ⊤
-NamesScalar _ = ⊥
+NamesScalar error = IsUnsupported (codes "scalar type") error
 
 -- a type without a form: a scalar of it has no word, or it has no form for another reason
 abbrev pub NamesLacking : Option Scalar → Error → Type 0
@@ -149,10 +145,6 @@ abbrev pub pointed_scalar : List Type_ → List ExpressionInfo → (pointer : �
 pointed_scalar types es pointer =
     option_and_then (λ k. option_and_then (scalar_behind types) (inner_of k.ty types))
     (slice_get es pointer)
-
--- the result of a statement is out of scope where no statement gives one
-abbrev pub NamesResult : Error → Type 0
-NamesResult error = IsCustom (codes "operand out of scope") error
 
 -- what a ray query found
 abbrev pub NamesRayQuery : Error → Type 0
@@ -233,17 +225,33 @@ NamesExpression m known es (AccessIndex base index) error =
     NamesPart (known_passes m.types known (has_parts m.types) base) error
 NamesExpression m known es (CooperativeLoad columns rows role place) error =
     NamesMatrix (pointed_scalar m.types known place.pointer) error
-NamesExpression m known es (CallResult function) error = NamesResult error
-NamesExpression m known es (AtomicResult ty comparison) error = NamesResult error
-NamesExpression m known es (WorkGroupUniformLoadResult ty) error = NamesResult error
-NamesExpression m known es (SubgroupOperationResult ty) error = NamesResult error
-NamesExpression m known es SubgroupBallotResult error = NamesResult error
 NamesExpression m known es RayQueryProceedResult error = NamesRayQuery error
 NamesExpression m known es (RayQueryGetIntersection query committed) error =
     NamesRayQuery error
 NamesExpression m known es (RayQueryVertexPositions query committed) error =
     NamesRayQuery error
 NamesExpression m known es _ error = ⊥
+
+-- a statement without a form
+abbrev pub NamesStatement : FormlessStatement → Error → Type 0
+NamesStatement formless_statement.RayQuery error = NamesRayQuery error
+NamesStatement formless_statement.SubgroupOperation error =
+    IsUnimplemented (codes "subgroup operation") error
+NamesStatement formless_statement.FallThrough error =
+    IsUnimplemented (codes "fall-through switch case block") error
+NamesStatement formless_statement.ImageCompareExchange error =
+    IsUnimplemented (codes "image compare exchange") error
+
+-- a statement without a form stands in the function with this handle, and is named
+pub record NamesFormlessStatement (m : Module) (info : ModuleInfo) (handle : ℕ) (error : Error) :
+    Type 0 where
+  pub function : Function
+  pub known : List ExpressionInfo
+  pub stands : slice_get m.functions handle ≡ Some function
+  pub is_known : slice_get info.functions.items handle ≡ Some known
+  pub statement : FormlessStatement
+  pub formless : formless_statement_of function.body ≡ Some statement
+  pub named : NamesStatement statement error
 
 -- an expression is written in the function with this handle that has no form, and is named
 pub record NamesFormless (m : Module) (info : ModuleInfo) (handle : ℕ) (error : Error) : Type 0 where
@@ -271,7 +279,8 @@ pub record NamesFormlessType (explicit : Bool) (m : Module) (info : ModuleInfo) 
 
 abbrev pub HasFormlessIn : (explicit : Bool) → Module → ModuleInfo → (handle : ℕ) → Error → Type 0
 HasFormlessIn explicit m info handle error =
-    NamesFormless m info handle error ⊎ NamesFormlessType explicit m info handle error
+    NamesFormless m info handle error
+    ⊎ (NamesFormlessType explicit m info handle error ⊎ NamesFormlessStatement m info handle error)
 
 -- ---- refusals
 -- the error tells of the module, and not of memory or of the sink
@@ -285,35 +294,37 @@ abbrev pub TellsOfScope : Error → Type 0
 TellsOfScope (Custom message) = string_bytes message ≡ codes "operand out of scope"
 TellsOfScope _ = ⊥
 
--- the error names some expression or some type without a form, and is not want of memory
+-- the error names some expression, type or statement without a form, and is not want of memory
 abbrev pub TellsOfForm : Error → Type 0
 TellsOfForm error =
     TellsOfModule error × (((m : Module) × (known : List ExpressionInfo)
     × (es : List Expression) × (e : Expression) × NamesExpression m known es e error)
-    ⊎ ((m : Module) × (r : TypeResolution) × NamesType m r error))
+    ⊎ (((m : Module) × (r : TypeResolution) × NamesType m r error)
+    ⊎ ((statement : FormlessStatement) × NamesStatement statement error)))
 
 -- the error tells that a name can't be told
 abbrev pub TellsOfFullNamer : Error → Type 0
 TellsOfFullNamer (Custom message) = string_bytes message ≡ codes "namer is full"
 TellsOfFullNamer _ = ⊥
 
--- the rules of scope hold in the function with this handle, each written handle of it and each type
--- that it spells has a form, and behind these labels those that front ends gave in it can be named
+-- the rules of scope hold in the function with this handle, each written handle of it, each of its
+-- statements and each type that it spells has a form, and behind these labels those that front ends
+-- gave in it can be named
 pub record IsWritableAt (explicit : Bool) (m : Module) (info : ModuleInfo)
     (earlier : List (List ℕ)) (handle : ℕ) : Type 0 where
   pub in_scope : ScopeHoldsIn m info handle
   pub formed : OfFunctionAt m info handle (WrittenHaveForms explicit m info)
-  pub told : GivenAreFullIn m earlier handle → ⊥
+  pub nameable : ExpressionNamesAreFullIn m earlier handle → ⊥
 
--- why it has no plan: the rules of scope don't hold in it, an expression without a form is written
--- in it or a type without one spelled, or a label that a front end gave in it gets no name; or
--- memory ran out
+-- why it has no plan: the rules of scope don't hold in it, a statement without a form stands in it,
+-- an expression without one is written there or a type without one spelled, a label that a front
+-- end gave in it gets no name, or memory ran out
 abbrev pub IsFault : (explicit : Bool) → Module → ModuleInfo → (earlier : List (List ℕ)) →
     (handle : ℕ) → Error → Type 0
 IsFault explicit m info earlier handle error =
     (TellsOfScope error × (ScopeHoldsIn m info handle → ⊥))
     ⊎ (HasFormlessIn explicit m info handle error
-    ⊎ (TellsOfFullNamer error × GivenAreFullIn m earlier handle))
+    ⊎ (TellsOfFullNamer error × ExpressionNamesAreFullIn m earlier handle))
 
 abbrev pub IsPlanRefusal : (explicit : Bool) → Module → ModuleInfo → (earlier : List (List ℕ)) →
     (handle : ℕ) → Error → Type 0
@@ -331,15 +342,17 @@ IsOfPlan m f known (LetWithoutForm handle) = handle < length known
 IsOfPlan m f known error = ⊤
 
 abbrev pub TellsPlanError : Module → Function → List ExpressionInfo → PlanError → Error → Type 0
-TellsPlanError m f known OutOfScope told = IsCustom (codes "operand out of scope") told
-TellsPlanError m f known (WithoutForm handle) told =
+TellsPlanError m f known OutOfScope reported = IsCustom (codes "operand out of scope") reported
+TellsPlanError m f known (StatementWithoutForm statement) reported =
+    NamesStatement statement reported
+TellsPlanError m f known (WithoutForm handle) reported =
     IsSomeAnd (slice_get f.expressions handle) (λ e.
-    NamesExpression m known f.expressions e told)
-TellsPlanError m f known (TypeWithoutForm ty) told = NamesType m (Handle ty) told
-TellsPlanError m f known (LetWithoutForm handle) told =
-    IsSomeAnd (slice_get known handle) (λ k. NamesType m k.ty told)
-TellsPlanError m f known (Unnamed e) told = IsErrorOfNames e told
-TellsPlanError m f known (plan_error.Memory e) told = told ≡ Memory e
+    NamesExpression m known f.expressions e reported)
+TellsPlanError m f known (TypeWithoutForm ty) reported = NamesType m (Handle ty) reported
+TellsPlanError m f known (LetWithoutForm handle) reported =
+    IsSomeAnd (slice_get known handle) (λ k. NamesType m k.ty reported)
+TellsPlanError m f known (Unnamed e) reported = IsErrorOfNames e reported
+TellsPlanError m f known (plan_error.Memory e) reported = reported ≡ Memory e
 
 -- the namer has the words and prefixes of WGSL, and has named these labels
 pub record HasNamedLabels (earlier : List (List ℕ)) (namer : Names) : Type 0 where

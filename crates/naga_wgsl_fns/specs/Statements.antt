@@ -1,92 +1,238 @@
--- The texts of statements, by the level of their lines and the point in front of them: the table of
--- what is in scope there, and how many names that front ends gave stand in front of it.
-use Rattle.std.specs.Prelude.{ℕ, List, ◌++◌, Option, cond, [], true, false}
-use Rattle.naga_ir.specs.StatementTree.{BlockTree, StatementTree}
+-- The texts of statements. Throughout, f is the function that is written, k is how many names that
+-- front ends gave stand in front of a line, s are the handles in scope there, i is the level of the
+-- line, and h is a handle.
+use Rattle.wgsl_text.specs.Statements.{DefaultLabel}
+use Rattle.naga_ir.specs.StatementTree.{ray_query}
+use Rattle.shader_runs.specs.ProgramRun.{barrier_words}
+use Rattle.module_meaning.specs.StatementShapes.{barrier_bits}
+use Rattle.module_meaning.specs.FunctionShapes.{cases_shape}
+use Rattle.naga_form.specs.Statements.{labels_form, label_form, barrier_lines}
+use Rattle.std.specs.Prelude.{◌∷◌, suc, map}
+use Rattle.naga_ir.specs.declared.statement.SwitchCase.{SwitchCase}
+use Rattle.naga_ir.specs.StatementTree.{has_no_statements}
+use Rattle.naga_ir.specs.declared.flags.Barrier.{Barrier}
+use Rattle.shader_runs.specs.Program as shapes
+use Rattle.naga_scope.specs.Walks.{after_each}
+use Rattle.std.specs.Prelude.{ℕ, Bool, List, [], ◌++◌, Option, None, Some, codes, if◌then◌else◌}
+use Rattle.std.specs.Prelude.{true, false}
+use Rattle.naga_ir.specs.Operands.{simple_result}
+use Rattle.naga_ir.specs.StatementTree.{BlockTree, CaseTrees, SimpleStatement, StatementTree}
+use Rattle.naga_ir.specs.StatementTree.{simple, call, image_store, atomic, image_atomic}
+use Rattle.naga_ir.specs.StatementTree.{work_group_uniform_load, subgroup_ballot, subgroup_gather}
+use Rattle.naga_ir.specs.StatementTree.{subgroup_collective_operation, cooperative_store}
+use Rattle.naga_ir.specs.StatementTree.{ray_pipeline_function}
 use Rattle.naga_back.specs.Indentation.{indentation}
-use Rattle.shader_runs.specs.Program.{binds}
-use Rattle.shader_runs.specs.Scope.{bound_name}
-use Rattle.naga_form.specs.Expressions.{as_value}
-use Rattle.wgsl_text.specs.Statements.{Statement, ReturnValue, Statements, NoStatements}
-use Rattle.wgsl_text.specs.Statements.{statement_pieces, statements_pieces}
-use Rattle.naga_form.specs.Statements.{let_form, lets_form, return_line, line_form, lines_form}
-use Rattle.naga_form.specs.Statements.{store_line}
-use Rattle.module_meaning.specs.ExpressionOperators.{points_to_atomic}
-use Rattle.naga_scope.specs.declared.points.Standing.{Standing}
-use Rattle.naga_scope.specs.Standings.{TextPoint}
+use Rattle.shader_runs.specs.Program.{Action, Asked, Called, binds}
+use Rattle.shader_runs.specs.Form.{word_of}
+use Rattle.shader_runs.specs.Scope.{Handles, Names, after, after_all, bound_name, named_by}
+use Rattle.shader_runs.specs.Scope.{named_by_all, named_by_cases}
+use Rattle.module_meaning.specs.FunctionShapes.{statement_shape, statements_shape}
+use Rattle.module_meaning.specs.Names.{numbered_name}
+use Rattle.module_meaning.specs.StatementShapes.{change_of, source_of}
+use Rattle.naga_form.specs.Expressions.{as_value, as_reference, plain_form, unnamed_form}
+use Rattle.naga_form.specs.Expressions.{value_form, value_forms}
+use Rattle.naga_form.specs.Statements.{act_line, cases_form, let_form, lets_form, line_form}
+use Rattle.naga_form.specs.Statements.{lines_form, return_line}
+use Rattle.wgsl_text.specs.Expressions.{NoArguments, operands}
+use Rattle.wgsl_text.specs.Reading.{expression_layout}
+use Rattle.wgsl_text.specs.Statements.{Assign, CallStatement, Cases, Label, Labels, NoStatements}
+use Rattle.wgsl_text.specs.Statements.{ReturnValue, Statement, Statements, case_pieces}
+use Rattle.wgsl_text.specs.Statements.{cases_pieces, label_pieces, statement_pieces}
+use Rattle.wgsl_text.specs.Statements.{statements_pieces}
 use Rattle.wgsl_text.specs.Text.{text}
+use Rattle.wgsl_text.specs.Types.{Named}
 use Rattle.naga_wgsl_fns.specs.declared.functions.FunctionText.{FunctionText}
-use Rattle.naga_wgsl_fns.specs.FunctionText.{around, handles_in, source, naming, let_annotation}
-use Rattle.naga_wgsl_fns.specs.Expressions.{form_at, own_form}
+use Rattle.naga_wgsl_fns.specs.FunctionText.{context, let_annotation, naming, source}
+use Rattle.naga_wgsl_fns.specs.Types.{let_annotation_text}
 
 -- a statement's lines
-abbrev pub line_text : (level : ℕ) → Statement → List ℕ
-line_text level statement = text (statement_pieces statement level)
+abbrev pub line_text : (i : ℕ) → Statement → List ℕ
+line_text i statement = text (statement_pieces statement i)
 
-abbrev pub lines_text : (level : ℕ) → Statements → List ℕ
-lines_text level statements = text (statements_pieces statements level)
+abbrev pub lines_text : (i : ℕ) → Statements → List ℕ
+lines_text i statements = text (statements_pieces statements i)
 
--- the blanks before a line, and the word that it starts with
-unfoldable pub line_start : (level : ℕ) → (word : List ℕ) → List ℕ
-line_start level word = indentation level ++ word
+-- the blanks before a line, and what it starts with
+unfoldable pub line_start : (i : ℕ) → (words : List ℕ) → List ℕ
+line_start i words = indentation i ++ words
 
--- a store, to an atomic or not
-unfoldable pub store_text : FunctionText → (table : List Standing)
-    → (level pointer value : ℕ) → List ℕ
-store_text f table level pointer value =
-    let to_atomic = points_to_atomic (around f) pointer in
-    line_text level (store_line to_atomic (form_at f table pointer) (form_at f table value))
+-- a statement of a block, and a block
+unfoldable pub statement_text : FunctionText → ℕ → Handles → (i : ℕ) → StatementTree → List ℕ
+statement_text f k s i st =
+    lines_text i (line_form (naming f) (let_annotation f) (source f) k st s NoStatements)
 
-unfoldable pub assignment_text : FunctionText → (table : List Standing)
-    → (level pointer value : ℕ) → List ℕ
-assignment_text f table level pointer value =
-    line_text level (store_line false (form_at f table pointer) (form_at f table value))
+unfoldable pub block_text : FunctionText → ℕ → Handles → (i : ℕ) → BlockTree → List ℕ
+block_text f k s i b = lines_text i (lines_form (naming f) (let_annotation f) (source f) k b s)
 
-unfoldable pub atomic_store_text : FunctionText → (table : List Standing)
-    → (level pointer value : ℕ) → List ℕ
-atomic_store_text f table level pointer value =
-    line_text level (store_line true (form_at f table pointer) (form_at f table value))
+-- ---- where what follows stands
+-- how many names are given behind a statement and behind a block, and which handles are in scope
+-- there
+abbrev pub named_behind_statement : FunctionText → StatementTree → ℕ → ℕ
+named_behind_statement f st k = named_by (naming f).function (statement_shape (context f) st) k
 
-unfoldable pub return_text : FunctionText → (table : List Standing)
-    → (level : ℕ) (value : Option ℕ) → List ℕ
-return_text f table level value =
-    line_text level (return_line (naming f) (source f) (handles_in f table) value)
+abbrev pub named_behind : FunctionText → BlockTree → ℕ → ℕ
+named_behind f b k = named_by_all (naming f).function (statements_shape (context f) b) k
 
-unfoldable pub return_value_text : FunctionText → (table : List Standing)
-    → (level value : ℕ) → List ℕ
-return_value_text f table level value =
-    line_text level (ReturnValue (as_value (form_at f table value)))
+abbrev pub named_behind_cases : FunctionText → CaseTrees → ℕ → ℕ
+named_behind_cases f cases k = named_by_cases (naming f).function (cases_shape (context f) cases) k
+
+abbrev pub after_statement : FunctionText → ℕ → StatementTree → Handles → Handles
+after_statement f k st s = after (naming f) k (statement_shape (context f) st) s
+
+abbrev pub after_statements : FunctionText → ℕ → BlockTree → Handles → Handles
+after_statements f k b s = after_each (naming f) k (statements_shape (context f) b) s
+
+-- and which a loop's body leaves to `continuing`
+abbrev pub left_to_continuing : FunctionText → ℕ → BlockTree → Handles → Handles
+left_to_continuing f k b s = after_all (naming f) k (statements_shape (context f) b) s
+
+-- ---- lines
+-- a value between what a line starts with and what it ends with
+unfoldable pub around_text : FunctionText → Handles → (i : ℕ) → (start : List ℕ) → (value : ℕ) →
+    (end : List ℕ) → List ℕ
+around_text f s i start value end =
+    line_start i start ++ (expression_layout (value_form (naming f) (source f) s value) ++ end)
+
+unfoldable pub assignment_text : FunctionText → Handles → (i pointer value : ℕ) → List ℕ
+assignment_text f s i pointer value =
+    line_text i
+    (Assign (as_reference (plain_form (naming f) (source f) s pointer))
+    (value_form (naming f) (source f) s value))
 
 -- the `let` of a handle
-abbrev pub let_line : FunctionText → TextPoint → (handle : ℕ) → Statement
-let_line f at handle =
-    let_form (let_annotation f handle) (bound_name (naming f) at.given handle)
-    (as_value (own_form f at.table handle))
+abbrev pub let_line : FunctionText → ℕ → Handles → (h : ℕ) → Statement
+let_line f k s h =
+    let_form (let_annotation f h) (bound_name (naming f) k h)
+    (as_value (unnamed_form (naming f) (source f) s h))
 
-unfoldable pub let_text : FunctionText → TextPoint → (level handle : ℕ) → List ℕ
-let_text f at level handle = line_text level (let_line f at handle)
+unfoldable pub let_text : FunctionText → ℕ → Handles → (i h : ℕ) → List ℕ
+let_text f k s i h = line_text i (let_line f k s h)
 
 -- the same, if it is to be bound
-unfoldable pub emitted_text : FunctionText → TextPoint → (level handle : ℕ) → List ℕ
-emitted_text f at level handle =
-    cond (binds (naming f).function handle) (let_text f at level handle) []
+unfoldable pub emitted_text : FunctionText → ℕ → Handles → (i h : ℕ) → List ℕ
+emitted_text f k s i h = if binds (naming f).function h then let_text f k s i h else []
 
 -- the `let`s of these handles
-unfoldable pub lets_text : FunctionText → TextPoint → (level : ℕ) → (handles : List ℕ) → List ℕ
-lets_text f at level handles =
-    let lets =
-    lets_form (naming f) (let_annotation f) (source f) at.given handles (handles_in f at.table)
-    NoStatements in
-    lines_text level lets
+unfoldable pub lets_text : FunctionText → ℕ → Handles → (i : ℕ) → (handles : List ℕ) → List ℕ
+lets_text f k s i handles =
+    lines_text i
+    (lets_form (naming f) (let_annotation f) (source f) k handles s NoStatements)
 
--- a statement of a block
-unfoldable pub statement_text : FunctionText → TextPoint → (level : ℕ) → StatementTree → List ℕ
-statement_text f at level statement =
-    let lines =
-    line_form (naming f) (let_annotation f) (source f) at.given statement (handles_in f at.table)
-    NoStatements in
-    lines_text level lines
+-- ---- acts
+-- a statement that asks for something or calls a function, whatever its operands are
+abbrev pub is_act : StatementTree → Bool
+is_act (simple (image_store image coordinate array_index value)) = true
+is_act (simple (atomic pointer fun value outcome)) = true
+is_act (simple (image_atomic image coordinate array_index fun value)) = true
+is_act (simple (work_group_uniform_load pointer outcome)) = true
+is_act (simple (call function arguments outcome)) = true
+is_act (simple (ray_query query)) = true
+is_act (simple (subgroup_ballot outcome predicate)) = true
+is_act (simple (subgroup_gather mode argument outcome)) = true
+is_act (simple (subgroup_collective_operation op collective argument outcome)) = true
+is_act (simple (cooperative_store target place)) = true
+is_act (simple (ray_pipeline_function fun)) = true
+is_act _ = false
 
-unfoldable pub block_text : FunctionText → TextPoint → (level : ℕ) → BlockTree → List ℕ
-block_text f at level block =
-    lines_text level
-    (lines_form (naming f) (let_annotation f) (source f) at.given block (handles_in f at.table))
+-- by this word
+abbrev pub word_in : Names → shapes.Statement → List ℕ
+word_in n (shapes.Act action xs outcome) = word_of n action
+word_in n _ = []
+
+abbrev pub act_word : FunctionText → StatementTree → List ℕ
+act_word f st = word_in (naming f).names (statement_shape (context f) st)
+
+-- by a word, with these operands and this result
+unfoldable pub act_text : FunctionText → Handles → (i : ℕ) → (word xs : List ℕ) →
+    (outcome : Option ℕ) → List ℕ
+act_text f s i word xs outcome =
+    line_text i
+    (act_line (naming f) (let_annotation f) word
+    (operands (value_forms (plain_form (naming f) (source f) s) xs)) outcome)
+
+-- what stands in front of the word, where there is a result
+unfoldable pub outcome_text : FunctionText → (outcome : Option ℕ) → List ℕ
+outcome_text f None = []
+outcome_text f (Some h) =
+    codes "let " ++ (numbered_name h ++ (let_annotation_text f h ++ codes " = "))
+
+-- a barrier's line, where it is one of that kind
+unfoldable pub barrier_text : (i : ℕ) → (is_kept : Bool) → (line : List ℕ) → List ℕ
+barrier_text i is_kept line = if is_kept then line_start i line else []
+
+-- all of them
+unfoldable pub barriers_text : (i : ℕ) → Barrier → List ℕ
+barriers_text i flags =
+    lines_text i (barrier_lines (barrier_words (barrier_bits flags)) NoStatements)
+
+-- ---- blocks
+-- lines behind one that opens them
+unfoldable pub braces_text : (i : ℕ) → (start body : List ℕ) → List ℕ
+braces_text i start body = line_start i start ++ (body ++ line_start i (codes "}\n"))
+
+unfoldable pub else_text : (i : ℕ) → (is_empty : Bool) → (body : List ℕ) → List ℕ
+else_text i is_empty body = if is_empty then [] else line_start i (codes "} else {\n") ++ body
+
+-- ---- loops
+-- what a loop does last, and whether it ends then
+unfoldable pub last_text : FunctionText → ℕ → Handles → (i : ℕ) → BlockTree → (break_if : ℕ) →
+    List ℕ
+last_text f k s i b break_if =
+    block_text f k s i b
+    ++ around_text f (left_to_continuing f k b s) i (codes "break if ") break_if (codes ";\n")
+
+unfoldable pub continuing_text : FunctionText → ℕ → Handles → (i : ℕ) → BlockTree →
+    (break_if : Option ℕ) → List ℕ
+continuing_text f k s i b None =
+    if has_no_statements b then []
+    else braces_text i (codes "continuing {\n") (block_text f k s (suc i) b)
+continuing_text f k s i b (Some break_if) =
+    braces_text i (codes "continuing {\n") (last_text f k s (suc i) b break_if)
+
+-- all that it repeats
+unfoldable pub turn_text : FunctionText → ℕ → Handles → (i : ℕ) → (body continuing : BlockTree) →
+    (break_if : Option ℕ) → List ℕ
+turn_text f k s i body continuing break_if =
+    block_text f k s i body
+    ++ continuing_text f (named_behind f body k) (left_to_continuing f k body s) i continuing
+    break_if
+
+-- ---- switches
+-- cases, in front of which these labels wait for one
+unfoldable pub cases_text : FunctionText → ℕ → Handles → (i : ℕ) → List Label → CaseTrees → List ℕ
+cases_text f k s i labels cases =
+    text
+    (cases_pieces (cases_form (naming f) (let_annotation f) (source f) k labels cases s) i)
+
+-- the labels of these cases
+abbrev pub labels_of : List SwitchCase → List Label
+labels_of cases = map (λ c. label_form c.value) cases
+
+-- a label, labels each of which has another one behind it, and those of a group up to the colon
+unfoldable pub label_text : Label → List ℕ
+label_text label = text (label_pieces label)
+
+unfoldable pub waiting_text : List Label → List ℕ
+waiting_text [] = []
+waiting_text (label ∷ labels) = label_text label ++ (codes ", " ++ waiting_text labels)
+
+-- a default that no other label stands with
+abbrev pub stands_alone : (labels : List Label) → (own : Label) → Bool
+stands_alone [] DefaultLabel = true
+stands_alone labels own = false
+
+unfoldable pub group_start : (labels : List Label) → (own : Label) → List ℕ
+group_start labels own = text (case_pieces (labels_form labels own))
+
+-- labels and the block that they are for
+unfoldable pub group_text : FunctionText → ℕ → Handles → (i : ℕ) → (labels : List Label) →
+    (own : Label) → BlockTree → List ℕ
+group_text f k s i labels own body =
+    indentation i ++
+    (group_start labels own ++
+    (codes " {\n" ++ (block_text f k s (suc i) body ++ line_start i (codes "}\n"))))
+
+-- one that falls through has none of its own
+unfoldable pub case_text : FunctionText → ℕ → Handles → (i : ℕ) → (labels : List Label) →
+    (own : Label) → (falls : Bool) → BlockTree → List ℕ
+case_text f k s i labels own falls body = if falls then [] else group_text f k s i labels own body

@@ -27,10 +27,10 @@ unfoldable pub annotation_text : FunctionText → TypeResolution → List ℕ
 annotation_text f ty = codes ": " ++ resolution_text f ty
 
 -- and where one may be
-abbrev pub told_type_text : Option TypeSpecifier → List ℕ
-told_type_text None = []
-told_type_text (Some ty) = codes ": " ++ type_layout ty
+abbrev pub annotation_if : Option TypeSpecifier → List ℕ
+annotation_if None = []
+annotation_if (Some ty) = codes ": " ++ type_layout ty
 
 -- the same in the `let` of a handle
-unfoldable pub told_text : FunctionText → (handle : ℕ) → List ℕ
-told_text f handle = told_type_text (let_annotation f handle)
+unfoldable pub let_annotation_text : FunctionText → (handle : ℕ) → List ℕ
+let_annotation_text f handle = annotation_if (let_annotation f handle)

@@ -1,8 +1,8 @@
 //! Constants, which are written as their names, and without one as their initialisers are.
 
 ghost use Rattle.std.specs.Prelude.{◌≡◌, IsTrue};
-ghost use Rattle.module_meaning.specs.AlikeTypes.{has_form};
-ghost use Rattle.module_meaning.specs.Part.{constant_is_written, global_is_written};
+ghost use Rattle.module_meaning.specs.AlikeTypes.{is_spelled};
+ghost use Rattle.module_meaning.specs.WrittenSoFar.{constant_is_written, global_is_written};
 ghost use Rattle.naga_info.specs.declared.info.TypeResolution.TheVariants as resolution;
 ghost use Rattle.naga_words.specs.Output.{Writes};
 ghost use Rattle.naga_wgsl_fns.specs.Constants.{called_global_text, constant_text, global_text};
@@ -105,7 +105,7 @@ impl ModuleText<'_> {
         out: &mut Output<'_, W>,
     )
         requires can { CanWriteIn self.now }
-        requires formed { IsTrue (has_form self.now.shader.now.types (resolution.Handle ty)) }
+        requires formed { IsTrue (is_spelled self.now.shader.now.types (resolution.Handle ty)) }
         requires written { IsTrue (global_is_written self.now.shader.now handle) }
         ensures { Writes W.text W.failures out.old out.new
             (made_global_text self.now.shader.now ty handle) }
@@ -155,9 +155,10 @@ impl ModuleText<'_> {
         out.put(")");
     }
 
-    /// A part, and what stands between it and the one before.
+    /// A part, and what stands between it and the one before. Behind a want its own parts are not
+    /// looked at.
     #[cycle(global)]
-    #[tactic(auto, using(naga_words::proofs::Writing::writes_then, crate::proofs::ConstantRows::next_part_row))]
+    #[tactic(auto, using(naga_words::proofs::Writing::writes_then, naga_words::proofs::Writing::writes_no_more, crate::proofs::ConstantRows::next_part_row))]
     fn write_next_part<W: TextSink>(
         &self,
         alloc: Global,
@@ -170,6 +171,9 @@ impl ModuleText<'_> {
         ensures { Writes W.text W.failures out.old out.new
             (next_part_text self.now.shader.now is_first part) }
     {
+        if out.is_wanting() {
+            return;
+        }
         out.put(if is_first { "" } else { ", " });
         self.write_global(alloc, part, out);
     }

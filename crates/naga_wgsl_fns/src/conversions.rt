@@ -3,8 +3,8 @@
 ghost use Rattle.std.specs.Prelude.{◌≡◌, ◌<◌, IsTrue, Some, length};
 ghost use Rattle.std.specs.Option.{is_some};
 ghost use Rattle.module_meaning.specs.Conversions.{conversion_target, keeps_bits};
-ghost use Rattle.module_meaning.specs.AlikeTypes.{has_form};
-ghost use Rattle.module_meaning.specs.Part.{expression_is_written};
+ghost use Rattle.module_meaning.specs.AlikeTypes.{is_spelled};
+ghost use Rattle.module_meaning.specs.WrittenSoFar.{expression_is_written};
 ghost use Rattle.module_meaning.specs.Ranges.{resolution_fits};
 ghost use Rattle.naga_ir.specs.declared.expression.Expression.TheVariants.{As};
 ghost use Rattle.naga_wgsl_fns.specs.Expressions.{bitcast_text, callee_text, cast_text};
@@ -76,7 +76,7 @@ impl FunctionText<'_> {
         out: &mut Output<'_, W>,
     )
         requires can { CanWrite self.now }
-        requires formed { IsTrue (has_form self.now.shader.now.types target.now) }
+        requires formed { IsTrue (is_spelled self.now.shader.now.types target.now) }
         requires fits { IsTrue (resolution_fits (length self.now.shader.now.overrides)
             (length self.now.shader.now.types) target.now) }
         ensures { Writes W.text W.failures out.old out.new
@@ -97,7 +97,7 @@ impl FunctionText<'_> {
         out: &mut Output<'_, W>,
     )
         requires can { CanWrite self.now }
-        requires formed { IsTrue (has_form self.now.shader.now.types target.now) }
+        requires formed { IsTrue (is_spelled self.now.shader.now.types target.now) }
         requires fits { IsTrue (resolution_fits (length self.now.shader.now.overrides)
             (length self.now.shader.now.types) target.now) }
         ensures { Writes W.text W.failures out.old out.new (bitcast_text self.now target.now) }

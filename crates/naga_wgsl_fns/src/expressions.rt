@@ -2,9 +2,9 @@
 
 ghost use Rattle.std.specs.Prelude.{[], ◌∷◌, ◌<◌, ◌≡◌, length, IsTrue};
 ghost use Rattle.std.specs.Option.{is_some};
-ghost use Rattle.module_meaning.specs.OperatorTable.{Mathematical, Relation, relational_word};
+ghost use Rattle.module_meaning.specs.OperatorTable.{Math, Relational, relational_word};
 ghost use Rattle.module_meaning.specs.OperatorTable.{Derivative, run_word};
-ghost use Rattle.module_meaning.specs.AlikeTypes.{has_form};
+ghost use Rattle.module_meaning.specs.AlikeTypes.{is_spelled};
 ghost use Rattle.naga_info.specs.declared.info.TypeResolution.TheVariants as resolution;
 ghost use Rattle.naga_form.specs.Operators.{Infix, Prefix, operator_form, unary_form};
 ghost use Rattle.naga_words.specs.Output.{Writes};
@@ -24,7 +24,7 @@ use naga_ir::{
     BinaryOperator, DerivativeAxis, DerivativeControl, Expression, Handle, LocalVariable,
     MathFunction, RelationalFunction, Type_, UnaryOperator,
 };
-use naga_scope::{Scope, Standing};
+use naga_scope::{Availability, Scope};
 use naga_words::words::vector_str;
 use naga_words::{Output, TextSink};
 use std::alloc::Global;
@@ -32,9 +32,10 @@ use wgsl_words::TryToWgsl;
 
 impl FunctionText<'_> {
     /// An expression as a value: its name where it has one here, else what it is made of. A
-    /// reference is written with `&`.
+    /// reference is written with `&`. Behind a want its operands are not looked at: a text may be
+    /// exponential in the function's size.
     #[cycle(expression)]
-    #[tactic(auto, using(crate::proofs::ExpressionRows::value_row))]
+    #[tactic(auto, using(naga_words::proofs::Writing::writes_no_more, crate::proofs::ExpressionRows::value_row))]
     pub(crate) fn write_value<W: TextSink>(
         &self,
         alloc: Global,
@@ -46,8 +47,11 @@ impl FunctionText<'_> {
         requires handle { IsInText self.now handle }
         ensures { Writes W.text W.failures out.old out.new (value_text self.now scope.now.table handle) }
     {
-        match scope.standing(handle) {
-            Standing::Named(name) => self.write_bound_name(handle, name, out),
+        if out.is_wanting() {
+            return;
+        }
+        match scope.availability(handle) {
+            Availability::Bound(name) => self.write_bound_name(handle, name, out),
             _ => self.write_own(alloc, scope, handle, out),
         }
     }
@@ -128,7 +132,9 @@ impl FunctionText<'_> {
             Expression::CooperativeMultiplyAdd { .. } => {
                 self.write_called(alloc, scope, handle, "coopMultiplyAdd", out)
             }
-            _ => unreachable!(),
+            // The result of a statement, where its name is not in scope. The rules of scope keep that
+            // from being written.
+            _ => out.put("false"),
         }
     }
 
@@ -148,8 +154,8 @@ impl FunctionText<'_> {
         ensures { Writes W.text W.failures out.old out.new
             (reference_text self.now scope.now.table handle) }
     {
-        match scope.standing(handle) {
-            Standing::Named(_) => self.write_dereference(alloc, scope, handle, out),
+        match scope.availability(handle) {
+            Availability::Bound(_) => self.write_dereference(alloc, scope, handle, out),
             _ => match &self.function.expressions[handle] {
                 Expression::GlobalVariable(variable) => {
                     self.write_global_reference(alloc, scope, handle, *variable, out)
@@ -269,7 +275,7 @@ impl FunctionText<'_> {
     )
         requires can { CanWrite self.now }
         requires handle { IsInText self.now handle }
-        requires formed { IsTrue (has_form self.now.shader.now.types (resolution.Handle ty)) }
+        requires formed { IsTrue (is_spelled self.now.shader.now.types (resolution.Handle ty)) }
         ensures { Writes W.text W.failures out.old out.new
             (made_text self.now scope.now.table (made_type self.now ty) handle) }
     {
@@ -347,7 +353,7 @@ fn unary_operation_str(op: UnaryOperator) -> &'static str
 /// The word of a function of mathematics that has one.
 fn math_function_str(fun: MathFunction) -> &'static str
     requires { IsTrue (is_some (math_word fun)) }
-    ensures { result.now ≡ run_word (Mathematical fun) }
+    ensures { result.now ≡ run_word (Math fun) }
 {
     match fun.try_to_wgsl() {
         Some(word) => word,
@@ -375,7 +381,7 @@ fn derivative_str(axis: DerivativeAxis, control: DerivativeControl) -> &'static 
 /// The word of a relation that has one.
 fn relational_function_str(fun: RelationalFunction) -> &'static str
     requires { IsTrue (is_some (relational_word fun)) }
-    ensures { result.now ≡ run_word (Relation fun) }
+    ensures { result.now ≡ run_word (Relational fun) }
 {
     match fun {
         RelationalFunction::All => "all",

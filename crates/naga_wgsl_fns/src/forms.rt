@@ -1,8 +1,8 @@
 //! The refusals of expressions and types without a form, by name.
 
 ghost use Rattle.std.specs.Prelude.{Bool, IsFalse, List, ◌&&◌};
-ghost use Rattle.module_meaning.specs.Part.{expression_has_form, is_written_literal};
-ghost use Rattle.module_meaning.specs.Part.{known_passes};
+ghost use Rattle.module_meaning.specs.WrittenSoFar.{expression_has_form, is_written_literal};
+ghost use Rattle.module_meaning.specs.WrittenSoFar.{known_passes};
 ghost use Rattle.module_meaning.specs.ExpressionOperators.{has_parts, scalar_behind};
 ghost use Rattle.module_meaning.specs.Conversions.{conversion_target};
 ghost use Rattle.module_meaning.specs.Sampling.{sampling_is_written};
@@ -12,7 +12,7 @@ ghost use Rattle.naga_scope.specs.Marks.{GlobalsStandInOrder, MarksGlobals};
 ghost use Rattle.naga_wgsl_fns.specs.Refusals.{NamesConversion, NamesExpression};
 ghost use Rattle.naga_wgsl_fns.specs.Refusals.{NamesFunction, NamesLiteral, NamesSampling};
 ghost use Rattle.naga_wgsl_fns.specs.Refusals.{NamesMatrix, NamesPart, NamesScalar, NamesType};
-ghost use Rattle.naga_wgsl_fns.specs.Refusals.{NamesUndeclared, converted};
+ghost use Rattle.naga_wgsl_fns.specs.Refusals.{NamesStatement, NamesUndeclared, converted};
 ghost use Rattle.naga_wgsl_fns.specs.Refusals.{NamesItemsOf, pointed_scalar};
 
 use crate::error::{Error, custom, unimplemented};
@@ -25,7 +25,9 @@ use naga_ir::{
     Expression, Handle, Literal, MathFunction, Module, SampleLevel, Scalar, ScalarKind,
     SwizzleComponent, Type_, TypeInner, UniqueArena,
 };
-use naga_scope::{GlobalExpressions, converted_scalar, sampling_has_form, scalar_behind};
+use naga_scope::{
+    FormlessStatement, GlobalExpressions, converted_scalar, sampling_has_form, scalar_behind,
+};
 use std::alloc::Global;
 use wgsl_words::TryToWgsl;
 
@@ -77,15 +79,24 @@ pub(crate) fn without_form(
         Expression::CooperativeLoad { data_, .. } => {
             load_without_form(alloc, types, info, data_.pointer)
         }
-        Expression::CallResult(_)
-        | Expression::AtomicResult { .. }
-        | Expression::WorkGroupUniformLoadResult { .. }
-        | Expression::SubgroupOperationResult { .. }
-        | Expression::SubgroupBallotResult => custom(alloc, "operand out of scope"),
         Expression::RayQueryProceedResult
         | Expression::RayQueryGetIntersection { .. }
         | Expression::RayQueryVertexPositions { .. } => unimplemented(alloc, "ray query"),
         _ => unreachable!(),
+    }
+}
+
+/// What is told of a statement that has no form.
+pub(crate) fn statement_without_form(alloc: Global, statement: FormlessStatement) -> Error
+    ensures { NamesStatement statement result }
+{
+    match statement {
+        FormlessStatement::RayQuery => unimplemented(alloc, "ray query"),
+        FormlessStatement::SubgroupOperation => unimplemented(alloc, "subgroup operation"),
+        FormlessStatement::FallThrough => { unimplemented(alloc, "fall-through switch case block") }
+        FormlessStatement::ImageCompareExchange => {
+            unimplemented(alloc, "image compare exchange")
+        }
     }
 }
 

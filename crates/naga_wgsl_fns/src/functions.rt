@@ -3,17 +3,21 @@
 ghost use Rattle.std.specs.Prelude.{◌≡◌, ◌<◌, ◌++◌, IfErr, IsTrue, OnErr, OnOk, Some, length};
 ghost use Rattle.std.specs.Prelude.{slice_get};
 ghost use Rattle.module_meaning.specs.Accepted.{is_accepted};
-ghost use Rattle.module_meaning.specs.AlikeTypes.{has_form};
-ghost use Rattle.module_meaning.specs.Part.{is_written_so_far};
+ghost use Rattle.module_meaning.specs.AlikeTypes.{is_spelled};
+ghost use Rattle.module_meaning.specs.WrittenSoFar.{is_written_so_far};
 ghost use Rattle.naga_info.specs.declared.info.TypeResolution.TheVariants as resolution;
 ghost use Rattle.module_meaning.specs.Names.{HasNamesOf};
 ghost use Rattle.naga_names.specs.Keys.{names_in};
+ghost use Rattle.naga_scope.specs.Changes.{block_changes};
+ghost use Rattle.naga_scope.specs.Log.{HasRoom};
 ghost use Rattle.naga_scope.specs.Plans.{IsPlanOf};
 ghost use Rattle.naga_words.specs.Output.{Writes};
 ghost use Rattle.naga_words.specs.Sink.{IsBehind};
 ghost use Rattle.naga_wgsl_fns.specs.Errors.{IsWant};
 ghost use Rattle.naga_wgsl_fns.specs.FunctionText.{CanWrite};
-ghost use Rattle.naga_wgsl_fns.specs.FunctionText.{AreInText, IsInText, tells_types};
+ghost use Rattle.naga_wgsl_fns.specs.FunctionText.{AreInText, IsInText, annotates_types};
+ghost use Rattle.naga_wgsl_fns.specs.FunctionText.{handles_in};
+ghost use Rattle.naga_wgsl_fns.specs.Statements.{block_text};
 ghost use Rattle.std.specs.Option.{option_to_list};
 ghost use Rattle.naga_wgsl_fns.specs.Functions.{StartsAt, answer_text, argument_text};
 ghost use Rattle.naga_wgsl_fns.specs.Functions.{arguments_text, body_text, first_text};
@@ -24,7 +28,8 @@ ghost use Rattle.naga_wgsl_fns.specs.Functions.{names_of, text_under};
 
 use crate::Error;
 use crate::error::error_of_want;
-use naga_back::{Level, WriterFlags};
+use crate::indent::Indent;
+use naga_back::WriterFlags;
 use naga_info::{FunctionInfo, ModuleInfo};
 use naga_ir::{
     Expression, Function, FunctionArgument, Handle, LocalVariable, Module, Place, Type_,
@@ -43,8 +48,8 @@ use std::collections::HashMap;
 /// The plan is that of the function, for `let`s that tell types where the flags ask for it.
 ///
 /// Where the call gives up, because the sink failed or for want of memory, a beginning of the text
-/// stands behind what the sink held. Memory is taken where the sink takes it, and where a type is
-/// spelled.
+/// stands behind what the sink held. Memory is taken where the sink takes it, for the blanks of a
+/// level deeper than any before, and where a type is spelled.
 #[tactic(auto, using(naga_words::proofs::Writing::fresh_output))]
 pub fn write_planned<W: TextSink>(
     alloc: Global,
@@ -60,7 +65,7 @@ pub fn write_planned<W: TextSink>(
     requires written { IsTrue (is_written_so_far «module».now) }
     requires handle { handle < length «module».now.functions }
     requires names { HasNamesOf «module».now (names_in names.now) }
-    requires planned { IsPlanOf (tells_types flags) «module».now info.now handle plan }
+    requires planned { IsPlanOf (annotates_types flags) «module».now info.now handle plan }
     ensures text_ok { OnOk result (W.text out.new
         ≡ W.text out.old ++ text_under «module».now info.now flags (names_of plan) handle) }
     ensures text_err { OnErr result (IsBehind (W.text out.old)
@@ -68,12 +73,12 @@ pub fn write_planned<W: TextSink>(
     ensures failures_ok { OnOk result (W.failures out.new ≡ W.failures out.old) }
     ensures reason { IfErr result (IsWant (W.failures out.old) (W.failures out.new)) }
 {
-    let (mut scope, given) = plan.into_parts();
+    let (mut scope, named) = plan.into_parts();
     let text = FunctionText {
         shader: module,
         module_info: info,
         names,
-        given: given.as_slice(),
+        named: named.as_slice(),
         flags,
         handle,
         function: &module.functions[handle],
@@ -94,7 +99,7 @@ pub(crate) struct FunctionText<'a> {
     pub(crate) module_info: &'a ModuleInfo,
     pub(crate) names: &'a HashMap<NameKey, String>,
     /// The names that front ends gave, in the order of the text.
-    pub(crate) given: &'a [String],
+    pub(crate) named: &'a [String],
     pub(crate) flags: WriterFlags,
     pub(crate) handle: Handle<Function>,
     pub(crate) function: &'a Function,
@@ -112,8 +117,9 @@ impl FunctionText<'_> {
     )
         requires can { CanWrite self.now }
         requires start { StartsAt self.now scope.old.table }
-        requires given { scope.old.given ≡ 0 }
+        requires named { scope.old.named ≡ 0 }
         requires size { length scope.old.table ≡ length self.now.function.now.expressions }
+        requires room { HasRoom scope.old (block_changes self.now.function.now.body) }
         ensures { Writes W.text W.failures out.old out.new (function_text self.now) }
     {
         self.write_head(alloc, out);
@@ -199,7 +205,7 @@ impl FunctionText<'_> {
     #[tactic(auto, using(naga_words::proofs::Writing::writes_then, crate::proofs::FunctionRows::answer_row))]
     fn write_answer<W: TextSink>(&self, alloc: Global, ty: Handle<Type_>, out: &mut Output<'_, W>)
         requires can { CanWrite self.now }
-        requires formed { IsTrue (has_form self.now.shader.now.types (resolution.Handle ty)) }
+        requires formed { IsTrue (is_spelled self.now.shader.now.types (resolution.Handle ty)) }
         ensures { Writes W.text W.failures out.old out.new (answer_text self.now ty) }
     {
         out.put(" -> ");
@@ -211,13 +217,32 @@ impl FunctionText<'_> {
     fn write_body<W: TextSink>(&self, alloc: Global, scope: &mut Scope, out: &mut Output<'_, W>)
         requires can { CanWrite self.now }
         requires start { StartsAt self.now scope.old.table }
-        requires given { scope.old.given ≡ 0 }
+        requires named { scope.old.named ≡ 0 }
         requires size { length scope.old.table ≡ length self.now.function.now.expressions }
+        requires room { HasRoom scope.old (block_changes self.now.function.now.body) }
         ensures { Writes W.text W.failures out.old out.new (body_text self.now) }
     {
         self.write_locals(alloc, scope, out);
-        self.write_block(alloc, Level(1), &self.function.body, scope, out);
+        self.write_statements(alloc, scope, out);
         out.put("}\n");
+    }
+
+    /// The statements, one level deep.
+    fn write_statements<W: TextSink>(
+        &self,
+        alloc: Global,
+        scope: &mut Scope,
+        out: &mut Output<'_, W>,
+    )
+        requires can { CanWrite self.now }
+        requires size { length scope.old.table ≡ length self.now.function.now.expressions }
+        requires room { HasRoom scope.old (block_changes self.now.function.now.body) }
+        ensures { Writes W.text W.failures out.old out.new (block_text self.now scope.old.named
+            (handles_in self.now scope.old.table) 1 self.now.function.now.body) }
+    {
+        let mut indent = Indent::new(alloc);
+        indent.deepen(out);
+        self.write_here(alloc, &self.function.body, scope, &mut indent, out);
     }
 
     /// The locals, and an empty line behind them if there are any.

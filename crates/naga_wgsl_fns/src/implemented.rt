@@ -1,26 +1,29 @@
 //! Words that WGSL may lack.
 
-ghost use Rattle.std.specs.Prelude.{◌≡◌, IfOk, IsErr, None, Some};
+ghost use Rattle.std.specs.Prelude.{◌≡◌, IfErr, IfOk, IsErr, None, Some};
+ghost use Rattle.naga_wgsl_fns.specs.Errors.{IsUnsupported};
 
 use crate::error::Error;
 use std::alloc::Global;
 use std::fmt::Debug;
 use wgsl_words::TryToWgsl;
 
-/// WGSL's word for a value. One without a word is refused with its kind and its debug text.
+/// WGSL's word for a value. One without a word is refused with its kind and its debug text, for which
+/// memory may be wanting.
 pub fn to_wgsl_if_implemented<T: TryToWgsl + Debug + Copy>(
     alloc: Global,
     value: T,
 ) -> Result<&'static str, Error>
     ensures word { IfOk result (λ word. T.try_word value ≡ Some word.now) }
-    ensures refused { IsErr result → T.try_word value ≡ None }
+    ensures missing { IsErr result → T.try_word value ≡ None }
+    ensures refused { IfErr result (IsUnsupported T.description) }
 {
     match value.try_to_wgsl() {
         Some(word) => Ok(word),
         None => {
             let text = format!(in alloc; "{value:?}")?;
             Err(Error::Unsupported {
-                kind: T::DESCRIPTION,
+                kind: T::described(),
                 value: text,
             })
         }

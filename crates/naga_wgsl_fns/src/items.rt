@@ -3,10 +3,10 @@
 ghost use Rattle.std.specs.Prelude.{◌≡◌, ◌<◌, ℕ, List, IsErrAnd, IsTrue, length};
 ghost use Rattle.module_meaning.specs.Accepted.{is_accepted};
 ghost use Rattle.module_meaning.specs.Names.{HasNamesOf, wgsl_names};
-ghost use Rattle.module_meaning.specs.Part.{is_written_so_far};
+ghost use Rattle.module_meaning.specs.WrittenSoFar.{is_written_so_far};
 ghost use Rattle.naga_names.specs.Keys.{names_in};
 ghost use Rattle.naga_names.specs.Naming.{HasNamed};
-ghost use Rattle.naga_scope.specs.GivenNames.{HasOtherUses};
+ghost use Rattle.naga_scope.specs.ExpressionNames.{HasOtherUses};
 ghost use Rattle.naga_wgsl_fns.specs.Errors.{IsNotYetWritten};
 ghost use Rattle.naga_wgsl_fns.specs.Items.{FunctionWriting, HasNamedItemsOf, IsEntryPoint};
 ghost use Rattle.naga_wgsl_fns.specs.Items.{IsFunctionOf, OfFunction};

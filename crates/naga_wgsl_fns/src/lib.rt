@@ -4,6 +4,8 @@
 //! Users take these through the crate `naga_wgsl_out`.
 #![tactic(auto)]
 
+mod acts;
+mod blocks;
 mod constants;
 mod conversions;
 pub mod error;
@@ -14,16 +16,20 @@ pub mod functions;
 pub mod global_expressions;
 mod images;
 pub mod implemented;
+mod indent;
 pub mod items;
 mod lacking;
+mod lines;
 pub mod literal;
 mod loads;
+mod loops;
 mod module_text;
 mod names;
 mod parts;
 pub mod plans;
 pub mod sinks;
 mod statements;
+mod switches;
 mod types;
 mod variables;
 
@@ -35,4 +41,4 @@ pub use items::write_function;
 pub use literal::write_literal;
 pub use plans::plan_of;
 pub use sinks::put;
-pub use types::tells_types;
+pub use types::annotates_types;

@@ -1,10 +1,10 @@
 //! Literals.
 
 ghost use Rattle.std.specs.Prelude.{◌++◌, IsTrue};
-ghost use Rattle.module_meaning.specs.Part.{is_written_literal};
+ghost use Rattle.module_meaning.specs.WrittenSoFar.{is_written_literal};
 ghost use Rattle.naga_words.specs.Output.{Writes};
-ghost use Rattle.naga_wgsl_fns.specs.Literals.{integer_text, literal_text, long_text, short_text};
-ghost use Rattle.naga_wgsl_fns.specs.Literals.{unsigned_short_text};
+ghost use Rattle.naga_wgsl_fns.specs.Literals.{i32_text, literal_text, i64_text, i16_text};
+ghost use Rattle.naga_wgsl_fns.specs.Literals.{u16_text};
 
 use itoa::{Buffer, Integer};
 use naga_ir::Literal;
@@ -14,7 +14,7 @@ use naga_words::{Output, TextSink};
 /// as `i16(-5)` and `u16(5)`. The least `i32` and
 /// the least `i64` have no literal in WGSL, whose `-` stands outside, and are written
 /// `i32(-2147483648)` and `i64(-9223372036854775807 - 1)`.
-#[tactic(auto, unfolding(crate::specs::Literals::literal_text, crate::specs::Literals::integer_text, crate::specs::Literals::long_text, crate::specs::Literals::short_text, crate::specs::Literals::unsigned_short_text))]
+#[tactic(auto, unfolding(crate::specs::Literals::literal_text, crate::specs::Literals::i32_text, crate::specs::Literals::i64_text, crate::specs::Literals::i16_text, crate::specs::Literals::u16_text))]
 pub fn write_literal<W: TextSink>(literal: Literal, out: &mut Output<'_, W>)
     requires { IsTrue (is_written_literal literal) }
     ensures { Writes W.text W.failures out.old out.new (literal_text literal) }
@@ -32,7 +32,7 @@ pub fn write_literal<W: TextSink>(literal: Literal, out: &mut Output<'_, W>)
 }
 
 fn write_i16<W: TextSink>(value: i16, out: &mut Output<'_, W>)
-    ensures { Writes W.text W.failures out.old out.new (short_text value) }
+    ensures { Writes W.text W.failures out.old out.new (i16_text value) }
 {
     out.put("i16(");
     write_number(value, ")", out);
@@ -40,14 +40,14 @@ fn write_i16<W: TextSink>(value: i16, out: &mut Output<'_, W>)
 
 #[tactic(auto, using(naga_words::proofs::Writing::writes_then, crate::proofs::Literals::unsigned_short_row))]
 fn write_u16<W: TextSink>(value: u16, out: &mut Output<'_, W>)
-    ensures { Writes W.text W.failures out.old out.new (unsigned_short_text value) }
+    ensures { Writes W.text W.failures out.old out.new (u16_text value) }
 {
     out.put("u16(");
     write_number(value, ")", out);
 }
 
 fn write_i32<W: TextSink>(value: i32, out: &mut Output<'_, W>)
-    ensures { Writes W.text W.failures out.old out.new (integer_text value) }
+    ensures { Writes W.text W.failures out.old out.new (i32_text value) }
 {
     if value == i32::MIN {
         out.put("i32(-2147483648)");
@@ -57,7 +57,7 @@ fn write_i32<W: TextSink>(value: i32, out: &mut Output<'_, W>)
 }
 
 fn write_i64<W: TextSink>(value: i64, out: &mut Output<'_, W>)
-    ensures { Writes W.text W.failures out.old out.new (long_text value) }
+    ensures { Writes W.text W.failures out.old out.new (i64_text value) }
 {
     if value == i64::MIN {
         out.put("i64(-9223372036854775807 - 1)");
@@ -68,7 +68,11 @@ fn write_i64<W: TextSink>(value: i64, out: &mut Output<'_, W>)
 
 /// Writes a number, and the suffix of its type.
 #[tactic(auto, using(naga_words::proofs::Writing::writes_then), unfolding(naga_words::specs::Output::joined_texts))]
-fn write_number<I: Integer, W: TextSink>(number: I, suffix: &str, out: &mut Output<'_, W>)
+pub(crate) fn write_number<I: Integer, W: TextSink>(
+    number: I,
+    suffix: &str,
+    out: &mut Output<'_, W>,
+)
     ensures { Writes W.text W.failures out.old out.new (I.text number ++ suffix.now) }
 {
     let mut buffer = Buffer::new();

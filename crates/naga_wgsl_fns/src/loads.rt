@@ -2,15 +2,15 @@
 
 ghost use Rattle.std.specs.Prelude.{◌≡◌, ◌<◌, IsTrue, Some, length, slice_get};
 ghost use Rattle.std.specs.Option.{is_some};
-ghost use Rattle.module_meaning.specs.AlikeTypes.{has_form};
-ghost use Rattle.module_meaning.specs.ExpressionOperators.{points_to_atomic};
-ghost use Rattle.module_meaning.specs.Part.{expression_is_written};
+ghost use Rattle.module_meaning.specs.AlikeTypes.{is_spelled};
+ghost use Rattle.module_meaning.specs.ExpressionOperators.{is_atomic_pointer};
+ghost use Rattle.module_meaning.specs.WrittenSoFar.{expression_is_written};
 ghost use Rattle.module_meaning.specs.Ranges.{resolution_fits};
 ghost use Rattle.naga_form.specs.Expressions.{scalar_pointed};
 ghost use Rattle.naga_ir.specs.declared.expression.Expression.TheVariants.{CooperativeLoad, Load};
 ghost use Rattle.naga_wgsl_fns.specs.Expressions.{is_atomic_at, load_text, load_word, made_text};
 ghost use Rattle.naga_wgsl_fns.specs.Expressions.{matrix_callee, matrix_callee_text, taking_text};
-ghost use Rattle.naga_wgsl_fns.specs.FunctionText.{CanWrite, IsInText, around};
+ghost use Rattle.naga_wgsl_fns.specs.FunctionText.{CanWrite, IsInText, context};
 ghost use Rattle.naga_words.specs.Output.{Writes};
 
 use crate::functions::FunctionText;
@@ -39,7 +39,7 @@ impl FunctionText<'_> {
         requires load { slice_get self.now.function.now.expressions handle ≡ Some (Load pointer) }
         ensures { Writes W.text W.failures out.old out.new (load_text self.now scope.now.table pointer) }
     {
-        if self.points_to_atomic(pointer) {
+        if self.is_atomic_pointer(pointer) {
             self.write_called(alloc, scope, handle, "atomicLoad", out);
         } else {
             self.write_reference(alloc, scope, pointer, out);
@@ -47,10 +47,10 @@ impl FunctionText<'_> {
     }
 
     /// Whether an expression is a pointer to an atomic.
-    pub(crate) fn points_to_atomic(&self, handle: Handle<Expression>) -> bool
+    pub(crate) fn is_atomic_pointer(&self, handle: Handle<Expression>) -> bool
         requires can { CanWrite self.now }
         requires handle { handle < length self.now.info.now }
-        ensures { result ≡ points_to_atomic (around self.now) handle }
+        ensures { result ≡ is_atomic_pointer (context self.now) handle }
     {
         match self.type_of(handle) {
             TypeInner::Pointer { base, .. } => self.is_atomic(*base),
@@ -123,8 +123,8 @@ impl FunctionText<'_> {
     fn pointed_scalar(&self, pointer: Handle<Expression>) -> Scalar
         requires can { CanWrite self.now }
         requires handle { pointer < length self.now.info.now }
-        requires scalar { IsTrue (is_some (scalar_pointed (around self.now) pointer)) }
-        ensures { scalar_pointed (around self.now) pointer ≡ Some result }
+        requires scalar { IsTrue (is_some (scalar_pointed (context self.now) pointer)) }
+        ensures { scalar_pointed (context self.now) pointer ≡ Some result }
     {
         match scalar_behind(&self.shader.types, self.type_of(pointer)) {
             Some(scalar) => scalar,
@@ -142,7 +142,7 @@ impl FunctionText<'_> {
         out: &mut Output<'_, W>,
     )
         requires can { CanWrite self.now }
-        requires formed { IsTrue (has_form self.now.shader.now.types ty.now) }
+        requires formed { IsTrue (is_spelled self.now.shader.now.types ty.now) }
         requires fits { IsTrue (resolution_fits (length self.now.shader.now.overrides)
             (length self.now.shader.now.types) ty.now) }
         ensures { Writes W.text W.failures out.old out.new (taking_text self.now word.now ty.now) }

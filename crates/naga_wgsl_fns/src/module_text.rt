@@ -1,7 +1,7 @@
 //! What the texts of a module's types and of its own expressions are made from.
 
 ghost use Rattle.std.specs.Prelude.{IsTrue};
-ghost use Rattle.module_meaning.specs.AlikeTypes.{has_form};
+ghost use Rattle.module_meaning.specs.AlikeTypes.{is_spelled};
 ghost use Rattle.naga_info.specs.declared.info.TypeResolution.TheVariants as resolution;
 ghost use Rattle.naga_words.specs.Output.{Writes};
 ghost use Rattle.naga_wgsl_fns.specs.ModuleText.{CanWriteIn};
@@ -30,7 +30,7 @@ impl ModuleText<'_> {
         out: &mut Output<'_, W>,
     )
         requires can { CanWriteIn self.now }
-        requires formed { IsTrue (has_form self.now.shader.now.types (resolution.Handle ty)) }
+        requires formed { IsTrue (is_spelled self.now.shader.now.types (resolution.Handle ty)) }
         ensures { Writes W.text W.failures out.old out.new (spelled_text self.now.shader.now ty) }
     {
         let context = WriterTypeContext {

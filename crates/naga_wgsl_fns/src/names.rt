@@ -5,7 +5,7 @@ ghost use Rattle.module_meaning.specs.Names.{module_names, name_in, numbered_nam
 ghost use Rattle.naga_names.specs.Keys.{names_in};
 ghost use Rattle.naga_names.specs.declared.key.NameKey.TheVariants as key;
 ghost use Rattle.naga_words.specs.Output.{Writes};
-ghost use Rattle.naga_wgsl_fns.specs.FunctionText.{CanWrite, given_in};
+ghost use Rattle.naga_wgsl_fns.specs.FunctionText.{CanWrite, named_in};
 ghost use Rattle.naga_wgsl_fns.specs.ModuleText.{CanWriteIn};
 ghost use Rattle.naga_wgsl_fns.specs.Names.{bound_text, name_of_argument, name_of_constant};
 ghost use Rattle.naga_wgsl_fns.specs.Names.{name_of_function, name_of_global, name_of_local};
@@ -14,7 +14,9 @@ ghost use Rattle.naga_wgsl_fns.specs.Names.{name_of_override, next_name_text};
 use crate::functions::FunctionText;
 use crate::module_text::ModuleText;
 use itoa::Buffer;
-use naga_ir::{Constant, Expression, GlobalVariable, Handle, LocalVariable, Override, Type_};
+use naga_ir::{
+    Constant, Expression, Function, GlobalVariable, Handle, LocalVariable, Override, Type_,
+};
 use naga_names::NameKey;
 use naga_scope::{BoundName, Scope};
 use naga_words::{Output, TextSink};
@@ -100,7 +102,7 @@ impl FunctionText<'_> {
     {
         match name {
             BoundName::Numbered => write_numbered_name(handle, out),
-            BoundName::Given(number) => self.write_given_name(number, out),
+            BoundName::Named(number) => self.write_expression_name(number, out),
         }
     }
 
@@ -113,21 +115,34 @@ impl FunctionText<'_> {
     )
         requires { CanWrite self.now }
         ensures { Writes W.text W.failures out.old out.new
-            (next_name_text self.now scope.now.given handle) }
+            (next_name_text self.now scope.now.named handle) }
     {
         let name = scope.next_name(self.function, handle);
         self.write_bound_name(handle, name, out);
     }
 
     /// The name with this number of those that front ends gave; there is none past them.
-    fn write_given_name<W: TextSink>(&self, number: usize, out: &mut Output<'_, W>)
+    fn write_expression_name<W: TextSink>(&self, number: usize, out: &mut Output<'_, W>)
         requires { CanWrite self.now }
         ensures { Writes W.text W.failures out.old out.new
-            (given_in self.now number) }
+            (named_in self.now number) }
     {
-        match self.given.get(number) {
+        match self.named.get(number) {
             Some(name) => out.put(name),
             None => {}
+        }
+    }
+
+    /// The name of a function of the module that this one calls.
+    #[inline(never)]
+    pub(crate) fn callee_str(&self, function: Handle<Function>) -> &str
+        requires { names_in self.now.names.now (key.Function function)
+            ≡ Some (name_in (module_names self.now.shader.now) (key.Function function)) }
+        ensures { result.now ≡ name_in (module_names self.now.shader.now) (key.Function function) }
+    {
+        match self.names.get(&NameKey::Function(function)) {
+            Some(name) => name.as_str(),
+            None => unreachable!(),
         }
     }
 
@@ -191,7 +206,7 @@ impl ModuleText<'_> {
 /// The name of an expression that no front end named.
 #[inline(never)]
 #[tactic(auto, using(naga_words::proofs::Writing::writes_then, crate::proofs::NameRows::bound_row))]
-fn write_numbered_name<W: TextSink>(handle: Handle<Expression>, out: &mut Output<'_, W>)
+pub(crate) fn write_numbered_name<W: TextSink>(handle: Handle<Expression>, out: &mut Output<'_, W>)
     ensures { Writes W.text W.failures out.old out.new (numbered_name handle) }
 {
     let mut digits = Buffer::new();

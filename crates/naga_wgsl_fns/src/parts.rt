@@ -16,16 +16,16 @@ ghost use Rattle.naga_wgsl_fns.specs.Expressions.{has_components, is_vector_at, 
 ghost use Rattle.naga_wgsl_fns.specs.Expressions.{struct_at, struct_known};
 ghost use Rattle.module_meaning.specs.ExpressionOperators.{type_known};
 ghost use Rattle.module_meaning.specs.Names.{module_names, name_in};
-ghost use Rattle.module_meaning.specs.Part.{expression_is_written};
+ghost use Rattle.module_meaning.specs.WrittenSoFar.{expression_is_written};
 ghost use Rattle.naga_names.specs.Keys.{names_in};
 ghost use Rattle.naga_names.specs.declared.key.NameKey.TheVariants as key;
 ghost use Rattle.naga_ir.specs.declared.expression.Expression.TheVariants.{AccessIndex};
-ghost use Rattle.naga_wgsl_fns.specs.FunctionText.{CanWrite, IsInText, around, source};
+ghost use Rattle.naga_wgsl_fns.specs.FunctionText.{CanWrite, IsInText, context, source};
 
 use crate::functions::FunctionText;
 use itoa::Buffer;
 use naga_ir::{Expression, Handle, SwizzleComponent, Type_, TypeInner, UniqueArena, VectorSize};
-use naga_scope::{Scope, Standing, whole_known};
+use naga_scope::{Availability, Scope, whole_known};
 use naga_words::{Output, TextSink};
 use std::alloc::Global;
 
@@ -286,7 +286,7 @@ impl FunctionText<'_> {
     fn points(&self, handle: Handle<Expression>) -> bool
         requires can { CanWrite self.now }
         requires handle { handle < length self.now.info.now }
-        ensures { result ≡ points (around self.now) handle }
+        ensures { result ≡ points (context self.now) handle }
     {
         matches!(
             self.type_of(handle),
@@ -298,7 +298,7 @@ impl FunctionText<'_> {
     pub(crate) fn type_of(&self, handle: Handle<Expression>) -> &TypeInner
         requires can { CanWrite self.now }
         requires handle { handle < length self.now.info.now }
-        ensures { type_known (around self.now) handle ≡ Some result.now }
+        ensures { type_known (context self.now) handle ≡ Some result.now }
     {
         self.info[handle].ty.inner_with(&self.shader.types)
     }
@@ -372,8 +372,8 @@ impl FunctionText<'_> {
         requires handle { IsInText self.now handle }
         ensures { result ≡ is_signed (as_value (form_at self.now scope.now.table handle)) }
     {
-        match scope.standing(handle) {
-            Standing::Named(_) => false,
+        match scope.availability(handle) {
+            Availability::Bound(_) => false,
             _ => matches!(&self.function.expressions[handle], Expression::Unary { .. }),
         }
     }

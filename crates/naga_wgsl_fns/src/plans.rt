@@ -3,22 +3,22 @@
 ghost use Rattle.std.specs.Prelude.{◌≡◌, ◌<◌, [], ℕ, List, IfErr, IfOk, IsTrue, OnErr, Some};
 ghost use Rattle.std.specs.Prelude.{length, slice_get};
 ghost use Rattle.module_meaning.specs.Accepted.{is_accepted};
-ghost use Rattle.module_meaning.specs.Names.{HasNamesOf, labels_given, wgsl_names};
-ghost use Rattle.module_meaning.specs.Part.{is_written_so_far};
+ghost use Rattle.module_meaning.specs.Names.{HasNamesOf, labels_named_in, wgsl_names};
+ghost use Rattle.module_meaning.specs.WrittenSoFar.{is_written_so_far};
 ghost use Rattle.naga_ir.specs.declared.expression.Expression.{Expression};
 ghost use Rattle.naga_names.specs.Keys.{names_in};
 ghost use Rattle.naga_names.specs.Naming.{HasNamed};
 ghost use Rattle.naga_scope.specs.Forms.{AreKnownIn};
-ghost use Rattle.naga_scope.specs.GivenNames.{HasBegunLabels, HasOtherUses, NamesLabels};
+ghost use Rattle.naga_scope.specs.ExpressionNames.{HasBegunLabels, HasOtherUses, NamesLabels};
 ghost use Rattle.naga_scope.specs.Marks.{GlobalsStandInOrder, MarksGlobals};
 ghost use Rattle.naga_scope.specs.Plans.{IsPlanOf};
-ghost use Rattle.naga_wgsl_fns.specs.FunctionText.{tells_types};
+ghost use Rattle.naga_wgsl_fns.specs.FunctionText.{annotates_types};
 ghost use Rattle.naga_wgsl_fns.specs.Refusals.{IsOfPlan, IsPlanRefusal, NamesItemsOf};
 ghost use Rattle.naga_wgsl_fns.specs.Refusals.{TellsPlanError};
 
 use crate::error::{Error, custom, names_error};
-use crate::forms::{type_without_form, without_form};
-use crate::types::tells_types;
+use crate::forms::{statement_without_form, type_without_form, without_form};
+use crate::types::annotates_types;
 use naga_back::WriterFlags;
 use naga_info::{FunctionInfo, ModuleInfo, TypeResolution};
 use naga_ir::{Function, Handle, Module};
@@ -30,9 +30,9 @@ use std::collections::HashMap;
 
 /// The plan of a function of an accepted module that is written so far, by the marks of the
 /// module's own expressions and the names of its items: the rules of scope hold in the function,
-/// each written expression and each type that its text spells can be spelled, and the labels that
-/// front ends gave in it have names, which `namer` has given them in the order of the text. Its
-/// words and prefixes are those of WGSL.
+/// each statement and each written expression has a form, each type that its text spells can be
+/// spelled, and the labels that front ends gave in it have names, which `namer` has given them in
+/// the order of the text. Its words and prefixes are those of WGSL.
 ///
 /// Else what keeps the function from having one is told by name, and `namer` has named some first
 /// ones of its labels.
@@ -52,13 +52,13 @@ pub fn plan_of(
     requires globals { MarksGlobals «module».now globals.now }
     requires names { HasNamesOf «module».now (names_in names.now) }
     requires words { HasOtherUses wgsl_names namer.old }
-    ensures ok { IfOk result (IsPlanOf (tells_types flags) «module».now info.now handle) }
+    ensures ok { IfOk result (IsPlanOf (annotates_types flags) «module».now info.now handle) }
     ensures named { IfOk result (λ p.
-        NamesLabels namer.old [] (labels_given «module».now handle) namer.new p.given) }
+        NamesLabels namer.old [] (labels_named_in «module».now handle) namer.new p.named) }
     ensures err { IfErr result (λ e. (earlier : List (List ℕ)) → HasNamed namer.old earlier →
-        IsPlanRefusal (tells_types flags) «module».now info.now earlier handle e) }
+        IsPlanRefusal (annotates_types flags) «module».now info.now earlier handle e) }
     ensures begun { OnErr result
-        (HasBegunLabels namer.old (labels_given «module».now handle) namer.new) }
+        (HasBegunLabels namer.old (labels_named_in «module».now handle) namer.new) }
 {
     match Plan::of(
         alloc,
@@ -67,7 +67,7 @@ pub fn plan_of(
         handle,
         globals,
         names,
-        tells_types(flags),
+        annotates_types(flags),
         namer,
     ) {
         Ok(plan) => Ok(plan),
@@ -101,6 +101,7 @@ fn error_of_plan(
 {
     match error {
         PlanError::OutOfScope => custom(alloc, "operand out of scope"),
+        PlanError::StatementWithoutForm(statement) => statement_without_form(alloc, statement),
         PlanError::WithoutForm(handle) => {
             without_form(alloc, module, globals, info, &function.expressions[handle])
         }

@@ -1,12 +1,13 @@
 //! Types, spelled under the names of the module's items.
 
 ghost use Rattle.std.specs.Prelude.{◌≡◌, ◌<◌, IsTrue, length};
-ghost use Rattle.module_meaning.specs.AlikeTypes.{has_form};
+ghost use Rattle.module_meaning.specs.AlikeTypes.{is_spelled};
 ghost use Rattle.module_meaning.specs.Ranges.{resolution_fits};
 ghost use Rattle.naga_info.specs.declared.info.TypeResolution.TheVariants as resolution;
 ghost use Rattle.naga_words.specs.Output.{Writes};
-ghost use Rattle.naga_wgsl_fns.specs.FunctionText.{CanWrite, IsEmitted, bound, tells_types};
-ghost use Rattle.naga_wgsl_fns.specs.Types.{annotation_text, resolution_text, told_text, type_text};
+ghost use Rattle.naga_wgsl_fns.specs.FunctionText.{CanWrite, IsLet, annotates_types};
+ghost use Rattle.naga_wgsl_fns.specs.Types.{annotation_text, resolution_text, let_annotation_text};
+ghost use Rattle.naga_wgsl_fns.specs.Types.{type_text};
 
 use crate::functions::FunctionText;
 use bitflags::Flags;
@@ -27,7 +28,7 @@ impl FunctionText<'_> {
         out: &mut Output<'_, W>,
     )
         requires can { CanWrite self.now }
-        requires formed { IsTrue (has_form self.now.shader.now.types (resolution.Handle ty)) }
+        requires formed { IsTrue (is_spelled self.now.shader.now.types (resolution.Handle ty)) }
         ensures { Writes W.text W.failures out.old out.new (type_text self.now ty) }
     {
         self.of_module().write_type(alloc, ty, out);
@@ -42,7 +43,7 @@ impl FunctionText<'_> {
         out: &mut Output<'_, W>,
     )
         requires can { CanWrite self.now }
-        requires formed { IsTrue (has_form self.now.shader.now.types ty.now) }
+        requires formed { IsTrue (is_spelled self.now.shader.now.types ty.now) }
         requires fits { IsTrue (resolution_fits (length self.now.shader.now.overrides)
             (length self.now.shader.now.types) ty.now) }
         ensures { Writes W.text W.failures out.old out.new (annotation_text self.now ty.now) }
@@ -59,7 +60,7 @@ impl FunctionText<'_> {
         out: &mut Output<'_, W>,
     )
         requires can { CanWrite self.now }
-        requires formed { IsTrue (has_form self.now.shader.now.types ty.now) }
+        requires formed { IsTrue (is_spelled self.now.shader.now.types ty.now) }
         requires fits { IsTrue (resolution_fits (length self.now.shader.now.overrides)
             (length self.now.shader.now.types) ty.now) }
         ensures { Writes W.text W.failures out.old out.new (resolution_text self.now ty.now) }
@@ -72,7 +73,7 @@ impl FunctionText<'_> {
     }
 
     /// The same, where types are told.
-    fn write_told<W: TextSink>(
+    fn write_let_type<W: TextSink>(
         &self,
         alloc: Global,
         handle: Handle<Expression>,
@@ -80,10 +81,9 @@ impl FunctionText<'_> {
     )
         requires can { CanWrite self.now }
         requires handle { handle < length self.now.function.now.expressions }
-        requires emitted { IsEmitted self.now handle }
-        requires bound { IsTrue (bound self.now handle) }
-        requires tells { IsTrue (tells_types self.now.flags) }
-        ensures { Writes W.text W.failures out.old out.new (told_text self.now handle) }
+        requires named { IsLet self.now handle }
+        requires tells { IsTrue (annotates_types self.now.flags) }
+        ensures { Writes W.text W.failures out.old out.new (let_annotation_text self.now handle) }
     {
         let ty = &self.info[handle].ty;
         if !names_undeclared(self.shader, ty) {
@@ -93,7 +93,7 @@ impl FunctionText<'_> {
 
     /// What stands between the name of a `let` and its `=`: a colon and the type, if the flags ask
     /// for it and it names no struct that no text declares.
-    pub(crate) fn write_told_type<W: TextSink>(
+    pub(crate) fn write_let_annotation<W: TextSink>(
         &self,
         alloc: Global,
         handle: Handle<Expression>,
@@ -101,19 +101,18 @@ impl FunctionText<'_> {
     )
         requires can { CanWrite self.now }
         requires handle { handle < length self.now.function.now.expressions }
-        requires emitted { IsEmitted self.now handle }
-        requires bound { IsTrue (bound self.now handle) }
-        ensures { Writes W.text W.failures out.old out.new (told_text self.now handle) }
+        requires named { IsLet self.now handle }
+        ensures { Writes W.text W.failures out.old out.new (let_annotation_text self.now handle) }
     {
-        if tells_types(self.flags) {
-            self.write_told(alloc, handle, out);
+        if annotates_types(self.flags) {
+            self.write_let_type(alloc, handle, out);
         }
     }
 }
 
 /// Whether each `let` tells its type.
-pub fn tells_types(flags: WriterFlags) -> bool
-    ensures { result ≡ tells_types flags }
+pub fn annotates_types(flags: WriterFlags) -> bool
+    ensures { result ≡ annotates_types flags }
 {
     flags.contains(WriterFlags::EXPLICIT_TYPES)
 }

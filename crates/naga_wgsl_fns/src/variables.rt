@@ -1,7 +1,7 @@
 //! Variables of the module: references, but values in the handle space.
 
 ghost use Rattle.std.specs.Prelude.{◌≡◌, ◌<◌, length};
-ghost use Rattle.naga_form.specs.Expressions.{is_held};
+ghost use Rattle.naga_form.specs.Expressions.{is_handle_variable};
 ghost use Rattle.naga_words.specs.Output.{Writes};
 ghost use Rattle.naga_wgsl_fns.specs.Expressions.{global_address_text, global_reference_text};
 ghost use Rattle.naga_wgsl_fns.specs.Expressions.{global_value_text};
@@ -24,7 +24,7 @@ impl FunctionText<'_> {
         requires variable { variable < length self.now.shader.now.global_variables }
         ensures { Writes W.text W.failures out.old out.new (global_value_text self.now variable) }
     {
-        if self.is_held(variable) {
+        if self.is_handle_variable(variable) {
             self.write_global_name(variable, out);
         } else {
             self.write_global_address(variable, out);
@@ -48,7 +48,7 @@ impl FunctionText<'_> {
         ensures { Writes W.text W.failures out.old out.new
             (global_reference_text self.now scope.now.table handle variable) }
     {
-        if self.is_held(variable) {
+        if self.is_handle_variable(variable) {
             self.write_dereference(alloc, scope, handle, out);
         } else {
             self.write_global_name(variable, out);
@@ -72,9 +72,9 @@ impl FunctionText<'_> {
     }
 
     /// Whether a variable of the module is in the handle space.
-    fn is_held(&self, variable: Handle<GlobalVariable>) -> bool
+    fn is_handle_variable(&self, variable: Handle<GlobalVariable>) -> bool
         requires { variable < length self.now.shader.now.global_variables }
-        ensures { result ≡ is_held self.now.shader.now variable }
+        ensures { result ≡ is_handle_variable self.now.shader.now variable }
     {
         matches!(
             self.shader.global_variables[variable].space,

@@ -7,7 +7,7 @@ use Rattle.naga_ir.specs.declared.module.Function.{Function}
 use Rattle.std.specs.Prelude.{IfErr, IsTrue, OnErr, OnOk, Result}
 use Rattle.naga_ir.specs.declared.module.Module.{Module}
 use Rattle.module_meaning.specs.Accepted.{is_accepted}
-use Rattle.module_meaning.specs.Part.{is_written_so_far}
+use Rattle.module_meaning.specs.WrittenSoFar.{is_written_so_far}
 use Rattle.wgsl_text.specs.Declarations.{Program}
 use Rattle.naga_form.specs.Declarations.{written_program}
 use Rattle.naga_form.proofs.Resolution.{resolves}
@@ -31,27 +31,29 @@ use Rattle.naga_wgsl_fns.specs.declared.error.Error.{Error}
 use Rattle.naga_wgsl_fns.specs.declared.error.Error.TheVariants.{FmtError, Custom, Unimplemented}
 use Rattle.naga_wgsl_fns.specs.declared.error.Error.TheVariants.{Memory}
 use Rattle.naga_back.specs.declared.flags.WriterFlags.{WriterFlags}
-use Rattle.naga_wgsl_fns.specs.FunctionText.{tells_types}
+use Rattle.naga_wgsl_fns.specs.FunctionText.{annotates_types}
 use Rattle.naga_wgsl_out.specs.Writing.{HasPlan, MetNoPlan, WritesFunctions, WroteFunctions}
 use Rattle.naga_wgsl_out.specs.Writing.{WroteFunctionsBefore, lines_before, module_lines}
 use Rattle.naga_wgsl_out.specs.Writing.{written_text}
 use Rattle.naga_wgsl_out.proofs.Functions.{lines_behind, lines_split, written_lines}
 use Rattle.naga_wgsl_out.proofs.ModuleScopes.{all_planned_counted, all_planned_formed, all_planned_hold}
-use Rattle.naga_wgsl_out.proofs.ModuleScopes.{fault_refuses, fault_told}
+use Rattle.naga_wgsl_out.proofs.ModuleScopes.{fault_refuses, fault_reported}
 use Rattle.naga_wgsl_fns.specs.Refusals.{TellsOfModule}
 use Rattle.naga_wgsl_out.specs.ModuleRefusals.{ComesBeforeText, HasAllNames, IsNamesRefusal}
 use Rattle.naga_wgsl_out.specs.ModuleRefusals.{IsRefusal, NamerIsFull, TellsOfFunction}
-use Rattle.naga_wgsl_out.proofs.GivenNames.{none_past}
+use Rattle.naga_wgsl_out.proofs.ExpressionNames.{none_past}
 use Rattle.naga_wgsl_out.specs.Headline.{EachReading, FaithfulWriting}
 
 -- what stands behind the same text is the same
-same_behind : (held a b : List ℕ) → held ++ a ≡ held ++ b → a ≡ b
+same_behind : (content a b : List ℕ) → content ++ a ≡ content ++ b → a ≡ b
 same_behind [] a b e = e
-same_behind (x ∷ held) a b e = same_behind held a b (ap (drop 1) e)
+same_behind (x ∷ content) a b e = same_behind content a b (ap (drop 1) e)
 
 -- a refusal
-pub refused : (explicit : Bool) (m : Module) (info : ModuleInfo) (error : Error) (held now : List ℕ) (before after : ℕ) → IsRefusal explicit m info before after error → FaithfulWriting explicit m info (Err error) held now before after
-refused explicit m info error held now before after is = record { refusals = is; reading = tt; interface = tt; runs = tt }
+pub refused : (explicit : Bool) (m : Module) (info : ModuleInfo) (error : Error)
+    (content now : List ℕ) (before after : ℕ) → IsRefusal explicit m info before after error →
+    FaithfulWriting explicit m info (Err error) content now before after
+refused explicit m info error content now before after is = record { refusals = is; reading = tt; interface = tt; runs = tt }
 
 -- names that can't be told are a reason
 pub for_names : (explicit : Bool) (m : Module) (info : ModuleInfo) (error : Error) (before after : ℕ) → IsNamesRefusal m error → IsRefusal explicit m info before after error
@@ -67,7 +69,9 @@ for_want explicit m info (Memory e) before after is = tt
 for_want explicit m info _ before after is = absurd is
 
 -- and so is what is not written so far
-pub for_part : (explicit : Bool) (m : Module) (info : ModuleInfo) (error : Error) (before after : ℕ) → IsNotYetWritten error → is_written_so_far m ≡ false → IsRefusal explicit m info before after error
+pub for_part : (explicit : Bool) (m : Module) (info : ModuleInfo) (error : Error)
+    (before after : ℕ) → IsNotYetWritten error → is_written_so_far m ≡ false →
+    IsRefusal explicit m info before after error
 for_part explicit m info (Unimplemented message) before after is part = inl (is, part)
 for_part explicit m info (Memory e) before after is part = tt
 for_part explicit m info _ before after is part = absurd is
@@ -81,17 +85,17 @@ want_tells_nothing (Memory e) before after is tells = tells
 want_tells_nothing _ before after is tells = is
 
 pub function_tells_of_module : (m : Module) (error : Error) → TellsOfFunction m error → TellsOfModule error
-function_tells_of_module m (Custom message) told = tt
-function_tells_of_module m error (inr (inl told)) = told.0
-function_tells_of_module m _ (inr (inr told)) = absurd told.0
-function_tells_of_module m _ (inl told) = absurd told
+function_tells_of_module m (Custom message) reported = tt
+function_tells_of_module m error (inr (inl reported)) = reported.0
+function_tells_of_module m _ (inr (inr reported)) = absurd reported.0
+function_tells_of_module m _ (inl reported) = absurd reported
 
 -- a text that was appended
 module _ (m : Module) (info : ModuleInfo) (flags : WriterFlags)
     (accepted : IsTrue (is_accepted m info)) (written : IsTrue (is_written_so_far m))
     (names : NameMap) (has : HasAllNames m names) where
   abbrev explicit : Bool
-  explicit = tells_types flags
+  explicit = annotates_types flags
 
   -- a plan of each function
   abbrev AllPlanned : Type 0
@@ -105,52 +109,53 @@ module _ (m : Module) (info : ModuleInfo) (flags : WriterFlags)
       program_has_one_reading program (is_program m info explicit accepted
       written (all_planned_formed explicit m info planned) (all_planned_counted explicit m info accepted planned))
 
-  each : AllPlanned → (held now : List ℕ) → now ≡ held ++ written_text m info flags →
-      (Q : Program → Type 0) → Q program → EachReading held now Q
-  each planned held now appended Q holds text is other reads =
-      let same = same_behind held text (written_text m info flags) (sym is ∙ appended) in
+  each : AllPlanned → (content now : List ℕ) → now ≡ content ++ written_text m info flags →
+      (Q : Program → Type 0) → Q program → EachReading content now Q
+  each planned content now appended Q holds text is other reads =
+      let same = same_behind content text (written_text m info flags) (sym is ∙ appended) in
       subst Q (sym ((one planned).only other
       (subst (λ t. Reads (tokens t) other) same reads))) holds
 
   -- the answer of the call that wrote the functions
-  pub record Concludes (r : Result Unit Error) (held now : List ℕ) (before after : ℕ) : Type 0 where
-    pub is_faithful : FaithfulWriting explicit m info r held now before after
-    pub resolved : OnOk r (EachReading held now (ResolvesAs m info))
-    pub binds : OnOk r (EachReading held now (BindsAs m info explicit))
-    pub text_ok : OnOk r (now ≡ held ++ written_text m info flags)
-    pub text_err : OnErr r (IsBehind held (written_text m info flags) now)
-    pub untouched : IfErr r (λ e. ComesBeforeText m e → now ≡ held)
-    pub written_before : IfErr r (λ e. TellsOfFunction m e → WroteFunctionsBefore m info flags held now)
-    pub unfailed : IfErr r (λ e. TellsOfModule e → after ≡ before)
-    pub failures_ok : OnOk r (after ≡ before)
+  pub record Concludes (r : Result Unit Error) (content now : List ℕ) (before after : ℕ) : Type 0
+    where
+      pub is_faithful : FaithfulWriting explicit m info r content now before after
+      pub resolved : OnOk r (EachReading content now (ResolvesAs m info))
+      pub binds : OnOk r (EachReading content now (BindsAs m info explicit))
+      pub text_ok : OnOk r (now ≡ content ++ written_text m info flags)
+      pub text_err : OnErr r (IsBehind content (written_text m info flags) now)
+      pub untouched : IfErr r (λ e. ComesBeforeText m e → now ≡ content)
+      pub written_before : IfErr r (λ e. TellsOfFunction m e → WroteFunctionsBefore m info flags content now)
+      pub unfailed : IfErr r (λ e. TellsOfModule e → after ≡ before)
+      pub failures_ok : OnOk r (after ≡ before)
 
   -- each label has a name
-  none_told : AllPlanned → NamerIsFull m → ⊥
-  none_told planned (inl items) = has.told items
-  none_told planned (inr full) = by (slice_get m.functions full.0) refl
+  none_reported : AllPlanned → NamerIsFull m → ⊥
+  none_reported planned (inl items) = has.nameable items
+  none_reported planned (inr full) = by (slice_get m.functions full.0) refl
     where
       by : (o : Option Function) → slice_get m.functions full.0 ≡ o → ⊥
       by None past = none_past m full.0 past full.1
-      by (Some f) at = (planned full.0 (slice_get_within m.functions full.0 f at)).told full.1
+      by (Some f) at = (planned full.0 (slice_get_within m.functions full.0 f at)).nameable full.1
 
   same_text : module_lines m info flags ≡ written_text m info flags
   same_text = written_lines m info flags accepted
 
-  module _ (held now : List ℕ) (before after : ℕ) where
-    wrote : WroteFunctions m info flags held before now after →
-        Concludes (Ok tt) held now before after
+  module _ (content now : List ℕ) (before after : ℕ) where
+    wrote : WroteFunctions m info flags content before now after →
+        Concludes (Ok tt) content now before after
     wrote w =
-        let appended = w.wrote.appended ∙ ap (λ t. held ++ t) same_text in
+        let appended = w.wrote.appended ∙ ap (λ t. content ++ t) same_text in
         let rules = all_planned_hold explicit m info written w.planned in
         let have = all_planned_formed explicit m info w.planned in
-        let reading = each w.planned held now appended in
+        let reading = each w.planned content now appended in
         record {
           is_faithful = record {
             refusals = record {
               written = written;
               in_scope = rules;
               formed = have;
-              told = none_told w.planned;
+              nameable = none_reported w.planned;
               keys = has.keys;
             };
             reading = record {
@@ -174,45 +179,48 @@ module _ (m : Module) (info : ModuleInfo) (flags : WriterFlags)
           failures_ok = w.wrote.kept;
         }
 
-    stopped : (e : Error) → StoppedWithin held before (module_lines m info flags) now after e →
-        Concludes (Err e) held now before after
+    stopped : (e : Error) → StoppedWithin content before (module_lines m info flags) now after e →
+        Concludes (Err e) content now before after
     stopped e s = record {
-      is_faithful = refused explicit m info e held now before after
+      is_faithful = refused explicit m info e content now before after
           (for_want explicit m info e before after s.reason);
       resolved = tt;
       binds = tt;
       text_ok = tt;
-      text_err = subst (λ t. IsBehind held t now) same_text s.behind;
+      text_err = subst (λ t. IsBehind content t now) same_text s.behind;
       untouched = λ first. absurd (want_tells_nothing e before after s.reason first.0);
-      written_before = λ told.
-          absurd (want_tells_nothing e before after s.reason (function_tells_of_module m e told));
+      written_before = λ reported.
+          absurd (want_tells_nothing e before after s.reason
+          (function_tells_of_module m e reported));
       unfailed = λ tells. absurd (want_tells_nothing e before after s.reason tells);
       failures_ok = tt;
     }
 
-    met_no_plan : (e : Error) → MetNoPlan m info flags held before now after e →
-        Concludes (Err e) held now before after
+    met_no_plan : (e : Error) → MetNoPlan m info flags content before now after e →
+        Concludes (Err e) content now before after
     met_no_plan e s = record {
-      is_faithful = refused explicit m info e held now before after
+      is_faithful = refused explicit m info e content now before after
           (fault_refuses explicit m info s.before.handle before after written e s.tells s.fault);
       resolved = tt;
       binds = tt;
       text_ok = tt;
-      text_err = subst (λ t. IsBehind held t now) same_text (
+      text_err = subst (λ t. IsBehind content t now) same_text (
         lines_before m info flags s.before.handle,
         lines_behind m info flags s.before.handle,
         sym (lines_split m info flags s.before.handle),
         s.before.written,
       );
       untouched = λ first.
-          absurd (first.1 (fault_told explicit m info s.before.handle has.told e s.tells s.fault));
-      written_before = λ told. s.before;
+          absurd (first.1
+          (fault_reported explicit m info s.before.handle has.nameable e s.tells s.fault));
+      written_before = λ reported. s.before;
       unfailed = λ tells. s.kept;
       failures_ok = tt;
     }
 
-    pub concludes : (r : Result Unit Error) → WritesFunctions m info flags r held before now after →
-        Concludes r held now before after
+    pub concludes : (r : Result Unit Error) →
+        WritesFunctions m info flags r content before now after →
+        Concludes r content now before after
     concludes (Ok _) w = wrote w
     concludes (Err e) (inl s) = stopped e s
     concludes (Err e) (inr s) = met_no_plan e s

@@ -22,11 +22,12 @@ use Rattle.naga_names.proofs.Refusal.{element}
 use Rattle.naga_form.proofs.AcceptedFunctions.{functions_counted}
 use Rattle.wgsl_text.specs.Text.{text}
 use Rattle.naga_names.specs.Naming.{Names}
-use Rattle.naga_scope.specs.GivenNames.{NamesLabels}
+use Rattle.naga_scope.specs.ExpressionNames.{NamesLabels}
 use Rattle.naga_scope.specs.Plans.{IsPlanOf, Planned}
-use Rattle.module_meaning.specs.Names.{given_name, labels_before, labels_given, module_names}
+use Rattle.module_meaning.specs.Names.{expression_name, labels_before, labels_named_in}
+use Rattle.module_meaning.specs.Names.{module_names}
 use Rattle.naga_wgsl_fns.specs.Appends.{StoppedWithin, Wrote}
-use Rattle.naga_wgsl_fns.specs.FunctionText.{tells_types}
+use Rattle.naga_wgsl_fns.specs.FunctionText.{annotates_types}
 use Rattle.naga_wgsl_fns.specs.Functions.{known_of, text_of_function}
 use Rattle.naga_wgsl_fns.specs.declared.error.Error.{Error}
 use Rattle.naga_wgsl_fns.specs.declared.error.Error.TheVariants.{Memory}
@@ -37,19 +38,24 @@ use Rattle.naga_wgsl_out.specs.ModuleRefusals.{HasNamedBefore}
 use Rattle.naga_wgsl_out.specs.Writing.{HasPlan, IsNamedPlan, MetNoPlan, WritesFunctions}
 use Rattle.naga_wgsl_out.specs.Writing.{WroteFunctions}
 use Rattle.naga_wgsl_out.specs.Writing.{line_of, lines_before, lines_of, module_lines, written_text}
-use Rattle.naga_wgsl_out.proofs.GivenNames.{named_plan, none_full}
+use Rattle.naga_wgsl_out.proofs.ExpressionNames.{named_plan, none_full}
 use Rattle.naga_wgsl_fns.proofs.PlanRefusals.{fault_fails}
 use Rattle.naga_wgsl_out.proofs.ModuleScopes.{has_plan_holds}
 
-functions_text : (m : Module) (info : ModuleInfo) (flags : WriterFlags) (g : ℕ) (fs : List Function) (ess : List (List ExpressionInfo)) → length fs ≡ length ess → ((i : ℕ) (es : List ExpressionInfo) → slice_get ess i ≡ Some es → known_of info (g + i) ≡ es) → text (functions_pieces (functions_form (tells_types flags) (module_names m) m info g fs ess)) ≡ lines_of m info flags (enumerate_from g fs)
+functions_text : (m : Module) (info : ModuleInfo) (flags : WriterFlags) (g : ℕ) (fs : List Function)
+    (ess : List (List ExpressionInfo)) → length fs ≡ length ess →
+    ((i : ℕ) (es : List ExpressionInfo) → slice_get ess i ≡ Some es → known_of info (g + i) ≡ es) →
+    text (functions_pieces
+    (functions_form (annotates_types flags) (module_names m) m info g fs ess)) ≡
+    lines_of m info flags (enumerate_from g fs)
 functions_text m info flags g [] [] size known = refl
 functions_text m info flags g [] (es ∷ ess) size known = refl
 functions_text m info flags g (f ∷ fs) [] size known = absurd (cc)
 functions_text m info flags g (f ∷ fs) (es ∷ ess) size known =
-    let own = λ (ks : List ExpressionInfo). function_pieces (function_form (tells_types flags) (module_names m) (given_name m g) m info g f ks) in
+    let own = λ (ks : List ExpressionInfo). function_pieces (function_form (annotates_types flags) (module_names m) (expression_name m g) m info g f ks) in
     let here : g + 0 ≡ g = omega arith in
     let same : known_of info g ≡ es = ap (known_of info) (sym here) ∙ known 0 es refl in
-    text-append (own es) (LineEnd ∷ functions_pieces (functions_form (tells_types flags) (module_names m) m info (g + 1) fs ess))
+    text-append (own es) (LineEnd ∷ functions_pieces (functions_form (annotates_types flags) (module_names m) m info (g + 1) fs ess))
     ∙ (ap (λ rest. text (own es) ++ (10 ∷ rest)) (functions_text m info flags (g + 1) fs ess (ap pred size) later)
     ∙ (ap (λ ks. text (own ks) ++ (10 ∷ lines_of m info flags (enumerate_from (g + 1) fs))) (sym same)
     ∙ sym (append_assoc (text (own (known_of info g))) (codes "\n") (lines_of m info flags (enumerate_from (g + 1) fs)))))
@@ -60,20 +66,27 @@ functions_text m info flags g (f ∷ fs) (es ∷ ess) size known =
 -- so far a module's text is its functions
 pub written_lines : (m : Module) (info : ModuleInfo) (flags : WriterFlags) → IsTrue (is_accepted m info) → lines_of m info flags (enumerate_from 0 m.functions) ≡ written_text m info flags
 written_lines m info flags accepted =
-    let form = functions_form (tells_types flags) (module_names m) m info 0 m.functions info.functions.items in
+    let form = functions_form (annotates_types flags) (module_names m) m info 0 m.functions info.functions.items in
     sym (ap text (append-nil (functions_pieces form)) ∙ functions_text m info flags 0 m.functions info.functions.items (functions_counted m info accepted) known)
   where
     known : (i : ℕ) (es : List ExpressionInfo) → slice_get info.functions.items i ≡ Some es → known_of info (0 + i) ≡ es
     known i es at = let same : i ≡ 0 + i = omega arith in subst (λ h. known_of info h ≡ es) same (ap (λ o. unwrap_or o []) at)
 
 -- the first of the functions that are left
-pub next_line : (m : Module) (info : ModuleInfo) (flags : WriterFlags) (all : List (ℕ × Function)) (n : ℕ) (f : ℕ × Function) → n < length all → f ≡ get_or all n f → lines_of m info flags (drop n all) ≡ (text (function_pieces (function_form (tells_types flags) (module_names m) (given_name m f.0) m info f.0 f.1 (known_of info f.0))) ++ codes "\n") ++ lines_of m info flags (drop (n + 1) all)
+pub next_line : (m : Module) (info : ModuleInfo) (flags : WriterFlags) (all : List (ℕ × Function))
+    (n : ℕ) (f : ℕ × Function) → n < length all → f ≡ get_or all n f →
+    lines_of m info flags (drop n all) ≡
+    (text (function_pieces
+    (function_form (annotates_types flags) (module_names m) (expression_name m f.0) m info f.0 f.1
+    (known_of info f.0))) ++ codes "\n") ++ lines_of m info flags (drop (n + 1) all)
 next_line m info flags all n f lt is =
     let split : drop n all ≡ get_or all n f ∷ drop (n + 1) all = rw add-one (drop-cons all n f lt) in
     ap (lines_of m info flags) split ∙ ap (λ q. lines_of m info flags (q ∷ drop (n + 1) all)) (sym is)
 
 -- ---- along the functions
-at_enumerated : (n : ℕ) (fs : List Function) (i : ℕ) (f : ℕ × Function) → i < length (enumerate_from n fs) → f ≡ get_or (enumerate_from n fs) i f → (f.0 ≡ n + i) × (i < length fs) × (slice_get fs i ≡ Some f.1)
+at_enumerated : (n : ℕ) (fs : List Function) (i : ℕ) (f : ℕ × Function) →
+    i < length (enumerate_from n fs) → f ≡ get_or (enumerate_from n fs) i f → (f.0 ≡ n + i) ×
+    (i < length fs) × (slice_get fs i ≡ Some f.1)
 at_enumerated n [] i f lt is = absurd (omega (arith, lt))
 at_enumerated n (x ∷ fs) zero f lt is = let first : n ≡ n + 0 = omega arith in (ap (λ p. p.0) is ∙ first, omega arith, ap Some (sym (ap (λ p. p.1) is)))
 at_enumerated n (x ∷ fs) (suc i) f lt is =
@@ -81,41 +94,49 @@ at_enumerated n (x ∷ fs) (suc i) f lt is =
     let moved : (n + 1) + i ≡ n + suc i = omega arith in
     (rest.0 ∙ moved, omega (arith, rest.1), rest.2)
 
-text_is : (m : Module) (info : ModuleInfo) (flags : WriterFlags) (n : ℕ) (f : ℕ × Function) → n < length (enumerate_from 0 m.functions) → f ≡ get_or (enumerate_from 0 m.functions) n f → text (function_pieces (function_form (tells_types flags) (module_names m) (given_name m f.0) m info f.0 f.1 (known_of info f.0))) ≡ text_of_function m info flags f.0
+text_is : (m : Module) (info : ModuleInfo) (flags : WriterFlags) (n : ℕ) (f : ℕ × Function) →
+    n < length (enumerate_from 0 m.functions) → f ≡ get_or (enumerate_from 0 m.functions) n f →
+    text (function_pieces
+    (function_form (annotates_types flags) (module_names m) (expression_name m f.0) m info f.0 f.1
+    (known_of info f.0))) ≡ text_of_function m info flags f.0
 text_is m info flags n f lt is =
     let at = at_enumerated 0 m.functions n f lt is in
     let same : 0 + n ≡ n = omega arith in
     let found : slice_get m.functions f.0 ≡ Some f.1 = ap (slice_get m.functions) (at.0 ∙ same) ∙ at.2 in
-    sym (ap (λ o. option_map_or (λ g. text (function_pieces (function_form (tells_types flags) (module_names m) (given_name m f.0) m info f.0 g (known_of info f.0)))) o []) found)
+    sym (ap (λ o. option_map_or (λ g. text (function_pieces (function_form (annotates_types flags) (module_names m) (expression_name m f.0) m info f.0 g (known_of info f.0)))) o []) found)
 
 -- the lines that are left begin with those of the next function
-pub here_line : (m : Module) (info : ModuleInfo) (flags : WriterFlags) (n : ℕ) (f : ℕ × Function) → n < length (enumerate_from 0 m.functions) → f ≡ get_or (enumerate_from 0 m.functions) n f → lines_of m info flags (drop n (enumerate_from 0 m.functions)) ≡ (text_of_function m info flags f.0 ++ codes "\n") ++ lines_of m info flags (drop (n + 1) (enumerate_from 0 m.functions))
+pub here_line : (m : Module) (info : ModuleInfo) (flags : WriterFlags) (n : ℕ) (f : ℕ × Function) →
+    n < length (enumerate_from 0 m.functions) → f ≡ get_or (enumerate_from 0 m.functions) n f →
+    lines_of m info flags (drop n (enumerate_from 0 m.functions)) ≡
+    (text_of_function m info flags f.0 ++ codes "\n") ++ lines_of m info flags
+    (drop (n + 1) (enumerate_from 0 m.functions))
 here_line m info flags n f lt is =
     next_line m info flags (enumerate_from 0 m.functions) n f lt is
     ∙ ap (λ t. (t ++ codes "\n") ++ lines_of m info flags (drop (n + 1) (enumerate_from 0 m.functions))) (text_is m info flags n f lt is)
 
 -- ---- up to a function, each in front of it written by a plan
 -- the answer of a call that ends with an error
-writes_err : {m : Module} {info : ModuleInfo} {flags : WriterFlags} {held now : List ℕ}
+writes_err : {m : Module} {info : ModuleInfo} {flags : WriterFlags} {content now : List ℕ}
     {failed failures : ℕ} (r : Result Unit Error) {error : Error} → IsErrAnd r (λ e. e ≡ error) →
-    (StoppedWithin held failed (module_lines m info flags) now failures error
-    ⊎ MetNoPlan m info flags held failed now failures error) →
-    WritesFunctions m info flags r held failed now failures
+    (StoppedWithin content failed (module_lines m info flags) now failures error
+    ⊎ MetNoPlan m info flags content failed now failures error) →
+    WritesFunctions m info flags r content failed now failures
 writes_err (Ok x) is w = absurd is
-writes_err {m} {info} {flags} {held} {now} {failed} {failures} (Err e) is w =
-    subst (λ e. WritesFunctions m info flags (Err e) held failed now failures) (sym is) w
+writes_err {m} {info} {flags} {content} {now} {failed} {failures} (Err e) is w =
+    subst (λ e. WritesFunctions m info flags (Err e) content failed now failures) (sym is) w
 
-pub record IsUpTo (m : Module) (info : ModuleInfo) (flags : WriterFlags) (n : ℕ) (held : List ℕ)
+pub record IsUpTo (m : Module) (info : ModuleInfo) (flags : WriterFlags) (n : ℕ) (content : List ℕ)
     (failed : ℕ) (namer : Names) (now : List ℕ) (failures : ℕ) : Type 0 where
-  pub wrote : Wrote held failed (lines_before m info flags n) now failures
-  pub planned : (i : ℕ) → i < n → HasPlan (tells_types flags) m info i
+  pub wrote : Wrote content failed (lines_before m info flags n) now failures
+  pub planned : (i : ℕ) → i < n → HasPlan (annotates_types flags) m info i
   pub named : HasNamedBefore m n namer
 
-pub up_to_none : (m : Module) (info : ModuleInfo) (flags : WriterFlags) (held : List ℕ)
+pub up_to_none : (m : Module) (info : ModuleInfo) (flags : WriterFlags) (content : List ℕ)
     (failed : ℕ) (namer : Names) → HasNamedBefore m 0 namer →
-    IsUpTo m info flags 0 held failed namer held failed
-up_to_none m info flags held failed namer named = record {
-  wrote = wrote_nothing held failed;
+    IsUpTo m info flags 0 content failed namer content failed
+up_to_none m info flags content failed namer named = record {
+  wrote = wrote_nothing content failed;
   planned = λ i lt. absurd (omega (arith, lt));
   named = named;
 }
@@ -132,15 +153,15 @@ lines_split m info flags n =
     sym (flat_map-append (line_of m info flags) (take n all) (drop n all))
     ∙ ap (lines_of m info flags) (take-append-drop n all)
 
-module _ (m : Module) (info : ModuleInfo) (flags : WriterFlags) {n : ℕ} {held middle : List ℕ}
-    {failed among : ℕ} {namer : Names} (so_far : IsUpTo m info flags n held failed namer middle among) where
+module _ (m : Module) (info : ModuleInfo) (flags : WriterFlags) {n : ℕ} {content middle : List ℕ}
+    {failed among : ℕ} {namer : Names} (so_far : IsUpTo m info flags n content failed namer middle among) where
   abbrev all : List (ℕ × Function)
   all = enumerate_from 0 m.functions
 
   -- where all were gone through
-  pub up_to_all : n ≡ length m.functions → WroteFunctions m info flags held failed middle among
+  pub up_to_all : n ≡ length m.functions → WroteFunctions m info flags content failed middle among
   up_to_all is = record {
-    wrote = subst (λ fs. Wrote held failed (lines_of m info flags fs) middle among)
+    wrote = subst (λ fs. Wrote content failed (lines_of m info flags fs) middle among)
         (take_all n all (omega (arith, is, length-enumerate_from 0 m.functions))) so_far.wrote;
     planned = λ i lt. so_far.planned i (omega (arith, is, lt));
   }
@@ -182,25 +203,25 @@ module _ (m : Module) (info : ModuleInfo) (flags : WriterFlags) {n : ℕ} {held 
     named_before = subst (λ h. HasNamedBefore m h namer) (sym is) so_far.named
 
     pub named_at : (planned : Planned) (next : Names) →
-        IsPlanOf (tells_types flags) m info handle planned →
-        NamesLabels namer [] (labels_given m handle) next planned.given →
-        IsNamedPlan (tells_types flags) m info handle next planned
+        IsPlanOf (annotates_types flags) m info handle planned →
+        NamesLabels namer [] (labels_named_in m handle) next planned.named →
+        IsNamedPlan (annotates_types flags) m info handle next planned
     named_at planned next plan names =
-        named_plan m (tells_types flags) info handle namer next planned
+        named_plan m (annotates_types flags) info handle namer next planned
         (subst (λ k. k < length m.functions) (sym is) lt) named_before plan names
 
     -- one more
     pub up_to_more : (planned : Planned) (next : Names) {now : List ℕ} {failures : ℕ} →
-        IsNamedPlan (tells_types flags) m info handle next planned → Wrote middle among line now failures →
-        IsUpTo m info flags (n + 1) held failed next now failures
+        IsNamedPlan (annotates_types flags) m info handle next planned → Wrote middle among line now failures →
+        IsUpTo m info flags (n + 1) content failed next now failures
     up_to_more planned next {now} {failures} plan wrote = record {
-      wrote = subst (λ t. Wrote held failed t now failures) one_more_line
+      wrote = subst (λ t. Wrote content failed t now failures) one_more_line
           (wrote_then so_far.wrote wrote);
-      planned = below_more (HasPlan (tells_types flags) m info) n so_far.planned
-          (subst (HasPlan (tells_types flags) m info) is (record {
+      planned = below_more (HasPlan (annotates_types flags) m info) n so_far.planned
+          (subst (HasPlan (annotates_types flags) m info) is (record {
             planned = planned;
             plan = plan.plan;
-            told = none_full m handle next (subst (λ k. k < length m.functions) (sym is) lt) plan.namer_is;
+            nameable = none_full m handle next (subst (λ k. k < length m.functions) (sym is) lt) plan.namer_is;
           }));
       named = subst (λ k. HasNamedBefore m (k + 1) next) is plan.namer_is;
     }
@@ -208,22 +229,23 @@ module _ (m : Module) (info : ModuleInfo) (flags : WriterFlags) {n : ℕ} {held 
     -- memory or the sink stopped it
     pub up_to_stopped : (r : Result Unit Error) (error : Error) {now : List ℕ} {failures : ℕ} →
         IsErrAnd r (λ e. e ≡ error) → StoppedWithin middle among line now failures error →
-        WritesFunctions m info flags r held failed now failures
-    up_to_stopped r error {now} {failures} told stopped =
+        WritesFunctions m info flags r content failed now failures
+    up_to_stopped r error {now} {failures} reported stopped =
         let whole = ap (λ t. lines_before m info flags n ++ t)
         (ap (λ t. t ++ lines_behind m info flags (n + 1)) (sym line_is)
         ∙ sym (here_line m info flags n here below stands)) ∙ lines_split m info flags n in
-        writes_err r told (inl (subst (λ t. StoppedWithin held failed t now failures error) whole
+        writes_err r reported
+        (inl (subst (λ t. StoppedWithin content failed t now failures error) whole
         (stopped_then so_far.wrote (stopped_first (lines_behind m info flags (n + 1)) stopped))))
 
     -- it has no plan
-    unplanned : (error : Error) → TellsOfModule error → IsFault (tells_types flags) m info (labels_before m handle) handle error →
-        MetNoPlan m info flags held failed middle among error
+    unplanned : (error : Error) → TellsOfModule error → IsFault (annotates_types flags) m info (labels_before m handle) handle error →
+        MetNoPlan m info flags content failed middle among error
     unplanned error tells fault = record {
       before = record {
         handle = n;
-        fails = fault_fails (tells_types flags) m info (labels_before m n) n error here_fault;
-        hold = λ i below. has_plan_holds (tells_types flags) m info i (so_far.planned i below);
+        fails = fault_fails (annotates_types flags) m info (labels_before m n) n error here_fault;
+        hold = λ i below. has_plan_holds (annotates_types flags) m info i (so_far.planned i below);
         written = so_far.wrote.appended;
       };
       tells = tells;
@@ -231,16 +253,16 @@ module _ (m : Module) (info : ModuleInfo) (flags : WriterFlags) {n : ℕ} {held 
       kept = so_far.wrote.kept;
     }
       where
-        here_fault : IsFault (tells_types flags) m info (labels_before m n) n error
-        here_fault = subst (λ h. IsFault (tells_types flags) m info (labels_before m h) h error) is fault
+        here_fault : IsFault (annotates_types flags) m info (labels_before m n) n error
+        here_fault = subst (λ h. IsFault (annotates_types flags) m info (labels_before m h) h error) is fault
 
     pub up_to_unplanned : (r : Result Unit Error) (error : Error) → IsErrAnd r (λ e. e ≡ error) →
-        IsPlanRefusal (tells_types flags) m info (labels_before m handle) handle error → WritesFunctions m info flags r held failed middle among
-    up_to_unplanned r error told refusal = writes_err r told (by error refusal)
+        IsPlanRefusal (annotates_types flags) m info (labels_before m handle) handle error → WritesFunctions m info flags r content failed middle among
+    up_to_unplanned r error reported refusal = writes_err r reported (by error refusal)
       where
-        by : (error : Error) → IsPlanRefusal (tells_types flags) m info (labels_before m handle) handle error →
-            StoppedWithin held failed (module_lines m info flags) middle among error
-            ⊎ MetNoPlan m info flags held failed middle among error
+        by : (error : Error) → IsPlanRefusal (annotates_types flags) m info (labels_before m handle) handle error →
+            StoppedWithin content failed (module_lines m info flags) middle among error
+            ⊎ MetNoPlan m info flags content failed middle among error
         by (Memory e) refusal = inl (record {
           behind = (
             lines_before m info flags n,

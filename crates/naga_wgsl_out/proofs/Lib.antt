@@ -1,6 +1,6 @@
 pub mod ModuleScopes
-pub mod ToldNames
+pub mod ReportedNames
 pub mod Functions
-pub mod GivenNames
+pub mod ExpressionNames
 pub mod Names
 pub mod Faithful

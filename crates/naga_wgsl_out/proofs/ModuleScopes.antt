@@ -1,10 +1,8 @@
 -- The rules of scope in the functions of a module, one by one and in all.
 use Rattle.std.proofs.Common.{◌≡◌, ◌<◌, ◌^◌, ℕ, Bool, true, zero, suc, List, [], ◌∷◌}
-use Rattle.std.proofs.Common.{Some, arith, inl, inr, length, nat_le, refl, subst}
+use Rattle.std.proofs.Common.{Some, arith, inl, inr, length, nat_le, subst}
 use Rattle.std.proofs.Common.{sym}
 use Rattle.std.specs.Prelude.{IfSome, IsTrue, slice_get}
-use Rattle.std.specs.List.{list_all}
-use Rattle.std.proofs.lemmas.Bool.{and_from}
 use Rattle.std.proofs.lemmas.Option.{slice_get_within}
 use mathlib.Core.List.{reverse_aux}
 use Rattle.naga_ir.specs.declared.module.Function as ir_function
@@ -14,7 +12,8 @@ use Rattle.shader_runs.specs.Program as shapes
 use Rattle.shader_runs.specs.Program.{Function}
 use Rattle.shader_runs.specs.ScopeRules.{ScopeHolds}
 use Rattle.module_meaning.specs.Accepted.{is_accepted}
-use Rattle.module_meaning.specs.Part.{is_written_so_far}
+use Rattle.module_meaning.proofs.Lists.{all_pass}
+use Rattle.module_meaning.specs.WrittenSoFar.{is_written_so_far}
 use Rattle.module_meaning.specs.Written.{AllWrittenHaveForms}
 use Rattle.module_meaning.specs.Premises.{EachScopeHolds, ScopesHold, handles_are_counted}
 use Rattle.module_meaning.specs.FunctionShapes.{function_shapes}
@@ -62,15 +61,15 @@ pub scope_holds_in : (m : Module) (info : ModuleInfo) → IsTrue (is_written_so_
     ScopesHold m info → (i : ℕ) → ScopeHoldsIn m info i
 scope_holds_in m info written rules i =
     let own = function_shapes m info m.functions info.functions.items in
-    let of_part = subst (λ (p : shapes.Module). EachScopeHolds p.functions)
+    let is_supported = subst (λ (p : shapes.Module). EachScopeHolds p.functions)
     (declares_functions_alone m info written) rules in
-    each_at own (turned_back own [] of_part).0 i
+    each_at own (turned_back own [] is_supported).0 i
 
 -- ---- functions with a plan
 pub has_plan_holds : (explicit : Bool) (m : Module) (info : ModuleInfo) (i : ℕ) →
     HasPlan explicit m info i → IsWritableAt explicit m info (labels_before m i) i
 has_plan_holds explicit m info i has =
-    planned_holds explicit m info (labels_before m i) i has.planned has.plan has.told
+    planned_holds explicit m info (labels_before m i) i has.planned has.plan has.nameable
 
 -- more shapes than functions there are none
 shapes_below : (m : Module) (info : ModuleInfo) (i : ℕ) →
@@ -96,14 +95,6 @@ all_planned_hold explicit m info written planned =
     (turned own []
     (each_from own (λ i lt. (has_plan_holds explicit m info i (planned i (shapes_below m info i lt))).in_scope)) tt)
 
--- a test that each item passes
-all_pass : {X : Type 0} (test : X → Bool) (xs : List X) →
-    ((i : ℕ) (x : X) → slice_get xs i ≡ Some x → test x ≡ true) → list_all test xs ≡ true
-all_pass test [] at = refl
-all_pass test (x ∷ xs) at =
-    and_from (test x) (list_all test xs) (at 0 x refl)
-    (all_pass test xs (λ i y is. at (suc i) y is))
-
 -- and its handles are counted
 pub all_planned_counted : (explicit : Bool) (m : Module) (info : ModuleInfo) →
     IsTrue (is_accepted m info) →
@@ -127,24 +118,27 @@ all_planned_formed explicit m info planned g f known at is =
     ((planned g (slice_get_within m.functions g f at)).plan f known at is).formed
 
 -- ---- functions without one
-expression_told : (m : Module) (info : ModuleInfo) (i : ℕ) (error : Error) →
+expression_reported : (m : Module) (info : ModuleInfo) (i : ℕ) (error : Error) →
     NamesFormless m info i error → TellsOfModule error → TellsOfFunction m error
-expression_told m info i error n tells =
+expression_reported m info i error n tells =
     let at = named m info i error n in
     inr (inl (tells, inl (m, n.known, n.function.expressions, at.0, at.3)))
 
-formless_told : (explicit : Bool) (m : Module) (info : ModuleInfo) (i : ℕ) (error : Error) →
+formless_reported : (explicit : Bool) (m : Module) (info : ModuleInfo) (i : ℕ) (error : Error) →
     HasFormlessIn explicit m info i error → TellsOfModule error → TellsOfFunction m error
-formless_told explicit m info i error (inl n) tells = expression_told m info i error n tells
-formless_told explicit m info i error (inr n) tells = inr (inl (tells, inr (m, n.type, n.named)))
+formless_reported explicit m info i error (inl n) tells = expression_reported m info i error n tells
+formless_reported explicit m info i error (inr (inl n)) tells =
+    inr (inl (tells, inr (inl (m, n.type, n.named))))
+formless_reported explicit m info i error (inr (inr n)) tells =
+    inr (inl (tells, inr (inr (n.statement, n.named))))
 
 -- what a fault tells
 module _ (explicit : Bool) (m : Module) (info : ModuleInfo) (i : ℕ) where
-  pub fault_told : (ItemsAreFull m → ⊥) → (error : Error) → TellsOfModule error →
+  pub fault_reported : (ItemsAreFull m → ⊥) → (error : Error) → TellsOfModule error →
       IsFault explicit m info (labels_before m i) i error → TellsOfFunction m error
-  fault_told items error tells (inl scope) = inl scope.0
-  fault_told items error tells (inr (inl formless)) = formless_told explicit m info i error formless tells
-  fault_told items error tells (inr (inr full)) = inr (inr (full.0, items))
+  fault_reported items error tells (inl scope) = inl scope.0
+  fault_reported items error tells (inr (inl formless)) = formless_reported explicit m info i error formless tells
+  fault_reported items error tells (inr (inr full)) = inr (inr (full.0, items))
 
   pub fault_refuses : (before after : ℕ) → IsTrue (is_written_so_far m) → (error : Error) →
       TellsOfModule error → IsFault explicit m info (labels_before m i) i error → IsRefusal explicit m info before after error

@@ -78,29 +78,41 @@ module _ (m : Module) (before now : NameMap) (names : Names) (has : HasNamedItem
       at_most (suc k) below = let last : k < 2 ^ 32 = below k (omega arith) in omega (arith, last)
 
   pub has_all : (ItemsAreFull m → ⊥) → (KeyIsOutOfRange m → ⊥) → HasAllNames m now
-  has_all told keys = record { named = has_names; told = told; keys = keys }
+  has_all nameable keys = record { named = has_names; nameable = nameable; keys = keys }
 
   -- and the namer has named the items' labels
   pub has_named : HasNamedBefore m 0 names
   has_named = record { words = has.words; labels = subst (HasNamed names) (sym (append-nil (item_labels m))) has.labels }
 
 -- the words and prefixes of WGSL
-pub start_is : (reserved builtin caseless : Words) (prefixes : List (List ℕ)) → reserved ≡ set.from_list (map (λ word. word.now) RESERVED.now) → builtin ≡ set.from_list (map (λ word. word.now) BUILTIN_IDENTIFIERS.now) → caseless ≡ set.empty → prefixes ≡ reserved_prefixes → new_names reserved builtin caseless prefixes ≡ wgsl_names
+pub start_is : (reserved builtin caseless : Words) (prefixes : List (List ℕ)) →
+    reserved ≡ set.from_list (map (λ word. word.now) RESERVED.now) →
+    builtin ≡ set.from_list (map (λ word. word.now) BUILTIN_IDENTIFIERS.now) →
+    caseless ≡ set.empty → prefixes ≡ reserved_prefixes →
+    new_names reserved builtin caseless prefixes ≡ wgsl_names
 unfolding wgsl_names reserved_words builtin_words
 start_is reserved builtin caseless prefixes r b c p = λ i. new_names (r i) (b i) (c i) (p i)
 
 -- after a `reset` with these that succeeded
-after_reset : (m : Module) (start : Names) (before now : NameMap) (names : Names) → start ≡ wgsl_names → HasNamedItems start before (labelled_items start m) names now → (SomeNameIsFull start (labelled_items start m) → ⊥) → (SomeKeyIsFull (labelled_items start m) → ⊥) → HasAllNames m now
-after_reset m start before now names is has told keys =
-    has_all m before now names (subst (λ s. HasNamedItems s before (labelled_items s m) names now) is has) (λ full. told (subst (λ s. SomeNameIsFull s (labelled_items s m)) (sym is) full)) (λ full. keys (subst (λ s. SomeKeyIsFull (labelled_items s m)) (sym is) full))
+after_reset : (m : Module) (start : Names) (before now : NameMap) (names : Names) →
+    start ≡ wgsl_names → HasNamedItems start before (labelled_items start m) names now →
+    (SomeNameIsFull start (labelled_items start m) → ⊥) →
+    (SomeKeyIsFull (labelled_items start m) → ⊥) → HasAllNames m now
+after_reset m start before now names is has reported keys =
+    has_all m before now names
+    (subst (λ s. HasNamedItems s before (labelled_items s m) names now) is has)
+    (λ full. reported (subst (λ s. SomeNameIsFull s (labelled_items s m)) (sym is) full))
+    (λ full. keys (subst (λ s. SomeKeyIsFull (labelled_items s m)) (sym is) full))
 
 no_error : false ≡ true → ⊥
 no_error e = cc
 
 -- what its answer says of the names
 pub names_after_reset : (answer : Result Unit NamerError) (m : Module) (start : Names) (before now : NameMap) (names : Names) → start ≡ wgsl_names
-    → OnOk answer (HasNamedItems start before (labelled_items start m) names now) → (SomeNameIsFull start (labelled_items start m) → IsErr answer) → (SomeKeyIsFull (labelled_items start m) → IsErr answer) → OnOk answer (HasAllNames m now)
-names_after_reset (Ok _) m start before now names is has full keys = after_reset m start before now names is has (λ told. no_error (full told)) (λ told. no_error (keys told))
+    → OnOk answer (HasNamedItems start before (labelled_items start m) names now) →
+    (SomeNameIsFull start (labelled_items start m) → IsErr answer) →
+    (SomeKeyIsFull (labelled_items start m) → IsErr answer) → OnOk answer (HasAllNames m now)
+names_after_reset (Ok _) m start before now names is has full keys = after_reset m start before now names is has (λ reported. no_error (full reported)) (λ reported. no_error (keys reported))
 names_after_reset (Err _) m start before now names is has full keys = tt
 
 -- of its uses

@@ -13,33 +13,33 @@ use Rattle.naga_wgsl_fns.specs.declared.error.Error.{Error}
 use Rattle.naga_wgsl_out.specs.ModuleRefusals.{RefusesOnlyFor}
 
 -- a text stands behind what the sink held, and it is read as one program and as no other
-pub record AppendsOneReading (held now : List ℕ) : Type 0 where
+pub record AppendsOneReading (content now : List ℕ) : Type 0 where
   pub text : List ℕ
-  pub appended : now ≡ held ++ text
+  pub appended : now ≡ content ++ text
   pub program : Program
   pub reading : HasOneReading Reads text program
 
 -- each program that the appended text is read as is such a one
-abbrev pub EachReading : (held now : List ℕ) → (Program → Type 0) → Type 0
-EachReading held now Q =
-    (text : List ℕ) → now ≡ held ++ text → (program : Program) →
+abbrev pub EachReading : (content now : List ℕ) → (Program → Type 0) → Type 0
+EachReading content now Q =
+    (text : List ℕ) → now ≡ content ++ text → (program : Program) →
     Reads (tokens text) program → Q program
 
 -- A call was asked to write the module, of which this is known, behind the text that its sink held;
 -- it answered, and the sink holds another text now. The sink had failed so often before, and has
 -- failed so often now.
 pub record FaithfulWriting (explicit : Bool) (m : Module) (info : ModuleInfo)
-    (answer : Result Unit Error) (held now : List ℕ) (before after : ℕ) : Type 0 where
+    (answer : Result Unit Error) (content now : List ℕ) (before after : ℕ) : Type 0 where
   -- It refuses only for a listed construct that stands in the module, a full counter or key, memory
   -- or the sink; and where it does not, none stands there.
   pub refusals : RefusesOnlyFor answer explicit m info before after
   -- Otherwise it appends a text with exactly one reading,
-  pub reading : OnOk answer (AppendsOneReading held now)
+  pub reading : OnOk answer (AppendsOneReading content now)
   -- a program with the module's interface,
-  pub interface : OnOk answer (EachReading held now (HasInterfaceOf m))
+  pub interface : OnOk answer (EachReading content now (HasInterfaceOf m))
   -- that in every world, under every typed meaning of operators and every bound on loop turns makes
   -- the module's events, operands and result.
-  pub runs : OnOk answer (EachReading held now (RunsAs m info))
+  pub runs : OnOk answer (EachReading content now (RunsAs m info))
 
 -- the answer of a call that makes a string of its own, and the string
 abbrev pub answer_of : {Y : Type 0} → Result (String Y) Error → Result Unit Error

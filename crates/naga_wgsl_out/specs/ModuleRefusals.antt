@@ -5,7 +5,7 @@ use Rattle.std.specs.Prelude.{◌≡◌, ⊤, ℕ, List, ◌⊎◌, codes, strin
 use Rattle.std.specs.Prelude.{Ok, Err, Bool}
 use Rattle.naga_ir.specs.declared.module.Module.{Module}
 use Rattle.naga_info.specs.declared.info.ModuleInfo.{ModuleInfo}
-use Rattle.module_meaning.specs.Part.{is_written_so_far}
+use Rattle.module_meaning.specs.WrittenSoFar.{is_written_so_far}
 use Rattle.module_meaning.specs.Written.{AllWrittenHaveForms}
 use Rattle.module_meaning.specs.Names.{HasNamesOf, labels_before, wgsl_names}
 use Rattle.module_meaning.specs.Premises.{ScopesHold}
@@ -14,7 +14,7 @@ use Rattle.naga_names.specs.Naming.{Names}
 use Rattle.naga_names.specs.Refusal.{SomeNameIsFull, SomeKeyIsFull}
 use Rattle.naga_names.specs.Reset.{labelled_items}
 use Rattle.naga_wgsl_fns.specs.Errors.{IsSinkWant}
-use Rattle.naga_wgsl_fns.specs.Refusals.{GivenAreFullIn, HasFormlessIn, HasNamedLabels}
+use Rattle.naga_wgsl_fns.specs.Refusals.{ExpressionNamesAreFullIn, HasFormlessIn, HasNamedLabels}
 use Rattle.naga_wgsl_fns.specs.Refusals.{TellsOfForm, TellsOfFullNamer, TellsOfModule, TellsOfScope}
 use Rattle.naga_wgsl_fns.specs.declared.error.Error.{Error}
 use Rattle.naga_wgsl_fns.specs.declared.error.Error.TheVariants.{FmtError, Custom, Unimplemented}
@@ -28,30 +28,30 @@ ItemsAreFull m = SomeNameIsFull wgsl_names (labelled_items wgsl_names m)
 
 abbrev pub NamerIsFull : Module → Type 0
 NamerIsFull m =
-    ItemsAreFull m ⊎ ((handle : ℕ) × GivenAreFullIn m (labels_before m handle) handle)
+    ItemsAreFull m ⊎ ((handle : ℕ) × ExpressionNamesAreFullIn m (labels_before m handle) handle)
 
 abbrev pub KeyIsOutOfRange : Module → Type 0
 KeyIsOutOfRange m = SomeKeyIsFull (labelled_items wgsl_names m)
 
 -- what a `Custom` error says of names, and that it is so
-abbrev pub IsToldOf : Module → (message : List ℕ) → Type 0
-IsToldOf m message =
+abbrev pub IsReportedOf : Module → (message : List ℕ) → Type 0
+IsReportedOf m message =
     ((message ≡ codes "namer is full") × NamerIsFull m)
     ⊎ ((message ≡ codes "name key out of range") × KeyIsOutOfRange m)
 
 -- the same of its items alone
-abbrev pub IsToldOfItems : Module → (message : List ℕ) → Type 0
-IsToldOfItems m message =
+abbrev pub IsReportedOfItems : Module → (message : List ℕ) → Type 0
+IsReportedOfItems m message =
     ((message ≡ codes "namer is full") × ItemsAreFull m)
     ⊎ ((message ≡ codes "name key out of range") × KeyIsOutOfRange m)
 
 -- why the items of a module get no names
 abbrev pub IsNamesRefusal : Module → Error → Type 0
-IsNamesRefusal m (Custom message) = IsToldOfItems m (string_bytes message)
+IsNamesRefusal m (Custom message) = IsReportedOfItems m (string_bytes message)
 IsNamesRefusal m (Memory e) = ⊤
 IsNamesRefusal m _ = ⊥
 
--- an expression or a type without a form stands in some function, and is named
+-- an expression, a type or a statement without a form stands in some function, and is named
 abbrev pub HasFormless : (explicit : Bool) → Module → ModuleInfo → Error → Type 0
 HasFormless explicit m info error = (handle : ℕ) × HasFormlessIn explicit m info handle error
 
@@ -63,13 +63,13 @@ IsOutOfScope m info message = (message ≡ codes "operand out of scope") × (Sco
 
 -- Why a module is refused, of which this is known, where the sink had failed so often before and
 -- has failed so often now: the sink failed, memory ran out, the names can't be told, an operand is
--- out of scope, an expression without a form is written or a type without one spelled, or the
--- module holds what is not written so far.
+-- out of scope, an expression without a form is written, a type without one spelled or a statement
+-- without one stands there, or the module holds what is not written so far.
 abbrev pub IsRefusal : (explicit : Bool) → Module → ModuleInfo → (before now : ℕ) → Error → Type 0
 IsRefusal explicit m info before now (FmtError e) = IsSinkWant before now e
 IsRefusal explicit m info before now (Memory e) = ⊤
 IsRefusal explicit m info before now (Custom message) =
-    IsToldOf m (string_bytes message)
+    IsReportedOf m (string_bytes message)
     ⊎ (IsOutOfScope m info (string_bytes message) ⊎ HasFormless explicit m info (Custom message))
 IsRefusal explicit m info before now (Unimplemented message) =
     ((string_bytes message ≡ codes "not yet written") × IsFalse (is_written_so_far m))
@@ -92,7 +92,7 @@ pub record IsWritable (explicit : Bool) (m : Module) (info : ModuleInfo) : Type 
   pub written : IsTrue (is_written_so_far m)
   pub in_scope : ScopesHold m info
   pub formed : AllWrittenHaveForms explicit m info
-  pub told : NamerIsFull m → ⊥
+  pub nameable : NamerIsFull m → ⊥
   pub keys : KeyIsOutOfRange m → ⊥
 
 -- an error has its reason, and where there is none no reason stands in the module
@@ -104,7 +104,7 @@ RefusesOnlyFor (Err error) explicit m info before now = IsRefusal explicit m inf
 -- the map has the names of all items of the module, which can all be told
 pub record HasAllNames (m : Module) (names : NameMap) : Type 0 where
   pub named : HasNamesOf m names
-  pub told : ItemsAreFull m → ⊥
+  pub nameable : ItemsAreFull m → ⊥
   pub keys : KeyIsOutOfRange m → ⊥
 
 -- the namer has the words and prefixes of WGSL, and has named the labels of the module in front of

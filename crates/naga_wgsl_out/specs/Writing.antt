@@ -7,19 +7,20 @@ use Rattle.std.specs.List.{enumerate_from, flat_map}
 use Rattle.naga_ir.specs.declared.module.Function.{Function}
 use Rattle.naga_ir.specs.declared.module.Module.{Module}
 use Rattle.naga_info.specs.declared.info.ModuleInfo.{ModuleInfo}
-use Rattle.naga_scope.specs.Plans.{AreGivenNames, IsPlanOf, Planned}
+use Rattle.naga_scope.specs.Plans.{AreExpressionNames, IsPlanOf, Planned}
 use Rattle.wgsl_text.specs.Functions.{function_pieces}
 use Rattle.naga_form.specs.Functions.{function_form}
 use Rattle.naga_form.specs.Declarations.{written_program}
-use Rattle.module_meaning.specs.Names.{given_name, labels_before, module_names}
+use Rattle.module_meaning.specs.Names.{expression_name, labels_before, module_names}
 use Rattle.naga_names.specs.Naming.{Names}
 use Rattle.wgsl_text.specs.Text.{text}
 use Rattle.wgsl_text.specs.Reading.{layout}
 use Rattle.naga_wgsl_fns.specs.Appends.{StoppedWithin, Wrote}
-use Rattle.naga_wgsl_fns.specs.FunctionText.{tells_types}
+use Rattle.naga_wgsl_fns.specs.FunctionText.{annotates_types}
 use Rattle.naga_wgsl_fns.specs.Functions.{known_of}
 use Rattle.naga_wgsl_fns.specs.declared.error.Error.{Error}
-use Rattle.naga_wgsl_fns.specs.Refusals.{GivenAreFullIn, IsFault, IsWritableAt, TellsOfModule}
+use Rattle.naga_wgsl_fns.specs.Refusals.{ExpressionNamesAreFullIn, IsFault, IsWritableAt}
+use Rattle.naga_wgsl_fns.specs.Refusals.{TellsOfModule}
 use Rattle.naga_wgsl_out.specs.ModuleRefusals.{HasNamedBefore}
 use Rattle.naga_back.specs.declared.flags.WriterFlags.{WriterFlags}
 
@@ -29,15 +30,15 @@ pub record Writing (W : Type 0) : Type 0 where
 
 -- the text of a module: it follows from the module, from what is known of it, and from the flags
 abbrev pub written_text : Module → ModuleInfo → WriterFlags → List ℕ
-written_text m info flags = layout (written_program m info (tells_types flags))
+written_text m info flags = layout (written_program m info (annotates_types flags))
 
 -- the text of a function, and an empty line behind it
 abbrev pub line_of : Module → ModuleInfo → WriterFlags → ℕ × Function → List ℕ
 line_of m info flags p =
     let known = known_of info p.0 in
-    let explicit = tells_types flags in
-    let given = given_name m p.0 in
-    let form = function_form explicit (module_names m) given m info p.0 p.1 known in
+    let explicit = annotates_types flags in
+    let named = expression_name m p.0 in
+    let form = function_form explicit (module_names m) named m info p.0 p.1 known in
     text (function_pieces form) ++ codes "\n"
 
 -- those of these functions, of the module, and of it in front of this function
@@ -54,47 +55,48 @@ lines_before m info flags handle =
 -- Behind what the sink held stand the functions in front of the first one that can't be written,
 -- an empty line behind each, and nothing else.
 pub record WroteFunctionsBefore (m : Module) (info : ModuleInfo) (flags : WriterFlags)
-    (held now : List ℕ) : Type 0 where
+    (content now : List ℕ) : Type 0 where
   -- that function
   pub handle : ℕ
-  pub fails : IsWritableAt (tells_types flags) m info (labels_before m handle) handle → ⊥
+  pub fails : IsWritableAt (annotates_types flags) m info (labels_before m handle) handle → ⊥
   -- and those in front of it
   pub hold : (i : ℕ) → i < handle →
-      IsWritableAt (tells_types flags) m info (labels_before m i) i
-  pub written : now ≡ held ++ lines_before m info flags handle
+      IsWritableAt (annotates_types flags) m info (labels_before m i) i
+  pub written : now ≡ content ++ lines_before m info flags handle
 
 -- there is a plan of the function with this handle, which has names for its labels
 pub record HasPlan (explicit : Bool) (m : Module) (info : ModuleInfo) (handle : ℕ) : Type 0 where
   pub planned : Planned
   pub plan : IsPlanOf explicit m info handle planned
-  pub told : GivenAreFullIn m (labels_before m handle) handle → ⊥
+  pub nameable : ExpressionNamesAreFullIn m (labels_before m handle) handle → ⊥
 
 -- a plan with its names, behind which the namer has named the labels of the function too
 pub record IsNamedPlan (explicit : Bool) (m : Module) (info : ModuleInfo) (handle : ℕ) (namer : Names)
     (planned : Planned) : Type 0 where
   pub plan : IsPlanOf explicit m info handle planned
-  pub names : AreGivenNames m handle planned.given
+  pub names : AreExpressionNames m handle planned.named
   pub namer_is : HasNamedBefore m (handle + 1) namer
 
 -- all functions stand behind what the sink held, each written by a plan of it
-pub record WroteFunctions (m : Module) (info : ModuleInfo) (flags : WriterFlags) (held : List ℕ)
+pub record WroteFunctions (m : Module) (info : ModuleInfo) (flags : WriterFlags) (content : List ℕ)
     (failed : ℕ) (now : List ℕ) (failures : ℕ) : Type 0 where
-  pub wrote : Wrote held failed (module_lines m info flags) now failures
-  pub planned : (i : ℕ) → i < length m.functions → HasPlan (tells_types flags) m info i
+  pub wrote : Wrote content failed (module_lines m info flags) now failures
+  pub planned : (i : ℕ) → i < length m.functions → HasPlan (annotates_types flags) m info i
 
 -- the first one without a plan was met, and told
-pub record MetNoPlan (m : Module) (info : ModuleInfo) (flags : WriterFlags) (held : List ℕ)
+pub record MetNoPlan (m : Module) (info : ModuleInfo) (flags : WriterFlags) (content : List ℕ)
     (failed : ℕ) (now : List ℕ) (failures : ℕ) (error : Error) : Type 0 where
-  pub before : WroteFunctionsBefore m info flags held now
+  pub before : WroteFunctionsBefore m info flags content now
   pub tells : TellsOfModule error
-  pub fault : IsFault (tells_types flags) m info (labels_before m before.handle) before.handle error
+  pub fault : IsFault (annotates_types flags) m info (labels_before m before.handle) before.handle
+      error
   pub kept : failures ≡ failed
 
 -- what a call that writes the functions did, by its answer
 abbrev pub WritesFunctions : Module → ModuleInfo → WriterFlags → Result Unit Error →
-    (held : List ℕ) (failed : ℕ) (now : List ℕ) (failures : ℕ) → Type 0
-WritesFunctions m info flags (Ok _) held failed now failures =
-    WroteFunctions m info flags held failed now failures
-WritesFunctions m info flags (Err error) held failed now failures =
-    StoppedWithin held failed (module_lines m info flags) now failures error
-    ⊎ MetNoPlan m info flags held failed now failures error
+    (content : List ℕ) (failed : ℕ) (now : List ℕ) (failures : ℕ) → Type 0
+WritesFunctions m info flags (Ok _) content failed now failures =
+    WroteFunctions m info flags content failed now failures
+WritesFunctions m info flags (Err error) content failed now failures =
+    StoppedWithin content failed (module_lines m info flags) now failures error
+    ⊎ MetNoPlan m info flags content failed now failures error

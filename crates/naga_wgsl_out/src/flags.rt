@@ -1,14 +1,14 @@
 //! The sets of flags by name, for a program that has no other use for sets of flags.
 
 ghost use Rattle.std.specs.Prelude.{◌≡◌, false, true};
-ghost use Rattle.naga_wgsl_fns.specs.FunctionText.{tells_types};
+ghost use Rattle.naga_wgsl_fns.specs.FunctionText.{annotates_types};
 
 use bitflags::Flags;
 use naga_back::WriterFlags;
 
 /// No flags: a `let` tells no type.
 pub fn no_flags() -> WriterFlags
-    ensures { tells_types result ≡ false }
+    ensures { annotates_types result ≡ false }
 {
     WriterFlags::empty()
 }

@@ -3,7 +3,7 @@
 ghost use Rattle.std.specs.Prelude.{◌≡◌, ◌<◌, ◌++◌, [], IfErr, IfOk, IsTrue, OnErr, OnOk};
 ghost use Rattle.std.specs.Prelude.{codes, length, string_bytes};
 ghost use Rattle.module_meaning.specs.Accepted.{is_accepted};
-ghost use Rattle.module_meaning.specs.Part.{is_written_so_far};
+ghost use Rattle.module_meaning.specs.WrittenSoFar.{is_written_so_far};
 ghost use Rattle.naga_names.specs.Keys.{names_in};
 ghost use Rattle.naga_words.specs.Sink.{IsBehind};
 ghost use Rattle.naga_names.specs.Refusal.{IsResetRefusal};
@@ -11,9 +11,9 @@ ghost use Rattle.module_meaning.specs.Names.{HasNamesOf, wgsl_names};
 ghost use Rattle.module_meaning.specs.Resolution.{ResolvesAs};
 ghost use Rattle.module_meaning.specs.Bindings.{BindsAs};
 ghost use Rattle.naga_scope.specs.Marks.{MarksGlobals};
-ghost use Rattle.naga_scope.specs.Plans.{AreGivenNames, IsPlanOf};
+ghost use Rattle.naga_scope.specs.Plans.{AreExpressionNames, IsPlanOf};
 ghost use Rattle.naga_wgsl_fns.specs.Appends.{Appends};
-ghost use Rattle.naga_wgsl_fns.specs.FunctionText.{tells_types};
+ghost use Rattle.naga_wgsl_fns.specs.FunctionText.{annotates_types};
 ghost use Rattle.naga_wgsl_fns.specs.Functions.{text_of_function};
 ghost use Rattle.naga_wgsl_out.specs.Headline.{EachReading, FaithfulWriting, answer_of, text_of};
 ghost use Rattle.naga_wgsl_fns.specs.Items.{HasNamedItemsOf};
@@ -86,18 +86,17 @@ impl<W: TextSink> Writer<W> {
     /// which has the module's interface and does what the module does. The next call starts afresh.
     ///
     /// The text depends on the module, on what is known of it and on the flags alone. A `let` binds
-    /// these of the emitted expressions: one that a front end named, under an identifier made of
-    /// that label; an operation on an image; a `Load`, a derivative or the load of a cooperative
-    /// matrix that is used; any other operator, but no part at an index, that is used twice or
-    /// more. `EXPLICIT_TYPES` has each `let` tell its type.
+    /// each result of a statement, and these of the emitted expressions: one that a front end
+    /// named, under an identifier made of that label; an operation on an image; a `Load`, a
+    /// derivative or the load of a cooperative matrix that is used; any other operator, but no part
+    /// at an index, that is used twice or more. `EXPLICIT_TYPES` has each `let` tell its type.
     ///
     /// A module is refused for a construct in it without a form, an operand out of scope or a name
     /// that can't be told, by the errors that `docs/REFUSALS.md` lists, and so far as
     /// `Unimplemented`, `not yet written`, where it has more than types, constants without names,
-    /// and functions of `Emit`s, `Store`s and `Return`s. Where a function is refused, those in
-    /// front of it stand in the sink, whole, an empty line behind each. Behind want of memory or a
-    /// failure of the sink a beginning of the text stands there, and behind any other refusal what
-    /// stood there before.
+    /// and functions. Where a function is refused, those in front of it stand in the sink, whole,
+    /// an empty line behind each. Behind want of memory or a failure of the sink a beginning of the
+    /// text stands there, and behind any other refusal what stood there before.
     ///
     /// ```text
     /// match writer.write(&shader.module, &shader.info) {
@@ -107,7 +106,7 @@ impl<W: TextSink> Writer<W> {
     /// ```
     pub fn write(&mut self, module: &Module, info: &ModuleInfo) -> Result<(), Error>
         requires accepted { IsTrue (is_accepted «module».now info.now) }
-        ensures faithful { FaithfulWriting (tells_types self.old.flags) «module».now info.now
+        ensures faithful { FaithfulWriting (annotates_types self.old.flags) «module».now info.now
             result
             (W.text self.old.sink) (W.text self.new.sink)
             (W.failures self.old.sink) (W.failures self.new.sink) }
@@ -117,7 +116,7 @@ impl<W: TextSink> Writer<W> {
         // Its `let`s are those of the emitted expressions that are to be bound, and tell the types
         // of these if the flags ask for it.
         ensures bindings { OnOk result (EachReading (W.text self.old.sink) (W.text self.new.sink)
-            (BindsAs «module».now info.now (tells_types self.old.flags))) }
+            (BindsAs «module».now info.now (annotates_types self.old.flags))) }
         ensures text_ok { OnOk result (W.text self.new.sink
             ≡ W.text self.old.sink ++ written_text «module».now info.now self.old.flags) }
         ensures text_err { OnErr result (IsBehind (W.text self.old.sink)
@@ -152,8 +151,9 @@ impl<W: TextSink> Writer<W> {
 }
 
 /// Writes the functions of the module, an empty line behind each, up to the first in which an
-/// operand is out of scope, an expression without a form is written or a type without one spelled, or
-/// a label gets no name. The namer has named the items of the module, and goes on with what front ends named.
+/// operand is out of scope, a statement has no form, an expression without one is written or a type
+/// without one spelled, or a label gets no name. The namer has named the items of the module, and
+/// goes on with what front ends named.
 fn write_functions<W: TextSink>(
     alloc: Global,
     module: &Module,
@@ -194,8 +194,8 @@ fn write_function_line<W: TextSink>(
     requires written { IsTrue (is_written_so_far «module».now) }
     requires handle { handle < length «module».now.functions }
     requires names { HasNamesOf «module».now (names_in names.now) }
-    requires planned { IsPlanOf (tells_types flags) «module».now info.now handle plan }
-    requires named { AreGivenNames «module».now handle plan.given }
+    requires planned { IsPlanOf (annotates_types flags) «module».now info.now handle plan }
+    requires named { AreExpressionNames «module».now handle plan.named }
     ensures { Appends result (W.text out.old) (W.failures out.old)
         (text_of_function «module».now info.now flags handle ++ codes "\n")
         (W.text out.new) (W.failures out.new) }
@@ -282,12 +282,13 @@ pub fn write_string(
     flags: WriterFlags,
 ) -> Result<String, Error>
     requires accepted { IsTrue (is_accepted «module».now info.now) }
-    ensures faithful { FaithfulWriting (tells_types flags) «module».now info.now (answer_of result)
+    ensures faithful { FaithfulWriting (annotates_types flags) «module».now info.now
+        (answer_of result)
         [] (text_of result) 0 0 }
     ensures resolution { OnOk (answer_of result) (EachReading [] (text_of result)
         (ResolvesAs «module».now info.now)) }
     ensures bindings { OnOk (answer_of result) (EachReading [] (text_of result)
-        (BindsAs «module».now info.now (tells_types flags))) }
+        (BindsAs «module».now info.now (annotates_types flags))) }
     ensures text { IfOk result (λ text.
         string_bytes text ≡ written_text «module».now info.now flags) }
 {

@@ -2,5 +2,5 @@ pub mod Empties
 pub mod FoundWords
 pub mod Levels
 pub mod Orders
-pub mod PartWriting
+pub mod SegmentWriting
 pub mod Writing

@@ -21,7 +21,11 @@ knows_each c all (inner.BindingArray base size) = knows_each_size c all size
 knows_each c all _ = refl
 
 -- a context that knows each override
-pub all_known : (c : Context) → ((h : ℕ) → IsTrue (c.knows h)) → (overrides : ℕ) → ((handle : ℕ) (t : Type_) → handle < length c.types → slice_get c.types handle ≡ Some t → StandsBehind handle overrides t.inner) → ((handle : ℕ) (t : Type_) → slice_get c.types handle ≡ Some t → handle < length c.types) → IsInOrder c
+pub all_known : (c : Context) → ((h : ℕ) → IsTrue (c.knows h)) → (overrides : ℕ) →
+    ((handle : ℕ) (t : Type_) → handle < length c.types → slice_get c.types handle ≡ Some t →
+    StandsBehind handle overrides t.inner) →
+    ((handle : ℕ) (t : Type_) → slice_get c.types handle ≡ Some t → handle < length c.types) →
+    IsInOrder c
 all_known c all overrides behind found = record {
   before = λ handle t is. (behind handle t (found handle t is) is).before;
   known = λ handle t is. knows_each c all t.inner;
@@ -38,7 +42,12 @@ knows_within c overrides same (inner.BindingArray base size) k = knows_size_with
 knows_within c overrides same _ k = refl
 
 -- a context that knows so many overrides
-pub so_many_known : (c : Context) (overrides : ℕ) → ((h : ℕ) → c.knows h ≡ size_within overrides (size.Pending h)) → ((handle : ℕ) (t : Type_) → handle < length c.types → slice_get c.types handle ≡ Some t → StandsBehind handle overrides t.inner) → ((handle : ℕ) (t : Type_) → slice_get c.types handle ≡ Some t → handle < length c.types) → IsInOrder c
+pub so_many_known : (c : Context) (overrides : ℕ) →
+    ((h : ℕ) → c.knows h ≡ size_within overrides (size.Pending h)) →
+    ((handle : ℕ) (t : Type_) → handle < length c.types → slice_get c.types handle ≡ Some t →
+    StandsBehind handle overrides t.inner) →
+    ((handle : ℕ) (t : Type_) → slice_get c.types handle ≡ Some t → handle < length c.types) →
+    IsInOrder c
 so_many_known c overrides same behind found = record {
   before = λ handle t is. (behind handle t (found handle t is) is).before;
   known = λ handle t is. knows_within c overrides same t.inner (behind handle t (found handle t is) is).known;
@@ -49,4 +58,6 @@ pub one_more : (types : List Type_) (n overrides : ℕ) (here : Type_) → slice
     ((handle : ℕ) → handle < n → (t : Type_) → slice_get types handle ≡ Some t → StandsBehind handle overrides t.inner) →
     (handle : ℕ) → handle < n + 1 → (t : Type_) → slice_get types handle ≡ Some t → StandsBehind handle overrides t.inner
 one_more types n overrides here at stands below =
-    below_more (λ handle. (t : Type_) → slice_get types handle ≡ Some t → StandsBehind handle overrides t.inner) n below (λ t is. let e : here ≡ t = cc in subst (λ (x : Type_). StandsBehind n overrides x.inner) e stands)
+    below_more (λ handle. (t : Type_) → slice_get types handle ≡ Some t →
+    StandsBehind handle overrides t.inner) n below (λ t is. let e : here ≡ t = cc in
+    subst (λ (x : Type_). StandsBehind n overrides x.inner) e stands)

@@ -11,43 +11,48 @@ use Rattle.naga_words.specs.Output.{OutputView, IsReason, Lies, Follows, Goes, W
 
 -- ---- rows
 -- a beginning of the first text is a beginning of both
-pub behind_first : (held text now more : List ℕ) → IsBehind held text now → IsBehind held (text ++ more) now
-behind_first held text now more (taken, rest, whole, is) =
+pub behind_first : (content text now more : List ℕ) → IsBehind content text now → IsBehind content (text ++ more) now
+behind_first content text now more (taken, rest, whole, is) =
     (taken, rest ++ more, ap (λ t. t ++ more) whole ∙ append_assoc taken rest more, is)
 
 -- behind the first text, a beginning of the second
-pub behind_then : (held text middle more now : List ℕ) → middle ≡ held ++ text → IsBehind middle more now → IsBehind held (text ++ more) now
-behind_then held text middle more now at (taken, rest, whole, is) = (
+pub behind_then : (content text middle more now : List ℕ) → middle ≡ content ++ text → IsBehind middle more now → IsBehind content (text ++ more) now
+behind_then content text middle more now at (taken, rest, whole, is) = (
   text ++ taken,
   rest,
   ap (λ t. text ++ t) whole ∙ sym (append_assoc text taken rest),
-  is ∙ ap (λ t. t ++ taken) at ∙ append_assoc held text taken,
+  is ∙ ap (λ t. t ++ taken) at ∙ append_assoc content text taken,
 )
 
 -- the second text, where the first stands whole
-after_whole : (held : List ℕ) (failed : ℕ) (text middle more now : List ℕ) (among failures : ℕ) (want : Option TypeTextError) → middle ≡ held ++ text → among ≡ failed
-    → Lies middle among more now failures want → Lies held failed (text ++ more) now failures want
-after_whole held failed text middle more now among failures None at kept lies =
-    (lies.0 ∙ ap (λ t. t ++ more) at ∙ append_assoc held text more, lies.1 ∙ kept)
-after_whole held failed text middle more now among failures (Some want) at kept lies =
-    (behind_then held text middle more now at lies.0, subst (λ n. IsReason ⊥ n failures want) kept lies.1)
+after_whole : (content : List ℕ) (failed : ℕ) (text middle more now : List ℕ) (among failures : ℕ) (want : Option TypeTextError) → middle ≡ content ++ text → among ≡ failed
+    → Lies middle among more now failures want →
+    Lies content failed (text ++ more) now failures want
+after_whole content failed text middle more now among failures None at kept lies =
+    (lies.0 ∙ ap (λ t. t ++ more) at ∙ append_assoc content text more, lies.1 ∙ kept)
+after_whole content failed text middle more now among failures (Some want) at kept lies =
+    (behind_then content text middle more now at lies.0, subst (λ n. IsReason ⊥ n failures want) kept lies.1)
 
 -- and where a beginning of the first does
-after_part : (held : List ℕ) (failed : ℕ) (text more : List ℕ) (middle after : OutputView) (want : TypeTextError) → Lies held failed text middle.held middle.failures (Some want) → middle.want ≡ Some want → after ≡ middle
-    → Lies held failed (text ++ more) after.held after.failures after.want
-after_part held failed text more middle after want lies is same =
-    subst (λ (s : OutputView). Lies held failed (text ++ more) s.held s.failures s.want) (sym same)
-    (subst (λ w. Lies held failed (text ++ more) middle.held middle.failures w) (sym is) (behind_first held text middle.held more lies.0, lies.1))
+after_segment : (content : List ℕ) (failed : ℕ) (text more : List ℕ) (middle after : OutputView)
+    (want : TypeTextError) → Lies content failed text middle.content middle.failures (Some want) →
+    middle.want ≡ Some want → after ≡ middle
+    → Lies content failed (text ++ more) after.content after.failures after.want
+after_segment content failed text more middle after want lies is same =
+    subst (λ (s : OutputView). Lies content failed (text ++ more) s.content s.failures s.want)
+    (sym same)
+    (subst (λ w. Lies content failed (text ++ more) middle.content middle.failures w) (sym is) (behind_first content text middle.content more lies.0, lies.1))
 
 pub writes_then : {before middle after : OutputView} {first more : List ℕ} → Wrote before middle first → Wrote middle after more → Wrote before after (joined_texts first more)
 unfolding joined_texts Goes
 writes_then {before} {middle} {after} {first} {more} w v = record { goes = (by before.want refl w.goes.0, v.goes.1 ∙ w.goes.1) }
   where
-    on : (want : Option TypeTextError) → want ≡ middle.want → Lies before.held before.failures first middle.held middle.failures want → Follows want middle more after
-        → Lies before.held before.failures (first ++ more) after.held after.failures after.want
+    on : (want : Option TypeTextError) → want ≡ middle.want → Lies before.content before.failures first middle.content middle.failures want → Follows want middle more after
+        → Lies before.content before.failures (first ++ more) after.content after.failures
+        after.want
     on None is lies follows =
-        after_whole before.held before.failures first middle.held more after.held middle.failures after.failures after.want lies.0 lies.1 follows
-    on (Some want) is lies follows = after_part before.held before.failures first more middle after want lies (sym is) follows
+        after_whole before.content before.failures first middle.content more after.content middle.failures after.failures after.want lies.0 lies.1 follows
+    on (Some want) is lies follows = after_segment before.content before.failures first more middle after want lies (sym is) follows
 
     by : (want : Option TypeTextError) → want ≡ before.want → Follows want before first middle → Follows want before (first ++ more) after
     by None is follows = on middle.want refl follows v.goes.0
@@ -61,7 +66,7 @@ unfolding Goes
 writes_nothing before = record { goes = (by before.want refl, refl) }
   where
     by : (want : Option TypeTextError) → want ≡ before.want → Follows want before [] before
-    by None is = subst (λ o. Lies before.held before.failures [] before.held before.failures o) is (sym (append-nil before.held), refl)
+    by None is = subst (λ o. Lies before.content before.failures [] before.content before.failures o) is (sym (append-nil before.content), refl)
     by (Some want) is = refl
 
 -- behind a want every text is written
@@ -107,27 +112,28 @@ pub ruleset loop_writes = (leaves_start, leaves_more, leaves_none, leaves_wantin
 
 -- ---- an output that had no want at first
 from_fresh : (start now : OutputView) (text : List ℕ) → Wrote start now text → start.want ≡ None → (want : Option TypeTextError) → now.want ≡ want
-    → Lies start.held start.failures text now.held now.failures want
+    → Lies start.content start.failures text now.content now.failures want
 unfolding Goes
 from_fresh start now text w fresh want is =
     let follows : Follows None start text now = subst (λ o. Follows o start text now) fresh w.goes.0 in
-    subst (λ o. Lies start.held start.failures text now.held now.failures o) is follows
+    subst (λ o. Lies start.content start.failures text now.content now.failures o) is follows
 
 pub same_sink : (start now : OutputView) (text : List ℕ) → Wrote start now text → now.sink ≡ start.sink
 unfolding Goes
 same_sink start now text w = w.goes.1
 
-pub held_whole : (start now : OutputView) (text : List ℕ) → Wrote start now text → start.want ≡ None → now.want ≡ None → now.held ≡ start.held ++ text
-held_whole start now text w fresh none = (from_fresh start now text w fresh None none).0
+pub content_whole : (start now : OutputView) (text : List ℕ) → Wrote start now text → start.want ≡ None → now.want ≡ None → now.content ≡ start.content ++ text
+content_whole start now text w fresh none = (from_fresh start now text w fresh None none).0
 
 pub never_failed : (start now : OutputView) (text : List ℕ) → Wrote start now text → start.want ≡ None → now.want ≡ None → now.failures ≡ start.failures
 never_failed start now text w fresh none = (from_fresh start now text w fresh None none).1
 
-pub held_part : (start now : OutputView) (text : List ℕ) (want : TypeTextError) → Wrote start now text → start.want ≡ None → now.want ≡ Some want → IsBehind start.held text now.held
-held_part start now text want w fresh some = (from_fresh start now text w fresh (Some want) some).0
+pub content_begun : (start now : OutputView) (text : List ℕ) (want : TypeTextError) → Wrote start now text → start.want ≡ None → now.want ≡ Some want → IsBehind start.content text now.content
+content_begun start now text want w fresh some =
+    (from_fresh start now text w fresh (Some want) some).0
 
-pub reason_given : (start now : OutputView) (text : List ℕ) (want : TypeTextError) → Wrote start now text → start.want ≡ None → now.want ≡ Some want → IsReason ⊥ start.failures now.failures want
-reason_given start now text want w fresh some = (from_fresh start now text w fresh (Some want) some).1
+pub reason_known : (start now : OutputView) (text : List ℕ) (want : TypeTextError) → Wrote start now text → start.want ≡ None → now.want ≡ Some want → IsReason ⊥ start.failures now.failures want
+reason_known start now text want w fresh some = (from_fresh start now text w fresh (Some want) some).1
 
 -- and no text lacks a form
 pub never_formless : (start now : OutputView) (text : List ℕ) → Wrote start now text → start.want ≡ None
@@ -135,11 +141,15 @@ pub never_formless : (start now : OutputView) (text : List ℕ) → Wrote start 
 never_formless start now text w fresh some = (from_fresh start now text w fresh (Some NoForm) some).1
 
 -- the same by what the sink shows before the output is made, and once the output is done with
-pub held_whole_as : (start now : OutputView) (text before after : List ℕ) → start.held ≡ before → now.held ≡ after → Wrote start now text → start.want ≡ None → now.want ≡ None → after ≡ before ++ text
-held_whole_as start now text before after first last w fresh none = sym last ∙ held_whole start now text w fresh none ∙ ap (λ h. h ++ text) first
+pub content_whole_as : (start now : OutputView) (text before after : List ℕ) →
+    start.content ≡ before → now.content ≡ after → Wrote start now text → start.want ≡ None →
+    now.want ≡ None → after ≡ before ++ text
+content_whole_as start now text before after first last w fresh none = sym last ∙ content_whole start now text w fresh none ∙ ap (λ h. h ++ text) first
 
-pub held_part_as : (start now : OutputView) (text before after : List ℕ) (want : TypeTextError) → start.held ≡ before → now.held ≡ after → Wrote start now text → start.want ≡ None → now.want ≡ Some want → IsBehind before text after
-held_part_as start now text before after want first last w fresh some =
-    subst (λ h. IsBehind h text after) first (subst (λ h. IsBehind start.held text h) last (held_part start now text want w fresh some))
+pub content_begun_as : (start now : OutputView) (text before after : List ℕ)
+    (want : TypeTextError) → start.content ≡ before → now.content ≡ after → Wrote start now text →
+    start.want ≡ None → now.want ≡ Some want → IsBehind before text after
+content_begun_as start now text before after want first last w fresh some =
+    subst (λ h. IsBehind h text after) first (subst (λ h. IsBehind start.content text h) last (content_begun start now text want w fresh some))
 
-pub ruleset fresh_output = (same_sink, held_whole, never_failed)
+pub ruleset fresh_output = (same_sink, content_whole, never_failed)

@@ -8,7 +8,7 @@ use Rattle.naga_ir.specs.declared.types.Type_.{Type_}
 use Rattle.naga_ir.specs.declared.module.Override.{Override}
 use Rattle.naga_names.specs.declared.key.NameKey.TheVariants as key
 use Rattle.naga_names.specs.Keys.{NameMap}
-use Rattle.naga_words.specs.Parts.{Part, Word, Missing, shown_between}
+use Rattle.naga_words.specs.Segments.{Segment, Word, Missing, shown_between}
 use Rattle.naga_words.specs.Spelling.{Context}
 
 -- the label of a type, or what stands for one without
@@ -22,19 +22,19 @@ arena_context types = record {
   types = types;
   name = λ handle. type_label (slice_get types handle);
   knows = λ handle. true;
-  override_parts = λ handle. shown_between (codes "{override ") (codes "}");
-  unnamed_parts = shown_between (codes "{unnamed struct ") (codes "}");
+  override_segments = λ handle. shown_between (codes "{override ") (codes "}");
+  unnamed_segments = shown_between (codes "{unnamed struct ") (codes "}");
   refuses = false;
 }
 
-abbrev pub label_parts : Option (List ℕ) → List Part
-label_parts None = shown_between (codes "{anonymous override ") (codes "}")
-label_parts (Some label) = Word label ∷ []
+abbrev pub label_segments : Option (List ℕ) → List Segment
+label_segments None = shown_between (codes "{anonymous override ") (codes "}")
+label_segments (Some label) = Word label ∷ []
 
 -- an override by its label, or in braces
-abbrev pub override_label_parts : Option Override → List Part
-override_label_parts None = []
-override_label_parts (Some o) = label_parts (option_map string_bytes o.name)
+abbrev pub override_label_segments : Option Override → List Segment
+override_label_segments None = []
+override_label_segments (Some o) = label_segments (option_map string_bytes o.name)
 
 -- types and overrides: labels are names, and what has none is shown in braces
 abbrev pub global_context : List Type_ → List Override → Context
@@ -42,8 +42,8 @@ global_context types overrides = record {
   types = types;
   name = λ handle. type_label (slice_get types handle);
   knows = λ handle. nat_lt handle (length overrides);
-  override_parts = λ handle. override_label_parts (slice_get overrides handle);
-  unnamed_parts = Word (codes "{unnamed struct}") ∷ [];
+  override_segments = λ handle. override_label_segments (slice_get overrides handle);
+  unnamed_segments = Word (codes "{unnamed struct}") ∷ [];
   refuses = false;
 }
 
@@ -59,8 +59,8 @@ writer_context n knows = record {
   types = n.types;
   name = n.struct_name;
   knows = knows;
-  override_parts = λ handle. Word (n.override_name handle) ∷ [];
-  unnamed_parts = Missing ∷ [];
+  override_segments = λ handle. Word (n.override_name handle) ∷ [];
+  unnamed_segments = Missing ∷ [];
   refuses = true;
 }
 

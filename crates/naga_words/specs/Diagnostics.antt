@@ -45,15 +45,15 @@ standard_rule_of = value_of standard_word standard_rules
 -- parts of a name, with a dot between
 abbrev pub dotted : {Y : Type 0} → List (String Y) → List ℕ
 dotted [] = []
-dotted (part ∷ []) = string_bytes part
-dotted (part ∷ parts) = string_bytes part ++ (codes "." ++ dotted parts)
+dotted (segment ∷ []) = string_bytes segment
+dotted (segment ∷ segments) = string_bytes segment ++ (codes "." ++ dotted segments)
 
 -- the name of a rule: its word, if it is of the standard; as it was found, if nobody knows it; that
 -- of its tool and its own, if it is a tool's
 abbrev pub rule_name : FilterableTriggeringRule → List ℕ
 rule_name (rule.Standard known) = standard_word known
 rule_name (rule.Unknown name) = string_bytes name
-rule_name (rule.User parts) = dotted parts
+rule_name (rule.User segments) = dotted segments
 
 -- A word and its value determine each other: the value of a value's word is that value, a word of
 -- which there is a value is that value's, and of any other word there is none.

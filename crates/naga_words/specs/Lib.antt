@@ -3,7 +3,7 @@ pub mod Diagnostics
 pub mod Handing
 pub mod Limited
 pub mod Output
-pub mod Parts
+pub mod Segments
 pub mod Predeclared
 pub mod Rules
 pub mod Sink

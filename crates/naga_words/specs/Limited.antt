@@ -2,11 +2,12 @@
 use Rattle.std.specs.Prelude.{ℕ, ◌-◌, Bool, ◌&&◌, ◌==◌, List, length, nat_lt}
 
 -- a text, the most bytes that it may have before the first failure, and the number of failures
-pub record HeldText : Type 0 where
+pub record LimitedText : Type 0 where
   pub text : List ℕ
   pub limit : ℕ
   pub failures : ℕ
 
 -- Is the piece the first that is longer than the room behind the text?
-abbrev pub goes_past : HeldText → List ℕ → Bool
-goes_past held piece = (held.failures == 0) && nat_lt (held.limit - length held.text) (length piece)
+abbrev pub goes_past : LimitedText → List ℕ → Bool
+goes_past content piece = (content.failures == 0) && nat_lt (content.limit - length content.text)
+    (length piece)

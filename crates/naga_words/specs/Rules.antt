@@ -7,32 +7,33 @@ use Rattle.naga_info.specs.declared.info.TypeResolution.{TypeResolution}
 use Rattle.naga_info.specs.declared.rules.Conclusion.{Conclusion}
 use Rattle.naga_info.specs.declared.rules.Conclusion.TheVariants.{Value, Predeclared}
 use Rattle.naga_info.specs.declared.rules.Rule.{Rule}
-use Rattle.naga_words.specs.Parts.{Part, Word}
+use Rattle.naga_words.specs.Segments.{Segment, Word}
 use Rattle.naga_words.specs.Predeclared.{predeclared_name}
-use Rattle.naga_words.specs.Spelling.{Context, Fits, FitsResolution, inner_parts, resolution_parts}
+use Rattle.naga_words.specs.Spelling.{Context, Fits, FitsResolution, inner_segments}
+use Rattle.naga_words.specs.Spelling.{resolution_segments}
 
 -- the types behind the first
-abbrev pub more_arguments_parts : Context → List TypeResolution → List Part
-more_arguments_parts c [] = []
-more_arguments_parts c (r ∷ rs) =
-    Word (codes ", ") ∷ (resolution_parts c r ++ more_arguments_parts c rs)
+abbrev pub more_arguments_segments : Context → List TypeResolution → List Segment
+more_arguments_segments c [] = []
+more_arguments_segments c (r ∷ rs) =
+    Word (codes ", ") ∷ (resolution_segments c r ++ more_arguments_segments c rs)
 
 -- the types of arguments, joined by commas
-abbrev pub arguments_parts : Context → List TypeResolution → List Part
-arguments_parts c [] = []
-arguments_parts c (r ∷ rs) = resolution_parts c r ++ more_arguments_parts c rs
+abbrev pub arguments_segments : Context → List TypeResolution → List Segment
+arguments_segments c [] = []
+arguments_segments c (r ∷ rs) = resolution_segments c r ++ more_arguments_segments c rs
 
 -- what a function gives
-abbrev pub conclusion_parts : Context → Conclusion → List Part
-conclusion_parts c (Value it) = inner_parts c it
-conclusion_parts c (Predeclared p) = Word (predeclared_name p) ∷ []
+abbrev pub conclusion_segments : Context → Conclusion → List Segment
+conclusion_segments c (Value it) = inner_segments c it
+conclusion_segments c (Predeclared p) = Word (predeclared_name p) ∷ []
 
 -- a rule, by the function's name: `fn dot(vec3<f32>, vec3<f32>) -> f32`
-abbrev pub rule_parts : Context → List ℕ → Rule → List Part
-rule_parts c name rule =
+abbrev pub rule_segments : Context → List ℕ → Rule → List Segment
+rule_segments c name rule =
     Word (codes "fn ") ∷ Word name ∷ Word (codes "(") ∷
-    (arguments_parts c rule.arguments.items ++
-    (Word (codes ") -> ") ∷ conclusion_parts c rule.conclusion))
+    (arguments_segments c rule.arguments.items ++
+    (Word (codes ") -> ") ∷ conclusion_segments c rule.conclusion))
 
 -- What the arguments name is known to the context.
 abbrev pub AllFit : Context → List TypeResolution → Type 0

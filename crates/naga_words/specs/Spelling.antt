@@ -15,11 +15,13 @@ use Rattle.naga_info.specs.declared.info.TypeResolution.{TypeResolution}
 use Rattle.naga_info.specs.declared.info.TypeResolution.TheVariants.{Handle, Value}
 use Rattle.std.specs.Option.{is_none}
 use Rattle.wgsl_words.specs.Words.{space_word, space_access_word}
-use Rattle.naga_words.specs.Parts.{Part, Word, Missing}
+use Rattle.naga_words.specs.Segments.{Segment, Word, Missing}
 use Rattle.naga_words.specs.Words.{cooperative_word, matrix_word, role_tail, sampler_word}
 use Rattle.naga_words.specs.Words.{acceleration_structure_text, ray_query_text}
-use Rattle.naga_words.specs.Values.{image_parts, length_of_number, scalar_parts, template_parts}
-use Rattle.naga_words.specs.Values.{pointer_in, value_parts, value_pointer_parts, vector_parts}
+use Rattle.naga_words.specs.Values.{image_segments, length_of_number, scalar_segments}
+use Rattle.naga_words.specs.Values.{template_segments}
+use Rattle.naga_words.specs.Values.{pointer_in, value_segments, value_pointer_segments}
+use Rattle.naga_words.specs.Values.{vector_segments}
 
 -- how a context spells what is its own
 pub record Context : Type 0 where
@@ -29,82 +31,85 @@ pub record Context : Type 0 where
   pub name : ℕ → List ℕ
   -- the overrides that it knows, and how it spells them
   pub knows : ℕ → Bool
-  pub override_parts : ℕ → List Part
+  pub override_segments : ℕ → List Segment
   -- how it spells a struct without a handle
-  pub unnamed_parts : List Part
+  pub unnamed_segments : List Segment
   -- Is what has no form refused? Otherwise it is shown in braces.
   pub refuses : Bool
 
 -- a pointer; where its space has no word, what it points to alone
-abbrev pub pointer_parts : Option (List ℕ) → Option (List ℕ) → List Part → List Part
-pointer_parts None access pointee = pointee
-pointer_parts (Some space) access pointee = pointer_in space access pointee
+abbrev pub pointer_segments : Option (List ℕ) → Option (List ℕ) → List Segment → List Segment
+pointer_segments None access pointee = pointee
+pointer_segments (Some space) access pointee = pointer_in space access pointee
 
-abbrev pub length_of_override : List Part → List Part
+abbrev pub length_of_override : List Segment → List Segment
 length_of_override name = Word (codes ", ") ∷ (name ++ (Word (codes ">") ∷ []))
 
 -- the length of an array, with the bracket that closes it
-abbrev pub length_parts : Context → ArraySize → List Part
-length_parts c (size.Constant number) = length_of_number (non_zero_u32_get number)
-length_parts c (size.Pending override_handle) =
-    length_of_override (c.override_parts override_handle)
-length_parts c size.Dynamic = Word (codes ">") ∷ []
+abbrev pub length_segments : Context → ArraySize → List Segment
+length_segments c (size.Constant number) = length_of_number (non_zero_u32_get number)
+length_segments c (size.Pending override_handle) =
+    length_of_override (c.override_segments override_handle)
+length_segments c size.Dynamic = Word (codes ">") ∷ []
 
 -- an array of this word, by its length
-abbrev pub array_parts : Context → List ℕ → List Part → ArraySize → List Part
-array_parts c word element size = Word word ∷ Word (codes "<") ∷ (element ++ length_parts c size)
+abbrev pub array_segments : Context → List ℕ → List Segment → ArraySize → List Segment
+array_segments c word element size =
+    Word word ∷ Word (codes "<") ∷ (element ++ length_segments c size)
 
 -- a type by itself, with the spellings of the types that it names
-abbrev pub inner_parts_by : Context → (ℕ → List Part) → TypeInner → List Part
-inner_parts_by c f (inner.Scalar scalar) = scalar_parts c.refuses scalar
-inner_parts_by c f (inner.Vector size scalar) = vector_parts c.refuses size scalar
-inner_parts_by c f (inner.Matrix columns rows scalar) =
-    template_parts (matrix_word columns rows) (scalar_parts c.refuses scalar) (codes ">")
-inner_parts_by c f (inner.CooperativeMatrix columns rows scalar role) =
-    template_parts (cooperative_word columns rows) (scalar_parts c.refuses scalar) (role_tail role)
-inner_parts_by c f (inner.Atomic scalar) =
-    template_parts (codes "atomic") (scalar_parts c.refuses scalar) (codes ">")
-inner_parts_by c f (inner.Pointer base space) =
-    pointer_parts (space_word space) (space_access_word space) (f base)
-inner_parts_by c f (inner.ValuePointer size scalar space) =
-    value_pointer_parts c.refuses (space_word space) (space_access_word space)
-    (value_parts c.refuses size scalar)
-inner_parts_by c f (inner.Array base size stride) = array_parts c (codes "array") (f base) size
-inner_parts_by c f (inner.Struct members span) = c.unnamed_parts
-inner_parts_by c f (inner.Image dim arrayed class) = image_parts c.refuses dim arrayed class
-inner_parts_by c f (inner.Sampler comparison) = Word (sampler_word comparison) ∷ []
-inner_parts_by c f (inner.AccelerationStructure vertex_return) =
+abbrev pub inner_segments_by : Context → (ℕ → List Segment) → TypeInner → List Segment
+inner_segments_by c f (inner.Scalar scalar) = scalar_segments c.refuses scalar
+inner_segments_by c f (inner.Vector size scalar) = vector_segments c.refuses size scalar
+inner_segments_by c f (inner.Matrix columns rows scalar) =
+    template_segments (matrix_word columns rows) (scalar_segments c.refuses scalar) (codes ">")
+inner_segments_by c f (inner.CooperativeMatrix columns rows scalar role) =
+    template_segments (cooperative_word columns rows) (scalar_segments c.refuses scalar)
+    (role_tail role)
+inner_segments_by c f (inner.Atomic scalar) =
+    template_segments (codes "atomic") (scalar_segments c.refuses scalar) (codes ">")
+inner_segments_by c f (inner.Pointer base space) =
+    pointer_segments (space_word space) (space_access_word space) (f base)
+inner_segments_by c f (inner.ValuePointer size scalar space) =
+    value_pointer_segments c.refuses (space_word space) (space_access_word space)
+    (value_segments c.refuses size scalar)
+inner_segments_by c f (inner.Array base size stride) =
+    array_segments c (codes "array") (f base) size
+inner_segments_by c f (inner.Struct members span) = c.unnamed_segments
+inner_segments_by c f (inner.Image dim arrayed class) = image_segments c.refuses dim arrayed class
+inner_segments_by c f (inner.Sampler comparison) = Word (sampler_word comparison) ∷ []
+inner_segments_by c f (inner.AccelerationStructure vertex_return) =
     Word (acceleration_structure_text vertex_return) ∷ []
-inner_parts_by c f (inner.RayQuery vertex_return) = Word (ray_query_text vertex_return) ∷ []
-inner_parts_by c f (inner.BindingArray base size) =
-    array_parts c (codes "binding_array") (f base) size
+inner_segments_by c f (inner.RayQuery vertex_return) = Word (ray_query_text vertex_return) ∷ []
+inner_segments_by c f (inner.BindingArray base size) =
+    array_segments c (codes "binding_array") (f base) size
 
 abbrev pub is_struct : TypeInner → Bool
 is_struct (inner.Struct members span) = true
 is_struct _ = false
 
 -- the type at a handle: a struct by its name
-abbrev pub named_parts_by : Context → (ℕ → List Part) → ℕ → TypeInner → List Part
-named_parts_by c f handle it =
-    if is_struct it then Word (c.name handle) ∷ [] else inner_parts_by c f it
+abbrev pub named_segments_by : Context → (ℕ → List Segment) → ℕ → TypeInner → List Segment
+named_segments_by c f handle it =
+    if is_struct it then Word (c.name handle) ∷ [] else inner_segments_by c f it
 
-abbrev pub found_parts_by : Context → (ℕ → List Part) → ℕ → Option Type_ → List Part
-found_parts_by c f handle None = Missing ∷ []
-found_parts_by c f handle (Some t) = named_parts_by c f handle t.inner
+abbrev pub found_segments_by : Context → (ℕ → List Segment) → ℕ → Option Type_ → List Segment
+found_segments_by c f handle None = Missing ∷ []
+found_segments_by c f handle (Some t) = named_segments_by c f handle t.inner
 
 -- the type at a handle, at most so many levels deep
-abbrev pub parts_within : ℕ → Context → ℕ → List Part
-parts_within zero c handle = Missing ∷ []
-parts_within (suc levels) c handle =
-    found_parts_by c (parts_within levels c) handle (slice_get c.types handle)
+abbrev pub segments_within : ℕ → Context → ℕ → List Segment
+segments_within zero c handle = Missing ∷ []
+segments_within (suc levels) c handle =
+    found_segments_by c (segments_within levels c) handle (slice_get c.types handle)
 
 -- the spelling of the type at a handle, whose parts stand before it
-unfoldable pub type_parts : Context → ℕ → List Part
-type_parts c handle = parts_within (suc handle) c handle
+unfoldable pub type_segments : Context → ℕ → List Segment
+type_segments c handle = segments_within (suc handle) c handle
 
 -- the spelling of a type by itself
-abbrev pub inner_parts : Context → TypeInner → List Part
-inner_parts c it = inner_parts_by c (type_parts c) it
+abbrev pub inner_segments : Context → TypeInner → List Segment
+inner_segments c it = inner_segments_by c (type_segments c) it
 
 -- one past the handle of the type that a type names, or 0
 abbrev pub end_of_base : TypeInner → ℕ
@@ -129,9 +134,9 @@ is_formless_pointer (inner.ValuePointer size scalar space) = is_none (space_word
 is_formless_pointer _ = false
 
 -- the type of an expression: one of the context's, or one by itself
-abbrev pub resolution_parts : Context → TypeResolution → List Part
-resolution_parts c (Handle handle) = type_parts c handle
-resolution_parts c (Value it) = inner_parts c it
+abbrev pub resolution_segments : Context → TypeResolution → List Segment
+resolution_segments c (Handle handle) = type_segments c handle
+resolution_segments c (Value it) = inner_segments c it
 
 -- What a type by itself names is known to the context.
 pub record Fits (c : Context) (it : TypeInner) : Type 0 where

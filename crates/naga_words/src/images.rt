@@ -6,7 +6,7 @@
 ghost use Rattle.std.specs.Prelude.{false};
 ghost use Rattle.naga_ir.specs.declared.image.ImageClass.TheVariants as class;
 ghost use Rattle.naga_words.specs.Output.{Spells};
-ghost use Rattle.naga_words.specs.Values.{storage_image_parts, image_parts};
+ghost use Rattle.naga_words.specs.Values.{storage_image_segments, image_segments};
 
 use crate::output::Output;
 use crate::pieces::write_word;
@@ -17,10 +17,10 @@ use naga_ir::{ImageClass, ImageDimension, Scalar, ScalarKind};
 use std::alloc::Global;
 use wgsl_words::{ToWgsl, image_access_str};
 
-#[tactic(auto, using(crate::proofs::PartWriting::rows))]
+#[tactic(auto, using(crate::proofs::SegmentWriting::rows))]
 fn write_storage_image<W: TextSink>(word: &str, format: &str, access: &str, out: &mut Output<'_, W>)
     ensures { Spells W.text W.failures false out.old out.new
-        (storage_image_parts word.now format.now access.now) }
+        (storage_image_segments word.now format.now access.now) }
 {
     out.put(word);
     out.put("<");
@@ -40,14 +40,14 @@ fn write_sampled_image<W: TextSink>(
     out: &mut Output<'_, W>,
 )
     ensures { Spells W.text W.failures refuses out.old out.new
-        (image_parts refuses dim arrayed (class.Sampled kind multi)) }
+        (image_segments refuses dim arrayed (class.Sampled kind multi)) }
 {
     let word = sampled_image_str(multi, dim, arrayed);
     write_template(refuses, alloc, word, Scalar { kind, width: 4 }, ">", out)
 }
 
 /// Writes an image, as `texture_2d<f32>` or `texture_storage_2d<rgba8unorm,write>`.
-#[tactic(auto, using(crate::proofs::PartWriting::spells_any))]
+#[tactic(auto, using(crate::proofs::SegmentWriting::spells_any))]
 pub fn write_image<W: TextSink>(
     refuses: bool,
     alloc: Global,
@@ -57,7 +57,7 @@ pub fn write_image<W: TextSink>(
     out: &mut Output<'_, W>,
 )
     ensures { Spells W.text W.failures refuses out.old out.new
-        (image_parts refuses dim arrayed class) }
+        (image_segments refuses dim arrayed class) }
 {
     match class {
         ImageClass::Sampled { kind, multi } => {

@@ -29,9 +29,9 @@ pub struct Limited {
 
 impl Model for Limited {
     ghost use Rattle.std.specs.Prelude.{string_bytes};
-    ghost use Rattle.naga_words.specs.Limited.{HeldText};
+    ghost use Rattle.naga_words.specs.Limited.{LimitedText};
 
-    ghost Value = { HeldText };
+    ghost Value = { LimitedText };
 
     ghost view = { λ s.
         record { text = string_bytes s.text; limit = s.limit; failures = s.failures } };

@@ -3,7 +3,7 @@
 ghost use Rattle.std.specs.Prelude.{◌≡◌, ℕ, [], ◌∷◌, false, true, List, None, Some, OnOk, IfErr};
 ghost use Rattle.std.specs.Option.{is_some};
 ghost use Rattle.naga_words.specs.Output.{Spells, Writes};
-ghost use Rattle.naga_words.specs.Parts.{Missing, Part};
+ghost use Rattle.naga_words.specs.Segments.{Missing, Segment};
 
 use crate::error::TypeTextError;
 use crate::sink::TextSink;
@@ -25,7 +25,7 @@ pub struct Output<'a, W: TextSink> {
 impl<'a, W: TextSink> Output<'a, W> {
     /// An output to a sink, with no want.
     pub fn new(sink: &'a mut W) -> Self
-        ensures held { result.sink.now ≡ sink.old }
+        ensures content { result.sink.now ≡ sink.old }
         ensures same { result.sink.ghost_name ≡ sink.entry.ghost_name }
         ensures want { result.want ≡ None }
     {
@@ -64,19 +64,19 @@ impl<'a, W: TextSink> Output<'a, W> {
     }
 
     /// Remembers that there was no memory for what was to be written, whatever that is.
-    #[tactic(auto, using(crate::proofs::PartWriting::begun_at_once), unfolding(crate::specs::Output::PartsGo))]
+    #[tactic(auto, using(crate::proofs::SegmentWriting::begun_at_once), unfolding(crate::specs::Output::SegmentsGo))]
     pub fn remember(&mut self, error: AllocError)
         ensures text { (text : List ℕ) → Writes W.text W.failures self.old self.new text }
-        ensures parts { (parts : List Part) →
-            Spells W.text W.failures false self.old self.new parts }
+        ensures segments { (segments : List Segment) →
+            Spells W.text W.failures false self.old self.new segments }
     {
         if self.want.is_none() {
             self.want = Some(TypeTextError::Memory(error));
         }
     }
 
-    /// Remembers that a part was refused.
-    #[tactic(auto, using(crate::proofs::PartWriting::begun_at_once), unfolding(crate::specs::Output::PartsGo))]
+    /// Remembers that a segment was refused.
+    #[tactic(auto, using(crate::proofs::SegmentWriting::begun_at_once), unfolding(crate::specs::Output::SegmentsGo))]
     pub(crate) fn refuse(&mut self)
         ensures { Spells W.text W.failures true self.old self.new (Missing ∷ []) }
     {

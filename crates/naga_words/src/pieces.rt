@@ -3,7 +3,7 @@
 ghost use Rattle.std.specs.Prelude.{[], ◌∷◌, false};
 ghost use Rattle.std.specs.Int.NonZero.{non_zero_u32_get};
 ghost use Rattle.naga_words.specs.Output.{Spells};
-ghost use Rattle.naga_words.specs.Parts.{shown_between, three, Word};
+ghost use Rattle.naga_words.specs.Segments.{shown_between, three, Word};
 ghost use Rattle.naga_words.specs.Values.{length_of_number};
 
 use crate::output::Output;
@@ -12,7 +12,7 @@ use std::alloc::Global;
 use std::num::NonZeroU32;
 
 /// Writes a word.
-#[tactic(auto, using(crate::proofs::PartWriting::rows))]
+#[tactic(auto, using(crate::proofs::SegmentWriting::rows))]
 pub fn write_word<W: TextSink>(word: &str, out: &mut Output<'_, W>)
     ensures { Spells W.text W.failures false out.old out.new
         (Word word.now ∷ []) }
@@ -21,7 +21,7 @@ pub fn write_word<W: TextSink>(word: &str, out: &mut Output<'_, W>)
 }
 
 /// Writes three words.
-#[tactic(auto, using(crate::proofs::PartWriting::rows))]
+#[tactic(auto, using(crate::proofs::SegmentWriting::rows))]
 pub fn write_three<W: TextSink>(first: &str, second: &str, third: &str, out: &mut Output<'_, W>)
     ensures { Spells W.text W.failures false out.old out.new
         (three first.now second.now third.now) }
@@ -32,7 +32,7 @@ pub fn write_three<W: TextSink>(first: &str, second: &str, third: &str, out: &mu
 }
 
 /// Writes a debug text between two words.
-#[tactic(auto, using(crate::proofs::PartWriting::rows))]
+#[tactic(auto, using(crate::proofs::SegmentWriting::rows))]
 pub fn write_shown<W: TextSink>(head: &str, debug: &str, tail: &str, out: &mut Output<'_, W>)
     ensures { Spells W.text W.failures false out.old out.new
         (shown_between head.now tail.now) }

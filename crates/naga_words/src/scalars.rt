@@ -4,9 +4,11 @@
 
 ghost use Rattle.std.specs.Prelude.{codes, false};
 ghost use Rattle.naga_words.specs.Output.{Spells};
-ghost use Rattle.naga_words.specs.Parts.{shown_between};
-ghost use Rattle.naga_words.specs.Values.{access_parts, pointer_in, template_parts, value_parts};
-ghost use Rattle.naga_words.specs.Values.{braced_scalar_parts, formless_scalar_parts, scalar_parts};
+ghost use Rattle.naga_words.specs.Segments.{shown_between};
+ghost use Rattle.naga_words.specs.Values.{access_segments, pointer_in, template_segments};
+ghost use Rattle.naga_words.specs.Values.{value_segments};
+ghost use Rattle.naga_words.specs.Values.{braced_scalar_segments, formless_scalar_segments};
+ghost use Rattle.naga_words.specs.Values.{scalar_segments};
 ghost use Rattle.wgsl_words.specs.Words.{space_access_word};
 
 use crate::output::Output;
@@ -31,7 +33,7 @@ fn write_shown_scalar<W: TextSink>(alloc: Global, scalar: Scalar, out: &mut Outp
 /// Writes a scalar without a word in braces.
 fn write_braced_scalar<W: TextSink>(alloc: Global, scalar: Scalar, out: &mut Output<'_, W>)
     ensures { Spells W.text W.failures false out.old out.new
-        (braced_scalar_parts scalar.kind) }
+        (braced_scalar_segments scalar.kind) }
 {
     match scalar.kind {
         ScalarKind::AbstractInt => write_word("{AbstractInt}", out),
@@ -44,7 +46,7 @@ fn write_braced_scalar<W: TextSink>(alloc: Global, scalar: Scalar, out: &mut Out
 }
 
 /// Writes a scalar without a word, or refuses it.
-#[tactic(auto, using(crate::proofs::PartWriting::rows))]
+#[tactic(auto, using(crate::proofs::SegmentWriting::rows))]
 pub fn write_formless_scalar<W: TextSink>(
     refuses: bool,
     alloc: Global,
@@ -52,7 +54,7 @@ pub fn write_formless_scalar<W: TextSink>(
     out: &mut Output<'_, W>,
 )
     ensures { Spells W.text W.failures refuses out.old out.new
-        (formless_scalar_parts refuses scalar.kind) }
+        (formless_scalar_segments refuses scalar.kind) }
 {
     if refuses {
         out.refuse();
@@ -62,14 +64,14 @@ pub fn write_formless_scalar<W: TextSink>(
 }
 
 /// Writes a scalar, as `f32`.
-#[tactic(auto, using(crate::proofs::PartWriting::rows))]
+#[tactic(auto, using(crate::proofs::SegmentWriting::rows))]
 pub fn write_scalar<W: TextSink>(
     refuses: bool,
     alloc: Global,
     scalar: Scalar,
     out: &mut Output<'_, W>,
 )
-    ensures { Spells W.text W.failures refuses out.old out.new (scalar_parts refuses scalar) }
+    ensures { Spells W.text W.failures refuses out.old out.new (scalar_segments refuses scalar) }
 {
     match scalar.try_to_wgsl() {
         Some(word) => write_word(word, out),
@@ -78,7 +80,7 @@ pub fn write_scalar<W: TextSink>(
 }
 
 /// Writes a word with a scalar in angle brackets, of which `tail` has the closing one.
-#[tactic(auto, using(crate::proofs::PartWriting::rows))]
+#[tactic(auto, using(crate::proofs::SegmentWriting::rows))]
 pub fn write_template<W: TextSink>(
     refuses: bool,
     alloc: Global,
@@ -88,7 +90,7 @@ pub fn write_template<W: TextSink>(
     out: &mut Output<'_, W>,
 )
     ensures { Spells W.text W.failures refuses out.old out.new
-        (template_parts word.now (scalar_parts refuses scalar) tail.now) }
+        (template_segments word.now (scalar_segments refuses scalar) tail.now) }
 {
     out.put(word);
     out.put("<");
@@ -104,7 +106,8 @@ pub fn write_value<W: TextSink>(
     scalar: Scalar,
     out: &mut Output<'_, W>,
 )
-    ensures { Spells W.text W.failures refuses out.old out.new (value_parts refuses size scalar) }
+    ensures { Spells W.text W.failures refuses out.old out.new
+        (value_segments refuses size scalar) }
 {
     match size {
         Some(size) => write_template(refuses, alloc, vector_str(size), scalar, ">", out),
@@ -116,7 +119,7 @@ pub fn write_value<W: TextSink>(
 /// `, read_write>`.
 pub fn write_access<W: TextSink>(space: AddressSpace, out: &mut Output<'_, W>)
     ensures { Spells W.text W.failures false out.old out.new
-        (access_parts (space_access_word space)) }
+        (access_segments (space_access_word space)) }
 {
     match space_access_str(space) {
         Some(word) => write_three(", ", word, ">", out),
@@ -125,7 +128,7 @@ pub fn write_access<W: TextSink>(space: AddressSpace, out: &mut Output<'_, W>)
 }
 
 /// Writes a pointer to a scalar or a vector in a space that has a word: `ptr<function, vec3<f32>>`.
-#[tactic(auto, using(crate::proofs::PartWriting::rows))]
+#[tactic(auto, using(crate::proofs::SegmentWriting::rows))]
 pub fn write_value_pointer_in<W: TextSink>(
     refuses: bool,
     alloc: Global,
@@ -136,7 +139,7 @@ pub fn write_value_pointer_in<W: TextSink>(
     out: &mut Output<'_, W>,
 )
     ensures { Spells W.text W.failures refuses out.old out.new
-        (pointer_in word.now (space_access_word space) (value_parts refuses size scalar)) }
+        (pointer_in word.now (space_access_word space) (value_segments refuses size scalar)) }
 {
     out.put("ptr<");
     out.put(word);

@@ -3,13 +3,15 @@
 ghost use Rattle.std.specs.Prelude.{◌≡◌, ◌<◌, IfOk, IsErrOf, IsTrue, None, OnOk, Some, length};
 ghost use Rattle.std.specs.Prelude.{slice_get, string_bytes};
 ghost use Rattle.naga_words.specs.declared.error.TypeTextError.TheVariants as error;
-ghost use Rattle.naga_words.specs.Parts.{HasBegun, HasWritten, IsRefused, IsText};
+ghost use Rattle.naga_words.specs.Segments.{HasBegun, HasWritten, IsRefused, IsText};
 ghost use Rattle.wgsl_words.specs.Words.{scalar_word};
-ghost use Rattle.naga_words.specs.Rules.{conclusion_parts, rule_parts, AllFit, FitsConclusion};
-ghost use Rattle.naga_words.specs.Values.{formless_parts, formless_scalar_parts, scalar_parts};
+ghost use Rattle.naga_words.specs.Rules.{conclusion_segments, rule_segments, AllFit};
+ghost use Rattle.naga_words.specs.Rules.{FitsConclusion};
+ghost use Rattle.naga_words.specs.Values.{formless_segments, formless_scalar_segments};
+ghost use Rattle.naga_words.specs.Values.{scalar_segments};
 ghost use Rattle.naga_words.specs.Spelling.{Context, Fits, FitsResolution, IsInOrder};
-ghost use Rattle.naga_words.specs.Spelling.{inner_parts, is_formless_pointer, is_struct};
-ghost use Rattle.naga_words.specs.Spelling.{resolution_parts, type_parts};
+ghost use Rattle.naga_words.specs.Spelling.{inner_segments, is_formless_pointer, is_struct};
+ghost use Rattle.naga_words.specs.Spelling.{resolution_segments, type_segments};
 
 pub mod contexts;
 pub mod order;
@@ -65,12 +67,12 @@ pub trait TypeContext {
         out: &mut W,
     ) -> Result<(), TypeTextError>
         requires { IsTrue ((context self.now).knows handle) }
-        ensures written { OnOk result (HasWritten ((context self.now).override_parts handle)
+        ensures written { OnOk result (HasWritten ((context self.now).override_segments handle)
             (W.text out.old) (W.text out.new)) }
-        ensures begun { HasBegun ((context self.now).override_parts handle)
+        ensures begun { HasBegun ((context self.now).override_segments handle)
             (W.text out.old) (W.text out.new) }
         ensures no_form { IsErrOf result error.NoForm →
-            IsRefused (context self.now).refuses ((context self.now).override_parts handle) }
+            IsRefused (context self.now).refuses ((context self.now).override_segments handle) }
         ensures failures_ok { OnOk result (W.failures out.new ≡ W.failures out.old) }
         ensures failed { IsErrOf result (error.Sink SinkError.Failed) →
             W.failures out.old < W.failures out.new };
@@ -83,12 +85,12 @@ pub trait TypeContext {
         out: &mut W,
     ) -> Result<(), TypeTextError>
         requires { IsTrue (is_struct inner.now) }
-        ensures written { OnOk result (HasWritten (context self.now).unnamed_parts
+        ensures written { OnOk result (HasWritten (context self.now).unnamed_segments
             (W.text out.old) (W.text out.new)) }
-        ensures begun { HasBegun (context self.now).unnamed_parts
+        ensures begun { HasBegun (context self.now).unnamed_segments
             (W.text out.old) (W.text out.new) }
         ensures no_form { IsErrOf result error.NoForm →
-            IsRefused (context self.now).refuses (context self.now).unnamed_parts }
+            IsRefused (context self.now).refuses (context self.now).unnamed_segments }
         ensures failures_ok { OnOk result (W.failures out.new ≡ W.failures out.old) }
         ensures failed { IsErrOf result (error.Sink SinkError.Failed) →
             W.failures out.old < W.failures out.new };
@@ -99,7 +101,7 @@ pub trait TypeContext {
 
     /// Writes a type without a form, a value pointer in a space without a word, in braces, or
     /// refuses it.
-    #[tactic(auto, using(crate::proofs::PartWriting::outcomes))]
+    #[tactic(auto, using(crate::proofs::SegmentWriting::outcomes))]
     final fn write_non_wgsl_inner<W: TextSink>(
         &self,
         alloc: Global,
@@ -107,12 +109,12 @@ pub trait TypeContext {
         out: &mut W,
     ) -> Result<(), TypeTextError>
         requires { IsTrue (is_formless_pointer inner.now) }
-        ensures written { OnOk result (HasWritten (formless_parts (context self.now).refuses)
+        ensures written { OnOk result (HasWritten (formless_segments (context self.now).refuses)
             (W.text out.old) (W.text out.new)) }
-        ensures begun { HasBegun (formless_parts (context self.now).refuses)
+        ensures begun { HasBegun (formless_segments (context self.now).refuses)
             (W.text out.old) (W.text out.new) }
         ensures no_form { IsErrOf result error.NoForm →
-            IsRefused (context self.now).refuses (formless_parts (context self.now).refuses) }
+            IsRefused (context self.now).refuses (formless_segments (context self.now).refuses) }
         ensures failures_ok { OnOk result (W.failures out.new ≡ W.failures out.old) }
         ensures failed { IsErrOf result (error.Sink SinkError.Failed) →
             W.failures out.old < W.failures out.new }
@@ -124,7 +126,7 @@ pub trait TypeContext {
 
     /// Writes a type by itself. A struct needs its handle; one by itself is written as an unnamed
     /// one.
-    #[tactic(auto, using(crate::proofs::PartWriting::outcomes))]
+    #[tactic(auto, using(crate::proofs::SegmentWriting::outcomes))]
     final fn write_type_inner<W: TextSink>(
         &self,
         alloc: Global,
@@ -133,12 +135,12 @@ pub trait TypeContext {
     ) -> Result<(), TypeTextError>
         requires order { IsInOrder (context self.now) }
         requires fits { Fits (context self.now) inner.now }
-        ensures written { OnOk result (HasWritten (inner_parts (context self.now) inner.now)
+        ensures written { OnOk result (HasWritten (inner_segments (context self.now) inner.now)
             (W.text out.old) (W.text out.new)) }
-        ensures begun { HasBegun (inner_parts (context self.now) inner.now)
+        ensures begun { HasBegun (inner_segments (context self.now) inner.now)
             (W.text out.old) (W.text out.new) }
         ensures no_form { IsErrOf result error.NoForm →
-            IsRefused (context self.now).refuses (inner_parts (context self.now) inner.now) }
+            IsRefused (context self.now).refuses (inner_segments (context self.now) inner.now) }
         ensures failures_ok { OnOk result (W.failures out.new ≡ W.failures out.old) }
         ensures failed { IsErrOf result (error.Sink SinkError.Failed) →
             W.failures out.old < W.failures out.new }
@@ -149,7 +151,7 @@ pub trait TypeContext {
     }
 
     /// Writes a scalar without a word in braces, or refuses it.
-    #[tactic(auto, using(crate::proofs::PartWriting::outcomes))]
+    #[tactic(auto, using(crate::proofs::SegmentWriting::outcomes))]
     final fn write_non_wgsl_scalar<W: TextSink>(
         &self,
         alloc: Global,
@@ -158,13 +160,13 @@ pub trait TypeContext {
     ) -> Result<(), TypeTextError>
         requires { scalar_word scalar ≡ None }
         ensures written { OnOk result (HasWritten
-            (formless_scalar_parts (context self.now).refuses scalar.kind)
+            (formless_scalar_segments (context self.now).refuses scalar.kind)
             (W.text out.old) (W.text out.new)) }
-        ensures begun { HasBegun (formless_scalar_parts (context self.now).refuses scalar.kind)
+        ensures begun { HasBegun (formless_scalar_segments (context self.now).refuses scalar.kind)
             (W.text out.old) (W.text out.new) }
         ensures no_form { IsErrOf result error.NoForm →
             IsRefused (context self.now).refuses
-            (formless_scalar_parts (context self.now).refuses scalar.kind) }
+            (formless_scalar_segments (context self.now).refuses scalar.kind) }
         ensures failures_ok { OnOk result (W.failures out.new ≡ W.failures out.old) }
         ensures failed { IsErrOf result (error.Sink SinkError.Failed) →
             W.failures out.old < W.failures out.new }
@@ -175,19 +177,19 @@ pub trait TypeContext {
     }
 
     /// Writes a scalar.
-    #[tactic(auto, using(crate::proofs::PartWriting::outcomes))]
+    #[tactic(auto, using(crate::proofs::SegmentWriting::outcomes))]
     final fn write_scalar<W: TextSink>(
         &self,
         alloc: Global,
         scalar: Scalar,
         out: &mut W,
     ) -> Result<(), TypeTextError>
-        ensures written { OnOk result (HasWritten (scalar_parts (context self.now).refuses scalar)
+        ensures written { OnOk result (HasWritten (scalar_segments (context self.now).refuses scalar)
             (W.text out.old) (W.text out.new)) }
-        ensures begun { HasBegun (scalar_parts (context self.now).refuses scalar)
+        ensures begun { HasBegun (scalar_segments (context self.now).refuses scalar)
             (W.text out.old) (W.text out.new) }
         ensures no_form { IsErrOf result error.NoForm →
-            IsRefused (context self.now).refuses (scalar_parts (context self.now).refuses scalar) }
+            IsRefused (context self.now).refuses (scalar_segments (context self.now).refuses scalar) }
         ensures failures_ok { OnOk result (W.failures out.new ≡ W.failures out.old) }
         ensures failed { IsErrOf result (error.Sink SinkError.Failed) →
             W.failures out.old < W.failures out.new }
@@ -198,7 +200,7 @@ pub trait TypeContext {
     }
 
     /// Writes the type at a handle, which lies in the context's types: a struct by its name.
-    #[tactic(auto, using(crate::proofs::PartWriting::outcomes))]
+    #[tactic(auto, using(crate::proofs::SegmentWriting::outcomes))]
     final fn write_type<W: TextSink>(
         &self,
         alloc: Global,
@@ -207,12 +209,12 @@ pub trait TypeContext {
     ) -> Result<(), TypeTextError>
         requires order { IsInOrder (context self.now) }
         requires in_range { handle < length (context self.now).types }
-        ensures written { OnOk result (HasWritten (type_parts (context self.now) handle)
+        ensures written { OnOk result (HasWritten (type_segments (context self.now) handle)
             (W.text out.old) (W.text out.new)) }
-        ensures begun { HasBegun (type_parts (context self.now) handle)
+        ensures begun { HasBegun (type_segments (context self.now) handle)
             (W.text out.old) (W.text out.new) }
         ensures no_form { IsErrOf result error.NoForm →
-            IsRefused (context self.now).refuses (type_parts (context self.now) handle) }
+            IsRefused (context self.now).refuses (type_segments (context self.now) handle) }
         ensures failures_ok { OnOk result (W.failures out.new ≡ W.failures out.old) }
         ensures failed { IsErrOf result (error.Sink SinkError.Failed) →
             W.failures out.old < W.failures out.new }
@@ -223,7 +225,7 @@ pub trait TypeContext {
     }
 
     /// Writes the type of an expression.
-    #[tactic(auto, using(crate::proofs::PartWriting::outcomes))]
+    #[tactic(auto, using(crate::proofs::SegmentWriting::outcomes))]
     final fn write_type_resolution<W: TextSink>(
         &self,
         alloc: Global,
@@ -233,13 +235,13 @@ pub trait TypeContext {
         requires order { IsInOrder (context self.now) }
         requires fits { FitsResolution (context self.now) resolution.now }
         ensures written { OnOk result (HasWritten
-            (resolution_parts (context self.now) resolution.now)
+            (resolution_segments (context self.now) resolution.now)
             (W.text out.old) (W.text out.new)) }
-        ensures begun { HasBegun (resolution_parts (context self.now) resolution.now)
+        ensures begun { HasBegun (resolution_segments (context self.now) resolution.now)
             (W.text out.old) (W.text out.new) }
         ensures no_form { IsErrOf result error.NoForm →
             IsRefused (context self.now).refuses
-            (resolution_parts (context self.now) resolution.now) }
+            (resolution_segments (context self.now) resolution.now) }
         ensures failures_ok { OnOk result (W.failures out.new ≡ W.failures out.old) }
         ensures failed { IsErrOf result (error.Sink SinkError.Failed) →
             W.failures out.old < W.failures out.new }
@@ -250,7 +252,7 @@ pub trait TypeContext {
     }
 
     /// Writes what a function gives.
-    #[tactic(auto, using(crate::proofs::PartWriting::outcomes))]
+    #[tactic(auto, using(crate::proofs::SegmentWriting::outcomes))]
     final fn write_type_conclusion<W: TextSink>(
         &self,
         alloc: Global,
@@ -260,13 +262,13 @@ pub trait TypeContext {
         requires order { IsInOrder (context self.now) }
         requires fits { FitsConclusion (context self.now) conclusion.now }
         ensures written { OnOk result (HasWritten
-            (conclusion_parts (context self.now) conclusion.now)
+            (conclusion_segments (context self.now) conclusion.now)
             (W.text out.old) (W.text out.new)) }
-        ensures begun { HasBegun (conclusion_parts (context self.now) conclusion.now)
+        ensures begun { HasBegun (conclusion_segments (context self.now) conclusion.now)
             (W.text out.old) (W.text out.new) }
         ensures no_form { IsErrOf result error.NoForm →
             IsRefused (context self.now).refuses
-            (conclusion_parts (context self.now) conclusion.now) }
+            (conclusion_segments (context self.now) conclusion.now) }
         ensures failures_ok { OnOk result (W.failures out.new ≡ W.failures out.old) }
         ensures failed { IsErrOf result (error.Sink SinkError.Failed) →
             W.failures out.old < W.failures out.new }
@@ -277,7 +279,7 @@ pub trait TypeContext {
     }
 
     /// Writes a rule by its function's name: `fn dot(vec3<f32>, vec3<f32>) -> f32`.
-    #[tactic(auto, using(crate::proofs::PartWriting::outcomes))]
+    #[tactic(auto, using(crate::proofs::SegmentWriting::outcomes))]
     final fn write_type_rule<W: TextSink>(
         &self,
         alloc: Global,
@@ -288,12 +290,12 @@ pub trait TypeContext {
         requires order { IsInOrder (context self.now) }
         requires fits { AllFit (context self.now) rule.now.arguments.items }
         requires gives { FitsConclusion (context self.now) rule.now.conclusion }
-        ensures written { OnOk result (HasWritten (rule_parts (context self.now) name.now rule.now)
+        ensures written { OnOk result (HasWritten (rule_segments (context self.now) name.now rule.now)
             (W.text out.old) (W.text out.new)) }
-        ensures begun { HasBegun (rule_parts (context self.now) name.now rule.now)
+        ensures begun { HasBegun (rule_segments (context self.now) name.now rule.now)
             (W.text out.old) (W.text out.new) }
         ensures no_form { IsErrOf result error.NoForm →
-            IsRefused (context self.now).refuses (rule_parts (context self.now) name.now rule.now) }
+            IsRefused (context self.now).refuses (rule_segments (context self.now) name.now rule.now) }
         ensures failures_ok { OnOk result (W.failures out.new ≡ W.failures out.old) }
         ensures failed { IsErrOf result (error.Sink SinkError.Failed) →
             W.failures out.old < W.failures out.new }
@@ -311,10 +313,10 @@ pub trait TypeContext {
     ) -> Result<String, TypeTextError>
         requires order { IsInOrder (context self.now) }
         requires in_range { handle < length (context self.now).types }
-        ensures text { IfOk result (λ text. IsText (type_parts (context self.now) handle)
+        ensures text { IfOk result (λ text. IsText (type_segments (context self.now) handle)
             (string_bytes text)) }
         ensures no_form { IsErrOf result error.NoForm →
-            IsRefused (context self.now).refuses (type_parts (context self.now) handle) }
+            IsRefused (context self.now).refuses (type_segments (context self.now) handle) }
         ensures no_failure { IsErrOf result (error.Sink SinkError.Failed) → ⊥ }
     {
         let mut text = String::new(alloc);
@@ -331,11 +333,11 @@ pub trait TypeContext {
         requires order { IsInOrder (context self.now) }
         requires fits { FitsResolution (context self.now) resolution.now }
         ensures text { IfOk result (λ text. IsText
-            (resolution_parts (context self.now) resolution.now)
+            (resolution_segments (context self.now) resolution.now)
             (string_bytes text)) }
         ensures no_form { IsErrOf result error.NoForm →
             IsRefused (context self.now).refuses
-            (resolution_parts (context self.now) resolution.now) }
+            (resolution_segments (context self.now) resolution.now) }
         ensures no_failure { IsErrOf result (error.Sink SinkError.Failed) → ⊥ }
     {
         let mut text = String::new(alloc);
@@ -353,10 +355,10 @@ pub trait TypeContext {
         requires order { IsInOrder (context self.now) }
         requires fits { AllFit (context self.now) rule.now.arguments.items }
         requires gives { FitsConclusion (context self.now) rule.now.conclusion }
-        ensures text { IfOk result (λ text. IsText (rule_parts (context self.now) name.now rule.now)
+        ensures text { IfOk result (λ text. IsText (rule_segments (context self.now) name.now rule.now)
             (string_bytes text)) }
         ensures no_form { IsErrOf result error.NoForm →
-            IsRefused (context self.now).refuses (rule_parts (context self.now) name.now rule.now) }
+            IsRefused (context self.now).refuses (rule_segments (context self.now) name.now rule.now) }
         ensures no_failure { IsErrOf result (error.Sink SinkError.Failed) → ⊥ }
     {
         let mut text = String::new(alloc);

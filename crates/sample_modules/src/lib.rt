@@ -5,8 +5,10 @@
 mod expression_rows;
 pub mod rows;
 pub mod sample;
+mod statement_rows;
 pub mod structs;
 
 pub use rows::{Row, build_argument};
 pub use sample::Sample;
+pub use statement_rows::nest;
 pub use structs::add_struct;

@@ -4,6 +4,10 @@ use crate::expression_rows::{
     build_double, build_float, build_idle, build_modf, build_negate, build_pointer, build_sample,
     build_select,
 };
+use crate::statement_rows::{
+    build_barriers, build_call, build_continue, build_deep, build_default, build_folded,
+    build_loop, build_sibling, build_switch, build_tail, build_through, build_twice,
+};
 use naga_builder::{FunctionBuilder, ModuleBuilder};
 use naga_ir::{BinaryOperator, Expression, Handle, Literal, Scalar, Type_};
 use std::alloc::{AllocError, Global};
@@ -49,6 +53,31 @@ pub enum Row {
     Sampled,
     /// A function that adds both parts of a number.
     Modf,
+    /// A function with a switch whose cases are joined.
+    Switch,
+    /// The same, but a case with a statement falls through, which is refused.
+    Through,
+    /// A function with a switch whose default falls through.
+    Default,
+    /// A function with a barrier for all memories, and one for none.
+    Barriers,
+    /// A function that calls another with a pointer to a local.
+    Call,
+    /// A function with a sum that each of two branches gives.
+    Sibling,
+    /// The same, which a front end named.
+    Twice,
+    /// A function with many blocks, each inside the one before.
+    Deep,
+    /// A function with a loop that has a `break if` alone.
+    Loop,
+    /// A function with a loop whose `continuing` uses what its body gives.
+    Tail,
+    /// A function with a loop whose `continuing` uses a sum of literals that a `continue` skips.
+    Folded,
+    /// A function with a loop whose `continuing` uses another sum that a `continue` skips, which is
+    /// refused.
+    Continue,
 }
 
 impl Row {
@@ -74,11 +103,23 @@ impl Row {
             "idle" => Some(Row::Idle),
             "sample" => Some(Row::Sampled),
             "modf" => Some(Row::Modf),
+            "switch" => Some(Row::Switch),
+            "through" => Some(Row::Through),
+            "default" => Some(Row::Default),
+            "barriers" => Some(Row::Barriers),
+            "call" => Some(Row::Call),
+            "sibling" => Some(Row::Sibling),
+            "twice" => Some(Row::Twice),
+            "deep" => Some(Row::Deep),
+            "loop" => Some(Row::Loop),
+            "tail" => Some(Row::Tail),
+            "folded" => Some(Row::Folded),
+            "continue" => Some(Row::Continue),
             _ => None,
         }
     }
 
-    /// Adds the row's function to an empty module, with what is known of it.
+    /// Adds the row's functions to an empty module, with what is known of them.
     pub fn build(self, alloc: Global, shader: &mut ModuleBuilder) -> Result<(), AllocError> {
         match self {
             Row::Empty => Ok(()),
@@ -100,6 +141,18 @@ impl Row {
             Row::Idle => build_idle(alloc, shader),
             Row::Sampled => build_sample(alloc, shader),
             Row::Modf => build_modf(alloc, shader),
+            Row::Switch => build_switch(alloc, shader),
+            Row::Through => build_through(alloc, shader),
+            Row::Default => build_default(alloc, shader),
+            Row::Barriers => build_barriers(alloc, shader),
+            Row::Call => build_call(alloc, shader),
+            Row::Sibling => build_sibling(alloc, shader),
+            Row::Twice => build_twice(alloc, shader),
+            Row::Deep => build_deep(alloc, shader),
+            Row::Loop => build_loop(alloc, shader),
+            Row::Tail => build_tail(alloc, shader),
+            Row::Folded => build_folded(alloc, shader),
+            Row::Continue => build_continue(alloc, shader),
         }
     }
 }

@@ -33,7 +33,10 @@ pub data Alike {S T : Type 0} (R : Option Value → Type 0) (P Q B : S → T →
 abbrev pub Steps : {S T : Type 0} → (Option Value → Type 0) → (I P Q B : S → T → Type 0) → Next S → Next T → Type 0
 Steps {S} {T} R I P Q B f g = (s : S) (t : T) (e : List Event) → I s t → Alike R P Q B (f s e) (g t e)
 
-pub weaker : {S T : Type 0} {R : Option Value → Type 0} {P Q B P' Q' B' : S → T → Type 0} {o : Outcome S} {o' : Outcome T} → ((s : S) (t : T) → P s t → P' s t) → ((s : S) (t : T) → Q s t → Q' s t) → ((s : S) (t : T) → B s t → B' s t) → Alike R P Q B o o' → Alike R P' Q' B' o o'
+pub weaker : {S T : Type 0} {R : Option Value → Type 0} {P Q B P' Q' B' : S → T →
+    Type 0} {o : Outcome S} {o' : Outcome T} → ((s : S) (t : T) → P s t → P' s t) →
+    ((s : S) (t : T) → Q s t → Q' s t) → ((s : S) (t : T) → B s t → B' s t) → Alike R P Q B o o' →
+    Alike R P' Q' B' o o'
 weaker p q b (done {s = s} {t = t} h) = done (p s t h)
 weaker p q b (continued {s = s} {t = t} h) = continued (q s t h)
 weaker p q b (broke {s = s} {t = t} h) = broke (b s t h)
@@ -41,7 +44,9 @@ weaker p q b (returned_alike r) = returned_alike r
 weaker p q b stopped = stopped
 weaker p q b mistyped = mistyped
 
-pub then_alike : {S T : Type 0} {R : Option Value → Type 0} {P Q B P' : S → T → Type 0} {f : Next S} {g : Next T} {o : Outcome S} {o' : Outcome T} → Steps R P P' Q B f g → Alike R P Q B o o' → Alike R P' Q B (and_then o f) (and_then o' g)
+pub then_alike : {S T : Type 0} {R : Option Value → Type 0} {P Q B P' : S → T → Type 0} {f : Next S}
+    {g : Next T} {o : Outcome S} {o' : Outcome T} → Steps R P P' Q B f g → Alike R P Q B o o' →
+    Alike R P' Q B (and_then o f) (and_then o' g)
 then_alike next (done {s = s} {t = t} {e = e} h) = next s t e h
 then_alike next (continued h) = continued h
 then_alike next (broke h) = broke h
@@ -49,7 +54,9 @@ then_alike next (returned_alike r) = returned_alike r
 then_alike next stopped = stopped
 then_alike next mistyped = mistyped
 
-pub continue_alike : {S T : Type 0} {R : Option Value → Type 0} {P B P' Q' : S → T → Type 0} {f : Next S} {g : Next T} {o : Outcome S} {o' : Outcome T} → Steps R P P' Q' B f g → Alike R P P B o o' → Alike R P' Q' B (and_continue o f) (and_continue o' g)
+pub continue_alike : {S T : Type 0} {R : Option Value → Type 0} {P B P' Q' : S → T →
+    Type 0} {f : Next S} {g : Next T} {o : Outcome S} {o' : Outcome T} → Steps R P P' Q' B f g →
+    Alike R P P B o o' → Alike R P' Q' B (and_continue o f) (and_continue o' g)
 continue_alike next (done {s = s} {t = t} {e = e} h) = next s t e h
 continue_alike next (continued {s = s} {t = t} {e = e} h) = next s t e h
 continue_alike next (broke h) = broke h
@@ -66,7 +73,9 @@ within_alike stopped = stopped
 within_alike mistyped = mistyped
 
 -- a turn keeps the relation, whether the loop goes on or is left
-again_alike : {S T : Type 0} {R : Option Value → Type 0} {I P Q B : S → T → Type 0} {f : Next S} {g : Next T} {o : Outcome S} {o' : Outcome T} → Steps R I I Q B f g → Alike R I P I o o' → Alike R I Q B (and_again o f) (and_again o' g)
+again_alike : {S T : Type 0} {R : Option Value → Type 0} {I P Q B : S → T → Type 0} {f : Next S}
+    {g : Next T} {o : Outcome S} {o' : Outcome T} → Steps R I I Q B f g → Alike R I P I o o' →
+    Alike R I Q B (and_again o f) (and_again o' g)
 again_alike next (done {s = s} {t = t} {e = e} h) = next s t e h
 again_alike next (continued h) = stopped
 again_alike next (broke h) = done h
@@ -79,7 +88,10 @@ turns_alike once zero s t e i = stopped
 turns_alike once (suc n) s t e i = again_alike (turns_alike once n) (once s t e i)
 
 -- the second run's state is put back
-pub closed_alike : {S T : Type 0} {R : Option Value → Type 0} {P Q B P' Q' B' : S → T → Type 0} {o : Outcome S} {o' : Outcome T} → (t : T) → ((s : S) (t1 : T) → P s t1 → P' s t) → ((s : S) (t1 : T) → Q s t1 → Q' s t) → ((s : S) (t1 : T) → B s t1 → B' s t) → Alike R P Q B o o' → Alike R P' Q' B' o (closed_outcome t o')
+pub closed_alike : {S T : Type 0} {R : Option Value → Type 0} {P Q B P' Q' B' : S → T →
+    Type 0} {o : Outcome S} {o' : Outcome T} → (t : T) → ((s : S) (t1 : T) → P s t1 → P' s t) →
+    ((s : S) (t1 : T) → Q s t1 → Q' s t) → ((s : S) (t1 : T) → B s t1 → B' s t) →
+    Alike R P Q B o o' → Alike R P' Q' B' o (closed_outcome t o')
 closed_alike t p q b (done {s = s} {t = t1} h) = done (p s t1 h)
 closed_alike t p q b (continued {s = s} {t = t1} h) = continued (q s t1 h)
 closed_alike t p q b (broke {s = s} {t = t1} h) = broke (b s t1 h)
@@ -88,11 +100,16 @@ closed_alike t p q b stopped = stopped
 closed_alike t p q b mistyped = mistyped
 
 -- both go on alike with what is there
-pub there_alike : {A S T : Type 0} {R : Option Value → Type 0} {P Q B : S → T → Type 0} (o : Option A) (e : List Event) (f : A → Outcome S) (g : A → Outcome T) → ((a : A) → Alike R P Q B (f a) (g a)) → Alike R P Q B (or_stuck o e f) (or_stuck o e g)
+pub there_alike : {A S T : Type 0} {R : Option Value → Type 0} {P Q B : S → T → Type 0}
+    (o : Option A) (e : List Event) (f : A → Outcome S) (g : A → Outcome T) →
+    ((a : A) → Alike R P Q B (f a) (g a)) → Alike R P Q B (or_stuck o e f) (or_stuck o e g)
 there_alike None e f g h = stopped
 there_alike (Some a) e f g h = h a
 
-pub chosen_alike : {S T : Type 0} {R : Option Value → Type 0} {P Q B : S → T → Type 0} {a b : Outcome S} {a' b' : Outcome T} → (v : Value) (e : List Event) → Alike R P Q B a a' → Alike R P Q B b b' → Alike R P Q B (branch_by v e a b) (branch_by v e a' b')
+pub chosen_alike : {S T : Type 0} {R : Option Value → Type 0} {P Q B : S → T →
+    Type 0} {a b : Outcome S} {a' b' : Outcome T} → (v : Value) (e : List Event) →
+    Alike R P Q B a a' → Alike R P Q B b b' →
+    Alike R P Q B (branch_by v e a b) (branch_by v e a' b')
 chosen_alike {R = R} {P = P} {Q = Q} {B = B} {a = a} {b = b} {a' = a'} {b' = b'} v e h k = there_alike (truth_in v) e _ _ go
   where
     go : (y : Bool) → Alike R P Q B (cond y a b) (cond y a' b')
@@ -117,7 +134,9 @@ alike_answers n stopped = same_answer tt
 alike_answers n mistyped = mistyped_answer
 
 -- nothing is owed where an answer has a wrong type
-pub typed_alike : {S T : Type 0} {R : Option Value → Type 0} {P Q B : S → T → Type 0} {o' : Outcome T} (b : Bool) (t : List Event) (o : Outcome S) (f : Next S) → (b ≡ true → Alike R P Q B (and_then o f) o') → Alike R P Q B (and_then (if_typed b t o) f) o'
+pub typed_alike : {S T : Type 0} {R : Option Value → Type 0} {P Q B : S → T →
+    Type 0} {o' : Outcome T} (b : Bool) (t : List Event) (o : Outcome S) (f : Next S) →
+    (b ≡ true → Alike R P Q B (and_then o f) o') → Alike R P Q B (and_then (if_typed b t o) f) o'
 typed_alike true t o f h = h refl
 typed_alike false t o f h = mistyped
 
@@ -125,20 +144,33 @@ typed_alike false t o f h = mistyped
 abbrev pub placed : Option Value → List Event → ReachedOrHalted Denotation
 placed o t = reach (option_map IsPlace (option_and_then place_in o)) t
 
-used_alike_at : {S T : Type 0} {R : Option Value → Type 0} {P Q B : S → T → Type 0} (f : Value → Outcome S) (g : Value → List Event → Outcome T) (o : Option Value) (t : List Event) → ((v : Value) → Alike R P Q B (f v) (g v t)) → Alike R P Q B (or_stuck o t f) (with_value (reach o t) g)
+used_alike_at : {S T : Type 0} {R : Option Value → Type 0} {P Q B : S → T → Type 0} (f : Value →
+    Outcome S) (g : Value → List Event → Outcome T) (o : Option Value) (t : List Event) →
+    ((v : Value) → Alike R P Q B (f v) (g v t)) →
+    Alike R P Q B (or_stuck o t f) (with_value (reach o t) g)
 used_alike_at f g None t h = stopped
 used_alike_at f g (Some v) t h = h v
 
 -- the same value on both sides
-pub used_alike : {S T : Type 0} {R : Option Value → Type 0} {P Q B : S → T → Type 0} (f : Value → Outcome S) (g : Value → List Event → Outcome T) (o : Option Value) (t : List Event) (r : ReachedOrHalted Value) → r ≡ reach o t → ((v : Value) → Alike R P Q B (f v) (g v t)) → Alike R P Q B (or_stuck o t f) (with_value r g)
+pub used_alike : {S T : Type 0} {R : Option Value → Type 0} {P Q B : S → T → Type 0} (f : Value →
+    Outcome S) (g : Value → List Event → Outcome T) (o : Option Value) (t : List Event)
+    (r : ReachedOrHalted Value) → r ≡ reach o t → ((v : Value) → Alike R P Q B (f v) (g v t)) →
+    Alike R P Q B (or_stuck o t f) (with_value r g)
 used_alike {R = R} {P = P} {Q = Q} {B = B} f g o t r e h =
     subst (λ r. Alike R P Q B (or_stuck o t f) (with_value r g)) (sym e) (used_alike_at f g o t h)
 
-pointer_alike_at : {S T : Type 0} {R : Option Value → Type 0} {P Q B : S → T → Type 0} (f : Place → Outcome S) (g : Place → List Event → Outcome T) (o : Option Place) (t : List Event) → ((p : Place) → Alike R P Q B (f p) (g p t)) → Alike R P Q B (or_stuck o t f) (with_place (reach (option_map IsPlace o) t) g)
+pointer_alike_at : {S T : Type 0} {R : Option Value → Type 0} {P Q B : S → T → Type 0} (f : Place →
+    Outcome S) (g : Place → List Event → Outcome T) (o : Option Place) (t : List Event) →
+    ((p : Place) → Alike R P Q B (f p) (g p t)) →
+    Alike R P Q B (or_stuck o t f) (with_place (reach (option_map IsPlace o) t) g)
 pointer_alike_at f g None t h = stopped
 pointer_alike_at f g (Some p) t h = h p
 
 -- the same place on both sides
-pub pointer_alike : {S T : Type 0} {R : Option Value → Type 0} {P Q B : S → T → Type 0} (f : Place → Outcome S) (g : Place → List Event → Outcome T) (o : Option Value) (t : List Event) (r : ReachedOrHalted Denotation) → r ≡ placed o t → ((p : Place) → Alike R P Q B (f p) (g p t)) → Alike R P Q B (with_pointer o t f) (with_place r g)
+pub pointer_alike : {S T : Type 0} {R : Option Value → Type 0} {P Q B : S → T → Type 0} (f : Place →
+    Outcome S) (g : Place → List Event → Outcome T) (o : Option Value) (t : List Event)
+    (r : ReachedOrHalted Denotation) → r ≡ placed o t →
+    ((p : Place) → Alike R P Q B (f p) (g p t)) →
+    Alike R P Q B (with_pointer o t f) (with_place r g)
 pointer_alike {R = R} {P = P} {Q = Q} {B = B} f g o t r e h =
     subst (λ r. Alike R P Q B (with_pointer o t f) (with_place r g)) (sym e) (pointer_alike_at f g (option_and_then place_in o) t h)

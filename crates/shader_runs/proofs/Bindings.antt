@@ -5,10 +5,10 @@ use Rattle.std.proofs.lemmas.List.{map-append}
 use Rattle.shader_runs.specs.Value.{Bytes}
 use Rattle.shader_runs.specs.Program.{Statement, Emit, Block, If, Switch, Loop, Barrier, Act}
 use Rattle.shader_runs.specs.Program.{Statements, end, then, Cases, no_case, case, Label}
-use Rattle.shader_runs.specs.Program.{expression_of, handle_type, binds, from}
+use Rattle.shader_runs.specs.Program.{expression_of, binds, from}
 use Rattle.shader_runs.specs.ProgramRun.{barrier_words}
-use Rattle.shader_runs.specs.Scope.{Handles, Naming, bound_name, at_start, given_after, given_by}
-use Rattle.shader_runs.specs.Scope.{given_by_all, after_one, after, after_all}
+use Rattle.shader_runs.specs.Scope.{Handles, Naming, bound_name, at_start, named_after, named_by}
+use Rattle.shader_runs.specs.Scope.{named_by_all, after_one, after, after_all}
 use Rattle.shader_runs.specs.Text.{Tree, Trees, Lines, before}
 use Rattle.shader_runs.specs.Form.{value_form, value_forms, own_form, written_form, let_if, lets}
 use Rattle.shader_runs.specs.Form.{word_of, act_line, perform_each, form, form_all, form_cases}
@@ -33,18 +33,20 @@ performs_bind (w ∷ ws) tail = performs_bind ws tail
 module _ (f : Naming) where
   lets_bind : (k : ℕ) (hs : List ℕ) (s : Handles) (tail : Lines) → lines_lets (lets f k hs s tail) ≡ names_of (emit_bindings f k hs) ++ lines_lets tail
   lets_bind k [] s tail = refl
-  lets_bind k (h ∷ hs) s tail = by (binds f.function h) (lets_bind (given_after f.function h k) hs (after_one f k h s) tail)
+  lets_bind k (h ∷ hs) s tail = by (binds f.function h) (lets_bind (named_after f.function h k) hs (after_one f k h s) tail)
     where
       e : Tree
-      e = value_form (own_form f (written_form f s) (handle_type f.function h) (expression_of f.function h))
+      e = value_form (own_form f (written_form f s) (expression_of f.function h))
 
       rest : List Binding
-      rest = emit_bindings f (given_after f.function h k) hs
+      rest = emit_bindings f (named_after f.function h k) hs
 
       behind : Lines
-      behind = lets f (given_after f.function h k) hs (after_one f k h s) tail
+      behind = lets f (named_after f.function h k) hs (after_one f k h s) tail
 
-      by : (b : Bool) → lines_lets behind ≡ names_of rest ++ lines_lets tail → lines_lets (let_if b (bound_name f k h) e behind) ≡ names_of (cond b (record { handle = h; name = bound_name f k h } ∷ rest) rest) ++ lines_lets tail
+      by : (b : Bool) → lines_lets behind ≡ names_of rest ++ lines_lets tail →
+          lines_lets (let_if b (bound_name f k h) e behind) ≡ names_of
+          (cond b (record { handle = h; name = bound_name f k h } ∷ rest) rest) ++ lines_lets tail
       by true more = ap (λ xs. bound_name f k h ∷ xs) more
       by false more = more
 
@@ -57,11 +59,11 @@ module _ (f : Naming) where
     line_binds k (Emit first count) s tail = lets_bind k (from first count) s tail
     line_binds k (Block b) s tail = ap (λ xs. xs ++ lines_lets tail) (lines_bind k b s)
     line_binds k (If c a b) s tail =
-        let k1 = given_by_all f.function a k in
+        let k1 = named_by_all f.function a k in
         ap (λ xs. xs ++ lines_lets tail) (names_both (statements_bindings f k a) (statements_bindings f k1 b) (lines_bind k a s) (lines_bind k1 b s))
     line_binds k (Switch h cs) s tail = ap (λ xs. xs ++ lines_lets tail) (groups_bind k [] cs s)
     line_binds k (Loop b d e) s tail =
-        let k1 = given_by_all f.function b k in
+        let k1 = named_by_all f.function b k in
         ap (λ xs. xs ++ lines_lets tail) (names_both (statements_bindings f k b) (statements_bindings f k1 d) (lines_bind k b s) (lines_bind k1 d (after_all f k b s)))
     line_binds k (Barrier bits) s tail = performs_bind (barrier_words bits) tail
     line_binds k (Act a xs r) s tail = act_binds r (word_of f.names a) (value_forms (written_form f s) xs) tail
@@ -70,15 +72,15 @@ module _ (f : Naming) where
     lines_bind : (k : ℕ) (ss : Statements) (s : Handles) → lines_lets (form_all f k ss s) ≡ names_of (statements_bindings f k ss)
     lines_bind k end s = refl
     lines_bind k (then st ss) s =
-        let k1 = given_by f.function st k in
+        let k1 = named_by f.function st k in
         line_binds k st s (form_all f k1 ss (after f k st s))
         ∙ names_both (statement_bindings f k st) (statements_bindings f k1 ss) refl (lines_bind k1 ss (after f k st s))
 
     groups_bind : (k : ℕ) (labels : List Label) (cs : Cases) (s : Handles) → groups_lets (form_cases f k labels cs s) ≡ names_of (cases_bindings f k cs)
     groups_bind k labels no_case s = refl
-    groups_bind k labels (case label b true cs) s = groups_bind (given_by_all f.function b k) (labels ++ label ∷ []) cs s
+    groups_bind k labels (case label b true cs) s = groups_bind (named_by_all f.function b k) (labels ++ label ∷ []) cs s
     groups_bind k labels (case label b false cs) s =
-        let k1 = given_by_all f.function b k in
+        let k1 = named_by_all f.function b k in
         names_both (statements_bindings f k b) (cases_bindings f k1 cs) (lines_bind k b s) (groups_bind k1 [] cs s)
 
 pub binds_as_meant : BindsAsMeant

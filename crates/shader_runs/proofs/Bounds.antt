@@ -1,83 +1,135 @@
--- With more turns a process ends as with fewer, or the one with fewer ran out of turns before.
-use Rattle.std.proofs.Common.{◌≡◌, ℕ, zero, suc, ◌+◌, ◌≤◌, ◌⊎◌, inl, inr, Bool, true, false, List}
-use Rattle.std.proofs.Common.{◌∷◌, length, refl, sym, subst, arith}
-use Rattle.shader_runs.specs.Value.{has_type}
+-- With more turns a course asks for what it asks with fewer, and what it asks beyond stands behind
+-- all events that it makes with fewer.
+use Rattle.std.proofs.Common.{◌≡◌, ℕ, zero, suc, ◌<◌, ◌≤◌, ◌⊎◌, inl, inr, List, ◌∷◌, length}
+use Rattle.std.proofs.Common.{refl, sym, ap, ◌∙◌, subst, arith}
+use Rattle.shader_runs.specs.Value.{PartTypes, ValueType, Value}
 use Rattle.shader_runs.specs.World.{Event, entries}
-use Rattle.shader_runs.specs.Outcome.{OutOfTurns, ReachedOrHalted, Gives, Halts}
+use Rattle.shader_runs.specs.Outcome.{Stop, OutOfTurns, ReachedOrHalted, Gives, Halts}
 use Rattle.shader_runs.specs.ProgramRun.{KeptValues}
 use Rattle.shader_runs.proofs.Process.{Pause, DoneWith, ContinuedWith, BrokeWith, ReturnedWith}
 use Rattle.shader_runs.proofs.Process.{Process, gives, stuck, unreturned, discards, tells, wants}
-use Rattle.shader_runs.proofs.Process.{looks, sequence, repeats, answered, resumed, again, rounds}
-use Rattle.shader_runs.proofs.Process.{perform}
-use Rattle.shader_runs.proofs.Worlds.{Types, world_of, mistakes, events_made, Makes, rounds_make}
-use Rattle.shader_runs.proofs.Worlds.{process_makes}
+use Rattle.shader_runs.proofs.Process.{looks, sequence, repeats, resumed}
+use Rattle.shader_runs.proofs.Courses.{IsNoMistake, Course, comes_to, stops, makes, asks, counts, joins, lap_on}
+use Rattle.shader_runs.proofs.Courses.{laps, course, filled, events_made, AsksAt, now}
+use Rattle.shader_runs.proofs.Courses.{answered_then, made_then, counted_then, inside, behind}
+use Rattle.shader_runs.proofs.Courses.{filled_grows, joined_from, asks_later, asks_before}
+use Rattle.shader_runs.proofs.Typing.{default_value}
 
--- a run makes events behind those that it began with, and a mistake behind at least one
-abbrev Grows : List Event → ReachedOrHalted Pause → Type 0
-Grows t q = length t + mistakes q ≤ events_made q
+-- the first is the second, but out of turns at some places
+pub data Cut : Course → Course → Type 0 where
+  cut_off : {c : Course} → Cut (stops OutOfTurns tt) c
+  cut_pause : {x : Pause} → Cut (comes_to x) (comes_to x)
+  cut_stop : {x : Stop} {sound : IsNoMistake x} → Cut (stops x sound) (stops x sound)
+  cut_event : {e : Event} {c c' : Course} → Cut c c' → Cut (makes e c) (makes e c')
+  cut_ask : {parts : PartTypes} {k : ValueType} {r : Event} {next next' : Value → Course} →
+      ((v : Value) → Cut (next v) (next' v)) → Cut (asks parts k r next) (asks parts k r next')
+  cut_count : {next next' : ℕ → Course} → ((i : ℕ) → Cut (next i) (next' i)) →
+      Cut (counts next) (counts next')
+  cut_join : {c c' : Course} {next next' : Pause → Course} → Cut c c' →
+      ((x : Pause) → Cut (next x) (next' x)) → Cut (joins c next) (joins c' next')
 
-pub data Cut : ReachedOrHalted Pause → ReachedOrHalted Pause → Type 0 where
-  same_end : {q : ReachedOrHalted Pause} → Cut q q
-  cut_off : {e : List Event} {q : ReachedOrHalted Pause} → length e + mistakes q ≤ events_made q → Cut (Halts OutOfTurns e) q
-
-pub cut_cases : (q q' : ReachedOrHalted Pause) → Cut q q' → (q ≡ q') ⊎ ((e : List Event) × (q ≡ Halts OutOfTurns e) × (length e + mistakes q' ≤ events_made q'))
-cut_cases q q' same_end = inl refl
-cut_cases q q' (cut_off {e = e} l) = inr (e, refl, l)
-
-pub cut_fine : (q q' : ReachedOrHalted Pause) → Cut q q' → mistakes q' ≡ 0 → mistakes q ≡ 0
-cut_fine q q' same_end h = h
-cut_fine q q' (cut_off l) h = refl
-
-made_grows : (t : List Event) (R : Types → ReachedOrHalted Pause) → Makes t R → (a : Types) → Grows t (R a)
-made_grows t R make a =
-    let k = make a in
-    subst (λ q. Grows t q) (sym (k.completes.local_now a (λ i lt. refl))) k.completes.grown
-
-resumed_cut : (q q' : ReachedOrHalted Pause) (H H' : Pause → List Event → ReachedOrHalted Pause) → ((x : Pause) (e : List Event) → Cut (H x e) (H' x e)) → ((x : Pause) (e : List Event) → Grows e (H' x e)) → Cut q q' → Cut (resumed q H) (resumed q' H')
-resumed_cut q q' H H' next grows (same_end {q = u}) = go u
+laps_cut : (each each' : KeptValues → Course) → ((s : KeptValues) → Cut (each s) (each' s)) →
+    (j n : ℕ) → j ≤ n → (s : KeptValues) → Cut (laps j each s) (laps n each' s)
+laps_cut each each' cut zero n le s = cut_off
+laps_cut each each' cut (suc j) zero le s = absurd (omega (arith, le))
+laps_cut each each' cut (suc j) (suc n) le s = cut_join (cut s) (go (laps_cut each each' cut j n (omega (arith, le))))
   where
-    go : (u : ReachedOrHalted Pause) → Cut (resumed u H) (resumed u H')
+    go : ((s : KeptValues) → Cut (laps j each s) (laps n each' s)) → (x : Pause) → Cut (lap_on (laps j each) x) (lap_on (laps n each') x)
+    go rest (DoneWith s) = rest s
+    go rest (ContinuedWith s) = cut_stop
+    go rest (BrokeWith s) = cut_pause
+    go rest (ReturnedWith v) = cut_pause
+
+pub course_cut : (j n : ℕ) → j ≤ n → (p : Process) → Cut (course j p) (course n p)
+course_cut j n le (gives x) = cut_pause
+course_cut j n le stuck = cut_stop
+course_cut j n le unreturned = cut_stop
+course_cut j n le discards = cut_event cut_stop
+course_cut j n le (tells e p) = cut_event (course_cut j n le p)
+course_cut j n le (wants parts k r next) = cut_ask (λ v. course_cut j n le (next v))
+course_cut j n le (looks next) = cut_count (λ i. course_cut j n le (next i))
+course_cut j n le (sequence p next) = cut_join (course_cut j n le p) (λ x. course_cut j n le (next x))
+course_cut j n le (repeats once s) =
+    laps_cut (λ s. course j (once s)) (λ s. course n (once s)) (λ s. course_cut j n le (once s)) j n le s
+
+-- the ends of two such courses
+abbrev EndsCut : ReachedOrHalted Pause → ReachedOrHalted Pause → Type 0
+EndsCut q q' = (q ≡ q') ⊎ ((e : List Event) × (q ≡ Halts OutOfTurns e) × (length e ≤ events_made q'))
+
+joined_cut : (q q' : ReachedOrHalted Pause) (f f' : Pause → List Event → ReachedOrHalted Pause) →
+    EndsCut q q' → ((x : Pause) (e : List Event) → EndsCut (f x e) (f' x e)) →
+    ((x : Pause) (e : List Event) → length e ≤ events_made (f' x e)) →
+    EndsCut (resumed q f) (resumed q' f')
+joined_cut q q' f f' (inl h) next grows = subst (λ u. EndsCut (resumed q f) (resumed u f')) h (go q)
+  where
+    go : (u : ReachedOrHalted Pause) → EndsCut (resumed u f) (resumed u f')
     go (Gives x e) = next x e
-    go (Halts x e) = same_end
-resumed_cut q q' H H' next grows (cut_off {e = e} {q = u} l) = go u l
+    go (Halts x e) = inl refl
+joined_cut q q' f f' (inr (e, h, le)) next grows =
+    subst (λ u. EndsCut (resumed u f) (resumed q' f')) (sym h) (inr (e, refl, go q' le))
   where
-    go : (u : ReachedOrHalted Pause) → length e + mistakes u ≤ events_made u → Cut (Halts OutOfTurns e) (resumed u H')
-    go (Gives x e1) l = cut_off (omega (arith, l, grows x e1))
-    go (Halts x e1) l = cut_off l
+    go : (u : ReachedOrHalted Pause) → length e ≤ events_made u → length e ≤ events_made (resumed u f')
+    go (Gives x e1) le = omega (arith, le, grows x e1)
+    go (Halts x e1) le = le
 
-answered_cut : (b : Bool) (t : List Event) (q q' : ReachedOrHalted Pause) → Cut q q' → Cut (answered b t q) (answered b t q')
-answered_cut true t q q' k = k
-answered_cut false t q q' k = same_end
+ends_cut : {c c' : Course} → Cut c c' → (t : List Event) → EndsCut (filled c t) (filled c' t)
+ends_cut (cut_off {c = c}) t = inr (t, refl, filled_grows c t)
+ends_cut cut_pause t = inl refl
+ends_cut cut_stop t = inl refl
+ends_cut (cut_event {e = e} cut) t = ends_cut cut (e ∷ t)
+ends_cut (cut_ask {k = k} {r = r} cut) t = ends_cut (cut (default_value k)) (r ∷ t)
+ends_cut (cut_count cut) t = ends_cut (cut (entries t)) t
+ends_cut (cut_join {c = c} {c' = c'} {next = next} {next' = next'} cut cuts) t =
+    joined_cut (filled c t) (filled c' t) (λ x e. filled (next x) e) (λ x e. filled (next' x) e)
+    (ends_cut cut t) (λ x e. ends_cut (cuts x) e) (λ x e. filled_grows (next' x) e)
 
-rounds_cut : (once once' : KeptValues → List Event → ReachedOrHalted Pause) → ((s : KeptValues) (e : List Event) → Cut (once s e) (once' s e)) → ((n : ℕ) (s : KeptValues) (e : List Event) → Grows e (rounds n once' s e)) → (j n : ℕ) → j ≤ n → (s : KeptValues) (t : List Event) → Cut (rounds j once s t) (rounds n once' s t)
-rounds_cut once once' each grows zero n le s t = cut_off (grows n s t)
-rounds_cut once once' each grows (suc j) zero le s t = absurd (omega (arith, le))
-rounds_cut once once' each grows (suc j) (suc n) le s t =
-    resumed_cut (once s t) (once' s t) (again (rounds j once)) (again (rounds n once')) (go (rounds_cut once once' each grows j n (omega (arith, le)))) grown (each s t)
+-- a pause is no end for want of turns
+abbrev IsPause : ReachedOrHalted Pause → Type 0
+IsPause (Gives x e) = Unit {0}
+IsPause (Halts x e) = ⊥
+
+pause_stays : {c c' : Course} → Cut c c' → (t : List Event) {x : Pause} {e : List Event} → filled c t ≡ Gives x e → filled c' t ≡ Gives x e
+pause_stays {c} {c'} cut t {x} {e} h = go (ends_cut cut t)
   where
-    go : ((s : KeptValues) (e : List Event) → Cut (rounds j once s e) (rounds n once' s e)) → (x : Pause) (e : List Event) → Cut (again (rounds j once) x e) (again (rounds n once') x e)
-    go rest (DoneWith s) e = rest s e
-    go rest (ContinuedWith s) e = same_end
-    go rest (BrokeWith s) e = same_end
-    go rest (ReturnedWith v) e = same_end
+    go : EndsCut (filled c t) (filled c' t) → filled c' t ≡ Gives x e
+    go (inl same) = sym same ∙ h
+    go (inr (u, k, le)) = absurd (subst IsPause (sym h ∙ k) tt)
 
-    grown : (x : Pause) (e : List Event) → Grows e (again (rounds n once') x e)
-    grown (DoneWith s) e = grows n s e
-    grown (ContinuedWith s) e = omega arith
-    grown (BrokeWith s) e = omega arith
-    grown (ReturnedWith v) e = omega arith
+-- what is asked with fewer turns
+pub asks_with_more : {c c' : Course} {t u : List Event} {k : ValueType} → Cut c c' → AsksAt c t u k → AsksAt c' t u k
+asks_with_more cut_off a = elim a [ ]
+asks_with_more cut_pause a = a
+asks_with_more cut_stop a = a
+asks_with_more (cut_event cut) (made_then a) = made_then (asks_with_more cut a)
+asks_with_more (cut_ask cut) now = now
+asks_with_more (cut_ask cut) (answered_then {y = y} a) = answered_then (asks_with_more (cut (default_value y)) a)
+asks_with_more {t = t} (cut_count cut) (counted_then a) = counted_then (asks_with_more (cut (entries t)) a)
+asks_with_more (cut_join cut cuts) (inside a) = inside (asks_with_more cut a)
+asks_with_more {t = t} (cut_join cut cuts) (behind {x = x} h a) = behind (pause_stays cut t h) (asks_with_more (cuts x) a)
 
-pub process_cut : (a : Types) (j n : ℕ) → j ≤ n → (p : Process) (t : List Event) → Cut (perform (world_of a) j p t) (perform (world_of a) n p t)
-process_cut a j n le (gives x) t = same_end
-process_cut a j n le stuck t = same_end
-process_cut a j n le unreturned t = same_end
-process_cut a j n le discards t = same_end
-process_cut a j n le (tells e p) t = process_cut a j n le p (e ∷ t)
-process_cut a j n le (wants parts k r next) t =
-    let v = world_of a t r in
-    answered_cut (has_type parts k v) (r ∷ t) (perform (world_of a) j (next v) (r ∷ t)) (perform (world_of a) n (next v) (r ∷ t)) (process_cut a j n le (next v) (r ∷ t))
-process_cut a j n le (looks next) t = process_cut a j n le (next (entries t)) t
-process_cut a j n le (sequence p next) t =
-    resumed_cut (perform (world_of a) j p t) (perform (world_of a) n p t) (λ x e. perform (world_of a) j (next x) e) (λ x e. perform (world_of a) n (next x) e) (λ x e. process_cut a j n le (next x) e) (λ x e. made_grows e (λ b. perform (world_of b) n (next x) e) (process_makes n (next x) e) a) (process_cut a j n le p t)
-process_cut a j n le (repeats once s) t =
-    rounds_cut (λ s e. perform (world_of a) j (once s) e) (λ s e. perform (world_of a) n (once s) e) (λ s e. process_cut a j n le (once s) e) (λ i s e. made_grows e (λ b. rounds i (λ s e. perform (world_of b) n (once s) e) s e) (rounds_make (λ b s e. perform (world_of b) n (once s) e) (λ s e. process_makes n (once s) e) i s e) a) j n le s t
+-- what is asked before the run with fewer turns ends
+pub asks_with_fewer : {c c' : Course} {t u : List Event} {k : ValueType} → Cut c c' → AsksAt c' t u k → length u < events_made (filled c t) → AsksAt c t u k
+asks_with_fewer cut_off a lt = absurd (omega (arith, asks_later a, lt))
+asks_with_fewer cut_pause a lt = a
+asks_with_fewer cut_stop a lt = a
+asks_with_fewer (cut_event cut) (made_then a) lt = made_then (asks_with_fewer cut a lt)
+asks_with_fewer (cut_ask cut) now lt = now
+asks_with_fewer (cut_ask cut) (answered_then {y = y} a) lt = answered_then (asks_with_fewer (cut (default_value y)) a lt)
+asks_with_fewer {t = t} (cut_count cut) (counted_then a) lt = counted_then (asks_with_fewer (cut (entries t)) a lt)
+asks_with_fewer {t = t} {u = u} {k = k} (cut_join {c = c} {c' = c'} {next = next} cut cuts) (inside a) lt =
+    inside (asks_with_fewer cut a (go (ends_cut cut t)))
+  where
+    go : EndsCut (filled c t) (filled c' t) → length u < events_made (filled c t)
+    go (inl same) = omega (arith, asks_before a, ap (λ q. events_made q) same)
+    go (inr (e, stop, le)) =
+        omega (arith, lt, ap (λ q. events_made (resumed q (λ x e. filled (next x) e))) stop, ap (λ q. events_made q) stop)
+asks_with_fewer {t = t} {u = u} {k = k} (cut_join {c = c} {c' = c'} {next = next} cut cuts) (behind {e = e} {x = x} h a) lt =
+    go (ends_cut cut t) (asks_with_fewer (cuts x) a)
+  where
+    go : EndsCut (filled c t) (filled c' t) →
+        (length u < events_made (filled (next x) e) → AsksAt (next x) e u k) →
+        AsksAt (joins c next) t u k
+    go (inl same) rest =
+        behind (same ∙ h) (rest (omega (arith, lt, ap (λ q. events_made q) (joined_from c next t (same ∙ h)))))
+    go (inr (e1, stop, le)) rest =
+        absurd (omega (arith, lt, asks_later a, le, ap (λ q. events_made q) h, ap (λ q. events_made (resumed q (λ x e. filled (next x) e))) stop))

@@ -27,15 +27,15 @@ use Rattle.shader_runs.specs.TextRun.{value_of, with_parameters, with_variables,
 use Rattle.shader_runs.specs.TextRun.{no_names, respond_by_use, word_use, put_first, first_followed}
 use Rattle.shader_runs.specs.TextRun.{first_then, first_of_each, entered_by, follow_all}
 use Rattle.shader_runs.specs.TextRun.{follow_body, follow_call}
-use Rattle.shader_runs.specs.Scope.{ModuleNames, Naming, usable, usable_if, given_after}
-use Rattle.shader_runs.specs.Scope.{given_after_all, given_by, given_by_all, given_by_cases}
+use Rattle.shader_runs.specs.Scope.{ModuleNames, Naming, usable, usable_if, named_after}
+use Rattle.shader_runs.specs.Scope.{named_after_all, named_by, named_by_all, named_by_cases}
 use Rattle.shader_runs.specs.Scope.{at_start, before_local, first_values_fit, fits_all, after_all}
 use Rattle.shader_runs.specs.Form.{names_from, variables_from, globals_from, value_at, value_if}
 use Rattle.shader_runs.specs.Form.{form_all, form_function, form_functions, form_module}
 use Rattle.shader_runs.specs.Form.{functions_of}
 use Rattle.shader_runs.specs.Points.{call_of as a_call}
 use Rattle.shader_runs.specs.Premises.{FixedName, ArgumentName, LocalName, ConstantName, GlobalName}
-use Rattle.shader_runs.specs.Premises.{NameKey, FixedKey, NumberedKey, GivenKey, fixed_name}
+use Rattle.shader_runs.specs.Premises.{NameKey, FixedKey, NumberedKey, NamedKey, fixed_name}
 use Rattle.shader_runs.specs.Premises.{IsFixedName, IsName, StandsFree, ConstantWords}
 use Rattle.shader_runs.specs.Premises.{ConstantsWords, WordFits, AllBelow, LeafFits, AreDistinct}
 use Rattle.shader_runs.specs.Premises.{FunctionFits, AllFit, EnvironmentFits, IsTypedIn, AllTypedIn}
@@ -47,7 +47,7 @@ use Rattle.shader_runs.proofs.Update.{and_left, and_right, same_bytes_equal, sam
 use Rattle.shader_runs.proofs.Update.{has_types_length}
 use Rattle.shader_runs.proofs.Relation.{Returns, global_as, IsHere, NoName, fixed_denoted, Related}
 use Rattle.shader_runs.proofs.Evaluation.{words, Respond, Responds}
-use Rattle.shader_runs.proofs.Form.{Given, globals_length, value_here}
+use Rattle.shader_runs.proofs.Form.{Facts, globals_length, value_here}
 use Rattle.shader_runs.proofs.Checked.{FitsAll}
 use Rattle.shader_runs.proofs.Statements.{Same, same_all}
 use Rattle.shader_runs.proofs.Fresh.{all_fresh, start_sources}
@@ -55,14 +55,16 @@ use Rattle.shader_runs.proofs.Start.{start_stands}
 use Rattle.shader_runs.proofs.Names.{parameter_other, parameter_at, variable_place, variable_other}
 use Rattle.shader_runs.proofs.Names.{variable_at, one_more_variable, take_one_more, globals_other}
 use Rattle.shader_runs.proofs.Names.{globals_at, held, length-names_from, length-functions_of}
-use Rattle.shader_runs.proofs.Names.{length-form_functions, module_names_given, no_name_among}
+use Rattle.shader_runs.proofs.Names.{length-form_functions, module_names_in_scope, no_name_among}
 use Rattle.shader_runs.proofs.Constants.{environment_fits, scope_is}
 
 pick_alike : {A : Type 0} (R : A → Type 0) (a b : Bool) (x x' y y' : ReachedOrHalted A) → a ≡ b → (b ≡ true → Answers R x x') → (b ≡ false → Answers R y y') → Answers R (cond b x y) (cond a x' y')
 pick_alike R a true x x' y y' e h k = subst (λ a. Answers R x (cond a x' y')) (sym e) (h refl)
 pick_alike R a false x x' y y' e h k = subst (λ a. Answers R y (cond a x' y')) (sym e) (k refl)
 
-called_alike : (R : Option Value → Type 0) (a b : Bool) (x x' : ReachedOrHalted (Option Value)) (t : List Event) → a ≡ b → (b ≡ true → Answers R x x') → Answers R (run_if_arguments_fit b x t) (run_if_arguments_fit a x' t)
+called_alike : (R : Option Value → Type 0) (a b : Bool) (x x' : ReachedOrHalted (Option Value))
+    (t : List Event) → a ≡ b → (b ≡ true → Answers R x x') →
+    Answers R (run_if_arguments_fit b x t) (run_if_arguments_fit a x' t)
 called_alike R a true x x' t e h = subst (λ a. Answers R x (run_if_arguments_fit a x' t)) (sym e) (h refl)
 called_alike R a false x x' t e h = subst (λ a. Answers R (run_if_arguments_fit false x t) (run_if_arguments_fit a x' t)) (sym e) (same_answer tt)
 
@@ -94,12 +96,18 @@ put_reached : (o : Option (List (Option Value))) (t : List Event) → put_first 
 put_reached None t = refl
 put_reached (Some firsts) t = refl
 
-followed_firsts : (o : Option Value) (os : Option (List (Option Value))) (t : List Event) (rest : List Event → ReachedOrHalted (List (Option Value))) → ((t : List Event) → rest t ≡ reached_firsts os t) → first_followed (reach o t) rest ≡ reached_firsts (with_first (option_map Some o) os) t
+followed_firsts : (o : Option Value) (os : Option (List (Option Value))) (t : List Event)
+    (rest : List Event → ReachedOrHalted (List (Option Value))) →
+    ((t : List Event) → rest t ≡ reached_firsts os t) →
+    first_followed (reach o t) rest ≡ reached_firsts (with_first (option_map Some o) os) t
 followed_firsts None os t rest h = refl
 followed_firsts (Some v) None t rest h = ap (put_first (Some v)) (h t)
 followed_firsts (Some v) (Some firsts) t rest h = ap (put_first (Some v)) (h t)
 
-entered_alike : (R : Option Value → Type 0) (g g' : ℕ) (vs : List Value) (o : Option (List (Option Value))) (t : List Event) (body body' : List Event → ReachedOrHalted (Option Value)) → g' ≡ g → ((t : List Event) → Answers R (body t) (body' t)) → Answers R (run_from_entry g vs o t body) (entered_by g' vs (reached_firsts o t) body')
+entered_alike : (R : Option Value → Type 0) (g g' : ℕ) (vs : List Value)
+    (o : Option (List (Option Value))) (t : List Event) (body body' : List Event →
+    ReachedOrHalted (Option Value)) → g' ≡ g → ((t : List Event) → Answers R (body t) (body' t)) →
+    Answers R (run_from_entry g vs o t body) (entered_by g' vs (reached_firsts o t) body')
 entered_alike R g g' vs None t body body' e h = same_answer tt
 entered_alike R g g' vs (Some firsts) t body body' e h =
     subst (λ g'. Answers R (body (Entry g vs firsts ∷ t)) (body' (Entry g' vs firsts ∷ t))) (sym e) (h (Entry g vs firsts ∷ t))
@@ -140,35 +148,35 @@ module _ (p : Module) (f : Naming) (i : ℕ) where
   fixed_before (ConstantName k) h = h
   fixed_before (GlobalName k) h = h
 
-  given_handles : (hs : List ℕ) (k : ℕ) → given_after_all (before f i).function hs k ≡ given_after_all f.function hs k
-  given_handles [] k = refl
-  given_handles (h ∷ hs) k = given_handles hs (given_after f.function h k)
+  named_handles : (hs : List ℕ) (k : ℕ) → named_after_all (before f i).function hs k ≡ named_after_all f.function hs k
+  named_handles [] k = refl
+  named_handles (h ∷ hs) k = named_handles hs (named_after f.function h k)
 
   mutual
-    given_statement : (st : Statement) (k : ℕ) → given_by (before f i).function st k ≡ given_by f.function st k
-    given_statement (Emit first count) k = given_handles (from first count) k
-    given_statement (Block b) k = given_list b k
-    given_statement (If x a b) k =
-        ap (given_by_all (before f i).function b) (given_list a k) ∙ given_list b (given_by_all f.function a k)
-    given_statement (Switch x cases) k = given_cases cases k
-    given_statement (Loop b d e) k =
-        ap (given_by_all (before f i).function d) (given_list b k) ∙ given_list d (given_by_all f.function b k)
-    given_statement _ k = refl
+    named_statement : (st : Statement) (k : ℕ) → named_by (before f i).function st k ≡ named_by f.function st k
+    named_statement (Emit first count) k = named_handles (from first count) k
+    named_statement (Block b) k = named_list b k
+    named_statement (If x a b) k =
+        ap (named_by_all (before f i).function b) (named_list a k) ∙ named_list b (named_by_all f.function a k)
+    named_statement (Switch x cases) k = named_cases cases k
+    named_statement (Loop b d e) k =
+        ap (named_by_all (before f i).function d) (named_list b k) ∙ named_list d (named_by_all f.function b k)
+    named_statement _ k = refl
 
-    given_list : (ss : Statements) (k : ℕ) → given_by_all (before f i).function ss k ≡ given_by_all f.function ss k
-    given_list end k = refl
-    given_list (then st ss) k =
-        ap (given_by_all (before f i).function ss) (given_statement st k) ∙ given_list ss (given_by f.function st k)
+    named_list : (ss : Statements) (k : ℕ) → named_by_all (before f i).function ss k ≡ named_by_all f.function ss k
+    named_list end k = refl
+    named_list (then st ss) k =
+        ap (named_by_all (before f i).function ss) (named_statement st k) ∙ named_list ss (named_by f.function st k)
 
-    given_cases : (cs : Cases) (k : ℕ) → given_by_cases (before f i).function cs k ≡ given_by_cases f.function cs k
-    given_cases no_case k = refl
-    given_cases (case l b falls cs) k =
-        ap (given_by_cases (before f i).function cs) (given_list b k) ∙ given_cases cs (given_by_all f.function b k)
+    named_cases : (cs : Cases) (k : ℕ) → named_by_cases (before f i).function cs k ≡ named_by_cases f.function cs k
+    named_cases no_case k = refl
+    named_cases (case l b falls cs) k =
+        ap (named_by_cases (before f i).function cs) (named_list b k) ∙ named_cases cs (named_by_all f.function b k)
 
   name_before : (a : NameKey) → IsName p (before f i).function a → IsName p f.function a
   name_before (FixedKey x) h = fixed_before x h
   name_before (NumberedKey k) h = h
-  name_before (GivenKey k) h = subst (λ n. k < n) (given_list f.function.body 0) h
+  name_before (NamedKey k) h = subst (λ n. k < n) (named_list f.function.body 0) h
 
   free_before : (w : Bytes) → StandsFree p f w → StandsFree p (before f i) w
   free_before w h = (h.0, λ a is. h.1 a (name_before a is))
@@ -218,7 +226,7 @@ module _ (p : Module) (n : ModuleNames) (uses : Bytes → WordUse) (uses_fit : U
 
   -- the names of the module
   abbrev outer_of : ModuleNames → Scope
-  outer_of n = module_names_given p n env
+  outer_of n = module_names_in_scope p n env
 
   abbrev responses : List Naming → Respond
   responses fs = follow_call (outer_of n) w m uses bound (form_functions fs)
@@ -233,14 +241,19 @@ module _ (p : Module) (n : ModuleNames) (uses : Bytes → WordUse) (uses_fit : U
 
   abbrev text_call : List Naming → Naming → List Value → List Event → ReachedOrHalted (Option Value)
   text_call fs f vs t =
-      run_if_arguments_fit (nat_eq (length vs) (length (names_from f.names.argument 0 (argument_count f.function)))) (follow_body (words (call_of fs f vs t) (responses fs)) bound (length (form_functions fs)) (form_function f) vs (parameter_names n f vs) t) t
+      run_if_arguments_fit
+      (nat_eq (length vs) (length (names_from f.names.argument 0 (argument_count f.function))))
+      (follow_body (words (call_of fs f vs t) (responses fs)) bound (length (form_functions fs))
+      (form_function f) vs (parameter_names n f vs) t) t
 
   abbrev program_call : List Naming → Naming → List Value → List Event → ReachedOrHalted (Option Value)
   program_call fs f vs t =
       run_if_arguments_fit (nat_eq (length vs) (argument_count f.function)) (run_body (call_of fs f vs t) bound (length (functions_of fs)) vs t) t
 
   -- a word that is no function's name comes to its use
-  by_use : (fs : List Naming) → AllFit p n fs → (word : Bytes) → ((g : ℕ) → g < length fs → n.function g ≢ word) → (vs : List Value) (t : List Event) → responses fs word vs t ≡ respond_by_use (uses word) w m word vs t
+  by_use : (fs : List Naming) → AllFit p n fs → (word : Bytes) →
+      ((g : ℕ) → g < length fs → n.function g ≢ word) → (vs : List Value) (t : List Event) →
+      responses fs word vs t ≡ respond_by_use (uses word) w m word vs t
   by_use [] fits word other vs t = refl
   by_use (f ∷ fs) fits word other vs t =
       let own_name = f.names.outer.function f.names.earlier in
@@ -251,14 +264,23 @@ module _ (p : Module) (n : ModuleNames) (uses : Bytes → WordUse) (uses_fit : U
 
   abbrev Alike_calls : List Naming → Type 0
   Alike_calls fs =
-      (g : ℕ) (callee : Function) → function_numbered (functions_of fs) g ≡ Some callee → (vs : List Value) → IsTrue (has_types env.parts callee.argument_types vs) → (t : List Event) → Answers (Returns env.parts callee) (run_call env w m bound (functions_of fs) g vs t) (responses fs (n.function g) vs t)
+      (g : ℕ) (callee : Function) → function_numbered (functions_of fs) g ≡ Some callee →
+      (vs : List Value) → IsTrue (has_types env.parts callee.argument_types vs) →
+      (t : List Event) →
+      Answers (Returns env.parts callee) (run_call env w m bound (functions_of fs) g vs t)
+      (responses fs (n.function g) vs t)
 
-  module _ (fs : List Naming) (within : length fs ≤ length p.functions) (fits : AllFit p n fs) (earlier : Alike_calls fs) (f : Naming) (fit : Starting p n (functions_of fs) f) (typed : IsTypedIn env.parts p m f.function) (vs : List Value) (t : List Event) where
+  module _ (fs : List Naming) (within : length fs ≤ length p.functions) (fits : AllFit p n fs)
+      (earlier : Alike_calls fs) (f : Naming) (fit : Starting p n (functions_of fs) f)
+      (typed : IsTypedIn env.parts p m f.function) (vs : List Value) (t : List Event) where
     -- a name of another function
     no_function : (word : Bytes) → ((g : ℕ) → g < length p.functions → f.names.outer.function g ≢ word) → (g : ℕ) → g < length p.functions → n.function g ≢ word
     no_function word other g lt e = other g lt (ap (λ n. n.function g) fit.outer ∙ e)
 
-    reaches_use : (word : Bytes) → ((g : ℕ) → g < length p.functions → f.names.outer.function g ≢ word) → (use_of : WordUse) → uses word ≡ use_of → (vs : List Value) (t : List Event) → responses fs word vs t ≡ respond_by_use use_of w m word vs t
+    reaches_use : (word : Bytes) →
+        ((g : ℕ) → g < length p.functions → f.names.outer.function g ≢ word) → (use_of : WordUse) →
+        uses word ≡ use_of → (vs : List Value) (t : List Event) →
+        responses fs word vs t ≡ respond_by_use use_of w m word vs t
     reaches_use word other use_of e vs t =
         by_use fs fits word (λ g lt. no_function word other g (omega (arith, within))) vs t
         ∙ ap (λ u. respond_by_use u w m word vs t) e
@@ -268,7 +290,10 @@ module _ (p : Module) (n : ModuleNames) (uses : Bytes → WordUse) (uses_fit : U
         record {
           requests = λ word a. reaches_use word a.1.0 AsksForEvent (uses_fit.requests word (no_function word a.1.0) (ap (λ n. n.is_request word) (sym fit.outer) ∙ a.0));
           operators = λ word a. reaches_use word a.1.0 Operates (uses_fit.operators word (no_function word a.1.0) (ap (λ n. n.is_request word) (sym fit.outer) ∙ a.0));
-          calls = λ g callee e vs h t. subst (λ n'. Answers (Returns env.parts callee) (run_call env w m bound (functions_of fs) g vs t) (responses fs (n'.function g) vs t)) (sym fit.outer) (earlier g callee e vs h t);
+          calls = λ g callee e vs h t. subst
+              (λ n'. Answers (Returns env.parts callee)
+              (run_call env w m bound (functions_of fs) g vs t) (responses fs (n'.function g) vs t))
+              (sym fit.outer) (earlier g callee e vs h t);
         }
 
     argument_same : (i k : ℕ) → FixedKey (ArgumentName i) ≡ FixedKey (ArgumentName k) → i ≡ k
@@ -304,48 +329,86 @@ module _ (p : Module) (n : ModuleNames) (uses : Bytes → WordUse) (uses_fit : U
     start_fixed : length vs ≡ argument_count f.function → (x : FixedName) → IsHere (call_of fs f vs t) x → first_names f.names.outer f vs t (fixed_name f.names x) ≡ fixed_denoted (call_of fs f vs t) x
     start_fixed e (ArgumentName i) lt =
         let here : i ≡ i + 0 = omega arith in
-        variable_other f (f.names.argument i) f.function.first_values 0 (entries t) (λ a le la q. argument_local i a (fit.distinct (FixedKey (ArgumentName i)) (FixedKey (LocalName a)) lt (omega arith) (sym q))) (parameter_names f.names.outer f vs)
+        variable_other f (f.names.argument i) f.function.first_values 0 (entries t)
+        (λ a le la q. argument_local i a
+        (fit.distinct (FixedKey (ArgumentName i)) (FixedKey (LocalName a)) lt (omega arith)
+        (sym q))) (parameter_names f.names.outer f vs)
         ∙ ap (λ k. parameter_names f.names.outer f vs (f.names.argument k)) here
-        ∙ parameter_at f.names.argument (argument_count f.function) 0 (λ a b la lb q. argument_same a b (fit.distinct (FixedKey (ArgumentName a)) (FixedKey (ArgumentName b)) (omega arith) (omega arith) q)) vs _ e i lt
+        ∙ parameter_at f.names.argument (argument_count f.function) 0
+        (λ a b la lb q. argument_same a b
+        (fit.distinct (FixedKey (ArgumentName a)) (FixedKey (ArgumentName b)) (omega arith)
+        (omega arith) q)) vs _ e i lt
     start_fixed e (LocalName i) lt =
         let here : i ≡ i + 0 = omega arith in
         let back : i + 0 ≡ i = omega arith in
         ap (λ k. first_names f.names.outer f vs t (f.names.local_ k)) here
-        ∙ variable_at f f.function.first_values 0 (entries t) (λ a b la lb q. local_same a b (fit.distinct (FixedKey (LocalName a)) (FixedKey (LocalName b)) (omega arith) (omega arith) q)) (parameter_names f.names.outer f vs) i lt
+        ∙ variable_at f f.function.first_values 0 (entries t)
+        (λ a b la lb q. local_same a b
+        (fit.distinct (FixedKey (LocalName a)) (FixedKey (LocalName b)) (omega arith)
+        (omega arith) q)) (parameter_names f.names.outer f vs) i lt
         ∙ ap (variable_place f (entries t)) back
     start_fixed e (ConstantName i) lt =
         let here : i ≡ i + 0 = omega arith in
         let count = has_types_length env.parts p.constant_types env.constants environment.constants in
         let lt' : i < length p.constant_types = subst (λ k. i < k) count lt in
         let name = f.names.outer.constant in
-        variable_other f (name i) f.function.first_values 0 (entries t) (λ a le la q. local_constant a i (fit.distinct (FixedKey (LocalName a)) (FixedKey (ConstantName i)) (omega arith) lt' q)) (parameter_names f.names.outer f vs)
-        ∙ parameter_other f.names.argument (name i) (argument_count f.function) 0 (λ a le la q. argument_constant a i (fit.distinct (FixedKey (ArgumentName a)) (FixedKey (ConstantName i)) (omega arith) lt' q)) vs _
+        variable_other f (name i) f.function.first_values 0 (entries t)
+        (λ a le la q. local_constant a i
+        (fit.distinct (FixedKey (LocalName a)) (FixedKey (ConstantName i)) (omega arith) lt' q))
+        (parameter_names f.names.outer f vs)
+        ∙ parameter_other f.names.argument (name i) (argument_count f.function) 0
+        (λ a le la q. argument_constant a i
+        (fit.distinct (FixedKey (ArgumentName a)) (FixedKey (ConstantName i))
+        (omega arith) lt' q)) vs _
         ∙ ap (λ k. outer_of f.names.outer (name k)) here
-        ∙ parameter_at name (length p.constant_types) 0 (λ a b la lb q. constant_same a b (fit.distinct (FixedKey (ConstantName a)) (FixedKey (ConstantName b)) (omega arith) (omega arith) q)) env.constants _ count i lt'
+        ∙ parameter_at name (length p.constant_types) 0
+        (λ a b la lb q. constant_same a b
+        (fit.distinct (FixedKey (ConstantName a)) (FixedKey (ConstantName b)) (omega arith)
+        (omega arith) q)) env.constants _ count i lt'
     start_fixed e (GlobalName i) lt =
         let here : i ≡ i + 0 = omega arith in
         let back : i + 0 ≡ i = omega arith in
-        let count = globals_length env.parts p.global_types env.globals environment.globals in
-        let lt' : i < length p.global_types = subst (λ k. i < k) count lt in
+        let count = globals_length env.parts p.globals env.globals environment.globals in
+        let lt' : i < length p.globals = subst (λ k. i < k) count lt in
         let name = f.names.outer.global in
-        variable_other f (name i) f.function.first_values 0 (entries t) (λ a le la q. local_global a i (fit.distinct (FixedKey (LocalName a)) (FixedKey (GlobalName i)) (omega arith) lt' q)) (parameter_names f.names.outer f vs)
-        ∙ parameter_other f.names.argument (name i) (argument_count f.function) 0 (λ a le la q. argument_global a i (fit.distinct (FixedKey (ArgumentName a)) (FixedKey (GlobalName i)) (omega arith) lt' q)) vs _
-        ∙ parameter_other f.names.outer.constant (name i) (length p.constant_types) 0 (λ a le la q. constant_global a i (fit.distinct (FixedKey (ConstantName a)) (FixedKey (GlobalName i)) (omega arith) lt' q)) env.constants _
-        ∙ ap (λ k. with_globals (globals_from name 0 p.global_types) (map held env.globals) 0 no_names (name k)) here
-        ∙ globals_at env.parts name p.global_types 0 (λ a b la lb q. global_same a b (fit.distinct (FixedKey (GlobalName a)) (FixedKey (GlobalName b)) (omega arith) (omega arith) q)) env.globals no_names environment.globals i lt'
+        variable_other f (name i) f.function.first_values 0 (entries t)
+        (λ a le la q. local_global a i
+        (fit.distinct (FixedKey (LocalName a)) (FixedKey (GlobalName i)) (omega arith) lt' q))
+        (parameter_names f.names.outer f vs)
+        ∙ parameter_other f.names.argument (name i) (argument_count f.function) 0
+        (λ a le la q. argument_global a i
+        (fit.distinct (FixedKey (ArgumentName a)) (FixedKey (GlobalName i))
+        (omega arith) lt' q)) vs _
+        ∙ parameter_other f.names.outer.constant (name i) (length p.constant_types) 0
+        (λ a le la q. constant_global a i
+        (fit.distinct (FixedKey (ConstantName a)) (FixedKey (GlobalName i))
+        (omega arith) lt' q)) env.constants _
+        ∙ ap (λ k. with_globals (globals_from name 0 p.globals) (map held env.globals) 0 no_names (name k)) here
+        ∙ globals_at env.parts name p.globals 0
+        (λ a b la lb q. global_same a b
+        (fit.distinct (FixedKey (GlobalName a)) (FixedKey (GlobalName b)) (omega arith)
+        (omega arith) q)) env.globals no_names environment.globals i lt'
         ∙ ap (λ k. global_as k (slice_get env.globals i)) back
 
     start_words : (x : Bytes) → NoName (call_of fs f vs t) f.names x → first_names f.names.outer f vs t x ≡ None
     start_words x free =
         variable_other f x f.function.first_values 0 (entries t) (λ a le la q. free.fixed (LocalName a) (omega arith) q) (parameter_names f.names.outer f vs)
         ∙ parameter_other f.names.argument x (argument_count f.function) 0 (λ a le la q. free.fixed (ArgumentName a) (omega arith) q) vs _
-        ∙ parameter_other f.names.outer.constant x (length p.constant_types) 0 (λ a le la q. let count = has_types_length env.parts p.constant_types env.constants environment.constants in let here : a < length p.constant_types = omega arith in free.fixed (ConstantName a) (subst (λ k. a < k) (sym count) here) q) env.constants _
-        ∙ globals_other f.names.outer.global x p.global_types 0 (λ a le la q. let count = globals_length env.parts p.global_types env.globals environment.globals in let here : a < length p.global_types = omega arith in free.fixed (GlobalName a) (subst (λ k. a < k) (sym count) here) q) (map held env.globals) no_names
+        ∙ parameter_other f.names.outer.constant x (length p.constant_types) 0
+        (λ a le la q. let count =
+        has_types_length env.parts p.constant_types env.constants environment.constants in
+        let here : a < length p.constant_types = omega arith in
+        free.fixed (ConstantName a) (subst (λ k. a < k) (sym count) here) q) env.constants _
+        ∙ globals_other f.names.outer.global x p.globals 0 (λ a le la q. let count =
+        globals_length env.parts p.globals env.globals environment.globals in
+        let here : a < length p.globals = omega arith in
+        free.fixed (GlobalName a) (subst (λ k. a < k) (sym count) here) q)
+        (map held env.globals) no_names
 
     starts_own : length vs ≡ argument_count f.function → Related (call_of fs f vs t) f.names (at_start f.function) (first_names f.names.outer f vs t) (constants_kept f.function env m)
     starts_own e =
         record {
-          standing = start_stands p (call_of fs f vs t) environment fit.ordered fit.leaves typed (first_names f.names.outer f vs t);
+          availability = start_stands p (call_of fs f vs t) environment fit.ordered fit.leaves typed (first_names f.names.outer f vs t);
           fixed = start_fixed e;
           words = start_words;
         }
@@ -354,8 +417,8 @@ module _ (p : Module) (n : ModuleNames) (uses : Bytes → WordUse) (uses_fit : U
     starts e =
         subst (λ n'. Related (call_of fs f vs t) f.names (at_start f.function) (first_names n' f vs t) (constants_kept f.function env m)) fit.outer (starts_own e)
 
-    pub given : IsTrue (has_types env.parts f.function.argument_types vs) → Given p (call_of fs f vs t) f.names (responses fs)
-    given k =
+    pub facts : IsTrue (has_types env.parts f.function.argument_types vs) → Facts p (call_of fs f vs t) f.names (responses fs)
+    facts k =
         record {
           responds = responds;
           arguments = k;
@@ -367,11 +430,18 @@ module _ (p : Module) (n : ModuleNames) (uses : Bytes → WordUse) (uses_fit : U
         }
 
     -- a handle at the start
-    pub first_value_here : IsTrue (has_types env.parts f.function.argument_types vs) → length vs ≡ argument_count f.function → (h : ℕ) → IsTrue (usable f.function (at_start f.function) h) → (t1 : List Event) → value_of (words (call_of fs f vs t) (responses fs)) (value_at f (at_start f.function) h) (first_names n f vs t) t1 ≡ reach (used_value (call_of fs f vs t) (constants_kept f.function env m) h) t1
+    pub first_value_here : IsTrue (has_types env.parts f.function.argument_types vs) →
+        length vs ≡ argument_count f.function →
+        (h : ℕ) → IsTrue (usable f.function (at_start f.function) h) →
+        (t1 : List Event) → value_of (words (call_of fs f vs t) (responses fs))
+        (value_at f (at_start f.function) h) (first_names n f vs t) t1 ≡ reach
+        (used_value (call_of fs f vs t) (constants_kept f.function env m) h) t1
     first_value_here k e h u t1 =
-        value_here p (call_of fs f vs t) f.names (responses fs) (given k) (at_start f.function) (first_names n f vs t) (constants_kept f.function env m) (starts e) h u t1
+        value_here p (call_of fs f vs t) f.names (responses fs) (facts k) (at_start f.function) (first_names n f vs t) (constants_kept f.function env m) (starts e) h u t1
 
-  module _ (fs : List Naming) (within : length fs ≤ length p.functions) (fits : AllFit p n fs) (earlier : Alike_calls fs) (f : Naming) (fit : FunctionFits p n (functions_of fs) f) (typed : IsTypedIn env.parts p m f.function) (vs : List Value) (t : List Event) where
+  module _ (fs : List Naming) (within : length fs ≤ length p.functions) (fits : AllFit p n fs)
+      (earlier : Alike_calls fs) (f : Naming) (fit : FunctionFits p n (functions_of fs) f)
+      (typed : IsTypedIn env.parts p m f.function) (vs : List Value) (t : List Event) where
     start : Starting p n (functions_of fs) f
     start = starting p n (functions_of fs) f fit
 
@@ -397,7 +467,15 @@ module _ (p : Module) (n : ModuleNames) (uses : Bytes → WordUse) (uses_fit : U
     kept = constants_kept f.function env m
 
     -- one first value, and those of the variables behind it
-    first_reached : IsTrue (has_types env.parts f.function.argument_types vs) → length vs ≡ argument_count f.function → (i : ℕ) (o : Option ℕ) → IsTrue (usable_if (before_local f.function i) (at_start f.function) o) → (names : Scope) → names ≡ names_before i → (os : Option (List (Option Value))) (rest : List Event → ReachedOrHalted (List (Option Value))) → ((t2 : List Event) → rest t2 ≡ reached_firsts os t2) → (t1 : List Event) → first_then spelled (value_if f (at_start f.function) o) names t1 rest ≡ reached_firsts (with_first (first_used (call_of fs f vs t) kept o) os) t1
+    first_reached : IsTrue (has_types env.parts f.function.argument_types vs) →
+        length vs ≡ argument_count f.function → (i : ℕ) (o : Option ℕ) →
+        IsTrue (usable_if (before_local f.function i) (at_start f.function) o) →
+        (names : Scope) → names ≡ names_before i →
+        (os : Option (List (Option Value))) (rest : List Event →
+        ReachedOrHalted (List (Option Value))) →
+        ((t2 : List Event) → rest t2 ≡ reached_firsts os t2) →
+        (t1 : List Event) → first_then spelled (value_if f (at_start f.function) o) names t1 rest ≡
+        reached_firsts (with_first (first_used (call_of fs f vs t) kept o) os) t1
     first_reached k e i None u names q os rest r t1 = ap (put_first None) (r t1) ∙ put_reached os t1
     first_reached k e i (Some h) u names q os rest r t1 =
         let fit1 = starting_before p f i n (functions_of fs) start in
@@ -406,7 +484,12 @@ module _ (p : Module) (n : ModuleNames) (uses : Bytes → WordUse) (uses_fit : U
         ∙ ap (λ q. first_followed q rest) value
         ∙ followed_firsts (used_value (call_of fs f vs t) kept h) os t1 rest r
 
-    firsts_reached : IsTrue (has_types env.parts f.function.argument_types vs) → length vs ≡ argument_count f.function → (os : List (Option ℕ)) (i : ℕ) → ((k : ℕ) → slice_get os k ≡ slice_get all (k + i)) → IsTrue (first_values_fit f.function i os) → (names : Scope) → names ≡ names_before i → (t1 : List Event) → first_of_each spelled (variables_from f i os) (entries t) i names t1 ≡ reached_firsts (first_used_all (call_of fs f vs t) kept os) t1
+    firsts_reached : IsTrue (has_types env.parts f.function.argument_types vs) →
+        length vs ≡ argument_count f.function → (os : List (Option ℕ)) (i : ℕ) →
+        ((k : ℕ) → slice_get os k ≡ slice_get all (k + i)) →
+        IsTrue (first_values_fit f.function i os) → (names : Scope) → names ≡ names_before i →
+        (t1 : List Event) → first_of_each spelled (variables_from f i os) (entries t) i names t1 ≡
+        reached_firsts (first_used_all (call_of fs f vs t) kept os) t1
     firsts_reached k e [] i at u names q t1 = refl
     firsts_reached k e (o ∷ os) i at u names q t1 =
         let here = usable_if (before_local f.function i) (at_start f.function) o in
@@ -428,30 +511,62 @@ module _ (p : Module) (n : ModuleNames) (uses : Bytes → WordUse) (uses_fit : U
         let c = call_of fs f vs t in
         let firsts_fit = first_values_fit f.function 0 f.function.first_values in
         let body_fits = fits_all f 0 f.function.body (at_start f.function) in
-        all_fresh p c f.names environment fit.distinct f.function.body 0 (at_start f.function) (omega arith) (start_sources p c f.names environment fit.distinct) fit.regular (and_right firsts_fit body_fits fit.scope)
+        all_fresh p c f.names environment fit.distinct f.function.body 0 (at_start f.function)
+        (omega arith) (start_sources p c f.names environment fit.distinct) fit.regular
+        (and_right firsts_fit body_fits fit.scope)
 
     -- both runs of the body
-    list_alike : length vs ≡ argument_count f.function → IsTrue (has_types env.parts f.function.argument_types vs) → (t1 : List Event) → Same (call_of fs f vs t) f.names (at_start f.function) (constants_kept f.function env m) (after_all f 0 f.function.body (at_start f.function)) (any_continue f.function.body) (run_all (call_of fs f vs t) bound f.function.body (constants_kept f.function env m) t1) (follow_all (words (call_of fs f vs t) (responses fs)) bound (form_all f 0 f.function.body (at_start f.function)) (first_names n f vs t) t1)
+    list_alike : length vs ≡ argument_count f.function →
+        IsTrue (has_types env.parts f.function.argument_types vs) →
+        (t1 : List Event) → Same (call_of fs f vs t) f.names (at_start f.function)
+        (constants_kept f.function env m) (after_all f 0 f.function.body (at_start f.function))
+        (any_continue f.function.body)
+        (run_all (call_of fs f vs t) bound f.function.body (constants_kept f.function env m) t1)
+        (follow_all (words (call_of fs f vs t) (responses fs)) bound
+        (form_all f 0 f.function.body (at_start f.function)) (first_names n f vs t) t1)
     list_alike e k t1 =
-        same_all p (call_of fs f vs t) f.names (responses fs) (given fs within fits earlier f start typed vs t k) bound f.function.body 0 (at_start f.function) (first_names n f vs t) (constants_kept f.function env m) t1 (starts fs within fits earlier f start typed vs t e) body_fits
+        same_all p (call_of fs f vs t) f.names (responses fs)
+        (facts fs within fits earlier f start typed vs t k) bound f.function.body 0
+        (at_start f.function) (first_names n f vs t) (constants_kept f.function env m) t1
+        (starts fs within fits earlier f start typed vs t e) body_fits
 
-    body_alike : (place place' : ℕ) → place' ≡ place → length vs ≡ argument_count f.function → IsTrue (has_types env.parts f.function.argument_types vs) → Answers (Returns env.parts f.function) (run_body (call_of fs f vs t) bound place vs t) (follow_body (words (call_of fs f vs t) (responses fs)) bound place' (form_function f) vs (parameter_names n f vs) t)
+    body_alike : (place place' : ℕ) → place' ≡ place → length vs ≡ argument_count f.function →
+        IsTrue (has_types env.parts f.function.argument_types vs) →
+        Answers (Returns env.parts f.function) (run_body (call_of fs f vs t) bound place vs t)
+        (follow_body (words (call_of fs f vs t) (responses fs)) bound place' (form_function f) vs
+        (parameter_names n f vs) t)
     body_alike place place' pe e k =
         let c = call_of fs f vs t in
         let kept = constants_kept f.function env m in
         let os = f.function.first_values in
         let firsts_fit = first_values_fit f.function 0 os in
         let body_fits = fits_all f 0 f.function.body (at_start f.function) in
-        subst (λ q. Answers (Returns env.parts f.function) (run_body c bound place vs t) (entered_by place' vs q (λ t1. answer (follow_all (words c (responses fs)) bound (form_all f 0 f.function.body (at_start f.function)) (first_names n f vs t) t1)))) (sym (firsts_reached k e os 0 (λ i. ap (slice_get all) (sym (add-zero i))) (and_left firsts_fit body_fits fit.scope) (parameter_names n f vs) refl t)) (entered_alike (Returns env.parts f.function) place place' vs (first_used_all c kept os) t _ _ pe (λ t1. alike_answers tt (list_alike e k t1)))
+        subst (λ q. Answers (Returns env.parts f.function) (run_body c bound place vs t)
+        (entered_by place' vs q
+        (λ t1. answer
+        (follow_all (words c (responses fs)) bound
+        (form_all f 0 f.function.body (at_start f.function)) (first_names n f vs t) t1))))
+        (sym (firsts_reached k e os 0 (λ i. ap (slice_get all) (sym (add-zero i)))
+        (and_left firsts_fit body_fits fit.scope) (parameter_names n f vs) refl t))
+        (entered_alike (Returns env.parts f.function) place place' vs (first_used_all c kept os)
+        t _ _ pe (λ t1. alike_answers tt (list_alike e k t1)))
 
     call_alike : IsTrue (has_types env.parts f.function.argument_types vs) → Answers (Returns env.parts f.function) (program_call fs f vs t) (text_call fs f vs t)
     call_alike h =
         let count = length-names_from f.names.argument 0 (argument_count f.function) in
         let there = length (functions_of fs) in
         let place : length (form_functions fs) ≡ there = length-form_functions fs ∙ sym (length-functions_of fs) in
-        called_alike (Returns env.parts f.function) (nat_eq (length vs) (length (names_from f.names.argument 0 (argument_count f.function)))) (nat_eq (length vs) (argument_count f.function)) _ _ t (ap (nat_eq (length vs)) count) (λ e. body_alike there (length (form_functions fs)) place (eqb-true (length vs) (argument_count f.function) e) h)
+        called_alike (Returns env.parts f.function)
+        (nat_eq (length vs)
+        (length (names_from f.names.argument 0 (argument_count f.function))))
+        (nat_eq (length vs) (argument_count f.function)) _ _ t (ap (nat_eq (length vs)) count)
+        (λ e. body_alike there (length (form_functions fs)) place
+        (eqb-true (length vs) (argument_count f.function) e) h)
 
-  pub calls_alike : (fs : List Naming) → length fs ≤ length p.functions → AllFit p n fs → AllTypedIn env.parts p m (functions_of fs) → ((g k : ℕ) → g < length fs → k < length fs → n.function g ≡ n.function k → g ≡ k) → Alike_calls fs
+  pub calls_alike : (fs : List Naming) → length fs ≤ length p.functions → AllFit p n fs →
+      AllTypedIn env.parts p m (functions_of fs) →
+      ((g k : ℕ) → g < length fs → k < length fs → n.function g ≡ n.function k → g ≡ k) →
+      Alike_calls fs
   calls_alike [] within fits typed one g callee e vs h t = absurd (none-some callee e)
   calls_alike (f ∷ fs) within fits typed one g callee e vs h t =
       let own_name = f.names.outer.function f.names.earlier in
@@ -462,7 +577,19 @@ module _ (p : Module) (n : ModuleNames) (uses : Bytes → WordUse) (uses_fit : U
       let within : g < suc (length (functions_of fs)) = numbered_within (functions_of (f ∷ fs)) g callee e in
       let lt : g < suc (length fs) = subst (λ k. g < suc k) place within in
       let test = same_test (n.function g) own_name g (length (functions_of fs)) (λ e. one g (length fs) lt (omega arith) (e ∙ is_name) ∙ sym place) (λ e. ap n.function (e ∙ place) ∙ sym is_name) in
-      pick_alike (Returns env.parts callee) (same_bytes (n.function g) own_name) (nat_eq g (length (functions_of fs))) (program_call fs f vs t) (text_call fs f vs t) (run_call env w m bound (functions_of fs) g vs t) (responses fs (n.function g) vs t) test (λ q. let same : f.function ≡ callee = same_Some f.function callee (ap (λ b. cond b (Some f.function) (function_numbered (functions_of fs) g)) (sym q) ∙ e) in subst (λ k. Answers (Returns env.parts k) (program_call fs f vs t) (text_call fs f vs t)) same (call_alike fs fewer fits.1 earlier f fits.0 typed.0 vs t (subst (λ k. IsTrue (has_types env.parts k.argument_types vs)) (sym same) h))) (λ q. earlier g callee (ap (λ b. cond b (Some f.function) (function_numbered (functions_of fs) g)) (sym q) ∙ e) vs h t)
+      pick_alike (Returns env.parts callee) (same_bytes (n.function g) own_name)
+      (nat_eq g (length (functions_of fs))) (program_call fs f vs t) (text_call fs f vs t)
+      (run_call env w m bound (functions_of fs) g vs t) (responses fs (n.function g) vs t) test
+      (λ q. let same : f.function ≡ callee =
+      same_Some f.function callee
+      (ap (λ b. cond b (Some f.function) (function_numbered (functions_of fs) g)) (sym q) ∙ e)
+      in subst (λ k. Answers (Returns env.parts k) (program_call fs f vs t)
+      (text_call fs f vs t)) same
+      (call_alike fs fewer fits.1 earlier f fits.0 typed.0 vs t
+      (subst (λ k. IsTrue (has_types env.parts k.argument_types vs)) (sym same) h)))
+      (λ q. earlier g callee
+      (ap (λ b. cond b (Some f.function) (function_numbered (functions_of fs) g)) (sym q)
+      ∙ e) vs h t)
 
 answers_same : {A : Type 0} (R : A → Type 0) (q q' : ReachedOrHalted A) → KeepsTypes q → Answers R q q' → q' ≡ q
 answers_same R q q' k (same_answer h) = refl
@@ -486,9 +613,21 @@ module_within p fs e =
     omega (arith, count)
 
 -- in an environment of the module's types
-environment_alike : (p : Module) (n : ModuleNames) (fs : List Naming) → ModuleFits p n fs → (env : Environment) → EnvironmentFits p env → (m : Meaning) → IsTyped p m → (g : ℕ) (f : Function) → function_numbered p.functions g ≡ Some f → (vs : List Value) → IsTrue (has_types p.parts f.argument_types vs) → (w : World) (turns : ℕ) (t : List Event) → KeepsTypes (run_call env w m turns p.functions g vs t) → follow_call (module_names_given p n env) w m (word_use (form_functions fs) n.is_request) turns (form_functions fs) (n.function g) vs t ≡ run_call env w m turns p.functions g vs t
+environment_alike : (p : Module) (n : ModuleNames) (fs : List Naming) → ModuleFits p n fs →
+    (env : Environment) → EnvironmentFits p env → (m : Meaning) → IsTyped p m →
+    (g : ℕ) (f : Function) → function_numbered p.functions g ≡ Some f →
+    (vs : List Value) → IsTrue (has_types p.parts f.argument_types vs) →
+    (w : World) (turns : ℕ) (t : List Event) →
+    KeepsTypes (run_call env w m turns p.functions g vs t) →
+    follow_call (module_names_in_scope p n env) w m (word_use (form_functions fs) n.is_request)
+    turns (form_functions fs) (n.function g) vs t ≡ run_call env w m turns p.functions g vs t
 environment_alike p n fs fits env environment m typed g f e vs h w turns t keeps =
-    subst (λ l. function_numbered l g ≡ Some f → AllTypedIn env.parts p m l → KeepsTypes (run_call env w m turns l g vs t) → follow_call (module_names_given p n env) w m uses turns (form_functions fs) (n.function g) vs t ≡ run_call env w m turns l g vs t) fits.functions there e (subst (λ parts. AllTypedIn parts p m p.functions) (sym environment.parts) typed.functions) keeps
+    subst (λ l. function_numbered l g ≡ Some f → AllTypedIn env.parts p m l →
+    KeepsTypes (run_call env w m turns l g vs t) →
+    follow_call (module_names_in_scope p n env) w m uses turns (form_functions fs)
+    (n.function g) vs t ≡ run_call env w m turns l g vs t) fits.functions there e
+    (subst (λ parts. AllTypedIn parts p m p.functions) (sym environment.parts) typed.functions)
+    keeps
   where
     uses : Bytes → WordUse
     uses = word_use (form_functions fs) n.is_request
@@ -504,12 +643,23 @@ environment_alike p n fs fits env environment m typed g f e vs h w turns t keeps
         let same : length fs ≡ length p.functions = sym (length-functions_of fs) ∙ count in
         fits.distinct.functions g k (subst (λ z. g < z) same lg) (subst (λ z. k < z) same lk)
 
-    there : function_numbered (functions_of fs) g ≡ Some f → AllTypedIn env.parts p m (functions_of fs) → KeepsTypes (run_call env w m turns (functions_of fs) g vs t) → follow_call (module_names_given p n env) w m uses turns (form_functions fs) (n.function g) vs t ≡ run_call env w m turns (functions_of fs) g vs t
+    there : function_numbered (functions_of fs) g ≡ Some f →
+        AllTypedIn env.parts p m (functions_of fs) →
+        KeepsTypes (run_call env w m turns (functions_of fs) g vs t) →
+        follow_call (module_names_in_scope p n env) w m uses turns (form_functions fs)
+        (n.function g) vs t ≡ run_call env w m turns (functions_of fs) g vs t
     there e typed keeps =
-        answers_same (Returns env.parts f) (run_call env w m turns (functions_of fs) g vs t) _ keeps (calls_alike p n uses (uses_fit p n fs within fits.all) env environment w m turns fs within fits.all typed one g f e vs (subst (λ parts. IsTrue (has_types parts f.argument_types vs)) (sym environment.parts) h) t)
+        answers_same (Returns env.parts f) (run_call env w m turns (functions_of fs) g vs t) _ keeps
+        (calls_alike p n uses (uses_fit p n fs within fits.all) env environment w m turns fs
+        within fits.all typed one g f e vs
+        (subst (λ parts. IsTrue (has_types parts f.argument_types vs)) (sym environment.parts)
+        h) t)
 
 -- the names that the text of the whole module computes
-pub names_are : (p : Module) (n : ModuleNames) (fs : List Naming) → ModuleFits p n fs → (s : Settings) → SettingsFit p s → (m : Meaning) → IsTyped p m → (w : World) → module_scope (form_module p n fs) s w m n.is_request ≡ module_names_given p n (environment_of p s m)
+pub names_are : (p : Module) (n : ModuleNames) (fs : List Naming) → ModuleFits p n fs →
+    (s : Settings) → SettingsFit p s → (m : Meaning) → IsTyped p m →
+    (w : World) → module_scope (form_module p n fs) s w m n.is_request ≡ module_names_in_scope p n
+    (environment_of p s m)
 names_are p n fs fits s settings m typed w =
     scope_is p n fits.constants s settings m typed fs fits.all (module_within p fs fits.functions) w
 

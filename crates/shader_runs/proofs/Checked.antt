@@ -6,9 +6,9 @@ use Rattle.shader_runs.specs.Program.{Expression, Statement, Emit, Store, Block,
 use Rattle.shader_runs.specs.Program.{Return, Barrier, Act, Statements, end, then, Cases, no_case}
 use Rattle.shader_runs.specs.Program.{case, Module, expression_of, operands_of, binds, from}
 use Rattle.shader_runs.specs.ProgramRun.{Call, barrier_words}
-use Rattle.shader_runs.specs.Scope.{Named, Handles, Names, bound_name, usable, usable_all}
-use Rattle.shader_runs.specs.Scope.{usable_if, is_new, is_emittable, given_after, given_by}
-use Rattle.shader_runs.specs.Scope.{given_by_all, after_one, after, after_all}
+use Rattle.shader_runs.specs.Scope.{Bound, Handles, Names, bound_name, usable, usable_all}
+use Rattle.shader_runs.specs.Scope.{usable_if, is_new, is_emittable, named_after, named_by}
+use Rattle.shader_runs.specs.Scope.{named_by_all, after_one, after, after_all}
 use Rattle.shader_runs.specs.Premises.{FixedName, fixed_name, EachAsks, ActionFits, ReturnFits}
 use Rattle.shader_runs.specs.Premises.{IsResult, FallsFrom}
 use Rattle.shader_runs.proofs.Relation.{IsHere, NoName}
@@ -16,7 +16,7 @@ use Rattle.shader_runs.proofs.Evaluation.{naming}
 
 -- no name in scope is this one
 pub record IsFresh (c : Call) (n : Names) (s : Handles) (x : Bytes) : Type 0 where
-  pub handles : (h : ℕ) → s h ≢ Named x
+  pub handles : (h : ℕ) → s h ≢ Bound x
   pub fixed : (y : FixedName) → IsHere c y → fixed_name n y ≢ x
   pub words : (w : Bytes) → NoName c n w → w ≢ x
 
@@ -33,7 +33,7 @@ pub record MayEmit (c : Call) (n : Names) (k h : ℕ) (s : Handles) : Type 0 whe
 abbrev pub MayEmitAll : Call → Names → ℕ → List ℕ → Handles → Type 0
 MayEmitAll c n k [] s = Unit {0}
 MayEmitAll c n k (h ∷ hs) s =
-    MayEmit c n k h s × MayEmitAll c n (given_after c.function h k) hs (after_one (naming c n) k h s)
+    MayEmit c n k h s × MayEmitAll c n (named_after c.function h k) hs (after_one (naming c n) k h s)
 
 pub record MayResult (c : Call) (n : Names) (h : ℕ) (s : Handles) : Type 0 where
   pub new : IsTrue (is_new (s h))
@@ -50,11 +50,11 @@ abbrev mutual
   Fits p c n k (Store q v) s = IsTrue (usable c.function s q) × IsTrue (usable c.function s v)
   Fits p c n k (Block b) s = FitsAll p c n k b s
   Fits p c n k (If x a b) s =
-      IsTrue (usable c.function s x) × FitsAll p c n k a s × FitsAll p c n (given_by_all c.function a k) b s
+      IsTrue (usable c.function s x) × FitsAll p c n k a s × FitsAll p c n (named_by_all c.function a k) b s
   Fits p c n k (Switch h cases) s = IsTrue (usable c.function s h) × FitsCases p c n k cases s
   Fits p c n k (Loop b d e) s =
       let s1 = after_all (naming c n) k b s in
-      let k1 = given_by_all c.function b k in
+      let k1 = named_by_all c.function b k in
       FitsAll p c n k b s × FitsAll p c n k1 d s1 × IsTrue (usable_if c.function (after_all (naming c n) k1 d s1) e)
   Fits p c n k (Return v) s = IsTrue (usable_if c.function s v) × ReturnFits c.function v
   Fits p c n k (Barrier bits) s = EachAsks p (naming c n) (barrier_words bits)
@@ -64,9 +64,9 @@ abbrev mutual
   pub FitsAll : Module → Call → Names → ℕ → Statements → Handles → Type 0
   FitsAll p c n k end s = Unit {0}
   FitsAll p c n k (then st ss) s =
-      Fits p c n k st s × FitsAll p c n (given_by c.function st k) ss (after (naming c n) k st s)
+      Fits p c n k st s × FitsAll p c n (named_by c.function st k) ss (after (naming c n) k st s)
 
   pub FitsCases : Module → Call → Names → ℕ → Cases → Handles → Type 0
   FitsCases p c n k no_case s = Unit {0}
   FitsCases p c n k (case l b falls cs) s =
-      FallsFrom falls b cs × FitsAll p c n k b s × FitsCases p c n (given_by_all c.function b k) cs s
+      FallsFrom falls b cs × FitsAll p c n k b s × FitsCases p c n (named_by_all c.function b k) cs s

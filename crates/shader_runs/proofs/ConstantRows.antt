@@ -42,7 +42,15 @@ free =
 
 initialisers : (i : ℕ) (e : ConstantTree) → slice_get pair_module.initialisers i ≡ Some e → InitialiserFits pair_module pair_names (λ i. 1 - i) i e
 initialisers zero e q =
-    subst (InitialiserFits pair_module pair_names (λ i. 1 - i) 0) (same_Some _ e q) (record { range = (omega arith, (omega arith, tt)); type = refl; words = (free, (tt, (tt, tt))); before = (λ lt. omega arith, (λ lt. absurd (omega (arith, lt)), tt)) })
+    subst (InitialiserFits pair_module pair_names (λ i. 1 - i) 0) (same_Some _ e q)
+    (record {
+      range = (omega arith, (omega arith, tt));
+      type = refl;
+      words =
+          (free, (tt, (tt, tt)));
+      before =
+          (λ lt. omega arith, (λ lt. absurd (omega (arith, lt)), tt));
+    })
 initialisers (suc zero) e q =
     subst (InitialiserFits pair_module pair_names (λ i. 1 - i) 1) (same_Some _ e q) (record { range = tt; type = refl; words = tt; before = tt })
 initialisers (suc (suc i)) e q = absurd (none-some e q)
@@ -51,7 +59,7 @@ pub constant_rows_hold : ConstantRowsHold
 constant_rows_hold =
     record {
       fits = record { counted = omega arith; rank = λ i. 1 - i; initialisers = initialisers; distinct = distinct };
-      settings = record { overrides = refl; counted = refl; globals = refl };
+      settings = record { overrides = refl; globals = refl };
       text = refl;
       module_run = refl;
       text_run = refl;

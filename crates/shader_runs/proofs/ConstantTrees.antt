@@ -46,7 +46,9 @@ module _ (parts : PartTypes) (p : Module) (known : ℕ → Option Value) (m : Me
         let vs = trees_typed es r t.1 in
         (m (Spelled w) vs.0, ap (operator_value m (Spelled w)) vs.1, t.0 vs.0 vs.2)
 
-    pub trees_typed : (es : ConstantTrees) → EachLeafOf IsLiteral P es → ConstantsTyped parts p m es → (vs : List Value) × (tree_values known m es ≡ Some vs) × IsTrue (has_types parts (constant_types_of p es) vs)
+    pub trees_typed : (es : ConstantTrees) → EachLeafOf IsLiteral P es →
+        ConstantsTyped parts p m es → (vs : List Value) × (tree_values known m es ≡ Some vs) ×
+        IsTrue (has_types parts (constant_types_of p es) vs)
     trees_typed no_constant r t = ([], refl, refl)
     trees_typed (constant e es) r t =
         let a = tree_typed e r.0 t.0 in
@@ -67,7 +69,11 @@ module _ (known known' : ℕ → Option Value) (m : Meaning) (P : ℕ → Type 0
 
 -- where the names of the constants stand for what is known of them, and no name hides a word, the
 -- text of a tree gives its value and makes no event
-module _ (l : Words) (names : Scope) (n : ModuleNames) (known : ℕ → Option Value) (P : ℕ → Type 0) (here : (i : ℕ) → P i → names (n.constant i) ≡ as_denoted (known i)) (Q : Bytes → Type 0) (operates : (w : Bytes) → Q w → (os : Option (List Value)) (t : List Event) → as_value (unless (names w) t (word_answer l w (reach os t))) ≡ denoted (operator_value l.meaning (Spelled w) os) t) where
+module _ (l : Words) (names : Scope) (n : ModuleNames) (known : ℕ → Option Value) (P : ℕ → Type 0)
+    (here : (i : ℕ) → P i → names (n.constant i) ≡ as_denoted (known i)) (Q : Bytes → Type 0)
+    (operates : (w : Bytes) → Q w → (os : Option (List Value)) (t : List Event) →
+    as_value (unless (names w) t (word_answer l w (reach os t))) ≡ denoted
+    (operator_value l.meaning (Spelled w) os) t) where
   mutual
     pub tree_gives : (e : ConstantTree) → EachWord Q e → EachLeaf IsLiteral P e → (t : List Event) → evaluate l (constant_form n e) names t ≡ denoted (tree_value known l.meaning e) t
     tree_gives (Fixed v) w r t = refl

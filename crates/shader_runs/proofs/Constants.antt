@@ -34,7 +34,8 @@ use Rattle.shader_runs.proofs.ConstantTrees.{each_both, tree_typed, tree_same, t
 use Rattle.shader_runs.proofs.Form.{has_type_at}
 use Rattle.shader_runs.proofs.Ranks.{count_below, count_rises, count_misses}
 use Rattle.shader_runs.proofs.Names.{with_known, known_at, known_other, parameters_known}
-use Rattle.shader_runs.proofs.Names.{known_some, globals_other, held_values, module_names_given}
+use Rattle.shader_runs.proofs.Names.{known_some, globals_other, held_values, choices_stand}
+use Rattle.shader_runs.proofs.Names.{module_names_in_scope}
 use Rattle.shader_runs.proofs.Names.{no_name_among}
 
 -- a place in a list, or one past its end
@@ -42,29 +43,42 @@ by_place : {X A : Type 0} (xs : List X) (i : ℕ) → ((x : X) → slice_get xs 
 by_place xs i inside past = elim (slice_get_cases xs i).1 [ inl found ↦ inside found.0 found.2 found.1 | inr none ↦ past none.0 ]
 
 -- ---- what is found of the constants and the overrides
-found_length : (value : ConstantTree → Option Value) (es : List ConstantTree) (parts : PartTypes) (ts : List ValueType) (os : List Value) → length es ≤ length ts → IsTrue (has_types parts (drop (length es) ts) os) → length (map value es ++ map Some os) ≡ length ts
+found_length : (value : ConstantTree → Option Value) (es : List ConstantTree) (parts : PartTypes)
+    (ts : List ValueType) (os : List Value) → length es ≤ length ts →
+    IsTrue (has_types parts (drop (length es) ts) os) →
+    length (map value es ++ map Some os) ≡ length ts
 found_length value [] parts ts os le h = length-map os Some ∙ has_types_length parts ts os h
 found_length value (e ∷ es) parts [] os le h = absurd (omega (arith, le))
 found_length value (e ∷ es) parts (t ∷ ts) os le h = ap suc (found_length value es parts ts os (omega (arith, le)) h)
 
-found_here : (value : ConstantTree → Option Value) (es : List ConstantTree) (os : List Value) (i : ℕ) (e : ConstantTree) → slice_get es i ≡ Some e → known_value (map value es ++ map Some os) i ≡ value e
+found_here : (value : ConstantTree → Option Value) (es : List ConstantTree) (os : List Value)
+    (i : ℕ) (e : ConstantTree) → slice_get es i ≡ Some e →
+    known_value (map value es ++ map Some os) i ≡ value e
 found_here value [] os i e q = absurd (none-some e q)
 found_here value (d ∷ es) os zero e q = ap value (same_Some d e q)
 found_here value (d ∷ es) os (suc i) e q = found_here value es os i e q
 
-override_here : (value : ConstantTree → Option Value) (es : List ConstantTree) (parts : PartTypes) (ts : List ValueType) (os : List Value) (i : ℕ) → length es ≤ i → i < length ts → IsTrue (has_types parts (drop (length es) ts) os) → TypedValue parts (type_at ts i) (known_value (map value es ++ map Some os) i)
+override_here : (value : ConstantTree → Option Value) (es : List ConstantTree) (parts : PartTypes)
+    (ts : List ValueType) (os : List Value) (i : ℕ) → length es ≤ i → i < length ts →
+    IsTrue (has_types parts (drop (length es) ts) os) →
+    TypedValue parts (type_at ts i) (known_value (map value es ++ map Some os) i)
 override_here value [] parts ts os i le lt h =
     subst (λ o. TypedValue parts (type_at ts i) o) (sym (known_some os i)) (has_type_at parts ts os h i lt)
 override_here value (e ∷ es) parts [] os i le lt h = absurd (omega (arith, lt))
 override_here value (e ∷ es) parts (t ∷ ts) os zero le lt h = absurd (omega (arith, le))
 override_here value (e ∷ es) parts (t ∷ ts) os (suc i) le lt h = override_here value es parts ts os i (omega (arith, le)) (omega (arith, lt)) h
 
-override_same : (value value' : ConstantTree → Option Value) (es : List ConstantTree) (os : List Value) (i : ℕ) → length es ≤ i → known_value (map value es ++ map Some os) i ≡ known_value (map value' es ++ map Some os) i
+override_same : (value value' : ConstantTree → Option Value) (es : List ConstantTree)
+    (os : List Value) (i : ℕ) → length es ≤ i → known_value (map value es ++ map Some os) i ≡
+    known_value (map value' es ++ map Some os) i
 override_same value value' [] os i le = refl
 override_same value value' (e ∷ es) os zero le = absurd (omega (arith, le))
 override_same value value' (e ∷ es) os (suc i) le = override_same value value' es os i (omega (arith, le))
 
-all_there : (parts : PartTypes) (ts : List ValueType) (os : List (Option Value)) → length os ≡ length ts → ((i : ℕ) → i < length ts → TypedValue parts (type_at ts i) (known_value os i)) → (vs : List Value) × (os ≡ map Some vs) × IsTrue (has_types parts ts vs)
+all_there : (parts : PartTypes) (ts : List ValueType) (os : List (Option Value)) →
+    length os ≡ length ts →
+    ((i : ℕ) → i < length ts → TypedValue parts (type_at ts i) (known_value os i)) →
+    (vs : List Value) × (os ≡ map Some vs) × IsTrue (has_types parts ts vs)
 all_there parts [] [] e each = ([], refl, refl)
 all_there parts [] (o ∷ os) e each = absurd (omega (arith, e))
 all_there parts (t ∷ ts) [] e each = absurd (omega (arith, e))
@@ -116,7 +130,14 @@ length-constants_from n j [] = refl
 length-constants_from n j (e ∷ es) = ap suc (length-constants_from n (suc j) es)
 
 -- named constants and overrides are names of which this is known
-constants_known : (n : ModuleNames) (value : ConstantTree → Option Value) (value' : Tree → Option Denotation) (es : List ConstantTree) (j b k count : ℕ) (os : List Value) (names : Scope) → b ≡ j + length es → count ≡ length es + k → ((i : ℕ) (e : ConstantTree) → slice_get es i ≡ Some e → value' (constant_form n e) ≡ as_denoted (value e)) → with_constants value' (constants_from n j es) (with_parameters (names_from n.constant b k) os names) ≡ with_known (names_from n.constant j count) (map value es ++ map Some os) names
+constants_known : (n : ModuleNames) (value : ConstantTree → Option Value) (value' : Tree →
+    Option Denotation) (es : List ConstantTree) (j b k count : ℕ) (os : List Value)
+    (names : Scope) → b ≡ j + length es → count ≡ length es + k →
+    ((i : ℕ) (e : ConstantTree) → slice_get es i ≡ Some e →
+    value' (constant_form n e) ≡ as_denoted (value e)) →
+    with_constants value' (constants_from n j es)
+    (with_parameters (names_from n.constant b k) os names) ≡ with_known
+    (names_from n.constant j count) (map value es ++ map Some os) names
 constants_known n value value' [] j b k count os names eb ec each =
     let here : b ≡ j = omega (arith, eb) in
     let all : k ≡ count = omega (arith, ec) in
@@ -128,7 +149,9 @@ constants_known n value value' (e ∷ es) j b k (suc count) os names eb ec each 
     let own = each zero e refl in
     λ i. bind (rest i) (n.constant j) (own i)
 
-no_constant_called : (n : ModuleNames) (word : Bytes) (es : List ConstantTree) (j : ℕ) → ((i : ℕ) → j ≤ i → i < j + length es → n.constant i ≢ word) → list_any (λ c. same_bytes word c.name) (constants_from n j es) ≡ false
+no_constant_called : (n : ModuleNames) (word : Bytes) (es : List ConstantTree) (j : ℕ) →
+    ((i : ℕ) → j ≤ i → i < j + length es → n.constant i ≢ word) →
+    list_any (λ c. same_bytes word c.name) (constants_from n j es) ≡ false
 no_constant_called n word [] j other = refl
 no_constant_called n word (e ∷ es) j other =
     ap (λ b. b || list_any (λ c. same_bytes word c.name) (constants_from n (suc j) es)) (same_bytes_apart word (n.constant j) (λ q. other j (omega arith) (omega arith) (sym q)))
@@ -178,22 +201,31 @@ module _ (p : Module) (n : ModuleNames) (fits : ConstantsFit p n) (s : Settings)
       override_same (tree_value (known_value (found_after p s m r)) m) (λ e. None) p.initialisers s.overrides i le
 
   -- a constant's value is found in the round behind its place
-  found_typed : (rounds i : ℕ) (e : ConstantTree) → slice_get p.initialisers i ≡ Some e → position i < rounds → TypedValue p.parts (type_at p.constant_types i) (known_value (found_after p s m rounds) i)
+  found_typed : (rounds i : ℕ) (e : ConstantTree) → slice_get p.initialisers i ≡ Some e →
+      position i < rounds →
+      TypedValue p.parts (type_at p.constant_types i) (known_value (found_after p s m rounds) i)
   found_typed zero i e q lt = absurd (omega (arith, lt))
   found_typed (suc r) i e q lt =
       let before = known_value (found_after p s m r) in
-      let v = tree_typed p.parts p before m (MayName i) (λ k may. by_kind i k may (λ d at less. found_typed r k d at (omega (arith, lt, less))) (λ l. override_typed r k l may.0)) e (may_name i e q) (typed.initialisers i e q) in
+      let v = tree_typed p.parts p before m (MayName i)
+      (λ k may. by_kind i k may (λ d at less. found_typed r k d at (omega (arith, lt, less)))
+      (λ l. override_typed r k l may.0)) e (may_name i e q) (typed.initialisers i e q) in
       (v.0, found_here (tree_value before m) p.initialisers s.overrides i e q ∙ v.1, ap (λ k. has_type p.parts k v.0) (fits.initialisers i e q).type ∙ v.2)
 
   -- and stays
-  found_same : (rounds more i : ℕ) (e : ConstantTree) → slice_get p.initialisers i ≡ Some e → position i < rounds → position i < more → known_value (found_after p s m rounds) i ≡ known_value (found_after p s m more) i
+  found_same : (rounds more i : ℕ) (e : ConstantTree) → slice_get p.initialisers i ≡ Some e →
+      position i < rounds → position i < more →
+      known_value (found_after p s m rounds) i ≡ known_value (found_after p s m more) i
   found_same zero k i e q lt lt' = absurd (omega (arith, lt))
   found_same (suc r) zero i e q lt lt' = absurd (omega (arith, lt'))
   found_same (suc r) (suc r') i e q lt lt' =
       let a = known_value (found_after p s m r) in
       let b = known_value (found_after p s m r') in
       found_here (tree_value a m) p.initialisers s.overrides i e q
-      ∙ tree_same a b m (MayName i) (λ k may. by_kind i k may (λ d at less. found_same r r' k d at (omega (arith, lt, less)) (omega (arith, lt', less))) (λ l. override_first r k l ∙ sym (override_first r' k l))) e (may_name i e q)
+      ∙ tree_same a b m (MayName i)
+      (λ k may. by_kind i k may (λ d at less. found_same r r' k d at (omega (arith, lt, less))
+      (omega (arith, lt', less))) (λ l. override_first r k l ∙ sym (override_first r' k l))) e
+      (may_name i e q)
       ∙ sym (found_here (tree_value b m) p.initialisers s.overrides i e q)
 
   position_small : (i : ℕ) (e : ConstantTree) → slice_get p.initialisers i ≡ Some e → position i < constant_count p
@@ -221,7 +253,7 @@ module _ (p : Module) (n : ModuleNames) (fits : ConstantsFit p n) (s : Settings)
       record {
         parts = refl;
         constants = subst (λ l. IsTrue (has_types p.parts p.constant_types l)) (sym constants_are) values.2;
-        globals = settings.globals;
+        globals = choices_stand p.parts p.globals s.globals settings.globals;
       }
 
   known_is : (i : ℕ) → known_value all_rounds i ≡ slice_get env.constants i
@@ -255,7 +287,10 @@ module _ (p : Module) (n : ModuleNames) (fits : ConstantsFit p n) (s : Settings)
     constant_agrees zero i e q lt = absurd (omega (arith, lt))
     constant_agrees (suc r) i e q lt =
         solves.initialisers i e q
-        ∙ tree_same (slice_get other.constants) (slice_get env.constants) m (MayName i) (λ k may. by_kind i k may (λ d at less. constant_agrees r k d at (omega (arith, lt, less))) (λ l. override_agrees k l)) e (may_name i e q)
+        ∙ tree_same (slice_get other.constants) (slice_get env.constants) m (MayName i)
+        (λ k may. by_kind i k may
+        (λ d at less. constant_agrees r k d at (omega (arith, lt, less)))
+        (λ l. override_agrees k l)) e (may_name i e q)
         ∙ sym (constant_is i e q)
 
     each_agrees : (i : ℕ) → slice_get other.constants i ≡ slice_get env.constants i
@@ -279,11 +314,16 @@ module _ (p : Module) (n : ModuleNames) (fits : ConstantsFit p n) (s : Settings)
     names = names_from n.constant 0 (length p.constant_types)
 
     abbrev outside : Scope
-    outside = with_globals (globals_from n.global 0 p.global_types) s.globals 0 no_names
+    outside = with_globals (globals_from n.global 0 p.globals) s.globals 0 no_names
 
-    scope_known : (value : ConstantTree → Option Value) (value' : Tree → Option Denotation) → ((i : ℕ) (e : ConstantTree) → slice_get p.initialisers i ≡ Some e → value' (constant_form n e) ≡ as_denoted (value e)) → scope_with value' text s ≡ with_known names (found_with value p s) outside
+    scope_known : (value : ConstantTree → Option Value) (value' : Tree → Option Denotation) →
+        ((i : ℕ) (e : ConstantTree) → slice_get p.initialisers i ≡ Some e →
+        value' (constant_form n e) ≡ as_denoted (value e)) →
+        scope_with value' text s ≡ with_known names (found_with value p s) outside
     scope_known value value' each =
-        let parted : length p.constant_types ≡ constant_count p + length (override_types p) = sym (found_length value p.initialisers p.parts p.constant_types s.overrides fits.counted settings.overrides) ∙ counted value in
+        let parted : length p.constant_types ≡ constant_count p + length (override_types p) =
+        sym (found_length value p.initialisers p.parts p.constant_types s.overrides fits.counted
+        settings.overrides) ∙ counted value in
         constants_known n value value' p.initialisers 0 (constant_count p) (length (override_types p)) (length p.constant_types) s.overrides outside (omega arith) parted each
       where
         counted : (value : ConstantTree → Option Value) → length (map value p.initialisers ++ map Some s.overrides) ≡ constant_count p + length (override_types p)
@@ -305,23 +345,27 @@ module _ (p : Module) (n : ModuleNames) (fits : ConstantsFit p n) (s : Settings)
       free : (word : Bytes) → OperatesOutside p n word → here word ≡ None
       free word o =
           known_other n.constant word (length p.constant_types) 0 (λ i le lt e. o.constants i (omega (arith, lt)) e) found outside
-          ∙ globals_other n.global word p.global_types 0 (λ i le lt e. o.globals i (omega (arith, lt)) e) s.globals no_names
+          ∙ globals_other n.global word p.globals 0 (λ i le lt e. o.globals i (omega (arith, lt)) e) s.globals no_names
 
       undeclared : (word : Bytes) → OperatesOutside p n word → is_declared text word ≡ false
       undeclared word o =
           ap (λ b. b || names_function (form_functions fs) word) (no_constant_called n word p.initialisers 0 (λ i le lt e. let counted = fits.counted in o.constants i (omega (arith, lt, counted)) e))
           ∙ no_name_among p n fs within all word o.functions
 
-      operates : (word : Bytes) → OperatesOutside p n word → (os : Option (List Value)) (t : List Event) → as_value (unless (here word) t (word_answer l word (reach os t))) ≡ denoted (operator_value m (Spelled word) os) t
+      operates : (word : Bytes) → OperatesOutside p n word →
+          (os : Option (List Value)) (t : List Event) →
+          as_value (unless (here word) t (word_answer l word (reach os t))) ≡ denoted
+          (operator_value m (Spelled word) os) t
       operates word o os t =
-          ap (λ d. as_value (unless d t (word_answer l word (reach os t)))) (free word o) ∙ given os
+          ap (λ d. as_value (unless d t (word_answer l word (reach os t)))) (free word o)
+          ∙ operates_so os
         where
           tests : (is_declared text word || n.is_request word) ≡ false
           tests = ap (λ b. b || n.is_request word) (undeclared word o) ∙ o.asks_nothing
 
-          given : (os : Option (List Value)) → as_value (word_answer l word (reach os t)) ≡ denoted (operator_value m (Spelled word) os) t
-          given None = refl
-          given (Some vs) = ap (λ b. as_value (cond b (Halts Stuck t) (Gives (Some (m (Spelled word) vs)) t))) tests
+          operates_so : (os : Option (List Value)) → as_value (word_answer l word (reach os t)) ≡ denoted (operator_value m (Spelled word) os) t
+          operates_so None = refl
+          operates_so (Some vs) = ap (λ b. as_value (cond b (Halts Stuck t) (Gives (Some (m (Spelled word) vs)) t))) tests
 
       gives : (i : ℕ) (e : ConstantTree) → slice_get p.initialisers i ≡ Some e → initialiser_value l here (constant_form n e) ≡ as_denoted (tree_value (known_value found) m e)
       gives i e q =
@@ -334,16 +378,19 @@ module _ (p : Module) (n : ModuleNames) (fits : ConstantsFit p n) (s : Settings)
     round_is zero = scope_known (λ e. None) (λ e. None) (λ i e q. refl)
     round_is (suc r) =
         let found = found_after p s m r in
-        scope_known (tree_value (known_value found) m) (initialiser_value l (scope_after l text s r)) (λ i e q. ap (λ scope. initialiser_value l scope (constant_form n e)) (round_is r) ∙ gives found (found_counted r) i e q)
+        scope_known (tree_value (known_value found) m)
+        (initialiser_value l (scope_after l text s r))
+        (λ i e q. ap (λ scope. initialiser_value l scope (constant_form n e)) (round_is r)
+        ∙ gives found (found_counted r) i e q)
 
-    pub scope_is : module_scope text s w m n.is_request ≡ module_names_given p n env
+    pub scope_is : module_scope text s w m n.is_request ≡ module_names_in_scope p n env
     scope_is =
         ap (scope_after l text s) (length-constants_from n 0 p.initialisers)
         ∙ round_is (constant_count p)
         ∙ ap (λ os. with_known names os outside) values.1
         ∙ sym (parameters_known names values.0 outside)
         ∙ ap (λ vs. with_parameters names vs outside) (sym constants_are)
-        ∙ ap (λ gs. with_parameters names env.constants (with_globals (globals_from n.global 0 p.global_types) gs 0 no_names)) (sym (held_values p.global_types s.globals settings.counted))
+        ∙ ap (λ gs. with_parameters names env.constants (with_globals (globals_from n.global 0 p.globals) gs 0 no_names)) (sym (held_values p.parts p.globals s.globals settings.globals))
 
 pub constants_are_computed : ConstantsAreComputed
 constants_are_computed p n fits s settings m typed =

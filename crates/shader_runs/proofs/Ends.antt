@@ -33,7 +33,9 @@ module _ (c : Call) (n : ℕ) where
   EndsOne st =
       (ss : Statements) (kept : KeptValues) (t : List Event) → IsTrue (is_early (run c n st kept t)) → EndsAt c n (then st ss) kept t (run c n st kept t)
 
-  ends_behind : (st : Statement) (ss : Statements) (kept kept1 : KeptValues) (t t1 : List Event) (o : Outcome KeptValues) → run c n st kept t ≡ Done kept1 t1 → EndsAt c n ss kept1 t1 o → EndsAt c n (then st ss) kept t o
+  ends_behind : (st : Statement) (ss : Statements) (kept kept1 : KeptValues) (t t1 : List Event)
+      (o : Outcome KeptValues) → run c n st kept t ≡ Done kept1 t1 → EndsAt c n ss kept1 t1 o →
+      EndsAt c n (then st ss) kept t o
   ends_behind st ss kept kept1 t t1 o e w =
       record {
         point = behind w.point;
@@ -47,7 +49,9 @@ module _ (c : Call) (n : ℕ) where
         ends = w.ends;
       }
 
-  ends_inside : (st : Statement) (g : Region) (ss : Statements) (kept kept1 : KeptValues) (t t1 : List Event) (o : Outcome KeptValues) → Comes c n st g kept t kept1 t1 → EndsAt c n (statements_in st g) kept1 t1 o → EndsAt c n (then st ss) kept t o
+  ends_inside : (st : Statement) (g : Region) (ss : Statements) (kept kept1 : KeptValues)
+      (t t1 : List Event) (o : Outcome KeptValues) → Comes c n st g kept t kept1 t1 →
+      EndsAt c n (statements_in st g) kept1 t1 o → EndsAt c n (then st ss) kept t o
   ends_inside st g ss kept kept1 t t1 o e w =
       record {
         point = inside g w.point;
@@ -78,7 +82,10 @@ module _ (c : Call) (n : ℕ) where
   then_ends : (st : Statement) (ss : Statements) → EndsOne st → EndsOf ss → EndsOf (then st ss)
   then_ends st ss one all kept t = go (run c n st kept t) refl (one ss kept t)
     where
-      go : (o : Outcome KeptValues) → run c n st kept t ≡ o → (IsTrue (is_early o) → EndsAt c n (then st ss) kept t o) → IsTrue (is_early (and_then o (run_all c n ss))) → EndsAt c n (then st ss) kept t (and_then o (run_all c n ss))
+      go : (o : Outcome KeptValues) → run c n st kept t ≡ o →
+          (IsTrue (is_early o) → EndsAt c n (then st ss) kept t o) →
+          IsTrue (is_early (and_then o (run_all c n ss))) →
+          EndsAt c n (then st ss) kept t (and_then o (run_all c n ss))
       go (Done k t1) e own early = ends_behind st ss kept k t t1 (run_all c n ss k t1) e (all k t1 early)
       go (Continued k t1) e own early = own early
       go (Broke k t1) e own early = own early
@@ -88,7 +95,11 @@ module _ (c : Call) (n : ℕ) where
   if_ends : (h : ℕ) (a b : Statements) → EndsOf a → EndsOf b → EndsOne (If h a b)
   if_ends h a b in_a in_b ss kept t = go (used_value c kept h) refl
     where
-      go : (o : Option Value) → used_value c kept h ≡ o → IsTrue (is_early (or_stuck o t (λ v. branch_by v t (run_all c n a kept t) (run_all c n b kept t)))) → EndsAt c n (then (If h a b) ss) kept t (or_stuck o t (λ v. branch_by v t (run_all c n a kept t) (run_all c n b kept t)))
+      go : (o : Option Value) → used_value c kept h ≡ o →
+          IsTrue (is_early
+          (or_stuck o t (λ v. branch_by v t (run_all c n a kept t) (run_all c n b kept t)))) →
+          EndsAt c n (then (If h a b) ss) kept t
+          (or_stuck o t (λ v. branch_by v t (run_all c n a kept t) (run_all c n b kept t)))
       go (Some (Truth true)) e early =
           ends_inside (If h a b) _ ss kept kept t t (run_all c n a kept t) (into_accept e) (in_a kept t early)
       go (Some (Truth false)) e early =
@@ -118,7 +129,10 @@ module _ (c : Call) (n : ℕ) where
   on_ends : (l : Label) (b : Statements) (falls : Bool) (cs : Cases) → EndsOf b → EndsOn cs → EndsOn (case l b falls cs)
   on_ends l b falls cs in_b on kept t = go falls (run_all c n b kept t) refl (in_b kept t)
     where
-      go : (falls : Bool) (o : Outcome KeptValues) → run_all c n b kept t ≡ o → (IsTrue (is_early o) → EndsAt c n b kept t o) → IsTrue (is_early (and_then o (Goes_on falls cs))) → OnTo (case l b falls cs) kept t (and_then o (Goes_on falls cs))
+      go : (falls : Bool) (o : Outcome KeptValues) → run_all c n b kept t ≡ o →
+          (IsTrue (is_early o) → EndsAt c n b kept t o) →
+          IsTrue (is_early (and_then o (Goes_on falls cs))) →
+          OnTo (case l b falls cs) kept t (and_then o (Goes_on falls cs))
       go true (Done k t1) e own early =
           let w = on k t1 early in
           (suc w.0, w.1, w.2, next_case e w.3, w.4)
@@ -131,7 +145,11 @@ module _ (c : Call) (n : ℕ) where
   for_ends : (l : Label) (b : Statements) (falls : Bool) (cs : Cases) → EndsOn (case l b falls cs) → EndsFor cs → EndsFor (case l b falls cs)
   for_ends l b falls cs on others x kept t = go (same_label x l) refl
     where
-      go : (here : Bool) → same_label x l ≡ here → IsTrue (is_early (cond here (run_on c n (case l b falls cs) kept t) (run_cases c n cs x kept t))) → ForTo x (case l b falls cs) kept t (cond here (run_on c n (case l b falls cs) kept t) (run_cases c n cs x kept t))
+      go : (here : Bool) → same_label x l ≡ here →
+          IsTrue (is_early
+          (cond here (run_on c n (case l b falls cs) kept t) (run_cases c n cs x kept t))) →
+          ForTo x (case l b falls cs) kept t
+          (cond here (run_on c n (case l b falls cs) kept t) (run_cases c n cs x kept t))
       go true e early =
           let w = on kept t early in
           (w.0, w.1, w.2, own_case e w.3, w.4)
@@ -150,7 +168,16 @@ module _ (c : Call) (n : ℕ) where
   switch_ends : (h : ℕ) (cs : Cases) → EndsFor cs → EndsOne (Switch h cs)
   switch_ends h cs cases ss kept t = go (used_value c kept h) refl
     where
-      go : (o : Option Value) → used_value c kept h ≡ o → IsTrue (is_early (or_stuck o t (λ v. with_integer v t (λ z. after_switch (run_cases c n cs (label_if (has_label (Numbered z) cs) z) kept t))))) → EndsAt c n (then (Switch h cs) ss) kept t (or_stuck o t (λ v. with_integer v t (λ z. after_switch (run_cases c n cs (label_if (has_label (Numbered z) cs) z) kept t))))
+      go : (o : Option Value) → used_value c kept h ≡ o →
+          IsTrue (is_early
+          (or_stuck o t
+          (λ v. with_integer v t
+          (λ z. after_switch
+          (run_cases c n cs (label_if (has_label (Numbered z) cs) z) kept t))))) →
+          EndsAt c n (then (Switch h cs) ss) kept t
+          (or_stuck o t
+          (λ v. with_integer v t
+          (λ z. after_switch (run_cases c n cs (label_if (has_label (Numbered z) cs) z) kept t))))
       go (Some (Whole spelling z)) e early =
           let x = label_if (has_label (Numbered z) cs) z in
           let keeps = switch_keeps (run_cases c n cs x kept t) early in
@@ -175,7 +202,11 @@ module _ (c : Call) (n : ℕ) where
   last_turn once zero kept t early = not_early early
   last_turn once (suc m) kept t early = go (once kept t) refl (last_turn once m) early
     where
-      go : (o : Outcome KeptValues) → once kept t ≡ o → ((kept : KeptValues) (t : List Event) → IsTrue (is_early (turns m once kept t)) → LastTurn once m kept t (turns m once kept t)) → IsTrue (is_early (and_again o (turns m once))) → LastTurn once (suc m) kept t (and_again o (turns m once))
+      go : (o : Outcome KeptValues) → once kept t ≡ o →
+          ((kept : KeptValues) (t : List Event) → IsTrue (is_early (turns m once kept t)) →
+          LastTurn once m kept t (turns m once kept t)) →
+          IsTrue (is_early (and_again o (turns m once))) →
+          LastTurn once (suc m) kept t (and_again o (turns m once))
       go (Done k t1) e later early =
           let w = later k t1 early in
           (suc w.0, w.1, w.2, omega (arith, w.3), one_more_turn once w.0 kept k t t1 (Done w.1 w.2) e w.4, w.5, w.6)
@@ -194,11 +225,16 @@ module _ (c : Call) (n : ℕ) where
       go _ early = not_early early
 
   -- in that turn the body or `continuing` ends early
-  module _ (b d : Statements) (e : Option ℕ) (ss : Statements) (in_b : EndsOf b) (in_d : EndsOf d) (kept kept1 : KeptValues) (t t1 : List Event) (j : ℕ) (less : j < n) (done : after_turns (module_turn c n b d e) j kept t ≡ Done kept1 t1) where
+  module _ (b d : Statements) (e : Option ℕ) (ss : Statements) (in_b : EndsOf b) (in_d : EndsOf d)
+      (kept kept1 : KeptValues) (t t1 : List Event) (j : ℕ) (less : j < n)
+      (done : after_turns (module_turn c n b d e) j kept t ≡ Done kept1 t1) where
     abbrev Ends : Outcome KeptValues → Type 0
     Ends o = EndsAt c n (then (Loop b d e) ss) kept t o
 
-    continuing_ends : (k : KeptValues) (t2 : List Event) → and_continue (run_all c n b kept1 t1) (λ s t. Done s t) ≡ Done k t2 → IsTrue (ends_loop (and_then (within (run_all c n d k t2)) (leave c e))) → Ends (and_then (within (run_all c n d k t2)) (leave c e))
+    continuing_ends : (k : KeptValues) (t2 : List Event) →
+        and_continue (run_all c n b kept1 t1) (λ s t. Done s t) ≡ Done k t2 →
+        IsTrue (ends_loop (and_then (within (run_all c n d k t2)) (leave c e))) →
+        Ends (and_then (within (run_all c n d k t2)) (leave c e))
     continuing_ends k t2 q = go (run_all c n d k t2) (in_d k t2)
       where
         go : (o : Outcome KeptValues) → (IsTrue (is_early o) → EndsAt c n d k t2 o) → IsTrue (ends_loop (and_then (within o) (leave c e))) → Ends (and_then (within o) (leave c e))
@@ -213,7 +249,11 @@ module _ (c : Call) (n : ℕ) where
     turn_ends : IsTrue (ends_loop (module_turn c n b d e kept1 t1)) → Ends (module_turn c n b d e kept1 t1)
     turn_ends = go (run_all c n b kept1 t1) refl (in_b kept1 t1)
       where
-        go : (o : Outcome KeptValues) → run_all c n b kept1 t1 ≡ o → (IsTrue (is_early o) → EndsAt c n b kept1 t1 o) → IsTrue (ends_loop (and_continue o (λ k t2. and_then (within (run_all c n d k t2)) (leave c e)))) → Ends (and_continue o (λ k t2. and_then (within (run_all c n d k t2)) (leave c e)))
+        go : (o : Outcome KeptValues) → run_all c n b kept1 t1 ≡ o →
+            (IsTrue (is_early o) → EndsAt c n b kept1 t1 o) →
+            IsTrue (ends_loop
+            (and_continue o (λ k t2. and_then (within (run_all c n d k t2)) (leave c e)))) →
+            Ends (and_continue o (λ k t2. and_then (within (run_all c n d k t2)) (leave c e)))
         go (Done k t2) q own early = continuing_ends k t2 (ap (λ o. and_continue o (λ s t. Done s t)) q) early
         go (Continued k t2) q own early = continuing_ends k t2 (ap (λ o. and_continue o (λ s t. Done s t)) q) early
         go (Broke k t2) q own early = not_early early

@@ -45,7 +45,10 @@ words c d = record { world = c.world; meaning = c.meaning; respond = d }
 pub record Responds (p : Module) (c : Call) (n : Names) (d : Respond) : Type 0 where
   pub requests : (w : Bytes) → AsksBy p (naming c n) w → (vs : List Value) (t : List Event) → d w vs t ≡ respond_by_use AsksForEvent c.world c.meaning w vs t
   pub operators : (w : Bytes) → OperatesBy p (naming c n) w → (vs : List Value) (t : List Event) → d w vs t ≡ respond_by_use Operates c.world c.meaning w vs t
-  pub calls : (g : ℕ) (callee : Function) → function_numbered c.callees g ≡ Some callee → (vs : List Value) → IsTrue (has_types c.environment.parts callee.argument_types vs) → (t : List Event) → Answers (Returns c.environment.parts callee) (c.calls g vs t) (d (n.outer.function g) vs t)
+  pub calls : (g : ℕ) (callee : Function) → function_numbered c.callees g ≡ Some callee →
+      (vs : List Value) → IsTrue (has_types c.environment.parts callee.argument_types vs) →
+      (t : List Event) → Answers (Returns c.environment.parts callee) (c.calls g vs t)
+      (d (n.outer.function g) vs t)
 
 abbrev pub denoted : Option Value → List Event → ReachedOrHalted Denotation
 denoted o t = reach (as_denoted o) t
@@ -82,30 +85,46 @@ AllMean c d names kept operand [] = Unit {0}
 AllMean c d names kept operand (x ∷ xs) =
     Means c d names (operand x) (used_value c kept x) × AllMean c d names kept operand xs
 
-pub followed_reached : (o : Option Value) (os : Option (List Value)) (t : List Event) (rest : List Event → ReachedOrHalted (List Value)) → ((t : List Event) → rest t ≡ reach os t) → followed_by (reach o t) rest ≡ reach (also o os) t
+pub followed_reached : (o : Option Value) (os : Option (List Value)) (t : List Event)
+    (rest : List Event → ReachedOrHalted (List Value)) → ((t : List Event) → rest t ≡ reach os t) →
+    followed_by (reach o t) rest ≡ reach (also o os) t
 followed_reached None os t rest h = refl
 followed_reached (Some v) None t rest h = ap (put_before v) (h t)
 followed_reached (Some v) (Some vs) t rest h = ap (put_before v) (h t)
 
-pub value_forms_give : (c : Call) (d : Respond) (names : Scope) (kept : KeptValues) (operand : ℕ → Plain) (xs : List ℕ) → AllMean c d names kept operand xs → (t : List Event) → evaluate_all (words c d) (value_forms operand xs) names t ≡ reach (used_values c kept xs) t
+pub value_forms_give : (c : Call) (d : Respond) (names : Scope) (kept : KeptValues) (operand : ℕ →
+    Plain) (xs : List ℕ) → AllMean c d names kept operand xs →
+    (t : List Event) → evaluate_all (words c d) (value_forms operand xs) names t ≡ reach
+    (used_values c kept xs) t
 value_forms_give c d names kept operand [] m t = refl
 value_forms_give c d names kept operand (x ∷ xs) m t =
     let rest = evaluate_all (words c d) (value_forms operand xs) names in
     ap (λ r. followed_by r rest) (value_form_gives c d names (operand x) (used_value c kept x) m.0 t)
     ∙ followed_reached (used_value c kept x) (used_values c kept xs) t rest (value_forms_give c d names kept operand xs m.1)
 
-pub operator_responds : (p : Module) (c : Call) (n : Names) (d : Respond) → Responds p c n d → (w : Bytes) → OperatesBy p (naming c n) w → (vs : List Value) (t : List Event) → d w vs t ≡ Gives (Some (c.meaning (Spelled w) vs)) t
+pub operator_responds : (p : Module) (c : Call) (n : Names) (d : Respond) → Responds p c n d →
+    (w : Bytes) → OperatesBy p (naming c n) w → (vs : List Value) (t : List Event) →
+    d w vs t ≡ Gives (Some (c.meaning (Spelled w) vs)) t
 operator_responds p c n d r w f vs t = r.operators w f vs t
 
-pub request_responds : (p : Module) (c : Call) (n : Names) (d : Respond) → Responds p c n d → (w : Bytes) → AsksBy p (naming c n) w → (vs : List Value) (t : List Event) → d w vs t ≡ Gives (Some (c.world t (Ask w vs))) (Ask w vs ∷ t)
+pub request_responds : (p : Module) (c : Call) (n : Names) (d : Respond) → Responds p c n d →
+    (w : Bytes) → AsksBy p (naming c n) w → (vs : List Value) (t : List Event) →
+    d w vs t ≡ Gives (Some (c.world t (Ask w vs))) (Ask w vs ∷ t)
 request_responds p c n d r w f vs t = r.requests w f vs t
 
-operated : (p : Module) (c : Call) (n : Names) (d : Respond) → Responds p c n d → (w : Bytes) → OperatesBy p (naming c n) w → (os : Option (List Value)) (t : List Event) → as_value (word_answer (words c d) w (reach os t)) ≡ denoted (operator_value c.meaning (Spelled w) os) t
+operated : (p : Module) (c : Call) (n : Names) (d : Respond) → Responds p c n d →
+    (w : Bytes) → OperatesBy p (naming c n) w → (os : Option (List Value)) (t : List Event) →
+    as_value (word_answer (words c d) w (reach os t)) ≡ denoted
+    (operator_value c.meaning (Spelled w) os) t
 operated p c n d r w f None t = refl
 operated p c n d r w f (Some vs) t = ap as_value (operator_responds p c n d r w f vs t)
 
 -- an operator's word on what its operands give
-pub applied_reached : (p : Module) (c : Call) (n : Names) (d : Respond) → Responds p c n d → (w : Bytes) → OperatesBy p (naming c n) w → (o : Option Denotation) → o ≡ None → (os : Option (List Value)) (t : List Event) → as_value (unless o t (word_answer (words c d) w (reach os t))) ≡ denoted (operator_value c.meaning (Spelled w) os) t
+pub applied_reached : (p : Module) (c : Call) (n : Names) (d : Respond) → Responds p c n d →
+    (w : Bytes) → OperatesBy p (naming c n) w → (o : Option Denotation) → o ≡ None →
+    (os : Option (List Value)) (t : List Event) →
+    as_value (unless o t (word_answer (words c d) w (reach os t))) ≡ denoted
+    (operator_value c.meaning (Spelled w) os) t
 applied_reached p c n d r w f o e os t =
     ap (λ o. as_value (unless o t (word_answer (words c d) w (reach os t)))) e ∙ operated p c n d r w f os t
 
@@ -163,18 +182,26 @@ index_value_is m x y n = ap (λ o. index_value_by m o x y) n
 pub part_value_is : (m : Meaning) (x : Selector) (b : Value) → place_in b ≡ None → part_value m x b ≡ Some (m (PartWord x) (b ∷ []))
 part_value_is m x b n = ap (λ o. part_value_by m x o b) n
 
-pub index_value : (m : Meaning) (x y v : Value) → place_in x ≡ None → index_value_of m x y ≡ Some v → (p : ReachedOrHalted Denotation) (rest : List Event → ReachedOrHalted Value) (t : List Event) → p ≡ Gives (IsValue x) t → rest t ≡ Gives y t → index_into m p rest ≡ Gives (IsValue v) t
+pub index_value : (m : Meaning) (x y v : Value) → place_in x ≡ None →
+    index_value_of m x y ≡ Some v →
+    (p : ReachedOrHalted Denotation) (rest : List Event → ReachedOrHalted Value) (t : List Event) →
+    p ≡ Gives (IsValue x) t → rest t ≡ Gives y t → index_into m p rest ≡ Gives (IsValue v) t
 index_value m x y v n e p rest t q r =
     let same = same_Some (m IndexWord (x ∷ y ∷ [])) v (sym (index_value_is m x y n) ∙ e) in
     ap (λ p. index_into m p rest) q ∙ ap (λ o. unless o t (index_reached m x (rest t))) n ∙ ap (index_reached m x) r ∙ ap (λ v. Gives (IsValue v) t) same
 
-pub part_picked_value : (m : Meaning) (x : Selector) (b v : Value) → place_in b ≡ None → part_value m x b ≡ Some v → (p : ReachedOrHalted Denotation) (t : List Event) → p ≡ Gives (IsValue b) t → part_picked m x p ≡ Gives (IsValue v) t
+pub part_picked_value : (m : Meaning) (x : Selector) (b v : Value) → place_in b ≡ None →
+    part_value m x b ≡ Some v → (p : ReachedOrHalted Denotation) (t : List Event) →
+    p ≡ Gives (IsValue b) t → part_picked m x p ≡ Gives (IsValue v) t
 part_picked_value m x b v n e p t q =
     let same = same_Some (m (PartWord x) (b ∷ [])) v (sym (part_value_is m x b n) ∙ e) in
     ap (part_picked m x) q ∙ ap (λ o. unless o t (Gives (IsValue (m (PartWord x) (b ∷ []))) t)) n ∙ ap (λ v. Gives (IsValue v) t) same
 
 -- the two sides of `&&` and `||`
-pub logical_reached_value : (m : Meaning) (j : ShortCircuit) (l r : Value) (p : ReachedOrHalted Value) (rest : List Event → ReachedOrHalted Value) (t : List Event) → p ≡ Gives l t → rest t ≡ Gives r t → logical_reached m j p rest ≡ Gives (IsValue (cond (decides j l) l (undecided_value m j l r))) t
+pub logical_reached_value : (m : Meaning) (j : ShortCircuit) (l r : Value)
+    (p : ReachedOrHalted Value) (rest : List Event → ReachedOrHalted Value) (t : List Event) →
+    p ≡ Gives l t → rest t ≡ Gives r t →
+    logical_reached m j p rest ≡ Gives (IsValue (cond (decides j l) l (undecided_value m j l r))) t
 logical_reached_value m j l r p rest t e q = ap (λ p. logical_reached m j p rest) e ∙ go (decides j l)
   where
     go : (b : Bool) → elim b as (λ _. ReachedOrHalted Denotation) [ true ↦ Gives (IsValue l) t | false ↦ undecided_reached m j l (rest t) ] ≡ Gives (IsValue (cond b l (undecided_value m j l r))) t
@@ -182,36 +209,60 @@ logical_reached_value m j l r p rest t e q = ap (λ p. logical_reached m j p res
     go false = ap (undecided_reached m j l) q
 
 module _ (c : Call) (d : Respond) (names : Scope) where
-  index_place : (pt : Bytes) (b i : Plain) (x y v : Value) → Means c d names b (Some x) → Means c d names i (Some y) → IsTrue (has_type c.environment.parts (PointerType pt) x) → index_value_of c.meaning x y ≡ Some v → Means c d names (AsPlace (Index (place_form b) (value_form i))) (Some v)
+  index_place : (pt : Bytes) (b i : Plain) (x y v : Value) → Means c d names b (Some x) →
+      Means c d names i (Some y) → IsTrue (has_type c.environment.parts (PointerType pt) x) →
+      index_value_of c.meaning x y ≡ Some v →
+      Means c d names (AsPlace (Index (place_form b) (value_form i))) (Some v)
   index_place pt b i x y v mb mi h e =
       let q = pointer_typed c.environment.parts (PointerType pt) tt x h in
       element q.0 (ap place_in q.1) (integer_in y) refl (sym (ap (λ x. index_value_of c.meaning x y) q.1) ∙ e)
     where
-      element : (p : Place) → place_in x ≡ Some p → (o : Option ℤ) → integer_in y ≡ o → option_map (λ z. Pointer (Part p (At z))) o ≡ Some v → Means c d names (AsPlace (Index (place_form b) (value_form i))) (Some v)
+      element : (p : Place) → place_in x ≡ Some p → (o : Option ℤ) → integer_in y ≡ o →
+          option_map (λ z. Pointer (Part p (At z))) o ≡ Some v →
+          Means c d names (AsPlace (Index (place_form b) (value_form i))) (Some v)
       element p q None s e = absurd (none-some v e)
       element p q (Some z) s e =
-          let rest = value_of (words c d) (value_form i) names in
-          (Part p (At z), sym e, λ t. ap (λ r. index_into c.meaning r rest) (place_form_gives c d names b (Some x) mb t ∙ ap (λ o. reach (option_map IsPlace o) t) q) ∙ ap (part_reached p) (value_form_gives c d names i (Some y) mi t) ∙ ap (λ o. reach (option_map (λ z. IsPlace (Part p (At z))) o) t) s)
+          let rest = value_of (words c d) (value_form i) names in (
+            Part p (At z),
+            sym e,
+            λ t. ap (λ r. index_into c.meaning r rest) (place_form_gives c d names b (Some x) mb t
+                ∙ ap (λ o. reach (option_map IsPlace o) t) q)
+                ∙ ap (part_reached p) (value_form_gives c d names i (Some y) mi t)
+                ∙ ap (λ o. reach (option_map (λ z. IsPlace (Part p (At z))) o) t) s,
+          )
 
-  index_means : (b i : Plain) (x y v : Value) → Means c d names b (Some x) → Means c d names i (Some y) → place_in x ≡ None → index_value_of c.meaning x y ≡ Some v → Means c d names (AsValue (Index (value_form b) (value_form i))) (Some v)
+  index_means : (b i : Plain) (x y v : Value) → Means c d names b (Some x) →
+      Means c d names i (Some y) → place_in x ≡ None → index_value_of c.meaning x y ≡ Some v →
+      Means c d names (AsValue (Index (value_form b) (value_form i))) (Some v)
   index_means b i x y v mb mi h e t =
-      index_value c.meaning x y v h e (evaluate (words c d) (value_form b) names t) (value_of (words c d) (value_form i) names) t (value_form_denotes c d names b (Some x) mb t) (value_form_gives c d names i (Some y) mi t)
+      index_value c.meaning x y v h e (evaluate (words c d) (value_form b) names t)
+      (value_of (words c d) (value_form i) names) t
+      (value_form_denotes c d names b (Some x) mb t)
+      (value_form_gives c d names i (Some y) mi t)
 
-  pub access_means : (k : ValueType) (b i : Plain) (x y v : Value) → Means c d names b (Some x) → Means c d names i (Some y) → IsTrue (has_type c.environment.parts k x) → index_value_of c.meaning x y ≡ Some v → Means c d names (access_form k b i) (Some v)
+  pub access_means : (k : ValueType) (b i : Plain) (x y v : Value) → Means c d names b (Some x) →
+      Means c d names i (Some y) → IsTrue (has_type c.environment.parts k x) →
+      index_value_of c.meaning x y ≡ Some v → Means c d names (access_form k b i) (Some v)
   access_means (PointerType s) b i x y v mb mi h e = index_place s b i x y v mb mi h e
   access_means k b i x y v mb mi h e =
       index_means b i x y v mb mi (typed_not_pointer c.environment.parts k x refl h) e
 
-  part_place : (pt : Bytes) (x : Selector) (b : Plain) (y v : Value) → Means c d names b (Some y) → IsTrue (has_type c.environment.parts (PointerType pt) y) → part_value c.meaning x y ≡ Some v → Means c d names (AsPlace (PartOf x (place_form b))) (Some v)
+  part_place : (pt : Bytes) (x : Selector) (b : Plain) (y v : Value) → Means c d names b (Some y) →
+      IsTrue (has_type c.environment.parts (PointerType pt) y) → part_value c.meaning x y ≡ Some v →
+      Means c d names (AsPlace (PartOf x (place_form b))) (Some v)
   part_place pt x b y v mb h e =
       let q = pointer_typed c.environment.parts (PointerType pt) tt y h in
       (Part q.0 (step_of x), sym e ∙ ap (part_value c.meaning x) q.1, λ t. ap (part_picked c.meaning x) (place_form_gives c d names b (Some y) mb t ∙ ap (λ v. placed (Some v) t) q.1))
 
-  part_value_means : (x : Selector) (b : Plain) (y v : Value) → Means c d names b (Some y) → place_in y ≡ None → part_value c.meaning x y ≡ Some v → Means c d names (AsValue (PartOf x (value_form b))) (Some v)
+  part_value_means : (x : Selector) (b : Plain) (y v : Value) → Means c d names b (Some y) →
+      place_in y ≡ None → part_value c.meaning x y ≡ Some v →
+      Means c d names (AsValue (PartOf x (value_form b))) (Some v)
   part_value_means x b y v mb h e t =
       part_picked_value c.meaning x y v h e (evaluate (words c d) (value_form b) names t) t (value_form_denotes c d names b (Some y) mb t)
 
-  pub part_means : (k : ValueType) (x : Selector) (b : Plain) (y v : Value) → Means c d names b (Some y) → IsTrue (has_type c.environment.parts k y) → part_value c.meaning x y ≡ Some v → Means c d names (part_form k x b) (Some v)
+  pub part_means : (k : ValueType) (x : Selector) (b : Plain) (y v : Value) →
+      Means c d names b (Some y) → IsTrue (has_type c.environment.parts k y) →
+      part_value c.meaning x y ≡ Some v → Means c d names (part_form k x b) (Some v)
   part_means (PointerType s) x b y v mb h e = part_place s x b y v mb h e
   part_means k x b y v mb h e = part_value_means x b y v mb (typed_not_pointer c.environment.parts k y refl h) e
 
@@ -222,11 +273,19 @@ module _ (c : Call) (d : Respond) (names : Scope) where
   no_pointer_type (PointerType s) n = absurd n
   no_pointer_type k n = refl
 
-  pub swizzle_means : (k : ValueType) (letters : Bytes) (b : Plain) (y v : Value) → Means c d names b (Some y) → IsNoPointer k → IsTrue (has_type c.environment.parts k y) → swizzle_value c.meaning letters y ≡ Some v → Means c d names (AsValue (PartOf (MemberNamed letters) (value_form b))) (Some v)
+  pub swizzle_means : (k : ValueType) (letters : Bytes) (b : Plain) (y v : Value) →
+      Means c d names b (Some y) → IsNoPointer k → IsTrue (has_type c.environment.parts k y) →
+      swizzle_value c.meaning letters y ≡ Some v →
+      Means c d names (AsValue (PartOf (MemberNamed letters) (value_form b))) (Some v)
   swizzle_means k letters b y v mb n h e =
       let other = typed_not_pointer c.environment.parts k y (no_pointer_type k n) h in
       part_value_means (MemberNamed letters) b y v mb other (swizzled_value letters y v other e)
 
-  pub logical_means : (j : ShortCircuit) (a b : Plain) (l r : Value) → Means c d names a (Some l) → Means c d names b (Some r) → Means c d names (AsValue (LogicalOf j (value_form a) (value_form b))) (Some (cond (decides j l) l (undecided_value c.meaning j l r)))
+  pub logical_means : (j : ShortCircuit) (a b : Plain) (l r : Value) → Means c d names a (Some l) →
+      Means c d names b (Some r) →
+      Means c d names (AsValue (LogicalOf j (value_form a) (value_form b)))
+      (Some (cond (decides j l) l (undecided_value c.meaning j l r)))
   logical_means j a b l r ma mb t =
-      logical_reached_value c.meaning j l r (value_of (words c d) (value_form a) names t) (value_of (words c d) (value_form b) names) t (value_form_gives c d names a (Some l) ma t) (value_form_gives c d names b (Some r) mb t)
+      logical_reached_value c.meaning j l r (value_of (words c d) (value_form a) names t)
+      (value_of (words c d) (value_form b) names) t (value_form_gives c d names a (Some l) ma t)
+      (value_form_gives c d names b (Some r) mb t)

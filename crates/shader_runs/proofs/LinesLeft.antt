@@ -7,11 +7,11 @@ use Rattle.shader_runs.specs.World.{bind}
 use Rattle.shader_runs.specs.Program.{Statement, Emit, Store, Block, If, Switch, Loop, Break}
 use Rattle.shader_runs.specs.Program.{Continue, Return, Kill, Barrier, Act, Statements, end, then}
 use Rattle.shader_runs.specs.Program.{Cases, no_case, case, Label, Function, expression_of}
-use Rattle.shader_runs.specs.Program.{handle_type, binds, from, holds_continue, any_continue}
+use Rattle.shader_runs.specs.Program.{binds, from, holds_continue, any_continue}
 use Rattle.shader_runs.specs.Program.{some_case_continues, Module}
 use Rattle.shader_runs.specs.ProgramRun.{barrier_words}
-use Rattle.shader_runs.specs.Scope.{Handles, Naming, bound_name, given_after, given_by}
-use Rattle.shader_runs.specs.Scope.{given_by_all, after_one, after, after_all}
+use Rattle.shader_runs.specs.Scope.{Handles, Naming, bound_name, named_after, named_by}
+use Rattle.shader_runs.specs.Scope.{named_by_all, after_one, after, after_all}
 use Rattle.shader_runs.specs.Text.{Tree, Lines}
 use Rattle.shader_runs.specs.TextRun.{some_continue, some_group_continues}
 use Rattle.shader_runs.specs.Form.{value_form, own_form, written_form, let_if, lets, perform_each}
@@ -35,7 +35,7 @@ module _ (p : Module) (callees : List Function) (f : Naming) where
     line_continues k (Emit first count) s tail regular = lets_continue f k (from first count) s tail
     line_continues k (Block b) s tail regular = ap (λ c. c || some_continue tail) (lines_continue k b s regular)
     line_continues k (If c a b) s tail regular =
-        λ i. (lines_continue k a s regular.0 i || lines_continue (given_by_all f.function a k) b s regular.1 i) || some_continue tail
+        λ i. (lines_continue k a s regular.0 i || lines_continue (named_by_all f.function a k) b s regular.1 i) || some_continue tail
     line_continues k (Switch h cs) s tail regular = ap (λ c. c || some_continue tail) (groups_continue k [] cs s regular)
     line_continues k (Barrier bits) s tail regular = performs_continue (barrier_words bits) tail
     line_continues k (Act a xs None) s tail regular = refl
@@ -45,16 +45,16 @@ module _ (p : Module) (callees : List Function) (f : Naming) where
     lines_continue : (k : ℕ) (ss : Statements) (s : Handles) → AreRegular p callees f ss → some_continue (form_all f k ss s) ≡ any_continue ss
     lines_continue k end s regular = refl
     lines_continue k (then st ss) s regular =
-        line_continues k st s (form_all f (given_by f.function st k) ss (after f k st s)) regular.0
-        ∙ ap (λ c. holds_continue st || c) (lines_continue (given_by f.function st k) ss (after f k st s) regular.1)
+        line_continues k st s (form_all f (named_by f.function st k) ss (after f k st s)) regular.0
+        ∙ ap (λ c. holds_continue st || c) (lines_continue (named_by f.function st k) ss (after f k st s) regular.1)
 
     groups_continue : (k : ℕ) (labels : List Label) (cs : Cases) (s : Handles) → CasesAreRegular p callees f cs → some_group_continues (form_cases f k labels cs s) ≡ some_case_continues cs
     groups_continue k labels no_case s regular = refl
     groups_continue k labels (case label b true cs) s regular =
-        groups_continue (given_by_all f.function b k) (labels ++ label ∷ []) cs s regular.2
+        groups_continue (named_by_all f.function b k) (labels ++ label ∷ []) cs s regular.2
         ∙ ap (λ c. c || some_case_continues cs) (sym (falls_continue b cs regular.0))
     groups_continue k labels (case label b false cs) s regular =
-        λ i. lines_continue k b s regular.1 i || groups_continue (given_by_all f.function b k) [] cs s regular.2 i
+        λ i. lines_continue k b s regular.1 i || groups_continue (named_by_all f.function b k) [] cs s regular.2 i
 
 module _ (f : Naming) where
   -- ---- names
@@ -65,7 +65,7 @@ module _ (f : Naming) where
   abbrev pub names_after_all : (k l : ℕ) → List ℕ → Lookup → Lookup
   names_after_all k l [] names = names
   names_after_all k l (h ∷ hs) names =
-      names_after_all (given_after f.function h k) (lets_after f.function h l) hs (names_after k l h names)
+      names_after_all (named_after f.function h k) (lets_after f.function h l) hs (names_after k l h names)
 
   abbrev pub names_after_result : ℕ → Option ℕ → Lookup → Lookup
   names_after_result l None names = names
@@ -80,22 +80,25 @@ module _ (f : Naming) where
   abbrev pub list_names : (k l : ℕ) → Statements → Lookup → Lookup
   list_names k l end names = names
   list_names k l (then st ss) names =
-      cond (holds_continue st) names (list_names (given_by f.function st k) (lets_by f.function st l) ss (names_by k l st names))
+      cond (holds_continue st) names (list_names (named_by f.function st k) (lets_by f.function st l) ss (names_by k l st names))
 
   -- ---- what a statement's lines leave
   -- how many `let`s there are
   pub lets_counted : (k l : ℕ) (hs : List ℕ) (s : Handles) (tail : Lines) → lets_behind_all l (lets f k hs s tail) ≡ lets_behind_all (lets_after_all f.function hs l) tail
   lets_counted k l [] s tail = refl
   lets_counted k l (h ∷ hs) s tail =
-      by (binds f.function h) (λ l1. lets_counted (given_after f.function h k) l1 hs (after_one f k h s) tail)
+      by (binds f.function h) (λ l1. lets_counted (named_after f.function h k) l1 hs (after_one f k h s) tail)
     where
       e : Tree
-      e = value_form (own_form f (written_form f s) (handle_type f.function h) (expression_of f.function h))
+      e = value_form (own_form f (written_form f s) (expression_of f.function h))
 
       rest : Lines
-      rest = lets f (given_after f.function h k) hs (after_one f k h s) tail
+      rest = lets f (named_after f.function h k) hs (after_one f k h s) tail
 
-      by : (b : Bool) → ((l1 : ℕ) → lets_behind_all l1 rest ≡ lets_behind_all (lets_after_all f.function hs l1) tail) → lets_behind_all l (let_if b (bound_name f k h) e rest) ≡ lets_behind_all (lets_after_all f.function hs (cond b (suc l) l)) tail
+      by : (b : Bool) →
+          ((l1 : ℕ) → lets_behind_all l1 rest ≡ lets_behind_all (lets_after_all f.function hs l1)
+          tail) → lets_behind_all l (let_if b (bound_name f k h) e rest) ≡ lets_behind_all
+          (lets_after_all f.function hs (cond b (suc l) l)) tail
       by true further = further (suc l)
       by false further = further l
 
@@ -108,12 +111,12 @@ module _ (f : Naming) where
     line_counted k l (Emit first count) s tail = lets_counted k l (from first count) s tail
     line_counted k l (Block b) s tail = ap (λ n. lets_behind_all n tail) (lines_counted k l b s)
     line_counted k l (If c a b) s tail =
-        let k1 = given_by_all f.function a k in
+        let k1 = named_by_all f.function a k in
         ap (λ n. lets_behind_all (lets_behind_all n (form_all f k1 b s)) tail) (lines_counted k l a s)
         ∙ ap (λ n. lets_behind_all n tail) (lines_counted k1 (lets_by_all f.function a l) b s)
     line_counted k l (Switch h cs) s tail = ap (λ n. lets_behind_all n tail) (groups_counted k l [] cs s)
     line_counted k l (Loop b d e) s tail =
-        let k1 = given_by_all f.function b k in
+        let k1 = named_by_all f.function b k in
         let s1 = after_all f k b s in
         ap (λ n. lets_behind_all (lets_behind_all n (form_all f k1 d s1)) tail) (lines_counted k l b s)
         ∙ ap (λ n. lets_behind_all n tail) (lines_counted k1 (lets_by_all f.function b l) d s1)
@@ -125,30 +128,35 @@ module _ (f : Naming) where
     pub lines_counted : (k l : ℕ) (ss : Statements) (s : Handles) → lets_behind_all l (form_all f k ss s) ≡ lets_by_all f.function ss l
     lines_counted k l end s = refl
     lines_counted k l (then st ss) s =
-        line_counted k l st s (form_all f (given_by f.function st k) ss (after f k st s))
-        ∙ lines_counted (given_by f.function st k) (lets_by f.function st l) ss (after f k st s)
+        line_counted k l st s (form_all f (named_by f.function st k) ss (after f k st s))
+        ∙ lines_counted (named_by f.function st k) (lets_by f.function st l) ss (after f k st s)
 
     pub groups_counted : (k l : ℕ) (labels : List Label) (cs : Cases) (s : Handles) → lets_behind_groups l (form_cases f k labels cs s) ≡ lets_by_cases f.function cs l
     groups_counted k l labels no_case s = refl
-    groups_counted k l labels (case label b true cs) s = groups_counted (given_by_all f.function b k) l (labels ++ label ∷ []) cs s
+    groups_counted k l labels (case label b true cs) s = groups_counted (named_by_all f.function b k) l (labels ++ label ∷ []) cs s
     groups_counted k l labels (case label b false cs) s =
-        ap (λ n. lets_behind_groups n (form_cases f (given_by_all f.function b k) [] cs s)) (lines_counted k l b s)
-        ∙ groups_counted (given_by_all f.function b k) (lets_by_all f.function b l) [] cs s
+        ap (λ n. lets_behind_groups n (form_cases f (named_by_all f.function b k) [] cs s)) (lines_counted k l b s)
+        ∙ groups_counted (named_by_all f.function b k) (lets_by_all f.function b l) [] cs s
 
   -- which names there are
-  pub lets_leave : (k l : ℕ) (hs : List ℕ) (s : Handles) (tail : Lines) (names : Lookup) → names_left l (lets f k hs s tail) names ≡ names_left (lets_after_all f.function hs l) tail (names_after_all k l hs names)
+  pub lets_leave : (k l : ℕ) (hs : List ℕ) (s : Handles) (tail : Lines) (names : Lookup) →
+      names_left l (lets f k hs s tail) names ≡ names_left (lets_after_all f.function hs l) tail
+      (names_after_all k l hs names)
   lets_leave k l [] s tail names = refl
   lets_leave k l (h ∷ hs) s tail names =
-      by (binds f.function h) (λ l1 names1. lets_leave (given_after f.function h k) l1 hs (after_one f k h s) tail names1)
+      by (binds f.function h) (λ l1 names1. lets_leave (named_after f.function h k) l1 hs (after_one f k h s) tail names1)
     where
       e : Tree
-      e = value_form (own_form f (written_form f s) (handle_type f.function h) (expression_of f.function h))
+      e = value_form (own_form f (written_form f s) (expression_of f.function h))
 
       rest : Lines
-      rest = lets f (given_after f.function h k) hs (after_one f k h s) tail
+      rest = lets f (named_after f.function h k) hs (after_one f k h s) tail
 
-      by : (b : Bool) → ((l1 : ℕ) (names1 : Lookup) → names_left l1 rest names1 ≡ names_left (lets_after_all f.function hs l1) tail (names_after_all (given_after f.function h k) l1 hs names1))
-          → names_left l (let_if b (bound_name f k h) e rest) names ≡ names_left (lets_after_all f.function hs (cond b (suc l) l)) tail (names_after_all (given_after f.function h k) (cond b (suc l) l) hs (cond b (bind names (bound_name f k h) (Some (LetTarget l))) names))
+      by : (b : Bool) → ((l1 : ℕ) (names1 : Lookup) → names_left l1 rest names1 ≡ names_left (lets_after_all f.function hs l1) tail (names_after_all (named_after f.function h k) l1 hs names1))
+          → names_left l (let_if b (bound_name f k h) e rest) names ≡ names_left
+          (lets_after_all f.function hs (cond b (suc l) l)) tail
+          (names_after_all (named_after f.function h k) (cond b (suc l) l) hs
+          (cond b (bind names (bound_name f k h) (Some (LetTarget l))) names))
       by true further = further (suc l) (bind names (bound_name f k h) (Some (LetTarget l)))
       by false further = further l names
 
@@ -157,19 +165,22 @@ module _ (f : Naming) where
   performs_leave l (w ∷ ws) tail names = performs_leave l ws tail names
 
   module _ (p : Module) (callees : List Function) where
-    line_leaves : (k l : ℕ) (st : Statement) (s : Handles) (tail : Lines) (names : Lookup) → IsRegular p callees f st → names_left l (form f k st s tail) names ≡ cond (holds_continue st) names (names_left (lets_by f.function st l) tail (names_by k l st names))
+    line_leaves : (k l : ℕ) (st : Statement) (s : Handles) (tail : Lines) (names : Lookup) →
+        IsRegular p callees f st →
+        names_left l (form f k st s tail) names ≡ cond (holds_continue st) names
+        (names_left (lets_by f.function st l) tail (names_by k l st names))
     line_leaves k l (Emit first count) s tail names regular = lets_leave k l (from first count) s tail names
     line_leaves k l (Store q v) s tail names regular = refl
     line_leaves k l (Block b) s tail names regular =
         λ i. cond (lines_continue p callees f k b s regular i) names (names_left (lines_counted k l b s i) tail names)
     line_leaves k l (If c a b) s tail names regular =
-        let k1 = given_by_all f.function a k in
+        let k1 = named_by_all f.function a k in
         λ i. cond (lines_continue p callees f k a s regular.0 i || lines_continue p callees f k1 b s regular.1 i) names
         (names_left ((ap (λ n. lets_behind_all n (form_all f k1 b s)) (lines_counted k l a s) ∙ lines_counted k1 (lets_by_all f.function a l) b s) i) tail names)
     line_leaves k l (Switch h cs) s tail names regular =
         λ i. cond (groups_continue p callees f k [] cs s regular i) names (names_left (groups_counted k l [] cs s i) tail names)
     line_leaves k l (Loop b d e) s tail names regular =
-        let k1 = given_by_all f.function b k in
+        let k1 = named_by_all f.function b k in
         let s1 = after_all f k b s in
         λ i. names_left ((ap (λ n. lets_behind_all n (form_all f k1 d s1)) (lines_counted k l b s) ∙ lines_counted k1 (lets_by_all f.function b l) d s1) i) tail names
     line_leaves k l Break s tail names regular = refl
@@ -183,5 +194,5 @@ module _ (f : Naming) where
     pub lines_leave : (k l : ℕ) (ss : Statements) (s : Handles) (names : Lookup) → AreRegular p callees f ss → names_left l (form_all f k ss s) names ≡ list_names k l ss names
     lines_leave k l end s names regular = refl
     lines_leave k l (then st ss) s names regular =
-        line_leaves k l st s (form_all f (given_by f.function st k) ss (after f k st s)) names regular.0
-        ∙ ap (cond (holds_continue st) names) (lines_leave (given_by f.function st k) (lets_by f.function st l) ss (after f k st s) (names_by k l st names) regular.1)
+        line_leaves k l st s (form_all f (named_by f.function st k) ss (after f k st s)) names regular.0
+        ∙ ap (cond (holds_continue st) names) (lines_leave (named_by f.function st k) (lets_by f.function st l) ss (after f k st s) (names_by k l st names) regular.1)

@@ -11,20 +11,21 @@ use Rattle.shader_runs.specs.Program.{ConstantTree, ConstantTrees, Expression, C
 use Rattle.shader_runs.specs.Program.{Local, Global, Operator, Access, AccessIndex, Logical}
 use Rattle.shader_runs.specs.Program.{Swizzle, Asked, Statement, Emit, Block, If, Switch, Loop, Act}
 use Rattle.shader_runs.specs.Program.{Statements, end, then, argument_count, local_count}
-use Rattle.shader_runs.specs.Program.{expression_of, handle_type, operands_of, is_given, binds}
+use Rattle.shader_runs.specs.Program.{expression_of, handle_type, operands_of, is_named, binds}
 use Rattle.shader_runs.specs.Program.{from, holds_continue, Module}
-use Rattle.shader_runs.specs.Scope.{Named, Handles, Naming, at_start, start_standing, bound_name}
+use Rattle.shader_runs.specs.Scope.{Bound, Handles, Naming, at_start, start_availability}
+use Rattle.shader_runs.specs.Scope.{bound_name}
 use Rattle.shader_runs.specs.Scope.{is_present, usable_as, usable_if, usable_all, is_pure}
 use Rattle.shader_runs.specs.Scope.{all_constant, constant_test, is_constant_below}
-use Rattle.shader_runs.specs.Scope.{standing_without_name}
-use Rattle.shader_runs.specs.Scope.{with_emitted_handle, given_after, given_after_all, given_by}
-use Rattle.shader_runs.specs.Scope.{given_by_all}
+use Rattle.shader_runs.specs.Scope.{availability_without_name}
+use Rattle.shader_runs.specs.Scope.{with_emitted_handle, named_after, named_after_all, named_by}
+use Rattle.shader_runs.specs.Scope.{named_by_all}
 use Rattle.shader_runs.specs.Scope.{after_one, after_emit, after_result, after, after_all}
 use Rattle.shader_runs.specs.Scope.{forgotten_if, before_local}
 use Rattle.shader_runs.specs.Form.{constant_form, constant_forms, written_form, value_if}
 use Rattle.shader_runs.specs.Form.{names_from}
 use Rattle.shader_runs.specs.Premises.{FixedName, ArgumentName, LocalName, ConstantName, GlobalName}
-use Rattle.shader_runs.specs.Premises.{NameKey, FixedKey, NumberedKey, GivenKey, fixed_name}
+use Rattle.shader_runs.specs.Premises.{NameKey, FixedKey, NumberedKey, NamedKey, fixed_name}
 use Rattle.shader_runs.specs.Premises.{name_at, IsFixedName, IsName, IsNoName, StandsFree}
 use Rattle.shader_runs.specs.Premises.{OperatesBy, ConstantWords, ConstantsWords, ConstantInRange}
 use Rattle.shader_runs.specs.Premises.{ConstantsInRange, WordFits, LeafFits, AreDistinct}
@@ -38,10 +39,10 @@ use Rattle.shader_runs.specs.Resolution.{numbers_by, numbers_left, no_numbers}
 use Rattle.shader_runs.proofs.Update.{and_left, and_right, bind_same, bind_other, bind_cases}
 use Rattle.shader_runs.proofs.Update.{update_cases}
 use Rattle.shader_runs.proofs.Names.{NotAmong, AllDifferent}
-use Rattle.shader_runs.proofs.Sources.{fixed_numbered, fixed_given, numbered_given, numbered_same}
-use Rattle.shader_runs.proofs.Sources.{given_same, Sources, same_name, forgotten_named}
-use Rattle.shader_runs.proofs.Sources.{unbound_named, start_unnamed, sources_more, given_all_more}
-use Rattle.shader_runs.proofs.Sources.{given_by_more, list_more, sources_one, sources_after}
+use Rattle.shader_runs.proofs.Sources.{fixed_numbered, fixed_named, numbered_named, numbered_same}
+use Rattle.shader_runs.proofs.Sources.{named_same, Sources, same_name, forgotten_bound}
+use Rattle.shader_runs.proofs.Sources.{nameless_bound, start_unnamed, sources_more, named_all_more}
+use Rattle.shader_runs.proofs.Sources.{named_by_more, list_more, sources_one, sources_after}
 use Rattle.shader_runs.proofs.TreeTargets.{constant_resolves, constants_resolve, EachOf, IsNamed}
 use Rattle.shader_runs.proofs.TreeTargets.{Below, one_below, value_targets_of}
 use Rattle.shader_runs.proofs.LinesLeft.{list_names, names_after, names_after_all}
@@ -54,7 +55,9 @@ family_other target name x (suc n) j other names =
     bind_other (with_items target (suc j) (names_from name (suc j) n) names) (name j) (Some (target j)) x (λ e. other j (omega arith) (omega arith) (sym e))
     ∙ family_other target name x n (suc j) (λ i le lt. other i (omega arith) (omega arith)) names
 
-pub family_found : (target : ℕ → Target) (name : ℕ → Bytes) (n j : ℕ) → AllDifferent name j n → (names : Lookup) (i : ℕ) → j ≤ i → i < j + n → with_items target j (names_from name j n) names (name i) ≡ Some (target i)
+pub family_found : (target : ℕ → Target) (name : ℕ → Bytes) (n j : ℕ) → AllDifferent name j n →
+    (names : Lookup) (i : ℕ) → j ≤ i → i < j + n →
+    with_items target j (names_from name j n) names (name i) ≡ Some (target i)
 family_found target name zero j one names i le lt = absurd (omega arith)
 family_found target name (suc n) j one names i le lt =
     bind_cases (λ o. o ≡ Some (target i)) (with_items target (suc j) (names_from name (suc j) n) names) (name j) (Some (target j)) (name i)
@@ -86,7 +89,7 @@ module _ (p : Module) (f : Naming) (distinct : AreDistinct p f) where
   -- what the names of the module's items stand for
   pub record KnowsItems (names : Lookup) : Type 0 where
     pub constants : (i : ℕ) → i < length p.constant_types → names (f.names.outer.constant i) ≡ Some (ConstantTarget i)
-    pub globals : (i : ℕ) → i < length p.global_types → names (f.names.outer.global i) ≡ Some (GlobalTarget i)
+    pub globals : (i : ℕ) → i < length p.globals → names (f.names.outer.global i) ≡ Some (GlobalTarget i)
     pub functions : (g : ℕ) → g < length p.functions → IsNoName p f (f.names.outer.function g) → names (f.names.outer.function g) ≡ Some (FunctionTarget g)
     pub free : (w : Bytes) → StandsFree p f w → names w ≡ None
 
@@ -99,7 +102,7 @@ module _ (p : Module) (f : Naming) (distinct : AreDistinct p f) where
 
   -- and `let`s
   abbrev pub LetsKnown : Handles → LetNumbers → Lookup → Type 0
-  LetsKnown s numbers names = (h : ℕ) (x : Bytes) → s h ≡ Named x → names x ≡ Some (LetTarget (numbers h))
+  LetsKnown s numbers names = (h : ℕ) (x : Bytes) → s h ≡ Bound x → names x ≡ Some (LetTarget (numbers h))
 
   pub knows_more : (key : NameKey) → IsName p f.function key → (declared next : ℕ) (target : Target) (names : Lookup)
       → ((y : FixedName) → IsFixedName p f.function y → IsDeclared next y → (FixedKey y ≡ key) → Some target ≡ Some (fixed_target y))
@@ -115,36 +118,47 @@ module _ (p : Module) (f : Naming) (distinct : AreDistinct p f) where
 
   -- how many names are given in all
   abbrev pub total : ℕ
-  total = given_by_all f.function f.function.body 0
+  total = named_by_all f.function f.function.body 0
 
   -- one more `let`
-  let_known : (key : NameKey) → IsName p f.function key → ((y : FixedName) → FixedKey y ≡ key → ⊥) → (declared l : ℕ) (names : Lookup) → Knows declared names → Knows declared (bind names (name_at f.names key) (Some (LetTarget l)))
+  let_known : (key : NameKey) → IsName p f.function key → ((y : FixedName) → FixedKey y ≡ key → ⊥) →
+      (declared l : ℕ) (names : Lookup) → Knows declared names →
+      Knows declared (bind names (name_at f.names key) (Some (LetTarget l)))
   let_known key is no_fixed declared l names knows =
       knows_more key is declared declared (LetTarget l) names (λ y here stands e. absurd (no_fixed y e)) (λ y stands e. stands) knows
 
-  lets_known : (key : NameKey) → IsName p f.function key → (k h l : ℕ) (s : Handles) (numbers : LetNumbers) (names : Lookup) → Sources f k s → k ≤ total → ((j : ℕ) → j ≢ h → key ≡ NumberedKey j → ⊥) → ((j : ℕ) → j < k → key ≡ GivenKey j → ⊥) → LetsKnown s numbers names → LetsKnown (update s h (Named (name_at f.names key))) (update numbers h l) (bind names (name_at f.names key) (Some (LetTarget l)))
-  lets_known key is k h l s numbers names sources le no_number no_given known j x e = by (nat_eq j h) refl e
+  lets_known : (key : NameKey) → IsName p f.function key →
+      (k h l : ℕ) (s : Handles) (numbers : LetNumbers) (names : Lookup) → Sources f k s →
+      k ≤ total → ((j : ℕ) → j ≢ h → key ≡ NumberedKey j → ⊥) →
+      ((j : ℕ) → j < k → key ≡ NamedKey j → ⊥) → LetsKnown s numbers names →
+      LetsKnown (update s h (Bound (name_at f.names key))) (update numbers h l)
+      (bind names (name_at f.names key) (Some (LetTarget l)))
+  lets_known key is k h l s numbers names sources le no_number no_named known j x e = by (nat_eq j h) refl e
     where
       named : Lookup
       named = bind names (name_at f.names key) (Some (LetTarget l))
 
-      by : (b : Bool) → nat_eq j h ≡ b → cond b (Named (name_at f.names key)) (s j) ≡ Named x → named x ≡ Some (LetTarget (cond b l (numbers j)))
+      by : (b : Bool) → nat_eq j h ≡ b → cond b (Bound (name_at f.names key)) (s j) ≡ Bound x → named x ≡ Some (LetTarget (cond b l (numbers j)))
       by true here e = subst (λ y. named y ≡ Some (LetTarget l)) (same_name (name_at f.names key) x e) (bind_same names (name_at f.names key) (Some (LetTarget l)))
       by false there e = bind_other names (name_at f.names key) (Some (LetTarget l)) x apart ∙ known j x e
         where
           apart : x ≢ name_at f.names key
           apart q =
               ⊎_elim (λ own. no_number j (eqb-false j h there) (distinct key (NumberedKey j) is tt (sym q ∙ own)))
-              (λ g. let less : g.0 < total = omega (arith, g.1, le) in no_given g.0 g.1 (distinct key (GivenKey g.0) is less (sym q ∙ g.2)))
+              (λ g. let less : g.0 < total = omega (arith, g.1, le) in no_named g.0 g.1 (distinct key (NamedKey g.0) is less (sym q ∙ g.2)))
               (sources j x e)
 
   -- ---- a function, whose words and leaves are such
   module _ (words : (h : ℕ) → WordFits p f (expression_of f.function h)) (leaves : (h : ℕ) → LeafFits p f.function (handle_type f.function h) (expression_of f.function h)) where
-    pub constant_named : (declared : ℕ) (names : Lookup) → Knows declared names → (e : ConstantTree) → ConstantInRange p e → ConstantWords p f e → tree_targets names (constant_form f.names.outer e) ≡ map Some (constant_targets e)
+    pub constant_named : (declared : ℕ) (names : Lookup) → Knows declared names →
+        (e : ConstantTree) → ConstantInRange p e → ConstantWords p f e →
+        tree_targets names (constant_form f.names.outer e) ≡ map Some (constant_targets e)
     constant_named declared names knows =
         constant_resolves f.names.outer names (length p.constant_types) (λ i lt. knows.fixed (ConstantName i) lt tt) (OperatesBy p f) (λ w o. knows.free w o.1)
 
-    pub constants_named : (declared : ℕ) (names : Lookup) → Knows declared names → (es : ConstantTrees) → ConstantsInRange p es → ConstantsWords p f es → trees_targets names (constant_forms f.names.outer es) ≡ map Some (constants_targets es)
+    pub constants_named : (declared : ℕ) (names : Lookup) → Knows declared names →
+        (es : ConstantTrees) → ConstantsInRange p es → ConstantsWords p f es →
+        trees_targets names (constant_forms f.names.outer es) ≡ map Some (constants_targets es)
     constants_named declared names knows =
         constants_resolve f.names.outer names (length p.constant_types) (λ i lt. knows.fixed (ConstantName i) lt tt) (OperatesBy p f) (λ w o. knows.free w o.1)
 
@@ -168,7 +182,9 @@ module _ (p : Module) (f : Naming) (distinct : AreDistinct p f) where
       pure_named (Some (Swizzle letters v)) pure fits = tt
       pure_named _ pure fits = absurd (true≢false (sym pure))
 
-      tree_named : (test : ℕ → Bool) (k : ValueType) (e : Option Expression) → IsTrue (constant_test test e) → WordFits p f e → LeafFits p f.function k e → IsNamed f names e × IsTrue (all_constant test (operands_of e))
+      tree_named : (test : ℕ → Bool) (k : ValueType) (e : Option Expression) →
+          IsTrue (constant_test test e) → WordFits p f e → LeafFits p f.function k e →
+          IsNamed f names e × IsTrue (all_constant test (operands_of e))
       tree_named test k (Some (Constant e)) is fits leaf = (constant_named declared names knows e leaf.0 fits, refl)
       tree_named test k (Some (Operator word xs)) is fits leaf = (knows.free word fits.1, is)
       tree_named test k (Some (Access b i)) is fits leaf = (tt, is)
@@ -189,7 +205,7 @@ module _ (p : Module) (f : Naming) (distinct : AreDistinct p f) where
           let tree = tree_named (is_constant n) (handle_type f.function h) (expression_of f.function h) is (words h) (leaves h) in
           one_below f names (at_start f.function) no_numbers (none_at_start names) n h tree.0 (each_constant n (constant_below n) (operands_of (expression_of f.function h)) tree.1)
 
-      present_true : (b : Bool) → IsTrue (is_present (start_standing b)) → IsTrue b
+      present_true : (b : Bool) → IsTrue (is_present (start_availability b)) → IsTrue b
       present_true true is = refl
       present_true false is = is
 
@@ -201,13 +217,17 @@ module _ (p : Module) (f : Naming) (distinct : AreDistinct p f) where
       taken_below X (x ∷ xs) (suc n) (suc i) lt = let rest = taken_below X xs n i (omega arith) in (omega arith, omega arith)
 
       -- what may be used in front of the declaration of the next variable
-      first_named : (n : ℕ) (k : ValueType) (e : Option Expression) → IsTrue (usable_as (before_local f.function declared) e (start_standing (is_pure e && constant_test (is_constant n) e))) → WordFits p f e → LeafFits p f.function k e → IsNamed f names e × IsTrue (all_constant (is_constant n) (operands_of e))
+      first_named : (n : ℕ) (k : ValueType) (e : Option Expression) →
+          IsTrue (usable_as (before_local f.function declared) e
+          (start_availability (is_pure e && constant_test (is_constant n) e))) → WordFits p f e →
+          LeafFits p f.function k e → IsNamed f names e ×
+          IsTrue (all_constant (is_constant n) (operands_of e))
       first_named n k (Some (Constant e)) is fits leaf = (constant_named declared names knows e leaf.0 fits, refl)
       first_named n k (Some (Argument i)) is fits leaf = (knows.fixed (ArgumentName i) (ltb-true i (argument_count f.function) is) tt, refl)
       first_named n k (Some (Local i)) is fits leaf =
           let within = taken_below (Option ℕ) f.function.first_values declared i (ltb-true i (local_count (before_local f.function declared)) is) in
           (knows.fixed (LocalName i) within.1 within.0, refl)
-      first_named n k (Some (Global i)) is fits leaf = (knows.fixed (GlobalName i) leaf.0 tt, refl)
+      first_named n k (Some (Global held i)) is fits leaf = (knows.fixed (GlobalName i) leaf.0 tt, refl)
       first_named n k None is fits leaf = absurd (true≢false (sym is))
       first_named n k (Some (Operator word xs)) is fits leaf = tree_named (is_constant n) k (Some (Operator word xs)) (present_true (all_constant (is_constant n) xs) is) fits leaf
       first_named n k (Some (Access b i)) is fits leaf = (tt, present_true (all_constant (is_constant n) (b ∷ i ∷ [])) is)
@@ -216,13 +236,19 @@ module _ (p : Module) (f : Naming) (distinct : AreDistinct p f) where
       first_named n k (Some (Swizzle letters v)) is fits leaf = (tt, present_true (all_constant (is_constant n) (v ∷ [])) is)
       first_named n k (Some _) is fits leaf = absurd (true≢false (sym is))
 
-      first_below : (n h : ℕ) → IsTrue (usable_as (before_local f.function declared) (expression_of f.function h) (start_standing (is_pure (expression_of f.function h) && is_constant n h))) → AtStart n h
+      first_below : (n h : ℕ) →
+          IsTrue (usable_as (before_local f.function declared) (expression_of f.function h)
+          (start_availability (is_pure (expression_of f.function h) && is_constant n h))) →
+          AtStart n h
       first_below zero h is = refl
       first_below (suc n) h is =
           let first = first_named n (handle_type f.function h) (expression_of f.function h) is (words h) (leaves h) in
           one_below f names (at_start f.function) no_numbers (none_at_start names) n h first.0 (each_constant n (constant_below n) (operands_of (expression_of f.function h)) first.1)
 
-      pub first_resolves : (o : Option ℕ) → IsTrue (usable_if (before_local f.function declared) (at_start f.function) o) → tree_targets_if names (value_if f (at_start f.function) o) ≡ map Some (value_targets_if f.function (at_start f.function) no_numbers o)
+      pub first_resolves : (o : Option ℕ) →
+          IsTrue (usable_if (before_local f.function declared) (at_start f.function) o) →
+          tree_targets_if names (value_if f (at_start f.function) o) ≡ map Some
+          (value_targets_if f.function (at_start f.function) no_numbers o)
       first_resolves None is = refl
       first_resolves (Some h) is =
           value_targets_of names (written_form f (at_start f.function) h) ∙ first_below (length f.function.expressions) h is
@@ -233,45 +259,64 @@ module _ (p : Module) (f : Naming) (distinct : AreDistinct p f) where
     pub lets : LetsKnown s numbers names
     pub sources : Sources f k s
 
-  pub scope_one : (k l h : ℕ) (s : Handles) (numbers : LetNumbers) (names : Lookup) → given_after f.function h k ≤ total → InScope k s numbers names → InScope (given_after f.function h k) (after_one f k h s) (numbers_after f.function l h numbers) (names_after f k l h names)
+  pub scope_one : (k l h : ℕ) (s : Handles) (numbers : LetNumbers) (names : Lookup) →
+      named_after f.function h k ≤ total → InScope k s numbers names →
+      InScope (named_after f.function h k) (after_one f k h s)
+      (numbers_after f.function l h numbers) (names_after f k l h names)
   scope_one k l h s numbers names le scope = record {
     items = items (binds f.function h);
     lets = lets_by_binding (binds f.function h) (is_pure (expression_of f.function h)) (usable_all f.function s (operands_of (expression_of f.function h)));
     sources = sources_one f k h s scope.sources;
   }
     where
-      new_items : (b : Bool) → cond b (suc k) k ≤ total → Knows (local_count f.function) (bind names (cond b (f.names.given k) (f.names.numbered h)) (Some (LetTarget l)))
-      new_items true le = let_known (GivenKey k) le (λ y. fixed_given y k) (local_count f.function) l names scope.items
+      new_items : (b : Bool) → cond b (suc k) k ≤ total → Knows (local_count f.function) (bind names (cond b (f.names.named k) (f.names.numbered h)) (Some (LetTarget l)))
+      new_items true le = let_known (NamedKey k) le (λ y. fixed_named y k) (local_count f.function) l names scope.items
       new_items false le = let_known (NumberedKey h) tt (λ y. fixed_numbered y h) (local_count f.function) l names scope.items
 
       items : (b : Bool) → Knows (local_count f.function) (cond b (bind names (bound_name f k h) (Some (LetTarget l))) names)
-      items true = new_items (is_given f.function h) le
+      items true = new_items (is_named f.function h) le
       items false = scope.items
 
-      new_let : (b : Bool) → cond b (suc k) k ≤ total → LetsKnown (update s h (Named (cond b (f.names.given k) (f.names.numbered h)))) (update numbers h l) (bind names (cond b (f.names.given k) (f.names.numbered h)) (Some (LetTarget l)))
+      new_let : (b : Bool) → cond b (suc k) k ≤ total →
+          LetsKnown (update s h (Bound (cond b (f.names.named k) (f.names.numbered h))))
+          (update numbers h l)
+          (bind names (cond b (f.names.named k) (f.names.numbered h)) (Some (LetTarget l)))
       new_let true le =
-          lets_known (GivenKey k) le k h l s numbers names scope.sources (omega arith) (λ j other e. numbered_given j k (sym e)) (λ j lt e. let same : k ≡ j = given_same k j e in omega (arith, lt, same)) scope.lets
+          lets_known (NamedKey k) le k h l s numbers names scope.sources (omega arith)
+          (λ j other e. numbered_named j k (sym e)) (λ j lt e. let same : k ≡ j =
+          named_same k j e in omega (arith, lt, same)) scope.lets
       new_let false le =
-          lets_known (NumberedKey h) tt k h l s numbers names scope.sources le (λ j other e. other (sym (numbered_same h j e))) (λ j lt e. numbered_given h j e) scope.lets
+          lets_known (NumberedKey h) tt k h l s numbers names scope.sources le (λ j other e. other (sym (numbered_same h j e))) (λ j lt e. numbered_named h j e) scope.lets
 
-      lets_by_binding : (b o u : Bool) → LetsKnown (with_emitted_handle b o u (bound_name f k h) s h) (cond b (update numbers h l) numbers) (cond b (bind names (bound_name f k h) (Some (LetTarget l))) names)
-      lets_by_binding true o u = new_let (is_given f.function h) le
+      lets_by_binding : (b o u : Bool) →
+          LetsKnown (with_emitted_handle b o u (bound_name f k h) s h)
+          (cond b (update numbers h l) numbers)
+          (cond b (bind names (bound_name f k h) (Some (LetTarget l))) names)
+      lets_by_binding true o u = new_let (is_named f.function h) le
       lets_by_binding false true u = λ j x.
-          update_cases (λ z. z ≡ Named x → names x ≡ Some (LetTarget (numbers j))) s h (standing_without_name u (s h)) j
-          (λ same e. scope.lets j x (ap s same ∙ unbound_named u (s h) x e)) (λ other e. scope.lets j x e)
+          update_cases (λ z. z ≡ Bound x → names x ≡ Some (LetTarget (numbers j))) s h (availability_without_name u (s h)) j
+          (λ same e. scope.lets j x (ap s same ∙ nameless_bound u (s h) x e)) (λ other e. scope.lets j x e)
       lets_by_binding false false u = scope.lets
 
-  pub scope_emit : (k l : ℕ) (hs : List ℕ) (s : Handles) (numbers : LetNumbers) (names : Lookup) → given_after_all f.function hs k ≤ total → InScope k s numbers names → InScope (given_after_all f.function hs k) (after_emit f k hs s) (numbers_after_all f.function l hs numbers) (names_after_all f k l hs names)
+  pub scope_emit : (k l : ℕ) (hs : List ℕ) (s : Handles) (numbers : LetNumbers) (names : Lookup) →
+      named_after_all f.function hs k ≤ total → InScope k s numbers names →
+      InScope (named_after_all f.function hs k) (after_emit f k hs s)
+      (numbers_after_all f.function l hs numbers) (names_after_all f k l hs names)
   scope_emit k l [] s numbers names le scope = scope
   scope_emit k l (h ∷ hs) s numbers names le scope =
-      let here : given_after f.function h k ≤ total = omega (arith, le, given_all_more f hs (given_after f.function h k)) in
-      scope_emit (given_after f.function h k) (lets_after f.function h l) hs (after_one f k h s) (numbers_after f.function l h numbers) (names_after f k l h names) le (scope_one k l h s numbers names here scope)
+      let here : named_after f.function h k ≤ total = omega (arith, le, named_all_more f hs (named_after f.function h k)) in
+      scope_emit (named_after f.function h k) (lets_after f.function h l) hs (after_one f k h s)
+      (numbers_after f.function l h numbers) (names_after f k l h names) le
+      (scope_one k l h s numbers names here scope)
 
-  pub scope_result : (k l : ℕ) (r : Option ℕ) (s : Handles) (numbers : LetNumbers) (names : Lookup) → k ≤ total → InScope k s numbers names → InScope k (after_result f.names r s) (numbers_after_result l r numbers) (names_after_result f l r names)
+  pub scope_result : (k l : ℕ) (r : Option ℕ) (s : Handles) (numbers : LetNumbers)
+      (names : Lookup) → k ≤ total → InScope k s numbers names →
+      InScope k (after_result f.names r s) (numbers_after_result l r numbers)
+      (names_after_result f l r names)
   scope_result k l None s numbers names le scope = scope
   scope_result k l (Some h) s numbers names le scope = record {
     items = let_known (NumberedKey h) tt (λ y. fixed_numbered y h) (local_count f.function) l names scope.items;
-    lets = lets_known (NumberedKey h) tt k h l s numbers names scope.sources le (λ j other e. other (sym (numbered_same h j e))) (λ j lt e. numbered_given h j e) scope.lets;
+    lets = lets_known (NumberedKey h) tt k h l s numbers names scope.sources le (λ j other e. other (sym (numbered_same h j e))) (λ j lt e. numbered_named h j e) scope.lets;
     sources = sources_after f k (Act (Asked []) [] (Some h)) s scope.sources;
   }
 
@@ -280,28 +325,38 @@ module _ (p : Module) (f : Naming) (distinct : AreDistinct p f) where
   scope_more k next s numbers names le scope =
       record { items = scope.items; lets = scope.lets; sources = sources_more f k next s le scope.sources }
 
-  pub scope_by : (k l : ℕ) (st : Statement) (s : Handles) (numbers : LetNumbers) (names : Lookup) → given_by f.function st k ≤ total → InScope k s numbers names → InScope (given_by f.function st k) (after f k st s) (numbers_by f.function l st numbers) (names_by f k l st names)
+  pub scope_by : (k l : ℕ) (st : Statement) (s : Handles) (numbers : LetNumbers) (names : Lookup) →
+      named_by f.function st k ≤ total → InScope k s numbers names →
+      InScope (named_by f.function st k) (after f k st s) (numbers_by f.function l st numbers)
+      (names_by f k l st names)
   scope_by k l (Emit first count) s numbers names le scope = scope_emit k l (from first count) s numbers names le scope
   scope_by k l (Act a xs r) s numbers names le scope = scope_result k l r s numbers names le scope
-  scope_by k l (Block b) s numbers names le scope = scope_more k _ s numbers names (given_by_more f (Block b) k) scope
-  scope_by k l (If c a b) s numbers names le scope = scope_more k _ s numbers names (given_by_more f (If c a b) k) scope
-  scope_by k l (Switch h cs) s numbers names le scope = scope_more k _ s numbers names (given_by_more f (Switch h cs) k) scope
-  scope_by k l (Loop b d e) s numbers names le scope = scope_more k _ s numbers names (given_by_more f (Loop b d e) k) scope
+  scope_by k l (Block b) s numbers names le scope = scope_more k _ s numbers names (named_by_more f (Block b) k) scope
+  scope_by k l (If c a b) s numbers names le scope = scope_more k _ s numbers names (named_by_more f (If c a b) k) scope
+  scope_by k l (Switch h cs) s numbers names le scope = scope_more k _ s numbers names (named_by_more f (Switch h cs) k) scope
+  scope_by k l (Loop b d e) s numbers names le scope = scope_more k _ s numbers names (named_by_more f (Loop b d e) k) scope
   scope_by k l _ s numbers names le scope = scope
 
   -- nothing that was named in between is in scope behind a `continue`
-  scope_forgotten : (continues : Bool) (k next : ℕ) (s s1 : Handles) (numbers numbers1 : LetNumbers) (names names1 : Lookup) → k ≤ next → InScope k s numbers names → InScope next s1 numbers1 names1 → InScope next (forgotten_if continues s s1) (cond continues numbers numbers1) (cond continues names names1)
+  scope_forgotten : (continues : Bool) (k next : ℕ) (s s1 : Handles) (numbers numbers1 : LetNumbers)
+      (names names1 : Lookup) → k ≤ next → InScope k s numbers names →
+      InScope next s1 numbers1 names1 →
+      InScope next (forgotten_if continues s s1) (cond continues numbers numbers1)
+      (cond continues names names1)
   scope_forgotten true k next s s1 numbers numbers1 names names1 le scope behind = record {
     items = scope.items;
-    lets = λ h x e. scope.lets h x (forgotten_named (s h) (s1 h) x e);
-    sources = λ h x e. sources_more f k next s le scope.sources h x (forgotten_named (s h) (s1 h) x e);
+    lets = λ h x e. scope.lets h x (forgotten_bound (s h) (s1 h) x e);
+    sources = λ h x e. sources_more f k next s le scope.sources h x (forgotten_bound (s h) (s1 h) x e);
   }
   scope_forgotten false k next s s1 numbers numbers1 names names1 le scope behind = behind
 
-  pub scope_left : (k l : ℕ) (ss : Statements) (s : Handles) (numbers : LetNumbers) (names : Lookup) → given_by_all f.function ss k ≤ total → InScope k s numbers names → InScope (given_by_all f.function ss k) (after_all f k ss s) (numbers_left f.function l ss numbers) (list_names f k l ss names)
+  pub scope_left : (k l : ℕ) (ss : Statements) (s : Handles) (numbers : LetNumbers)
+      (names : Lookup) → named_by_all f.function ss k ≤ total → InScope k s numbers names →
+      InScope (named_by_all f.function ss k) (after_all f k ss s)
+      (numbers_left f.function l ss numbers) (list_names f k l ss names)
   scope_left k l end s numbers names le scope = scope
   scope_left k l (then st ss) s numbers names le scope =
-      let k1 = given_by f.function st k in
+      let k1 = named_by f.function st k in
       let here : k1 ≤ total = omega (arith, le, list_more f ss k1) in
-      scope_forgotten (holds_continue st) k (given_by_all f.function ss k1) s _ numbers _ names _ (list_more f (then st ss) k) scope
+      scope_forgotten (holds_continue st) k (named_by_all f.function ss k1) s _ numbers _ names _ (list_more f (then st ss) k) scope
       (scope_left k1 (lets_by f.function st l) ss (after f k st s) (numbers_by f.function l st numbers) (names_by f k l st names) le (scope_by k l st s numbers names here scope))

@@ -3,23 +3,25 @@ use Rattle.std.proofs.Common.{◌≡◌, ◌≢◌, ℕ, zero, suc, ◌+◌, ◌
 use Rattle.std.proofs.Common.{false, length, Option, Some, None, ◌||◌, slice_get, refl, sym, ap}
 use Rattle.std.proofs.Common.{◌∙◌, true≢false, arith, map}
 use Rattle.std.specs.Prelude.{IsTrue}
-use Rattle.shader_runs.specs.Value.{Bytes, same_bytes, pointer_spelling, PartTypes, Rooted}
-use Rattle.shader_runs.specs.Value.{GlobalRoot, LocalRoot, ValueType, BooleanType, IntegerType}
-use Rattle.shader_runs.specs.Value.{PointerType, OtherType, Value}
-use Rattle.shader_runs.specs.World.{GlobalValue, Stored, Held, bind, Environment}
-use Rattle.shader_runs.specs.Program.{local_pointer, Module}
+use Rattle.shader_runs.specs.Value.{Bytes, same_bytes, PartTypes, Rooted}
+use Rattle.shader_runs.specs.Value.{GlobalRoot, LocalRoot, PointerType, Value}
+use Rattle.shader_runs.specs.World.{GlobalValue, Stored, InHandleSpace, bind, Environment}
+use Rattle.shader_runs.specs.Program.{local_pointer, VariableShape, Held, AtPlace, pointer_to}
+use Rattle.shader_runs.specs.Program.{Module}
 use Rattle.shader_runs.specs.TextRun.{names_function, Denotation, IsValue, IsPlace, Scope}
 use Rattle.shader_runs.specs.TextRun.{with_parameters, with_variables, with_globals, global_denoted}
 use Rattle.shader_runs.specs.TextRun.{no_names}
 use Rattle.shader_runs.specs.Scope.{Naming, ModuleNames}
 use Rattle.shader_runs.specs.Form.{names_from, variables_from, globals_from, functions_of}
 use Rattle.shader_runs.specs.Form.{form_functions}
-use Rattle.shader_runs.specs.Premises.{global_has_type, globals_have_types, AllFit}
-use Rattle.shader_runs.proofs.Update.{and_left, and_right, same_bytes_true, same_bytes_apart}
+use Rattle.shader_runs.specs.Premises.{choice_fits, choices_fit, global_fits, globals_fit}
+use Rattle.shader_runs.specs.Premises.{AllFit}
+use Rattle.shader_runs.proofs.Update.{and_left, and_right, and_both, same_bytes_true}
+use Rattle.shader_runs.proofs.Update.{same_bytes_apart, same_type_self}
 use Rattle.shader_runs.proofs.Update.{bind_same, bind_other}
 use Rattle.shader_runs.proofs.Relation.{as_denoted, stored_denoted, global_as}
 use Rattle.std.proofs.lemmas.List.{length-map}
-use Rattle.shader_runs.specs.Constants.{known_value, global_values}
+use Rattle.shader_runs.specs.Constants.{known_value, global_value_by, global_values}
 use Rattle.std.proofs.lemmas.Option.{none-some, same_Some}
 
 -- none of these names is x
@@ -40,9 +42,14 @@ pub known_other : (name : ℕ → Bytes) (x : Bytes) (n j : ℕ) → NotAmong na
 known_other name x zero j f os names = refl
 known_other name x (suc n) j f [] names = refl
 known_other name x (suc n) j f (o ∷ os) names =
-    bind_other (with_known (names_from name (suc j) n) os names) (name j) (as_denoted o) x (λ e. f j (omega arith) (omega arith) (sym e)) ∙ known_other name x n (suc j) (λ i le lt. f i (omega arith) (omega arith)) os names
+    bind_other (with_known (names_from name (suc j) n) os names) (name j) (as_denoted o) x
+    (λ e. f j (omega arith) (omega arith) (sym e))
+    ∙ known_other name x n (suc j) (λ i le lt. f i (omega arith) (omega arith)) os names
 
-pub known_at : (name : ℕ → Bytes) (n j : ℕ) → AllDifferent name j n → (os : List (Option Value)) (names : Scope) → length os ≡ n → (i : ℕ) → i < n → with_known (names_from name j n) os names (name (i + j)) ≡ as_denoted (known_value os i)
+pub known_at : (name : ℕ → Bytes) (n j : ℕ) → AllDifferent name j n →
+    (os : List (Option Value)) (names : Scope) → length os ≡ n →
+    (i : ℕ) → i < n → with_known (names_from name j n) os names (name (i + j)) ≡ as_denoted
+    (known_value os i)
 known_at name zero j one os names e i lt = absurd (omega arith)
 known_at name (suc n) j one [] names e i lt = absurd (omega arith)
 known_at name (suc n) j one (o ∷ os) names e zero lt =
@@ -72,7 +79,10 @@ pub parameter_other : (name : ℕ → Bytes) (x : Bytes) (n j : ℕ) → NotAmon
 parameter_other name x n j f vs names =
     ap (λ scope. scope x) (parameters_known (names_from name j n) vs names) ∙ known_other name x n j f (map Some vs) names
 
-pub parameter_at : (name : ℕ → Bytes) (n j : ℕ) → AllDifferent name j n → (vs : List Value) (names : Scope) → length vs ≡ n → (i : ℕ) → i < n → with_parameters (names_from name j n) vs names (name (i + j)) ≡ as_denoted (slice_get vs i)
+pub parameter_at : (name : ℕ → Bytes) (n j : ℕ) → AllDifferent name j n →
+    (vs : List Value) (names : Scope) → length vs ≡ n →
+    (i : ℕ) → i < n → with_parameters (names_from name j n) vs names (name (i + j)) ≡ as_denoted
+    (slice_get vs i)
 parameter_at name n j one vs names e i lt =
     ap (λ scope. scope (name (i + j))) (parameters_known (names_from name j n) vs names)
     ∙ known_at name n j one (map Some vs) names (length-map vs Some ∙ e) i lt
@@ -82,14 +92,19 @@ parameter_at name n j one vs names e i lt =
 abbrev pub variable_place : Naming → (entries index : ℕ) → Option Denotation
 variable_place f k i = Some (IsPlace (Rooted (LocalRoot (local_pointer f.function i) k i)))
 
-pub variable_other : (f : Naming) (x : Bytes) (os : List (Option ℕ)) (j k : ℕ) → NotAmong f.names.local_ j (length os) x → (names : Scope) → with_variables (variables_from f j os) k j names x ≡ names x
+pub variable_other : (f : Naming) (x : Bytes) (os : List (Option ℕ)) (j k : ℕ) →
+    NotAmong f.names.local_ j (length os) x →
+    (names : Scope) → with_variables (variables_from f j os) k j names x ≡ names x
 variable_other f x [] j k apart names = refl
 variable_other f x (o ∷ os) j k apart names =
     let name = f.names.local_ in
     variable_other f x os (suc j) k (λ i le lt. apart i (omega arith) (omega arith)) (bind names (name j) (variable_place f k j))
     ∙ bind_other names (name j) (variable_place f k j) x (λ e. apart j (omega arith) (omega arith) (sym e))
 
-pub variable_at : (f : Naming) (os : List (Option ℕ)) (j k : ℕ) → AllDifferent f.names.local_ j (length os) → (names : Scope) (i : ℕ) → i < length os → with_variables (variables_from f j os) k j names (f.names.local_ (i + j)) ≡ variable_place f k (i + j)
+pub variable_at : (f : Naming) (os : List (Option ℕ)) (j k : ℕ) →
+    AllDifferent f.names.local_ j (length os) → (names : Scope) (i : ℕ) → i < length os →
+    with_variables (variables_from f j os) k j names (f.names.local_ (i + j)) ≡ variable_place f k
+    (i + j)
 variable_at f [] j k one names i lt = absurd (omega arith)
 variable_at f (o ∷ os) j k one names zero lt =
     let name = f.names.local_ in
@@ -109,7 +124,10 @@ variable_at f (o ∷ os) j k one names (suc i) lt =
     ∙ ap (variable_place f k) (sym there)
 
 -- one more variable at the end
-pub one_more_variable : (f : Naming) (os : List (Option ℕ)) (o : Option ℕ) (j k : ℕ) (names : Scope) → with_variables (variables_from f j (os ++ o ∷ [])) k j names ≡ bind (with_variables (variables_from f j os) k j names) (f.names.local_ (length os + j)) (variable_place f k (length os + j))
+pub one_more_variable : (f : Naming) (os : List (Option ℕ)) (o : Option ℕ) (j k : ℕ)
+    (names : Scope) → with_variables (variables_from f j (os ++ o ∷ [])) k j names ≡
+    bind (with_variables (variables_from f j os) k j names) (f.names.local_ (length os + j))
+    (variable_place f k (length os + j))
 one_more_variable f [] o j k names =
     let here : j ≡ zero + j = omega arith in
     ap (λ m. bind names (f.names.local_ m) (variable_place f k m)) here
@@ -127,53 +145,78 @@ take_one_more (y ∷ xs) (suc i) x e = ap (λ zs. y ∷ zs) (take_one_more xs i 
 -- a value that is held
 abbrev pub held : GlobalValue → Option Value
 held (Stored pointer) = None
-held (Held v) = Some v
+held (InHandleSpace o) = o
 
-pub held_values : (ks : List ValueType) (gs : List (Option Value)) → length gs ≡ length ks → map held (global_values ks gs) ≡ gs
-held_values [] [] e = refl
-held_values [] (g ∷ gs) e = absurd (omega (arith, e))
-held_values (k ∷ ks) [] e = absurd (omega (arith, e))
-held_values (k ∷ ks) (None ∷ gs) e = ap (λ l. None ∷ l) (held_values ks gs (omega (arith, e)))
-held_values (k ∷ ks) (Some v ∷ gs) e = ap (λ l. Some v ∷ l) (held_values ks gs (omega (arith, e)))
+-- what is chosen for one variable is what is held of it
+chosen_held : (parts : PartTypes) (x : VariableShape) (o : Option Value) → IsTrue (choice_fits parts x o) → held (global_value_by x o) ≡ o
+chosen_held parts (AtPlace s) None h = refl
+chosen_held parts (AtPlace s) (Some v) h = absurd (true≢false (sym h))
+chosen_held parts (Held k) o h = refl
 
--- a variable of the module stands where its type says
-declared_denoted : (parts : PartTypes) (k : ValueType) (b : ℕ) (g : GlobalValue) → IsTrue (global_has_type parts k g) → global_denoted (pointer_spelling k) b (held g) ≡ stored_denoted b g
-declared_denoted parts (PointerType s) b (Stored q) h = ap (λ s. IsPlace (Rooted (GlobalRoot s b))) (same_bytes_true s q h)
-declared_denoted parts (PointerType s) b (Held v) h = refl
-declared_denoted parts BooleanType b (Stored q) h = absurd (true≢false (sym h))
-declared_denoted parts BooleanType b (Held v) h = refl
-declared_denoted parts (IntegerType s) b (Stored q) h = absurd (true≢false (sym h))
-declared_denoted parts (IntegerType s) b (Held v) h = refl
-declared_denoted parts (OtherType s) b (Stored q) h = absurd (true≢false (sym h))
-declared_denoted parts (OtherType s) b (Held v) h = refl
+pub held_values : (parts : PartTypes) (xs : List VariableShape) (gs : List (Option Value)) → IsTrue (choices_fit parts xs gs) → map held (global_values xs gs) ≡ gs
+held_values parts [] [] e = refl
+held_values parts [] (g ∷ gs) e = absurd (true≢false (sym e))
+held_values parts (x ∷ xs) [] e = absurd (true≢false (sym e))
+held_values parts (x ∷ xs) (g ∷ gs) e =
+    let here = and_left (choice_fits parts x g) (choices_fit parts xs gs) e in
+    let there = and_right (choice_fits parts x g) (choices_fit parts xs gs) e in
+    λ i. chosen_held parts x g here i ∷ held_values parts xs gs there i
 
-pub globals_at : (parts : PartTypes) (name : ℕ → Bytes) (ks : List ValueType) (j : ℕ) → AllDifferent name j (length ks) → (gs : List GlobalValue) (names : Scope) → IsTrue (globals_have_types parts ks gs) → (i : ℕ) → i < length ks → with_globals (globals_from name j ks) (map held gs) j names (name (i + j)) ≡ global_as (i + j) (slice_get gs i)
+-- a variable whose choice fits stands for what its space says
+choice_stands : (parts : PartTypes) (x : VariableShape) (o : Option Value) → IsTrue (choice_fits parts x o) → IsTrue (global_fits parts x (global_value_by x o))
+choice_stands parts (AtPlace s) o h = same_type_self (PointerType s)
+choice_stands parts (Held k) None h = h
+choice_stands parts (Held k) (Some v) h = h
+
+pub choices_stand : (parts : PartTypes) (xs : List VariableShape) (gs : List (Option Value)) → IsTrue (choices_fit parts xs gs) → IsTrue (globals_fit parts xs (global_values xs gs))
+choices_stand parts [] [] e = refl
+choices_stand parts [] (g ∷ gs) e = absurd (true≢false (sym e))
+choices_stand parts (x ∷ xs) [] e = absurd (true≢false (sym e))
+choices_stand parts (x ∷ xs) (g ∷ gs) e =
+    and_both (global_fits parts x (global_value_by x g)) (globals_fit parts xs (global_values xs gs))
+    (choice_stands parts x g (and_left (choice_fits parts x g) (choices_fit parts xs gs) e))
+    (choices_stand parts xs gs (and_right (choice_fits parts x g) (choices_fit parts xs gs) e))
+
+-- a variable of the module stands for what its declaration says
+declared_denoted : (parts : PartTypes) (x : VariableShape) (b : ℕ) (g : GlobalValue) → IsTrue (global_fits parts x g) → global_denoted (pointer_to x) b (held g) ≡ stored_denoted b g
+declared_denoted parts (AtPlace s) b (Stored q) h = ap (λ s. Some (IsPlace (Rooted (GlobalRoot s b)))) (same_bytes_true s q h)
+declared_denoted parts (AtPlace s) b (InHandleSpace o) h = absurd (true≢false (sym h))
+declared_denoted parts (Held k) b (Stored q) h = absurd (true≢false (sym h))
+declared_denoted parts (Held k) b (InHandleSpace o) h = refl
+
+pub globals_at : (parts : PartTypes) (name : ℕ → Bytes) (ks : List VariableShape) (j : ℕ) →
+    AllDifferent name j (length ks) → (gs : List GlobalValue) (names : Scope) →
+    IsTrue (globals_fit parts ks gs) → (i : ℕ) → i < length ks →
+    with_globals (globals_from name j ks) (map held gs) j names (name (i + j)) ≡ global_as (i + j)
+    (slice_get gs i)
 globals_at parts name [] j one gs names e i lt = absurd (omega arith)
 globals_at parts name (k ∷ ks) j one [] names e i lt = absurd (true≢false (sym e))
 globals_at parts name (k ∷ ks) j one (g ∷ gs) names e zero lt =
     let here : zero + j ≡ j = omega arith in
     let rest = with_globals (globals_from name (suc j) ks) (map held gs) (suc j) names in
-    let typed = and_left (global_has_type parts k g) (globals_have_types parts ks gs) e in
-    let denoted = global_denoted (pointer_spelling k) j (held g) in
-    ap (λ m. bind rest (name j) (Some denoted) (name m)) here
-    ∙ bind_same rest (name j) (Some denoted)
-    ∙ ap Some (declared_denoted parts k j g typed)
-    ∙ ap (λ b. Some (stored_denoted b g)) (sym here)
+    let typed = and_left (global_fits parts k g) (globals_fit parts ks gs) e in
+    let denoted = global_denoted (pointer_to k) j (held g) in
+    ap (λ m. bind rest (name j) denoted (name m)) here
+    ∙ bind_same rest (name j) denoted
+    ∙ declared_denoted parts k j g typed
+    ∙ ap (λ b. stored_denoted b g) (sym here)
 globals_at parts name (k ∷ ks) j one (g ∷ gs) names e (suc i) lt =
     let there : suc i + j ≡ i + suc j = omega arith in
     let apart : i + suc j ≢ j = omega arith in
     let rest = with_globals (globals_from name (suc j) ks) (map held gs) (suc j) names in
-    let denoted = global_denoted (pointer_spelling k) j (held g) in
-    ap (λ m. bind rest (name j) (Some denoted) (name m)) there
-    ∙ bind_other rest (name j) (Some denoted) (name (i + suc j)) (λ e. apart (one (i + suc j) j (omega arith) (omega arith) e))
-    ∙ globals_at parts name ks (suc j) (λ a b la lb q. one a b (omega arith) (omega arith) q) gs names (and_right (global_has_type parts k g) (globals_have_types parts ks gs) e) i (omega arith)
+    let denoted = global_denoted (pointer_to k) j (held g) in
+    ap (λ m. bind rest (name j) denoted (name m)) there
+    ∙ bind_other rest (name j) denoted (name (i + suc j)) (λ e. apart (one (i + suc j) j (omega arith) (omega arith) e))
+    ∙ globals_at parts name ks (suc j) (λ a b la lb q. one a b (omega arith) (omega arith) q) gs names (and_right (global_fits parts k g) (globals_fit parts ks gs) e) i (omega arith)
     ∙ ap (λ b. global_as b (slice_get gs i)) (sym there)
 
-pub globals_other : (name : ℕ → Bytes) (x : Bytes) (ks : List ValueType) (j : ℕ) → NotAmong name j (length ks) x → (gs : List (Option Value)) (names : Scope) → with_globals (globals_from name j ks) gs j names x ≡ names x
+pub globals_other : (name : ℕ → Bytes) (x : Bytes) (ks : List VariableShape) (j : ℕ) →
+    NotAmong name j (length ks) x → (gs : List (Option Value)) (names : Scope) →
+    with_globals (globals_from name j ks) gs j names x ≡ names x
 globals_other name x [] j f gs names = refl
 globals_other name x (k ∷ ks) j f [] names = refl
 globals_other name x (k ∷ ks) j f (g ∷ gs) names =
-    bind_other (with_globals (globals_from name (suc j) ks) gs (suc j) names) (name j) (Some (global_denoted (pointer_spelling k) j g)) x (λ e. f j (omega arith) (omega arith) (sym e))
+    bind_other (with_globals (globals_from name (suc j) ks) gs (suc j) names) (name j) (global_denoted (pointer_to k) j g) x (λ e. f j (omega arith) (omega arith) (sym e))
     ∙ globals_other name x ks (suc j) (λ i le lt. f i (omega arith) (omega arith)) gs names
 
 pub length-names_from : (name : ℕ → Bytes) (j n : ℕ) → length (names_from name j n) ≡ n
@@ -181,9 +224,9 @@ length-names_from name j zero = refl
 length-names_from name j (suc n) = ap suc (length-names_from name (suc j) n)
 
 -- the names of a module whose constants and overrides have these values
-abbrev pub module_names_given : Module → ModuleNames → Environment → Scope
-module_names_given p n env =
-    with_parameters (names_from n.constant 0 (length p.constant_types)) env.constants (with_globals (globals_from n.global 0 p.global_types) (map held env.globals) 0 no_names)
+abbrev pub module_names_in_scope : Module → ModuleNames → Environment → Scope
+module_names_in_scope p n env =
+    with_parameters (names_from n.constant 0 (length p.constant_types)) env.constants (with_globals (globals_from n.global 0 p.globals) (map held env.globals) 0 no_names)
 
 pub length-functions_of : (fs : List Naming) → length (functions_of fs) ≡ length fs
 length-functions_of [] = refl
@@ -194,7 +237,10 @@ length-form_functions [] = refl
 length-form_functions (f ∷ fs) = ap suc (length-form_functions fs)
 
 -- no function has a word for its name that is none of the module's
-pub no_name_among : (p : Module) (n : ModuleNames) (fs : List Naming) → length fs ≤ length p.functions → AllFit p n fs → (word : Bytes) → ((g : ℕ) → g < length p.functions → n.function g ≢ word) → names_function (form_functions fs) word ≡ false
+pub no_name_among : (p : Module) (n : ModuleNames) (fs : List Naming) →
+    length fs ≤ length p.functions → AllFit p n fs → (word : Bytes) →
+    ((g : ℕ) → g < length p.functions → n.function g ≢ word) →
+    names_function (form_functions fs) word ≡ false
 no_name_among p n [] within fits word other = refl
 no_name_among p n (f ∷ fs) within fits word other =
     let own_name = f.names.outer.function f.names.earlier in

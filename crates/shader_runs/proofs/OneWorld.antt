@@ -1,178 +1,243 @@
--- The types of the answers for all bounds on loop turns, from one start: each is the one that is
--- wanted with enough turns.
-use Rattle.std.proofs.Common.{◌≡◌, ℕ, zero, suc, ◌+◌, ◌<◌, ◌≤◌, ◌⊎◌, inl, inr, List, [], length}
-use Rattle.std.proofs.Common.{Option, Some, refl, sym, ap, ◌∙◌, subst, arith}
-use Rattle.std.specs.Prelude.{IsTrue}
-use Rattle.std.proofs.Math.Nat.{eq-or-lt_of_le}
-use Rattle.shader_runs.specs.Value.{BooleanType, has_types, Value}
-use Rattle.shader_runs.specs.World.{Event, World, Meaning, Environment, Settings}
+-- One world for all pasts, all starts and all bounds on loop turns: it goes through the history from
+-- the newest entry back, and answers as the first run would want it that asks here and began with
+-- that entry, behind what stood before it.
+use Rattle.std.proofs.Common.{◌≡◌, ℕ, suc, ◌+◌, ◌<◌, ◌≤◌, ◌⊎◌, inl, inr, List, [], ◌∷◌, length}
+use Rattle.std.proofs.Common.{Option, Some, None, refl, sym, ap, ◌∙◌, subst, arith}
+use Rattle.std.specs.Prelude.{IsTrue, false}
+use Rattle.std.specs.Option.{option_map_or}
+use Rattle.std.proofs.lemmas.Bool.{cases_lt}
+use Rattle.shader_runs.specs.Value.{ValueType, has_types, Value, Truth}
+use Rattle.shader_runs.specs.World.{Event, Entry, Ask, Read, Write, Discard, entries, World, Meaning}
+use Rattle.shader_runs.specs.World.{Environment, Settings}
 use Rattle.shader_runs.specs.Outcome.{Stuck, Unreturned, OutOfTurns, Discarded, Mistyped}
-use Rattle.shader_runs.specs.Outcome.{ReachedOrHalted}
-use Rattle.shader_runs.specs.Outcome.{Gives, Halts}
+use Rattle.shader_runs.specs.Outcome.{ReachedOrHalted, Gives, Halts}
 use Rattle.shader_runs.specs.Program.{Function, function_numbered, Module}
-use Rattle.shader_runs.specs.ProgramRun.{run_call}
-use Rattle.shader_runs.specs.Constants.{environment_of, module_scope, follow_module}
+use Rattle.shader_runs.specs.Constants.{environment_of, module_scope, follow_module, run_module}
 use Rattle.shader_runs.specs.TextRun.{word_use}
 use Rattle.shader_runs.specs.Scope.{ModuleNames, Naming}
 use Rattle.shader_runs.specs.Form.{form_module}
 use Rattle.shader_runs.specs.Premises.{SettingsFit, IsTyped}
-use Rattle.shader_runs.specs.Correct.{KeepsTypes, ModuleFits}
+use Rattle.shader_runs.specs.Correct.{KeepsTypes, ModuleFits, HasTypedWorld}
 use Rattle.shader_runs.proofs.Calls.{runs_alike}
-use Rattle.shader_runs.proofs.Process.{Pause, Process, perform, call_process}
+use Rattle.shader_runs.proofs.Process.{Pause, Process, resumed, call_process}
 use Rattle.shader_runs.proofs.Performed.{call_outcome, call_performed}
-use Rattle.shader_runs.proofs.Worlds.{Types, world_of, mistakes, events_made, Completes}
-use Rattle.shader_runs.proofs.Worlds.{process_makes}
-use Rattle.shader_runs.proofs.Bounds.{Cut, cut_cases, cut_fine, process_cut}
+use Rattle.shader_runs.proofs.Courses.{Course, comes_to, stops, makes, asks, counts, joins}
+use Rattle.shader_runs.proofs.Courses.{process_runs, filled, events_made, AsksAt, now}
+use Rattle.shader_runs.proofs.Courses.{answered_then, made_then, counted_then, inside, behind}
+use Rattle.shader_runs.proofs.Courses.{run_filled, HasNoMistake, filled_right, filled_grows}
+use Rattle.shader_runs.proofs.Courses.{asks_later, asks_before, or_else, asked, none_asked}
+use Rattle.shader_runs.proofs.Courses.{is_asked_at}
+use Rattle.shader_runs.proofs.Bounds.{course_cut, asks_with_more, asks_with_fewer}
+use Rattle.shader_runs.proofs.Entries.{IsNoEntry, opened_filled, opened_asks, BeginsCall}
+use Rattle.shader_runs.proofs.Entries.{Entered, call_course, call_enters, IsOpening, call_opens}
 use Rattle.shader_runs.proofs.Settles.{settled_events, call_settles}
+use Rattle.shader_runs.proofs.Typing.{default_value}
 
-abbrev unset : Types
-unset i = BooleanType
+-- an answer of the type that is wanted, if one is
+abbrev answer_of : Option ValueType → Value
+answer_of o = option_map_or default_value o (Truth false)
 
--- completed for one turn more each time
-abbrev chain : Process → ℕ → Types
-chain p zero = (process_makes 1 p [] unset).completes.after
-chain p (suc j) = (process_makes (suc (suc j)) p [] (chain p j)).completes.after
+-- under these values of the constants and this meaning
+module _ (env : Environment) (m : Meaning) (functions : List Function) where
+  -- a call with as many turns as it takes to come to the event behind the first i
+  abbrev call_to : ℕ → ℕ → List Value → Course
+  call_to i g vs = call_course env m functions (suc i) g vs
 
--- the type of the answer behind i events stays as it is from i + 1 turns on
-abbrev pub diagonal : Process → Types
-diagonal p i = chain p i i
+  -- the type that is wanted behind i events
+  abbrev wanted : ℕ → List Event → Option ValueType
+  wanted i [] = None
+  wanted i (Entry g vs firsts ∷ t) = or_else (asked (call_to i g vs) t i) (wanted i t)
+  wanted i (e ∷ t) = wanted i t
 
-module _ (p : Process) where
-  -- the run from a start, by the answers' types
-  abbrev after_turns : ℕ → Types → ReachedOrHalted Pause
-  after_turns n a = perform (world_of a) n p []
+  abbrev one_world : World
+  one_world t r = answer_of (wanted (length t) t)
 
-  completed_fine : (n : ℕ) (a : Types) → mistakes (after_turns n (process_makes n p [] a).completes.after) ≡ 0
-  completed_fine n a =
-      let k = (process_makes n p [] a).completes in
-      subst (λ q. mistakes q ≡ 0) (sym (k.local_after k.after (λ i lt. refl))) k.is_fine
+  no_entry : (i : ℕ) (e : Event) (t : List Event) → IsNoEntry e → wanted i (e ∷ t) ≡ wanted i t
+  no_entry i (Entry g vs firsts) t apart = absurd apart
+  no_entry i (Ask word vs) t apart = refl
+  no_entry i (Read place) t apart = refl
+  no_entry i (Write place v) t apart = refl
+  no_entry i Discard t apart = refl
 
-  chain_fine : (j : ℕ) → mistakes (after_turns (suc j) (chain p j)) ≡ 0
-  chain_fine zero = completed_fine 1 unset
-  chain_fine (suc j) = completed_fine (suc (suc j)) (chain p j)
+  -- calls that have ended want nothing more
+  abbrev LeavesWanted : ℕ → List Event → ReachedOrHalted Pause → Type 0
+  LeavesWanted i t (Gives x e) = length e ≤ i → wanted i e ≡ wanted i t
+  LeavesWanted i t (Halts x e) = Unit {0}
 
-  fine_below : (a : Types) (j n : ℕ) → j ≤ n → mistakes (after_turns n a) ≡ 0 → mistakes (after_turns j a) ≡ 0
-  fine_below a j n le h = cut_fine (after_turns j a) (after_turns n a) (process_cut a j n le p []) h
+  from_before : (i : ℕ) (t t1 : List Event) (q : ReachedOrHalted Pause) →
+      (events_made q ≤ i → wanted i t1 ≡ wanted i t) → LeavesWanted i t1 q → LeavesWanted i t q
+  from_before i t t1 (Gives x e) same h = λ le. h le ∙ same le
+  from_before i t t1 (Halts x e) same h = tt
 
-  -- without a mistake, more turns make as many events, but where as many events as turns were made
-  abbrev pub EventsSettle : Type 0
-  EventsSettle =
-      (a : Types) (j n : ℕ) → j ≤ n → mistakes (after_turns n a) ≡ 0 →
-      (events_made (after_turns j a) ≡ events_made (after_turns n a)) ⊎ (j ≤ events_made (after_turns j a))
+  event_leaves : (i : ℕ) (e : Event) (c : Course) (t : List Event) → BeginsCall (call_to i) e c t →
+      events_made (filled c (e ∷ t)) ≤ i → wanted i (e ∷ t) ≡ wanted i t
+  event_leaves i (Entry g vs firsts) c t begins le =
+      let call = call_to i g vs in
+      let same : filled call t ≡ filled c (Entry g vs firsts ∷ t) = sym (opened_filled call t) ∙ ap (λ c. filled c t) begins in
+      ap (λ o. or_else o (wanted i t)) (none_asked call t i (omega (arith, le, ap (λ q. events_made q) same)))
+  event_leaves i (Ask word vs) c t begins le = refl
+  event_leaves i (Read place) c t begins le = refl
+  event_leaves i (Write place v) c t begins le = refl
+  event_leaves i Discard c t begins le = refl
 
-  module _ (settle : EventsSettle) where
-    -- where the types are right with j + 1 turns, the first mistake with one turn more stands
-    -- behind j + 1 events
-    late_mistake : (j : ℕ) (a : Types) (now finally : ReachedOrHalted Pause) → Completes (after_turns (suc (suc j))) [] a now finally → mistakes (after_turns (suc j) a) ≡ 0 → mistakes now ≡ 1 → suc j < events_made now
-    late_mistake j a now finally k f c = go (cut_cases (after_turns (suc j) a) now cutting)
-      where
-        cutting : Cut (after_turns (suc j) a) now
-        cutting =
-            subst (λ q. Cut (after_turns (suc j) a) q) (k.local_now a (λ i lt. refl)) (process_cut a (suc j) (suc (suc j)) (omega arith) p [])
+  leaves_wanted : (i : ℕ) (c : Course) (t : List Event) → Entered (call_to i) c t → LeavesWanted i t (filled c t)
+  leaves_wanted i (comes_to x) t en = λ le. refl
+  leaves_wanted i (stops x sound) t en = tt
+  leaves_wanted i (makes e c) t (begins, en) =
+      from_before i t (e ∷ t) (filled c (e ∷ t)) (event_leaves i e c t begins) (leaves_wanted i c (e ∷ t) en)
+  leaves_wanted i (asks parts k r next) t (apart, en) =
+      let v = default_value k in
+      from_before i t (r ∷ t) (filled (next v) (r ∷ t)) (λ le. no_entry i r t apart) (leaves_wanted i (next v) (r ∷ t) (en v))
+  leaves_wanted i (counts next) t en = leaves_wanted i (next (entries t)) t en
+  leaves_wanted i (joins c next) t (en, rest) = go (filled c t) (leaves_wanted i c t en) (λ x e. leaves_wanted i (next x) e (rest x e))
+    where
+      go : (q : ReachedOrHalted Pause) → LeavesWanted i t q →
+          ((x : Pause) (e : List Event) → LeavesWanted i e (filled (next x) e)) →
+          LeavesWanted i t (resumed q (λ x e. filled (next x) e))
+      go (Gives x e) h later =
+          from_before i t e (filled (next x) e) (λ le. h (omega (arith, le, filled_grows (next x) e))) (later x e)
+      go (Halts x e) h later = tt
 
-        ended : after_turns (suc (suc j)) k.after ≡ finally
-        ended = k.local_after k.after (λ i lt. refl)
+  -- at an entry the world turns to the call that begins there
+  entry_wanted : {u : List Event} {k : ValueType} (g : ℕ) (vs : List Value)
+      (firsts : List (Option Value)) (c : Course) (t : List Event) →
+      BeginsCall (call_to (length u)) (Entry g vs firsts) c t → AsksAt c (Entry g vs firsts ∷ t) u k →
+      wanted (length u) (Entry g vs firsts ∷ t) ≡ Some k
+  entry_wanted {u} {k} g vs firsts c t begins a =
+      let call = call_to (length u) g vs in
+      ap (λ o. or_else o (wanted (length u) t))
+      (is_asked_at (opened_asks call (subst (λ c. AsksAt c t u k) (sym begins) (made_then a))))
 
-        go : ((after_turns (suc j) a ≡ now) ⊎ ((e : List Event) × (after_turns (suc j) a ≡ Halts OutOfTurns e) × (length e + mistakes now ≤ events_made now))) → suc j < events_made now
-        go (inl e) = absurd (omega (arith, f, c, ap mistakes e))
-        go (inr (e, h, l)) =
-            by (settle k.after (suc j) (suc (suc j)) (omega arith) (subst (λ q. mistakes q ≡ 0) (sym ended) k.is_fine))
-          where
-            -- the run with one turn less asks for nothing that was changed
-            unchanged : events_made (after_turns (suc j) k.after) ≡ length e
-            unchanged =
-                let less = process_makes (suc j) p [] a in
-                let m = less.completes in
-                let many : events_made less.now ≡ length e = ap events_made (sym (m.local_now a (λ i lt. refl)) ∙ h) in
-                ap events_made (m.local_now k.after (λ i lt. k.agrees i (λ d. omega (arith, lt, many, l, c)))) ∙ many
+  event_wanted : {u : List Event} {k : ValueType} (e : Event) (c : Course) (t : List Event) →
+      BeginsCall (call_to (length u)) e c t → AsksAt c (e ∷ t) u k → wanted (length u) t ≡ Some k →
+      wanted (length u) (e ∷ t) ≡ Some k
+  event_wanted (Entry g vs firsts) c t begins a h = entry_wanted g vs firsts c t begins a
+  event_wanted (Ask word vs) c t begins a h = h
+  event_wanted (Read place) c t begins a h = h
+  event_wanted (Write place v) c t begins a h = h
+  event_wanted Discard c t begins a h = h
 
-            by : ((events_made (after_turns (suc j) k.after) ≡ events_made (after_turns (suc (suc j)) k.after)) ⊎ (suc j ≤ events_made (after_turns (suc j) k.after))) → suc j < events_made now
-            by (inl q) = absurd (omega (arith, q, unchanged, ap events_made ended, k.further, l, c))
-            by (inr q) = omega (arith, q, unchanged, l, c)
+  -- what is wanted where the course asks is told by the history there, if it was so before
+  asks_wanted : {c : Course} {t u : List Event} {k : ValueType} → AsksAt c t u k → Entered (call_to (length u)) c t → wanted (length u) t ≡ Some k → wanted (length u) u ≡ Some k
+  asks_wanted now en h = h
+  asks_wanted (answered_then {y = y} {r = r} {t = t} {u = u} a) (apart, en) h =
+      asks_wanted a (en (default_value y)) (no_entry (length u) r t apart ∙ h)
+  asks_wanted (made_then {e = e} {c = c} {t = t} a) (begins, en) h = asks_wanted a en (event_wanted e c t begins a h)
+  asks_wanted (counted_then a) en h = asks_wanted a en h
+  asks_wanted (inside a) (en, rest) h = asks_wanted a en h
+  asks_wanted (behind {c = c} {t = t} {u = u} {e = e} {x = x} given a) (en, rest) h =
+      asks_wanted a (rest x e) (subst (LeavesWanted (length u) t) given (leaves_wanted (length u) c t en) (asks_later a) ∙ h)
 
-    -- so one turn more leaves the types of the first answers as they are
-    next_agrees : (j i : ℕ) → i ≤ j → chain p (suc j) i ≡ chain p j i
-    next_agrees j i le =
-        let k = process_makes (suc (suc j)) p [] (chain p j) in
-        k.completes.agrees i (λ c. omega (arith, le, late_mistake j (chain p j) k.now k.finally k.completes (chain_fine j) c))
+  -- nothing need be so before a call
+  opening_wanted : {c : Course} {t u : List Event} {k : ValueType} → AsksAt c t u k → Entered (call_to (length u)) c t → IsOpening c → wanted (length u) u ≡ Some k
+  opening_wanted now en o = absurd o
+  opening_wanted (answered_then a) en o = absurd o
+  opening_wanted (made_then {e = Entry g vs firsts} {c = c} {t = t} a) (begins, en) o =
+      asks_wanted a en (entry_wanted g vs firsts c t begins a)
+  opening_wanted (made_then {e = Ask word vs} a) en o = absurd o
+  opening_wanted (made_then {e = Read place} a) en o = absurd o
+  opening_wanted (made_then {e = Write place v} a) en o = absurd o
+  opening_wanted (made_then {e = Discard} a) en o = absurd o
+  opening_wanted (counted_then {t = t} a) en o = opening_wanted a en (o (entries t))
+  opening_wanted (inside a) en o = absurd o
+  opening_wanted (behind h a) en o = absurd o
 
-    chain_agrees : (n i : ℕ) → i ≤ n → chain p n i ≡ diagonal p i
-    chain_agrees zero i le = ap (λ n. chain p n i) (none i le)
-      where
-        none : (i : ℕ) → i ≤ 0 → 0 ≡ i
-        none i le = omega (arith, le)
-    chain_agrees (suc n) i le = go (eq-or-lt_of_le le) (λ l. chain_agrees n i l)
-      where
-        go : ((i ≡ suc n) ⊎ (i < suc n)) → (i ≤ n → chain p n i ≡ diagonal p i) → chain p (suc n) i ≡ diagonal p i
-        go (inl e) rest = ap (λ n. chain p n i) (sym e)
-        go (inr lt) rest = next_agrees n i (omega (arith, lt)) ∙ rest (omega (arith, lt))
-
-    -- with any number of turns: a run asks for finitely many answers, whose types a late element of
-    -- the chain has too
-    pub diagonal_fine : (n : ℕ) → mistakes (after_turns n (diagonal p)) ≡ 0
-    diagonal_fine n =
-        let k = process_makes n p [] (diagonal p) in
-        let late = n + events_made k.now in
-        let like : after_turns n (chain p late) ≡ k.now = k.completes.local_now (chain p late) (λ i lt. chain_agrees late i (omega (arith, lt))) in
-        let fine : mistakes (after_turns n (chain p late)) ≡ 0 = fine_below (chain p late) n (suc late) (omega arith) (chain_fine late) in
-        ap mistakes (k.completes.local_now (diagonal p) (λ i lt. refl) ∙ sym like) ∙ fine
+  call_wanted : (g : ℕ) (vs : List Value) {t u : List Event} {k : ValueType} → AsksAt (call_to (length u) g vs) t u k → wanted (length u) u ≡ Some k
+  call_wanted g vs {t} {u} a =
+      opening_wanted a (call_enters env m functions (suc (length u)) g vs t) (call_opens env m functions (suc (length u)) g vs)
 
 call_events : (q : ReachedOrHalted Pause) → events_made (call_outcome q) ≡ events_made q
 call_events (Gives x e) = refl
 call_events (Halts x e) = refl
 
-call_mistakes : (q : ReachedOrHalted Pause) → mistakes (call_outcome q) ≡ mistakes q
-call_mistakes (Gives x e) = refl
-call_mistakes (Halts Stuck e) = refl
-call_mistakes (Halts Unreturned e) = refl
-call_mistakes (Halts OutOfTurns e) = refl
-call_mistakes (Halts Discarded e) = refl
-call_mistakes (Halts Mistyped e) = refl
+right_keeps : (q : ReachedOrHalted Pause) → HasNoMistake q → KeepsTypes (call_outcome q)
+right_keeps (Gives x e) h = tt
+right_keeps (Halts Stuck e) h = tt
+right_keeps (Halts Unreturned e) h = tt
+right_keeps (Halts OutOfTurns e) h = tt
+right_keeps (Halts Discarded e) h = tt
+right_keeps (Halts Mistyped e) h = absurd h
 
-keeps_types : (q : ReachedOrHalted (Option Value)) → mistakes q ≡ 0 → KeepsTypes q
-keeps_types (Gives v e) h = tt
-keeps_types (Halts Stuck e) h = tt
-keeps_types (Halts Unreturned e) h = tt
-keeps_types (Halts OutOfTurns e) h = tt
-keeps_types (Halts Discarded e) h = tt
-keeps_types (Halts Mistyped e) h = absurd (omega (arith, h))
-
--- a run without a mistake keeps the types
-pub call_keeps : (env : Environment) (w : World) (m : Meaning) (n : ℕ) (fs : List Function) (g : ℕ) (vs : List Value) (t : List Event) → mistakes (perform w n (call_process env m fs g vs) t) ≡ 0 → KeepsTypes (run_call env w m n fs g vs t)
-call_keeps env w m n fs g vs t h =
-    keeps_types (run_call env w m n fs g vs t) (ap mistakes (call_performed env w m n fs g vs t) ∙ call_mistakes (perform w n (call_process env m fs g vs) t) ∙ h)
-
--- a call that is the same with every bound makes all its events
-pub steady_settles : (env : Environment) (m : Meaning) (fs : List Function) (g : ℕ) (vs : List Value) → ((w : World) (j n : ℕ) → run_call env w m j fs g vs [] ≡ run_call env w m n fs g vs []) → EventsSettle (call_process env m fs g vs)
-steady_settles env m fs g vs steady a j n le fine = inl (sym (made j) ∙ ap events_made (steady (world_of a) j n) ∙ made n)
-  where
-    made : (n : ℕ) → events_made (run_call env (world_of a) m n fs g vs []) ≡ events_made (after_turns (call_process env m fs g vs) n a)
-    made n = ap events_made (call_performed env (world_of a) m n fs g vs []) ∙ call_events (after_turns (call_process env m fs g vs) n a)
-
--- a function of a module, from the start with these arguments
-module _ (p : Module) (n : ModuleNames) (fs : List Naming) (fits : ModuleFits p n fs) (settings : Settings) (fit : SettingsFit p settings) (m : Meaning) (typed : IsTyped p m) (g : ℕ) (f : Function) (there : function_numbered p.functions g ≡ Some f) (vs : List Value) (h : IsTrue (has_types p.parts f.argument_types vs)) where
+-- a function of a module, behind a past and with these arguments
+module _ (p : Module) (n : ModuleNames) (fs : List Naming) (fits : ModuleFits p n fs)
+    (settings : Settings) (fit : SettingsFit p settings) (m : Meaning) (typed : IsTyped p m) (g : ℕ)
+    (f : Function) (there : function_numbered p.functions g ≡ Some f) (vs : List Value)
+    (h : IsTrue (has_types p.parts f.argument_types vs)) (past : List Event) where
   abbrev env : Environment
   env = environment_of p settings m
 
-  abbrev process : Process
-  process = call_process env m p.functions g vs
+  abbrev call : ℕ → Course
+  call j = call_course env m p.functions j g vs
 
-  abbrev followed : ℕ → Types → ReachedOrHalted (Option Value)
-  followed j a =
-      follow_module (form_module p n fs) settings (world_of a) m n.is_request j (n.function g) vs []
+  module _ (w : World) (j : ℕ) (right : (u : List Event) (k : ValueType) → AsksAt (call j) past u k → (r : Event) → w u r ≡ default_value k) where
+    run_is_filled : run_module p settings w m j g vs past ≡ call_outcome (filled (call j) past)
+    run_is_filled =
+        call_performed env w m j p.functions g vs past
+        ∙ ap call_outcome (process_runs w j (call_process env m p.functions g vs) past ∙ run_filled w (call j) past right)
 
-  -- the text's run makes as many events
-  as_many : (j : ℕ) (a : Types) → mistakes (after_turns process j a) ≡ 0 → events_made (followed j a) ≡ events_made (after_turns process j a)
-  as_many j a fine =
-      ap events_made (runs_alike p n fs fits settings fit m typed g f there vs h (world_of a) j [] (call_keeps env (world_of a) m j p.functions g vs [] fine)) ∙ ap events_made (call_performed env (world_of a) m j p.functions g vs []) ∙ call_events (after_turns process j a)
+    run_keeps : KeepsTypes (run_module p settings w m j g vs past)
+    run_keeps = subst KeepsTypes (sym run_is_filled) (right_keeps (filled (call j) past) (filled_right (call j) past))
 
-  pub events_settle : EventsSettle process
-  events_settle a j k le fine =
-      go (settled_events j (call_settles j (module_scope (form_module p n fs) settings (world_of a) m n.is_request) (world_of a) m (word_use (form_module p n fs).functions n.is_request) k le (form_module p n fs).functions (n.function g) vs []))
+    -- the text's run makes as many events
+    as_many :
+        events_made (follow_module (form_module p n fs) settings w m n.is_request j (n.function g) vs past)
+        ≡ events_made (filled (call j) past)
+    as_many =
+        ap events_made (runs_alike p n fs fits settings fit m typed g f there vs h w j past run_keeps)
+        ∙ ap events_made run_is_filled ∙ call_events (filled (call j) past)
+
+  -- with more turns it makes as many events, or with fewer it made as many as turns
+  filled_settles : (j k : ℕ) → j ≤ k →
+      (events_made (filled (call j) past) ≡ events_made (filled (call k) past)) ⊎
+      (j + length past ≤ events_made (filled (call j) past))
+  filled_settles j k le =
+      go (settled_events j
+      (call_settles j (module_scope (form_module p n fs) settings world m n.is_request) world m
+      (word_use (form_module p n fs).functions n.is_request) k le (form_module p n fs).functions
+      (n.function g) vs past))
     where
-      first : events_made (followed j a) ≡ events_made (after_turns process j a)
-      first = as_many j a (fine_below process a j k le fine)
+      world : World
+      world t r = answer_of (asked (call k) past (length t))
 
-      go : ((events_made (followed j a) ≡ events_made (followed k a)) ⊎ (j + 0 ≤ events_made (followed j a))) → (events_made (after_turns process j a) ≡ events_made (after_turns process k a)) ⊎ (j ≤ events_made (after_turns process j a))
-      go (inl e) = inl (sym first ∙ e ∙ as_many k a fine)
-      go (inr l) = inr (omega (arith, l, first))
+      right : (u : List Event) (y : ValueType) → AsksAt (call k) past u y → (r : Event) → world u r ≡ default_value y
+      right u y a r = ap answer_of (is_asked_at a)
+
+      fewer : (u : List Event) (y : ValueType) → AsksAt (call j) past u y → (r : Event) → world u r ≡ default_value y
+      fewer u y a r = right u y (asks_with_more (course_cut j k le (call_process env m p.functions g vs)) a) r
+
+      followed : ℕ → ReachedOrHalted (Option Value)
+      followed i = follow_module (form_module p n fs) settings world m n.is_request i (n.function g) vs past
+
+      go : ((events_made (followed j) ≡ events_made (followed k)) ⊎ (j + length past ≤ events_made (followed j))) →
+          (events_made (filled (call j) past) ≡ events_made (filled (call k) past)) ⊎
+          (j + length past ≤ events_made (filled (call j) past))
+      go (inl e) = inl (sym (as_many world j fewer) ∙ e ∙ as_many world k right)
+      go (inr l) = inr (omega (arith, l, as_many world j fewer))
+
+  -- what is asked behind i events is asked with i + 1 turns
+  asked_in_time : (j : ℕ) {u : List Event} {k : ValueType} → AsksAt (call j) past u k → AsksAt (call (suc (length u))) past u k
+  asked_in_time j {u} {k} a = go (cases_lt j (suc (length u)))
+    where
+      process : Process
+      process = call_process env m p.functions g vs
+
+      go : ((j < suc (length u)) ⊎ (suc (length u) ≤ j)) → AsksAt (call (suc (length u))) past u k
+      go (inl le) = asks_with_more (course_cut j (suc (length u)) (omega (arith, le)) process) a
+      go (inr le) = asks_with_fewer (course_cut (suc (length u)) j le process) a (in_time (filled_settles (suc (length u)) j le))
+        where
+          in_time : ((events_made (filled (call (suc (length u))) past) ≡ events_made (filled (call j) past)) ⊎
+              (suc (length u) + length past ≤ events_made (filled (call (suc (length u))) past))) →
+              length u < events_made (filled (call (suc (length u))) past)
+          in_time (inl e) = omega (arith, asks_before a, e)
+          in_time (inr l) = omega (arith, l)
+
+  world_keeps : (j : ℕ) → KeepsTypes (run_module p settings (one_world env m p.functions) m j g vs past)
+  world_keeps j =
+      run_keeps (one_world env m p.functions) j
+      (λ u k a r. ap answer_of (call_wanted env m p.functions g vs (asked_in_time j a)))
+
+pub has_typed_world : HasTypedWorld
+has_typed_world p n fs fits settings fit m typed = (
+  one_world (environment_of p settings m) m p.functions,
+  λ turns g f e vs h past. world_keeps p n fs fits settings fit m typed g f e vs h past turns,
+)

@@ -5,11 +5,11 @@ use Rattle.std.proofs.Common.{◌∷◌, ◌++◌, length, ◌||◌, refl, ap, a
 use Rattle.shader_runs.specs.Value.{Bytes}
 use Rattle.shader_runs.specs.World.{Event}
 use Rattle.shader_runs.specs.Program.{Label, Statement, Emit, Barrier, Statements, Cases, no_case}
-use Rattle.shader_runs.specs.Program.{case, expression_of, handle_type, binds, from}
+use Rattle.shader_runs.specs.Program.{case, expression_of, binds, from}
 use Rattle.shader_runs.specs.ProgramRun.{Call, KeptValues, barrier_words}
 use Rattle.shader_runs.specs.Text.{Tree, Lines}
-use Rattle.shader_runs.specs.Scope.{Handles, Naming, bound_name, after_one, given_after}
-use Rattle.shader_runs.specs.Scope.{given_after_all, after_emit, given_by, given_by_all, after}
+use Rattle.shader_runs.specs.Scope.{Handles, Naming, bound_name, after_one, named_after}
+use Rattle.shader_runs.specs.Scope.{named_after_all, after_emit, named_by, named_by_all, after}
 use Rattle.shader_runs.specs.Form.{written_form, value_form, own_form, let_if, lets, perform_each}
 use Rattle.shader_runs.specs.Form.{form}
 use Rattle.shader_runs.specs.Form.{form_all, form_cases}
@@ -20,7 +20,7 @@ use Rattle.shader_runs.specs.Passes.{Passes, is_here, goes_behind, goes_inside, 
 use Rattle.shader_runs.specs.Passes.{lines_behind, let_count, line_count, behind_lines, group_of}
 use Rattle.shader_runs.specs.Passes.{region_in_text, point_in_text, case_falls, region_falls}
 use Rattle.shader_runs.specs.Passes.{falls_at}
-use Rattle.shader_runs.specs.Points.{given_before, given_in, handles_in, handles_at, given_at}
+use Rattle.shader_runs.specs.Points.{named_before, named_in, handles_in, handles_at, named_at}
 
 or_none : (a b : Bool) → (a || b) ≡ false → (a ≡ false) × (b ≡ false)
 or_none true b e = absurd (true≢false e)
@@ -41,20 +41,28 @@ module _ (f : Naming) where
   lets_behind : (hs : List ℕ) (k : ℕ) (s : Handles) (tail : Lines) (q : Point) → lines_behind (lets f k hs s tail) (behind_lines (let_count f.function hs) q) ≡ lines_behind tail q
   lets_behind [] k s tail q = refl
   lets_behind (h ∷ hs) k s tail q =
-      let k1 = given_after f.function h k in
+      let k1 = named_after f.function h k in
       let s1 = after_one f k h s in
-      let_behind (binds f.function h) (bound_name f k h) (value_form (own_form f (written_form f s) (handle_type f.function h) (expression_of f.function h))) (lets f k1 hs s1 tail) (let_count f.function hs) q
+      let_behind (binds f.function h) (bound_name f k h)
+      (value_form (own_form f (written_form f s) (expression_of f.function h))) (lets f k1 hs s1 tail) (let_count f.function hs) q
       ∙ lets_behind hs k1 s1 tail q
 
   -- behind some first handles of an Emit
-  some_behind : (xs ys : List ℕ) (k : ℕ) (s : Handles) (ss : Statements) → lines_behind (lets f k (xs ++ ys) s (form_all f (given_after_all f.function (xs ++ ys) k) ss (after_emit f k (xs ++ ys) s))) (behind_lines (let_count f.function xs) here) ≡ lets f (given_after_all f.function xs k) ys (after_emit f k xs s) (form_all f (given_after_all f.function ys (given_after_all f.function xs k)) ss (after_emit f (given_after_all f.function xs k) ys (after_emit f k xs s)))
+  some_behind : (xs ys : List ℕ) (k : ℕ) (s : Handles) (ss : Statements) →
+      lines_behind
+      (lets f k (xs ++ ys) s
+      (form_all f (named_after_all f.function (xs ++ ys) k) ss (after_emit f k (xs ++ ys) s)))
+      (behind_lines (let_count f.function xs) here) ≡ lets f (named_after_all f.function xs k) ys
+      (after_emit f k xs s)
+      (form_all f (named_after_all f.function ys (named_after_all f.function xs k)) ss
+      (after_emit f (named_after_all f.function xs k) ys (after_emit f k xs s)))
   some_behind [] ys k s ss = refl
   some_behind (h ∷ xs) ys k s ss =
-      let k1 = given_after f.function h k in
+      let k1 = named_after f.function h k in
       let s1 = after_one f k h s in
       let hs = xs ++ ys in
-      let rest = lets f k1 hs s1 (form_all f (given_after_all f.function hs k1) ss (after_emit f k1 hs s1)) in
-      let_behind (binds f.function h) (bound_name f k h) (value_form (own_form f (written_form f s) (handle_type f.function h) (expression_of f.function h))) rest (let_count f.function xs) here
+      let rest = lets f k1 hs s1 (form_all f (named_after_all f.function hs k1) ss (after_emit f k1 hs s1)) in
+      let_behind (binds f.function h) (bound_name f k h) (value_form (own_form f (written_form f s) (expression_of f.function h))) rest (let_count f.function xs) here
       ∙ some_behind xs ys k1 s1 ss
 
   performs_behind : (ws : List Bytes) (tail : Lines) (q : Point) → lines_behind (perform_each ws tail) (behind_lines (length ws) q) ≡ lines_behind tail q
@@ -66,16 +74,22 @@ module _ (f : Naming) where
   behind_form (Barrier bits) k s tail q = performs_behind (barrier_words bits) tail q
   behind_form _ k s tail q = refl
 
-  case_lines : (cs : Cases) (i k : ℕ) (labels : List Label) (s : Handles) → case_falls cs i ≡ false → lines_at (form_cases f k labels cs s) (group_of cs i) ≡ form_all f (given_before f.function cs i k) (body_at cs i) s
+  case_lines : (cs : Cases) (i k : ℕ) (labels : List Label) (s : Handles) →
+      case_falls cs i ≡ false → lines_at (form_cases f k labels cs s) (group_of cs i) ≡ form_all f
+      (named_before f.function cs i k) (body_at cs i) s
   case_lines no_case i k labels s e = refl
   case_lines (case l b false cs) zero k labels s e = refl
   case_lines (case l b true cs) zero k labels s e = absurd (true≢false e)
-  case_lines (case l b false cs) (suc i) k labels s e = case_lines cs i (given_by_all f.function b k) [] s e
+  case_lines (case l b false cs) (suc i) k labels s e = case_lines cs i (named_by_all f.function b k) [] s e
   case_lines (case l b true cs) (suc i) k labels s e =
-      case_lines cs i (given_by_all f.function b k) (labels ++ l ∷ []) s e
+      case_lines cs i (named_by_all f.function b k) (labels ++ l ∷ []) s e
 
   module _ (c : Call) (n : ℕ) where
-    inside_form : {st : Statement} {g : Region} {kept kept1 : KeptValues} {t t1 : List Event} → Comes c n st g kept t kept1 t1 → (k : ℕ) (s : Handles) (tail : Lines) (q : Point) → region_falls st g ≡ false → lines_behind (form f k st s tail) (inside (region_in_text st g) q) ≡ lines_behind (form_all f (given_in f.function st g k) (statements_in st g) (handles_in f k st g s)) q
+    inside_form : {st : Statement} {g : Region} {kept kept1 : KeptValues} {t t1 : List Event} →
+        Comes c n st g kept t kept1 t1 → (k : ℕ) (s : Handles) (tail : Lines) (q : Point) →
+        region_falls st g ≡ false →
+        lines_behind (form f k st s tail) (inside (region_in_text st g) q) ≡ lines_behind
+        (form_all f (named_in f.function st g k) (statements_in st g) (handles_in f k st g s)) q
     inside_form into_block k s tail q e = refl
     inside_form (into_accept v) k s tail q e = refl
     inside_form (into_reject v) k s tail q e = refl
@@ -85,18 +99,21 @@ module _ (f : Naming) where
     inside_form (into_loop (to_continuing turn there)) k s tail q e = refl
     inside_form (into_loop (to_break_if turn there)) k s tail q e = refl
 
-    pub lines_there : {ss : Statements} {q : Point} {kept kept1 : KeptValues} {t t1 : List Event} → Passes c n ss q kept t kept1 t1 → (k : ℕ) (s : Handles) → falls_at ss q ≡ false → lines_behind (form_all f k ss s) (point_in_text f.function ss q) ≡ form_all f (given_at f.function k ss q) (statements_at ss q) (handles_at f k ss q s)
+    pub lines_there : {ss : Statements} {q : Point} {kept kept1 : KeptValues} {t t1 : List Event} →
+        Passes c n ss q kept t kept1 t1 → (k : ℕ) (s : Handles) → falls_at ss q ≡ false →
+        lines_behind (form_all f k ss s) (point_in_text f.function ss q) ≡ form_all f
+        (named_at f.function k ss q) (statements_at ss q) (handles_at f k ss q s)
     lines_there is_here k s e = refl
     lines_there (goes_behind {st = st} {ss = ss} {q = q} done rest) k s e =
-        let k1 = given_by f.function st k in
+        let k1 = named_by f.function st k in
         let s1 = after f k st s in
         behind_form st k s (form_all f k1 ss s1) (point_in_text f.function ss q) ∙ lines_there rest k1 s1 e
     lines_there (goes_inside {st = st} {ss = ss} {g = g} {q = q} to rest) k s e =
         let apart = or_none (region_falls st g) (falls_at (statements_in st g) q) e in
-        let tail = form_all f (given_by f.function st k) ss (after f k st s) in
+        let tail = form_all f (named_by f.function st k) ss (after f k st s) in
         inside_form to k s tail (point_in_text f.function (statements_in st g) q) apart.0
-        ∙ lines_there rest (given_in f.function st g k) (handles_in f k st g s) apart.1
+        ∙ lines_there rest (named_in f.function st g k) (handles_in f k st g s) apart.1
     lines_there (emits {first = first} {count = count} {i = i} {ss = ss} less there) k s e =
-        let f_lines = λ (hs : List ℕ). lets f k hs s (form_all f (given_after_all f.function hs k) ss (after_emit f k hs s)) in
+        let f_lines = λ (hs : List ℕ). lets f k hs s (form_all f (named_after_all f.function hs k) ss (after_emit f k hs s)) in
         ap (λ hs. lines_behind (f_lines hs) (behind_lines (let_count f.function (from first i)) here)) (from_split i count first less)
         ∙ some_behind (from first i) (from (first + i) (count - i)) k s ss

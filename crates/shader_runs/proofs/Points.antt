@@ -15,21 +15,25 @@ use Rattle.shader_runs.specs.Constants.{environment_of}
 use Rattle.shader_runs.proofs.Update.{has_types_length}
 use Rattle.shader_runs.proofs.Relation.{as_denoted, Stands, Related}
 use Rattle.shader_runs.proofs.Evaluation.{naming, words, Respond}
-use Rattle.shader_runs.proofs.Form.{Given, typed_value, value_here}
-use Rattle.shader_runs.proofs.Calls.{starting, given, starts, body_fits, calls_alike, uses_fit}
+use Rattle.shader_runs.proofs.Form.{Facts, typed_value, value_here}
+use Rattle.shader_runs.proofs.Calls.{starting, facts, starts, body_fits, calls_alike, uses_fit}
 use Rattle.shader_runs.proofs.Calls.{module_within, names_are}
 use Rattle.shader_runs.proofs.Places.{lines_there}
 use Rattle.shader_runs.proofs.Passes.{passes}
-use Rattle.shader_runs.proofs.Names.{length-functions_of, module_names_given}
+use Rattle.shader_runs.proofs.Names.{length-functions_of, module_names_in_scope}
 use Rattle.shader_runs.proofs.Constants.{environment_fits}
 use Rattle.shader_runs.specs.Passes.{TextPasses, point_in_text}
 use Rattle.shader_runs.specs.Outcome.{reach}
 
-facts_hold : (p : Module) (c : Call) (n : Names) (d : Respond) → Given p c n d → (s : Handles) (names : Scope) (kept : KeptValues) → Related c n s names kept → FactsHold c (words c d) (naming c n) s kept names
-facts_hold p c n d given s names kept r =
+facts_hold : (p : Module) (c : Call) (n : Names) (d : Respond) → Facts p c n d →
+    (s : Handles) (names : Scope) (kept : KeptValues) → Related c n s names kept →
+    FactsHold c (words c d) (naming c n) s kept names
+facts_hold p c n d facts s names kept r =
     record {
-      named = λ h x e. let q = subst (λ st. Stands c s names kept (handle_type c.function h) (expression_of c.function h) (kept h) st) e (r.standing h) in (q.0.0, q.0.1, q.1 ∙ ap as_denoted q.0.1);
-      written = λ h u. let v = typed_value p c n d given s names kept r h u in (v.0, v.1, λ t. value_here p c n d given s names kept r h u t ∙ ap (λ o. reach o t) v.1);
+      named = λ h x e. let q =
+          subst (λ st. Stands c s names kept (handle_type c.function h) (expression_of c.function h)
+          (kept h) st) e (r.availability h) in (q.0.0, q.0.1, q.1 ∙ ap as_denoted q.0.1);
+      written = λ h u. let v = typed_value p c n d facts s names kept r h u in (v.0, v.1, λ t. value_here p c n d facts s names kept r h u t ∙ ap (λ o. reach o t) v.1);
     }
 
 -- what holds of all functions holds of the first ones
@@ -47,7 +51,7 @@ count_behind (g ∷ later) fs = omega (arith, count_behind later fs)
 
 pub points_agree : PointsAgree
 points_agree p n later f fs fits s settings m typed vs h w turns before_entry t q kept t1 passed =
-    subst (λ outer. Arrived outer) (sym (names_are p n every fits s settings m typed w)) inside_given
+    subst (λ outer. Arrived outer) (sym (names_are p n every fits s settings m typed w)) inside_named
   where
     every : List Naming
     every = later ++ (f ∷ fs)
@@ -63,7 +67,11 @@ points_agree p n later f fs fits s settings m typed vs h w turns before_entry t 
 
     -- where the text's run has come to, inside these names of the module
     Arrived : Scope → Type 0
-    Arrived outer = (names : Scope) × TextPasses (words_of outer n every w m turns fs) turns (form_all f 0 f.function.body (at_start f.function)) (point_in_text f.function f.function.body q) (names_of outer f vs before_entry) t names t1 × LinesAreTheForm f f.function.body q × FactsHold c (words_of outer n every w m turns fs) f (handles_at f 0 f.function.body q (at_start f.function)) kept names
+    Arrived outer = (names : Scope) × TextPasses (words_of outer n every w m turns fs) turns
+        (form_all f 0 f.function.body (at_start f.function))
+        (point_in_text f.function f.function.body q) (names_of outer f vs before_entry) t names t1 ×
+        LinesAreTheForm f f.function.body q × FactsHold c (words_of outer n every w m turns fs) f
+        (handles_at f 0 f.function.body q (at_start f.function)) kept names
 
     count : length (later ++ (f ∷ fs)) ≡ length p.functions
     count = sym (length-functions_of (later ++ (f ∷ fs))) ∙ ap length fits.functions
@@ -73,8 +81,8 @@ points_agree p n later f fs fits s settings m typed vs h w turns before_entry t 
         let more = count_behind later (f ∷ fs) in
         fits.distinct.functions g k (omega (arith, more, count)) (omega (arith, more, count))
 
-    inside_given : Arrived (module_names_given p n env)
-    inside_given =
+    inside_named : Arrived (module_names_in_scope p n env)
+    inside_named =
         let whole = module_within p every fits.functions in
         let within : length fs ≤ length p.functions = omega (arith, whole, count_behind later (f ∷ fs)) in
         let uses = word_use (form_functions every) n.is_request in
@@ -82,10 +90,10 @@ points_agree p n later f fs fits s settings m typed vs h w turns before_entry t 
         let fit = fit_behind p n later (f ∷ fs) fits.all in
         let all = typed_behind env.parts p m later (f ∷ fs) (subst (λ l. AllTypedIn env.parts p m l) (sym fits.functions) typed.functions) in
         let earlier = calls_alike p n uses known env environment w m turns fs within fit.1 all.1 one in
-        let d = (words_of (module_names_given p n env) n every w m turns fs).respond in
+        let d = (words_of (module_names_in_scope p n env) n every w m turns fs).respond in
         let first = starting p n (functions_of fs) f fit.0 in
-        let given = given p n uses known env environment w m turns fs within fit.1 earlier f first all.0 vs before_entry h in
+        let facts = facts p n uses known env environment w m turns fs within fit.1 earlier f first all.0 vs before_entry h in
         let start = starts p n uses known env environment w m turns fs within fit.1 earlier f first all.0 vs before_entry (has_types_length env.parts f.function.argument_types vs h) in
         let body = body_fits p n uses known env environment w m turns fs within fit.1 earlier f fit.0 all.0 vs before_entry in
-        let there = passes p c f.names d given turns passed 0 (at_start f.function) _ start body in
-        (there.0, there.1, (λ e. lines_there f c turns passed 0 (at_start f.function) e), facts_hold p c f.names d given (handles_at f 0 f.function.body q (at_start f.function)) there.0 kept there.2)
+        let there = passes p c f.names d facts turns passed 0 (at_start f.function) _ start body in
+        (there.0, there.1, (λ e. lines_there f c turns passed 0 (at_start f.function) e), facts_hold p c f.names d facts (handles_at f 0 f.function.body q (at_start f.function)) there.0 kept there.2)

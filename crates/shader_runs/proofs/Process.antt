@@ -135,9 +135,9 @@ asks_process [] kept = gives (DoneWith kept)
 asks_process (word ∷ words) kept = tells (Ask word []) (asks_process words kept)
 
 -- what a call gave
-abbrev pub given_back : Pause → Option Value
-given_back (ReturnedWith v) = v
-given_back _ = None
+abbrev pub answer_back : Pause → Option Value
+answer_back (ReturnedWith v) = v
+answer_back _ = None
 
 abbrev pub result_process : Option ℕ → KeptValues → Option Value → Process
 result_process None kept v = gives (DoneWith kept)
@@ -160,7 +160,10 @@ module _ (c : Call) (calls : ℕ → List Value → Process) where
   emit_one h (Some (Load p)) kept =
       if_true (is_counted c.function 1 h) (load_process c.environment.parts (handle_type c.function h) h kept (used_value c kept p)) (gives (DoneWith kept))
   emit_one h (Some (Request a w xs es)) kept =
-      if_true (is_asked c.function h a) (ask_process c.environment.parts (handle_type c.function h) h w kept (joined_values (used_values c kept xs) (constant_values c.environment c.meaning es))) (gives (DoneWith kept))
+      if_true (is_asked c.function h a)
+      (ask_process c.environment.parts (handle_type c.function h) h w kept
+      (joined_values (used_values c kept xs) (constant_values c.environment c.meaning es)))
+      (gives (DoneWith kept))
   emit_one h (Some (Operator w xs)) kept = gives (DoneWith (update kept h (computed_value c kept (Some (Operator w xs)))))
   emit_one h (Some (Access b i)) kept = gives (DoneWith (update kept h (computed_value c kept (Some (Access b i)))))
   emit_one h (Some (AccessIndex x b)) kept = gives (DoneWith (update kept h (computed_value c kept (Some (AccessIndex x b)))))
@@ -175,7 +178,7 @@ module _ (c : Call) (calls : ℕ → List Value → Process) where
   abbrev pub act_process : Action → Option ℕ → KeptValues → List Value → Process
   act_process (Asked word) None kept vs = tells (Ask word vs) (gives (DoneWith kept))
   act_process (Asked word) (Some h) kept vs = keeping c.environment.parts (handle_type c.function h) h (Ask word vs) kept
-  act_process (Called g) r kept vs = sequence (calls g vs) (λ x. result_process r kept (given_back x))
+  act_process (Called g) r kept vs = sequence (calls g vs) (λ x. result_process r kept (answer_back x))
 
   abbrev pub leave_process : Option ℕ → KeptValues → Process
   leave_process None kept = gives (DoneWith kept)
@@ -236,4 +239,7 @@ call_alone f fs env m vs frame = call_in f fs env m vs frame (λ t r. Truth fals
 abbrev pub call_process : Environment → Meaning → List Function → ℕ → List Value → Process
 call_process env m [] g vs = stuck
 call_process env m (f ∷ fs) g vs =
-    if_true (nat_eq g (length fs)) (looks (λ frame. if_true (nat_eq (length vs) (argument_count f)) (body_process (call_alone f fs env m vs frame) (call_process env m fs) (length fs) vs) stuck)) (call_process env m fs g vs)
+    if_true (nat_eq g (length fs))
+    (looks (λ frame. if_true (nat_eq (length vs) (argument_count f))
+    (body_process (call_alone f fs env m vs frame) (call_process env m fs) (length fs) vs)
+    stuck)) (call_process env m fs g vs)

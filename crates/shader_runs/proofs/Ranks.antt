@@ -20,7 +20,11 @@ count_grows : (rank : ℕ → ℕ) (n r s : ℕ) → r ≤ s → count_below ran
 count_grows rank zero r s le = omega arith
 count_grows rank (suc n) r s le =
     let rest = count_grows rank n r s le in
-    counted rank n r (λ a. a ≤ count_below rank (suc n) s) (λ lt. counted rank n s (λ b. suc (count_below rank n r) ≤ b) (λ l. omega (arith, rest)) (λ l. absurd (omega (arith, lt, l, le)))) (λ lt. counted rank n s (λ b. count_below rank n r ≤ b) (λ l. omega (arith, rest)) (λ l. rest))
+    counted rank n r (λ a. a ≤ count_below rank (suc n) s)
+    (λ lt. counted rank n s (λ b. suc (count_below rank n r) ≤ b) (λ l. omega (arith, rest))
+    (λ l. absurd (omega (arith, lt, l, le))))
+    (λ lt. counted rank n s (λ b. count_below rank n r ≤ b) (λ l. omega (arith, rest))
+    (λ l. rest))
 
 count_bounded : (rank : ℕ → ℕ) (n r : ℕ) → count_below rank n r ≤ n
 count_bounded rank zero r = omega arith
@@ -39,12 +43,18 @@ count_rises rank (suc n) r s k lt below above = go (nat_eq k n) refl (λ less. c
         let low : r ≤ rank n = subst (λ k. r ≤ rank k) same below in
         let high : rank n < s = subst (λ k. rank k < s) same above in
         let more = count_grows rank n r s (omega (arith, low, high)) in
-        counted rank n r (λ a. a < count_below rank (suc n) s) (λ l. absurd (omega (arith, l, low))) (λ l. counted rank n s (λ b. count_below rank n r < b) (λ l. omega (arith, more)) (λ l. absurd (omega (arith, l, high))))
+        counted rank n r (λ a. a < count_below rank (suc n) s) (λ l. absurd (omega (arith, l, low)))
+        (λ l. counted rank n s (λ b. count_below rank n r < b) (λ l. omega (arith, more))
+        (λ l. absurd (omega (arith, l, high))))
     go false e rest =
         let other = eqb-false k n e in
         let rest = rest (omega (arith, lt, other)) in
         let le : r ≤ s = omega (arith, below, above) in
-        counted rank n r (λ a. a < count_below rank (suc n) s) (λ l. counted rank n s (λ b. suc (count_below rank n r) < b) (λ h. omega (arith, rest)) (λ h. absurd (omega (arith, l, h, le)))) (λ l. counted rank n s (λ b. count_below rank n r < b) (λ h. omega (arith, rest)) (λ h. rest))
+        counted rank n r (λ a. a < count_below rank (suc n) s)
+        (λ l. counted rank n s (λ b. suc (count_below rank n r) < b) (λ h. omega (arith, rest))
+        (λ h. absurd (omega (arith, l, h, le))))
+        (λ l. counted rank n s (λ b. count_below rank n r < b) (λ h. omega (arith, rest))
+        (λ h. rest))
 
 -- a number doesn't count below its own rank
 pub count_misses : (rank : ℕ → ℕ) (n k : ℕ) → k < n → count_below rank n (rank k) < n

@@ -4,7 +4,7 @@ use Rattle.std.proofs.Common.{Option, Some, None, slice_get, refl, sym, ap, ◌�
 use Rattle.std.specs.Prelude.{IsTrue}
 use Rattle.shader_runs.specs.Value.{Bytes, Rooted, LocalRoot, GlobalRoot, PartTypes, ValueType}
 use Rattle.shader_runs.specs.Value.{has_type, Value}
-use Rattle.shader_runs.specs.World.{GlobalValue, Stored, Held}
+use Rattle.shader_runs.specs.World.{GlobalValue, Stored, InHandleSpace}
 use Rattle.shader_runs.specs.Program.{Expression, Constant, Argument, Local, Global, Function}
 use Rattle.shader_runs.specs.Program.{argument_count, local_count, local_pointer, expression_of}
 use Rattle.shader_runs.specs.Program.{handle_type, operands_of}
@@ -12,9 +12,10 @@ use Rattle.shader_runs.specs.ProgramRun.{Call, KeptValues, used_value_as, used_v
 use Rattle.shader_runs.specs.ProgramRun.{used_values}
 use Rattle.shader_runs.specs.ProgramRun.{gathered_value, computed_value}
 use Rattle.shader_runs.specs.TextRun.{Denotation, IsValue, IsPlace, Scope}
-use Rattle.shader_runs.specs.Scope.{Standing, Absent, Barred, Everywhere, Inline, Named, Handles}
+use Rattle.shader_runs.specs.Scope.{Availability, Absent, Barred, Everywhere, Inline, Bound}
+use Rattle.shader_runs.specs.Scope.{Handles}
 use Rattle.shader_runs.specs.Scope.{Names, usable, usable_as, usable_all, is_present, is_new}
-use Rattle.shader_runs.specs.Scope.{forgotten_handles, forgotten_one, given_by_all}
+use Rattle.shader_runs.specs.Scope.{forgotten_handles, forgotten_one, named_by_all}
 use Rattle.shader_runs.specs.Premises.{FixedName, ArgumentName, LocalName, ConstantName, GlobalName}
 use Rattle.shader_runs.specs.Premises.{fixed_name}
 use Rattle.shader_runs.proofs.Update.{and_left, and_right, and_both}
@@ -35,13 +36,13 @@ Returns parts f o = ResultTyped parts o f.result
 abbrev pub as_denoted : Option Value → Option Denotation
 as_denoted o = option_map IsValue o
 
-abbrev pub stored_denoted : ℕ → GlobalValue → Denotation
-stored_denoted i (Stored pointer) = IsPlace (Rooted (GlobalRoot pointer i))
-stored_denoted i (Held v) = IsValue v
+abbrev pub stored_denoted : ℕ → GlobalValue → Option Denotation
+stored_denoted i (Stored pointer) = Some (IsPlace (Rooted (GlobalRoot pointer i)))
+stored_denoted i (InHandleSpace o) = as_denoted o
 
 abbrev pub global_as : ℕ → Option GlobalValue → Option Denotation
 global_as i None = None
-global_as i (Some g) = Some (stored_denoted i g)
+global_as i (Some g) = stored_denoted i g
 
 -- the names that are there from the start
 abbrev pub IsHere : Call → FixedName → Type 0
@@ -61,18 +62,18 @@ fixed_denoted c (GlobalName i) = global_as i (slice_get c.environment.globals i)
 pub record NoName (c : Call) (n : Names) (w : Bytes) : Type 0 where
   pub fixed : (x : FixedName) → IsHere c x → fixed_name n x ≢ w
   pub numbered : (h : ℕ) → n.numbered h ≢ w
-  pub given : (k : ℕ) → k < given_by_all c.function c.function.body 0 → n.given k ≢ w
+  pub named : (k : ℕ) → k < named_by_all c.function c.function.body 0 → n.named k ≢ w
 
 -- what is known of a handle with this expression and this kept value
-abbrev pub Stands : Call → Handles → Scope → KeptValues → ValueType → Option Expression → Option Value → Standing → Type 0
+abbrev pub Stands : Call → Handles → Scope → KeptValues → ValueType → Option Expression → Option Value → Availability → Type 0
 Stands c s names kept y e o Absent = Unit {0}
 Stands c s names kept y e o Barred = Unit {0}
 Stands c s names kept y e o Inline = IsTrue (usable_all c.function s (operands_of e)) × TypedValue c.environment.parts y o × (o ≡ computed_value c kept e)
 Stands c s names kept y e o Everywhere = IsTrue (usable_all c.function s (operands_of e)) × TypedValue c.environment.parts y o × (o ≡ computed_value c kept e)
-Stands c s names kept y e o (Named x) = TypedValue c.environment.parts y (used_value_as c e o) × (names x ≡ as_denoted (used_value_as c e o))
+Stands c s names kept y e o (Bound x) = TypedValue c.environment.parts y (used_value_as c e o) × (names x ≡ as_denoted (used_value_as c e o))
 
 pub record Related (c : Call) (n : Names) (s : Handles) (names : Scope) (kept : KeptValues) : Type 0 where
-  pub standing : (h : ℕ) → Stands c s names kept (handle_type c.function h) (expression_of c.function h) (kept h) (s h)
+  pub availability : (h : ℕ) → Stands c s names kept (handle_type c.function h) (expression_of c.function h) (kept h) (s h)
   pub fixed : (x : FixedName) → IsHere c x → names (fixed_name n x) ≡ fixed_denoted c x
   pub words : (w : Bytes) → NoName c n w → names w ≡ None
 
@@ -96,11 +97,13 @@ extends_trans s s1 s2 a b h p = b h (a h p)
 pub agree_trans : (s s1 : Handles) (k k1 k2 : KeptValues) → Extends s s1 → Agree s k k1 → Agree s1 k1 k2 → Agree s k k2
 agree_trans s s1 k k1 k2 x a b h p = b h (x h p) ∙ a h p
 
-used_agree_as : (c : Call) (e : Option Expression) (st : Standing) (o o' : Option Value) → IsTrue (usable_as c.function e st) → (IsTrue (is_present st) → o' ≡ o) → used_value_as c e o' ≡ used_value_as c e o
+used_agree_as : (c : Call) (e : Option Expression) (st : Availability) (o o' : Option Value) →
+    IsTrue (usable_as c.function e st) → (IsTrue (is_present st) → o' ≡ o) →
+    used_value_as c e o' ≡ used_value_as c e o
 used_agree_as c (Some (Constant v)) st o o' u a = refl
 used_agree_as c (Some (Argument i)) st o o' u a = refl
 used_agree_as c (Some (Local i)) st o o' u a = refl
-used_agree_as c (Some (Global i)) st o o' u a = refl
+used_agree_as c (Some (Global held i)) st o o' u a = refl
 used_agree_as c None st o o' u a = refl
 used_agree_as c _ st o o' u a = a u
 
@@ -115,29 +118,38 @@ used_all_agree c s kept kept' a (x ∷ xs) u =
     let t = used_all_agree c s kept kept' a xs (and_right (usable c.function s x) (usable_all c.function s xs) u) in
     ap (λ v. also v (used_values c kept' xs)) h ∙ ap (also (used_value c kept x)) t
 
-pub computed_agree : (c : Call) (s : Handles) (kept kept' : KeptValues) → Agree s kept kept' → (e : Option Expression) → IsTrue (usable_all c.function s (operands_of e)) → computed_value c kept' e ≡ computed_value c kept e
+pub computed_agree : (c : Call) (s : Handles) (kept kept' : KeptValues) → Agree s kept kept' →
+    (e : Option Expression) → IsTrue (usable_all c.function s (operands_of e)) →
+    computed_value c kept' e ≡ computed_value c kept e
 computed_agree c s kept kept' a e u = ap (gathered_value c.meaning e) (used_all_agree c s kept kept' a (operands_of e) u)
 
-usable_more_as : (f : Function) (e : Option Expression) (st st' : Standing) → (IsTrue (is_present st) → IsTrue (is_present st')) → IsTrue (usable_as f e st) → IsTrue (usable_as f e st')
+usable_more_as : (f : Function) (e : Option Expression) (st st' : Availability) → (IsTrue (is_present st) → IsTrue (is_present st')) → IsTrue (usable_as f e st) → IsTrue (usable_as f e st')
 usable_more_as f (Some (Constant v)) st st' x u = u
 usable_more_as f (Some (Argument i)) st st' x u = u
 usable_more_as f (Some (Local i)) st st' x u = u
-usable_more_as f (Some (Global i)) st st' x u = u
+usable_more_as f (Some (Global held i)) st st' x u = u
 usable_more_as f None st st' x u = u
 usable_more_as f _ st st' x u = x u
 
 pub usable_all_more : (f : Function) (s s' : Handles) → Extends s s' → (xs : List ℕ) → IsTrue (usable_all f s xs) → IsTrue (usable_all f s' xs)
 usable_all_more f s s' x [] u = refl
 usable_all_more f s s' x (y ∷ ys) u =
-    and_both (usable f s' y) (usable_all f s' ys) (usable_more_as f (expression_of f y) (s y) (s' y) (x y) (and_left (usable f s y) (usable_all f s ys) u)) (usable_all_more f s s' x ys (and_right (usable f s y) (usable_all f s ys) u))
+    and_both (usable f s' y) (usable_all f s' ys)
+    (usable_more_as f (expression_of f y) (s y) (s' y) (x y)
+    (and_left (usable f s y) (usable_all f s ys) u))
+    (usable_all_more f s s' x ys (and_right (usable f s y) (usable_all f s ys) u))
 
--- the name of a standing means the same
-abbrev pub KeepsName : Scope → Scope → Standing → Type 0
-KeepsName names names' (Named x) = names' x ≡ names x
+-- the name of an availability means the same
+abbrev pub KeepsName : Scope → Scope → Availability → Type 0
+KeepsName names names' (Bound x) = names' x ≡ names x
 KeepsName names names' _ = Unit {0}
 
 -- what is known of a handle stays known
-pub stands_on : (c : Call) (s s' : Handles) (names names' : Scope) (kept kept' : KeptValues) → Extends s s' → Agree s kept kept' → (y : ValueType) (e : Option Expression) (o o' : Option Value) (st : Standing) → (IsTrue (is_present st) → o' ≡ o) → KeepsName names names' st → Stands c s names kept y e o st → Stands c s' names' kept' y e o' st
+pub stands_on : (c : Call) (s s' : Handles) (names names' : Scope) (kept kept' : KeptValues) →
+    Extends s s' → Agree s kept kept' →
+    (y : ValueType) (e : Option Expression) (o o' : Option Value) (st : Availability) →
+    (IsTrue (is_present st) → o' ≡ o) → KeepsName names names' st → Stands c s names kept y e o st →
+    Stands c s' names' kept' y e o' st
 stands_on c s s' names names' kept kept' x a y e o o' Absent w n d = tt
 stands_on c s s' names names' kept kept' x a y e o o' Barred w n d = tt
 stands_on c s s' names names' kept kept' x a y e o o' Inline w n d =
@@ -146,31 +158,33 @@ stands_on c s s' names names' kept kept' x a y e o o' Inline w n d =
 stands_on c s s' names names' kept kept' x a y e o o' Everywhere w n d =
     let same = w refl in
     (usable_all_more c.function s s' x (operands_of e) d.0, (d.1.0, same ∙ d.1.1, d.1.2), same ∙ d.2 ∙ sym (computed_agree c s kept kept' a e d.0))
-stands_on c s s' names names' kept kept' x a y e o o' (Named z) w n d =
+stands_on c s s' names names' kept kept' x a y e o o' (Bound z) w n d =
     let same = ap (used_value_as c e) (w refl) in
     ((d.0.0, same ∙ d.0.1, d.0.2), n ∙ d.1 ∙ ap as_denoted (sym same))
 
-pub keeps_all : (names : Scope) (st : Standing) → KeepsName names names st
+pub keeps_all : (names : Scope) (st : Availability) → KeepsName names names st
 keeps_all names Absent = tt
 keeps_all names Barred = tt
 keeps_all names Everywhere = tt
 keeps_all names Inline = tt
-keeps_all names (Named x) = refl
+keeps_all names (Bound x) = refl
 
 -- other values for handles out of scope
 pub related_agree : (c : Call) (n : Names) (s : Handles) (names : Scope) (kept kept' : KeptValues) → Agree s kept kept' → Related c n s names kept → Related c n s names kept'
 related_agree c n s names kept kept' a r =
     record {
-      standing = λ h. stands_on c s s names names kept kept' (extends_refl s) a (handle_type c.function h) (expression_of c.function h) (kept h) (kept' h) (s h) (a h) (keeps_all names (s h)) (r.standing h);
+      availability = λ h. stands_on c s s names names kept kept' (extends_refl s) a
+          (handle_type c.function h) (expression_of c.function h) (kept h) (kept' h) (s h) (a h)
+          (keeps_all names (s h)) (r.availability h);
       fixed = r.fixed;
       words = r.words;
     }
 
-pub present_forgotten : (st now : Standing) → is_present (forgotten_one st now) ≡ is_present st
+pub present_forgotten : (st now : Availability) → is_present (forgotten_one st now) ≡ is_present st
 present_forgotten Absent now = refl
 present_forgotten Barred now = refl
 present_forgotten Inline now = refl
-present_forgotten (Named x) now = refl
+present_forgotten (Bound x) now = refl
 present_forgotten Everywhere now = go (is_new now)
   where
     go : (b : Bool) → is_present (cond b Everywhere Inline) ≡ true
@@ -180,11 +194,13 @@ present_forgotten Everywhere now = go (is_new now)
 pub extends_forgotten : (s now : Handles) → Extends s (forgotten_handles s now)
 extends_forgotten s now h p = present_forgotten (s h) (now h) ∙ p
 
-stands_forgotten : (c : Call) (s : Handles) (names : Scope) (kept : KeptValues) (y : ValueType) (e : Option Expression) (o : Option Value) (st now : Standing) → Stands c s names kept y e o st → Stands c s names kept y e o (forgotten_one st now)
+stands_forgotten : (c : Call) (s : Handles) (names : Scope) (kept : KeptValues) (y : ValueType)
+    (e : Option Expression) (o : Option Value) (st now : Availability) →
+    Stands c s names kept y e o st → Stands c s names kept y e o (forgotten_one st now)
 stands_forgotten c s names kept y e o Absent now d = d
 stands_forgotten c s names kept y e o Barred now d = d
 stands_forgotten c s names kept y e o Inline now d = d
-stands_forgotten c s names kept y e o (Named x) now d = d
+stands_forgotten c s names kept y e o (Bound x) now d = d
 stands_forgotten c s names kept y e o Everywhere now d = go (is_new now)
   where
     go : (b : Bool) → Stands c s names kept y e o (cond b Everywhere Inline)
@@ -195,7 +211,11 @@ stands_forgotten c s names kept y e o Everywhere now d = go (is_new now)
 pub related_forgotten : (c : Call) (n : Names) (s now : Handles) (names : Scope) (kept : KeptValues) → Related c n s names kept → Related c n (forgotten_handles s now) names kept
 related_forgotten c n s now names kept r =
     record {
-      standing = λ h. let y = handle_type c.function h in let e = expression_of c.function h in let st = forgotten_one (s h) (now h) in stands_on c s (forgotten_handles s now) names names kept kept (extends_forgotten s now) (agree_refl s kept) y e (kept h) (kept h) st (λ p. refl) (keeps_all names st) (stands_forgotten c s names kept y e (kept h) (s h) (now h) (r.standing h));
+      availability = λ h. let y = handle_type c.function h in let e = expression_of c.function h in
+          let st = forgotten_one (s h) (now h) in
+          stands_on c s (forgotten_handles s now) names names kept kept (extends_forgotten s now)
+          (agree_refl s kept) y e (kept h) (kept h) st (λ p. refl) (keeps_all names st)
+          (stands_forgotten c s names kept y e (kept h) (s h) (now h) (r.availability h));
       fixed = r.fixed;
       words = r.words;
     }

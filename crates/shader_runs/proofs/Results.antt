@@ -31,7 +31,7 @@ use Rattle.shader_runs.specs.Premises.{CallFits, ActionFits, FallsFrom, IsRegula
 use Rattle.shader_runs.specs.Premises.{CasesAreRegular, AllFit}
 use Rattle.shader_runs.specs.Results.{holds_break, any_break, may_end, may_end_all, some_case_ends}
 use Rattle.shader_runs.specs.Results.{has_values, all_have_values, cases_have_values, GivesResult}
-use Rattle.shader_runs.specs.Results.{AllGiveResults, IsGiven, NotUnreturned, IsComplete}
+use Rattle.shader_runs.specs.Results.{AllGiveResults, IsReturned, NotUnreturned, IsComplete}
 use Rattle.shader_runs.specs.Results.{ResultsAreReturned}
 use Rattle.shader_runs.proofs.Update.{and_left, and_right, and_both}
 use Rattle.shader_runs.proofs.Statements.{or_left, or_right}
@@ -44,7 +44,7 @@ abbrev Leads : {S : Type 0} → Option ValueType → (ends breaks : Bool) → Ou
 Leads k ends breaks (Done s t) = IsTrue ends
 Leads k ends breaks (Continued s t) = Unit {0}
 Leads k ends breaks (Broke s t) = IsTrue breaks
-Leads k ends breaks (Returned v t) = IsGiven k v
+Leads k ends breaks (Returned v t) = IsReturned k v
 Leads k ends breaks (Stopped x t) = NotUnreturned x
 
 -- a test that counts only where there is a result
@@ -60,13 +60,13 @@ where_right : (k : Option ValueType) (a b : Bool) → Where k (a && b) → Where
 where_right None a b w = tt
 where_right (Some k) a b w = and_right a b w
 
-given_some : (k : Option ValueType) (v : Value) → IsGiven k (Some v)
-given_some None v = tt
-given_some (Some k) v = tt
+returned_some : (k : Option ValueType) (v : Value) → IsReturned k (Some v)
+returned_some None v = tt
+returned_some (Some k) v = tt
 
-given_none : (k : Option ValueType) → Where k false → IsGiven k None
-given_none None w = tt
-given_none (Some k) w = absurd (true≢false (sym w))
+named_none : (k : Option ValueType) → Where k false → IsReturned k None
+named_none None w = tt
+named_none (Some k) w = absurd (true≢false (sym w))
 
 or_either : (a b c : Bool) → (IsTrue a → IsTrue c) → (IsTrue b → IsTrue c) → IsTrue (a || b) → IsTrue c
 or_either true b c f g h = f refl
@@ -117,7 +117,9 @@ module _ (k : Option ValueType) where
   turns_lead e b once each zero s t = tt
   turns_lead e b once each (suc n) s t = again_leads e b (once s t) (turns n once) (each s t) (turns_lead e b once each n)
 
-  continue_leads : {S : Type 0} (e b b2 : Bool) (o : Outcome S) (f : Next S) → (IsTrue b → IsTrue b2) → Leads k e b o → ((s : S) (t : List Event) → Leads k true b2 (f s t)) → Leads k true b2 (and_continue o f)
+  continue_leads : {S : Type 0} (e b b2 : Bool) (o : Outcome S) (f : Next S) →
+      (IsTrue b → IsTrue b2) → Leads k e b o →
+      ((s : S) (t : List Event) → Leads k true b2 (f s t)) → Leads k true b2 (and_continue o f)
   continue_leads e b b2 (Done s t) f g l next = next s t
   continue_leads e b b2 (Continued s t) f g l next = next s t
   continue_leads e b b2 (Broke s t) f g l next = g l
@@ -142,7 +144,11 @@ module _ (k : Option ValueType) where
       go : (b : Bool) (o : Option Value) → Leads k true false (if_counted b (after_load c.environment.parts (handle_type c.function h) c.world h o) kept t)
       go true None = refl
       go true (Some v) =
-          there_leads true false (place_in v) t _ (λ p. typed_leads (has_type c.environment.parts (handle_type c.function h) (c.world t (Read p))) (Read p ∷ t) (update kept h (Some (c.world t (Read p)))))
+          there_leads true false
+          (place_in v) t
+          _ (λ p. typed_leads
+          (has_type c.environment.parts (handle_type c.function h) (c.world t (Read p)))
+          (Read p ∷ t) (update kept h (Some (c.world t (Read p)))))
       go false o = refl
   emit_as_leads c h (Some (Request a w xs es)) kept t =
       go (is_asked c.function h a) (joined_values (used_values c kept xs) (constant_values c.environment c.meaning es))
@@ -166,15 +172,21 @@ module _ (k : Option ValueType) where
   leave_leads : (c : Call) (b : Bool) (e : Option ℕ) → (kept : KeptValues) (t : List Event) → Leads k true (b || is_some e) (leave c e kept t)
   leave_leads c b None kept t = refl
   leave_leads c b (Some h) kept t =
-      there_leads true (b || true) (used_value c kept h) t (λ v. branch_by v t (Broke kept t) (Done kept t)) (λ v. chosen_leads true (b || true) v t (Broke kept t) (Done kept t) (or_right b true refl) refl)
+      there_leads true (b || true) (used_value c kept h) t
+      (λ v. branch_by v t (Broke kept t) (Done kept t))
+      (λ v. chosen_leads true (b || true) v t (Broke kept t) (Done kept t)
+      (or_right b true refl) refl)
 
 -- a call that wants a result gets one
-result_leads : (parts : PartTypes) (k : Option ValueType) (f : Function) (callee : Option ValueType) (a : Action) (r : Option ℕ) (kept : KeptValues) (q : ReachedOrHalted (Option Value)) → ((h : ℕ) → r ≡ Some h → (z : ValueType) × (callee ≡ Some z)) → IsComplete callee q → Leads k true false (with_result parts f a r kept q)
+result_leads : (parts : PartTypes) (k : Option ValueType) (f : Function) (callee : Option ValueType)
+    (a : Action) (r : Option ℕ) (kept : KeptValues) (q : ReachedOrHalted (Option Value)) →
+    ((h : ℕ) → r ≡ Some h → (z : ValueType) × (callee ≡ Some z)) → IsComplete callee q →
+    Leads k true false (with_result parts f a r kept q)
 result_leads parts k f callee a None kept (Gives v t) w l = refl
 result_leads parts k f callee a None kept (Halts x t) w l = l
 result_leads parts k f callee a (Some h) kept (Gives None t) w l =
     let there = w h refl in
-    absurd (subst (λ o. IsGiven o None) there.1 l)
+    absurd (subst (λ o. IsReturned o None) there.1 l)
 result_leads parts k f callee (Asked word) (Some h) kept (Gives (Some v) t) w l = typed_leads k (has_type parts (handle_type f h) v) t (update kept h (Some v))
 result_leads parts k f callee (Called g) (Some h) kept (Gives (Some v) t) w l = refl
 result_leads parts k f callee a (Some h) kept (Halts x t) w l = l
@@ -190,11 +202,19 @@ falls_to_case true end no_case w h = w
 falls_to_case true end (case l b falls cs) w h = tt
 falls_to_case true (then s ss) cs w h = absurd w
 
-module _ (p : Module) (c : Call) (f : Naming) (complete : (g : ℕ) (callee : Function) → function_numbered c.callees g ≡ Some callee → (vs : List Value) (t : List Event) → IsComplete callee.result (c.calls g vs t)) (k : Option ValueType) (bound : ℕ) where
-  act_leads : (a : Action) (xs : List ℕ) (r : Option ℕ) → ActionFits p c.callees f a xs r → (kept : KeptValues) (t : List Event) (o : Option (List Value)) → Leads k true false (or_stuck o t (λ vs. with_result c.environment.parts c.function a r kept (action_answer c a vs t)))
+module _ (p : Module) (c : Call) (f : Naming) (complete : (g : ℕ) (callee : Function) →
+    function_numbered c.callees g ≡ Some callee → (vs : List Value) (t : List Event) →
+    IsComplete callee.result (c.calls g vs t)) (k : Option ValueType) (bound : ℕ) where
+  act_leads : (a : Action) (xs : List ℕ) (r : Option ℕ) → ActionFits p c.callees f a xs r →
+      (kept : KeptValues) (t : List Event) (o : Option (List Value)) →
+      Leads k true false
+      (or_stuck o t
+      (λ vs. with_result c.environment.parts c.function a r kept (action_answer c a vs t)))
   act_leads a xs r m kept t None = tt
   act_leads (Asked w) xs None m kept t (Some vs) = refl
-  act_leads (Asked w) xs (Some h) m kept t (Some vs) = typed_leads k (has_type c.environment.parts (handle_type c.function h) (c.world t (Ask w vs))) (Ask w vs ∷ t) (update kept h (Some (c.world t (Ask w vs))))
+  act_leads (Asked w) xs (Some h) m kept t (Some vs) =
+      typed_leads k (has_type c.environment.parts (handle_type c.function h) (c.world t (Ask w vs)))
+      (Ask w vs ∷ t) (update kept h (Some (c.world t (Ask w vs))))
   act_leads (Called g) xs r m kept t (Some vs) = go (function_numbered c.callees g) refl m.2
     where
       go : (o : Option Function) → function_numbered c.callees g ≡ o → CallFits f.function o xs r → Leads k true false (with_result c.environment.parts c.function (Called g) r kept (c.calls g vs t))
@@ -214,7 +234,13 @@ module _ (p : Module) (c : Call) (f : Naming) (complete : (g : ℕ) (callee : Fu
   ends_later b falls cs h =
       or_right (any_break b) ((not falls && may_end_all b) || some_case_ends cs) (or_right (not falls && may_end_all b) (some_case_ends cs) h)
 
-  case_leads : (b : Statements) (falls : Bool) (cs : Cases) (on : Next KeptValues) (kept : KeptValues) (t : List Event) → Leads k (may_end_all b) (any_break b) (run_all c bound b kept t) → (IsTrue falls → (kept : KeptValues) (t : List Event) → Leads k (some_case_ends cs) (some_case_ends cs) (on kept t)) → Leads k (Ends b falls cs) (Ends b falls cs) (and_then (run_all c bound b kept t) (λ kept1 t1. cond falls (on kept1 t1) (Done kept1 t1)))
+  case_leads : (b : Statements) (falls : Bool) (cs : Cases) (on : Next KeptValues)
+      (kept : KeptValues) (t : List Event) →
+      Leads k (may_end_all b) (any_break b) (run_all c bound b kept t) →
+      (IsTrue falls → (kept : KeptValues) (t : List Event) →
+      Leads k (some_case_ends cs) (some_case_ends cs) (on kept t)) →
+      Leads k (Ends b falls cs) (Ends b falls cs)
+      (and_then (run_all c bound b kept t) (λ kept1 t1. cond falls (on kept1 t1) (Done kept1 t1)))
   case_leads b falls cs on kept t l next = go (run_all c bound b kept t) l
     where
       on_from : (z : Bool) → falls ≡ z → IsTrue (may_end_all b) → (kept : KeptValues) (t : List Event) → Leads k (Ends b falls cs) (Ends b falls cs) (cond z (on kept t) (Done kept t))
@@ -231,24 +257,38 @@ module _ (p : Module) (c : Call) (f : Naming) (complete : (g : ℕ) (callee : Fu
       go (Stopped x t) l = l
 
   -- a case by its label, and the later ones
-  picked_leads : (z there ends later : Bool) (o o2 : Outcome KeptValues) → (IsTrue later → IsTrue ends) → Leads k ends ends o → Leads k (not there || later) later o2 → Leads k (not (z || there) || ends) ends (cond z o o2)
+  picked_leads : (z there ends later : Bool) (o o2 : Outcome KeptValues) →
+      (IsTrue later → IsTrue ends) → Leads k ends ends o → Leads k (not there || later) later o2 →
+      Leads k (not (z || there) || ends) ends (cond z o o2)
   picked_leads true there ends later o o2 up l l2 = l
   picked_leads false there ends later o o2 up l l2 =
-      more k (not there || later) (not there || ends) later ends o2 (λ h. or_either (not there) later (not there || ends) (λ n. or_left (not there) ends n) (λ n. or_right (not there) ends (up n)) h) up l2
+      more k (not there || later) (not there || ends) later ends o2
+      (λ h. or_either (not there) later (not there || ends) (λ n. or_left (not there) ends n)
+      (λ n. or_right (not there) ends (up n)) h) up l2
 
   if_leads : (ea eb ba bb : Bool) (v : Value) (t : List Event) (a b : Outcome KeptValues) → Leads k ea ba a → Leads k eb bb b → Leads k (ea || eb) (ba || bb) (branch_by v t a b)
   if_leads ea eb ba bb v t a b l l2 =
-      chosen_leads k (ea || eb) (ba || bb) v t a b (more k ea (ea || eb) ba (ba || bb) a (λ h. or_left ea eb h) (λ h. or_left ba bb h) l) (more k eb (ea || eb) bb (ba || bb) b (λ h. or_right ea eb h) (λ h. or_right ba bb h) l2)
+      chosen_leads k (ea || eb) (ba || bb) v t a b
+      (more k ea (ea || eb) ba (ba || bb) a (λ h. or_left ea eb h) (λ h. or_left ba bb h) l)
+      (more k eb (ea || eb) bb (ba || bb) b (λ h. or_right ea eb h) (λ h. or_right ba bb h) l2)
 
   -- an integer goes to its own case or to the default
-  one_label : (cs : Cases) → ((x : Label) (kept : KeptValues) (t : List Event) → Leads k (not (has_label x cs) || some_case_ends cs) (some_case_ends cs) (run_cases c bound cs x kept t)) → (z : ℤ) (kept : KeptValues) (t : List Event) → Leads k (may_end (Switch 0 cs)) false (after_switch (run_cases c bound cs (label_if (has_label (Numbered z) cs) z) kept t))
+  one_label : (cs : Cases) →
+      ((x : Label) (kept : KeptValues) (t : List Event) →
+      Leads k (not (has_label x cs) || some_case_ends cs) (some_case_ends cs)
+      (run_cases c bound cs x kept t)) → (z : ℤ) (kept : KeptValues) (t : List Event) →
+      Leads k (may_end (Switch 0 cs)) false
+      (after_switch (run_cases c bound cs (label_if (has_label (Numbered z) cs) z) kept t))
   one_label cs each z kept t = go (has_label (Numbered z) cs) refl
     where
       go : (b : Bool) → has_label (Numbered z) cs ≡ b → Leads k (may_end (Switch 0 cs)) false (after_switch (run_cases c bound cs (label_if b z) kept t))
       go true q =
           let up = λ (h : IsTrue (some_case_ends cs)). or_right (not (has_label Default cs)) (some_case_ends cs) h in
           let there = subst (λ b. Leads k (not b || some_case_ends cs) (some_case_ends cs) (run_cases c bound cs (Numbered z) kept t)) q (each (Numbered z) kept t) in
-          switch_leads k (may_end (Switch 0 cs)) (some_case_ends cs) (run_cases c bound cs (Numbered z) kept t) up (more k (some_case_ends cs) (may_end (Switch 0 cs)) (some_case_ends cs) (some_case_ends cs) (run_cases c bound cs (Numbered z) kept t) up (λ h. h) there)
+          switch_leads k (may_end (Switch 0 cs)) (some_case_ends cs)
+          (run_cases c bound cs (Numbered z) kept t) up
+          (more k (some_case_ends cs) (may_end (Switch 0 cs)) (some_case_ends cs)
+          (some_case_ends cs) (run_cases c bound cs (Numbered z) kept t) up (λ h. h) there)
       go false q =
           switch_leads k (may_end (Switch 0 cs)) (some_case_ends cs) (run_cases c bound cs Default kept t) (λ h. or_right (not (has_label Default cs)) (some_case_ends cs) h) (each Default kept t)
 
@@ -259,33 +299,62 @@ module _ (p : Module) (c : Call) (f : Naming) (complete : (g : ℕ) (callee : Fu
         there_leads k true false (option_and_then place_in (used_value c kept q)) t _ (λ place. there_leads k true false (used_value c kept v) t _ (λ value. refl))
     line_leads (Block b) m w kept t = body_leads b m w kept t
     line_leads (If h a b) m w kept t =
-        there_leads k (may_end_all a || may_end_all b) (any_break a || any_break b) (used_value c kept h) t _ (λ v. if_leads (may_end_all a) (may_end_all b) (any_break a) (any_break b) v t (run_all c bound a kept t) (run_all c bound b kept t) (body_leads a m.0 (where_left k (all_have_values a) (all_have_values b) w) kept t) (body_leads b m.1 (where_right k (all_have_values a) (all_have_values b) w) kept t))
+        there_leads k (may_end_all a || may_end_all b) (any_break a || any_break b)
+        (used_value c kept h) t _ (λ v. if_leads (may_end_all a) (may_end_all b) (any_break a)
+        (any_break b) v t (run_all c bound a kept t) (run_all c bound b kept t)
+        (body_leads a m.0 (where_left k (all_have_values a) (all_have_values b) w) kept t)
+        (body_leads b m.1 (where_right k (all_have_values a) (all_have_values b) w) kept t))
     line_leads (Switch h cs) m w kept t =
-        there_leads k (may_end (Switch h cs)) false (used_value c kept h) t _ (λ v. there_leads k (may_end (Switch h cs)) false (integer_in v) t _ (λ z. one_label cs (λ x kept t. cases_lead cs m w x kept t) z kept t))
+        there_leads k (may_end (Switch h cs)) false (used_value c kept h) t
+        _ (λ v. there_leads k (may_end (Switch h cs)) false
+        (integer_in v) t _ (λ z. one_label cs (λ x kept t. cases_lead cs m w x kept t) z kept
+        t))
     line_leads (Loop b d e) m w kept t =
         let out = any_break b || is_some e in
-        turns_lead k out false (turn (run_all c bound b) (run_all c bound d) (leave c e)) (λ kept t. continue_leads k (may_end_all b) (any_break b) out (run_all c bound b kept t) _ (λ h. or_left (any_break b) (is_some e) h) (body_leads b m.0 (where_left k (all_have_values b) (all_have_values d) w) kept t) (λ kept1 t1. then_leads k true true false out (within (run_all c bound d kept1 t1)) (leave c e) (within_leads k (may_end_all d) (any_break d) (run_all c bound d kept1 t1) (body_leads d m.1 (where_right k (all_have_values b) (all_have_values d) w) kept1 t1)) (leave_leads k c (any_break b) e))) bound kept t
+        turns_lead k out false (turn (run_all c bound b) (run_all c bound d) (leave c e))
+        (λ kept t. continue_leads k (may_end_all b) (any_break b) out (run_all c bound b kept t)
+        _ (λ h. or_left (any_break b) (is_some e) h)
+        (body_leads b m.0 (where_left k (all_have_values b) (all_have_values d) w) kept t)
+        (λ kept1 t1. then_leads k true true false out (within (run_all c bound d kept1 t1))
+        (leave c e) (within_leads k (may_end_all d) (any_break d) (run_all c bound d kept1 t1)
+        (body_leads d m.1 (where_right k (all_have_values b) (all_have_values d) w) kept1 t1))
+        (leave_leads k c (any_break b) e))) bound kept t
     line_leads Break m w kept t = refl
     line_leads Continue m w kept t = tt
-    line_leads (Return None) m w kept t = given_none k w
-    line_leads (Return (Some h)) m w kept t = there_leads k false false (used_value c kept h) t _ (λ v. given_some k v)
+    line_leads (Return None) m w kept t = named_none k w
+    line_leads (Return (Some h)) m w kept t = there_leads k false false (used_value c kept h) t _ (λ v. returned_some k v)
     line_leads Kill m w kept t = tt
     line_leads (Barrier bits) m w kept t = asks_lead k (barrier_words bits) kept t
     line_leads (Act a xs r) m w kept t = act_leads a xs r m.0 kept t (used_values c kept xs)
 
-    body_leads : (ss : Statements) → AreRegular p c.callees f ss → Where k (all_have_values ss) → (kept : KeptValues) (t : List Event) → Leads k (may_end_all ss) (any_break ss) (run_all c bound ss kept t)
+    body_leads : (ss : Statements) → AreRegular p c.callees f ss → Where k (all_have_values ss) →
+        (kept : KeptValues) (t : List Event) →
+        Leads k (may_end_all ss) (any_break ss) (run_all c bound ss kept t)
     body_leads end m w kept t = refl
     body_leads (then st ss) m w kept t =
-        then_leads k (may_end st) (may_end_all ss) (holds_break st) (any_break ss) (run c bound st kept t) (run_all c bound ss) (line_leads st m.0 (where_left k (has_values st) (all_have_values ss) w) kept t) (λ kept t. body_leads ss m.1 (where_right k (has_values st) (all_have_values ss) w) kept t)
+        then_leads k (may_end st) (may_end_all ss) (holds_break st) (any_break ss)
+        (run c bound st kept t) (run_all c bound ss)
+        (line_leads st m.0 (where_left k (has_values st) (all_have_values ss) w) kept t)
+        (λ kept t. body_leads ss m.1 (where_right k (has_values st) (all_have_values ss) w) kept
+        t)
 
-    cases_lead : (cs : Cases) → CasesAreRegular p c.callees f cs → Where k (cases_have_values cs) → (x : Label) (kept : KeptValues) (t : List Event) → Leads k (not (has_label x cs) || some_case_ends cs) (some_case_ends cs) (run_cases c bound cs x kept t)
+    cases_lead : (cs : Cases) → CasesAreRegular p c.callees f cs → Where k (cases_have_values cs) →
+        (x : Label) (kept : KeptValues) (t : List Event) →
+        Leads k (not (has_label x cs) || some_case_ends cs) (some_case_ends cs)
+        (run_cases c bound cs x kept t)
     cases_lead no_case m w x kept t = refl
     cases_lead (case l b falls cs) m w x kept t =
         let body = body_leads b m.1 (where_left k (all_have_values b) (cases_have_values cs) w) kept t in
         let later = where_right k (all_have_values b) (cases_have_values cs) w in
-        picked_leads (same_label x l) (has_label x cs) (Ends b falls cs) (some_case_ends cs) _ _ (ends_later b falls cs) (case_leads b falls cs (run_on c bound cs) kept t body (λ q kept t. on_lead cs (falls_to_case falls b cs m.0 q) m.2 later kept t)) (cases_lead cs m.2 later x kept t)
+        picked_leads (same_label x l) (has_label x cs) (Ends b falls cs)
+        (some_case_ends cs) _ _ (ends_later b falls cs)
+        (case_leads b falls cs (run_on c bound cs) kept t body
+        (λ q kept t. on_lead cs (falls_to_case falls b cs m.0 q) m.2 later kept t))
+        (cases_lead cs m.2 later x kept t)
 
-    on_lead : (cs : Cases) → IsCase cs → CasesAreRegular p c.callees f cs → Where k (cases_have_values cs) → (kept : KeptValues) (t : List Event) → Leads k (some_case_ends cs) (some_case_ends cs) (run_on c bound cs kept t)
+    on_lead : (cs : Cases) → IsCase cs → CasesAreRegular p c.callees f cs →
+        Where k (cases_have_values cs) → (kept : KeptValues) (t : List Event) →
+        Leads k (some_case_ends cs) (some_case_ends cs) (run_on c bound cs kept t)
     on_lead no_case i m w kept t = absurd i
     on_lead (case l b falls cs) i m w kept t =
         let body = body_leads b m.1 (where_left k (all_have_values b) (cases_have_values cs) w) kept t in
@@ -293,7 +362,7 @@ module _ (p : Module) (c : Call) (f : Naming) (complete : (g : ℕ) (callee : Fu
         case_leads b falls cs (run_on c bound cs) kept t body (λ q kept t. on_lead cs (falls_to_case falls b cs m.0 q) m.2 later kept t)
 
 -- a body's end, where it is reached, gives nothing
-answer_complete : (k : Option ValueType) (e b : Bool) (o : Outcome KeptValues) → (IsTrue e → IsGiven k None) → Leads k e b o → IsComplete k (answer o)
+answer_complete : (k : Option ValueType) (e b : Bool) (o : Outcome KeptValues) → (IsTrue e → IsReturned k None) → Leads k e b o → IsComplete k (answer o)
 answer_complete k e b (Done s t) f l = f l
 answer_complete k e b (Continued s t) f l = tt
 answer_complete k e b (Broke s t) f l = tt
@@ -305,16 +374,21 @@ values_where : (k : Option ValueType) (body : Statements) → GivesResult k body
 values_where None body w = tt
 values_where (Some k) body w = w.0
 
-end_given : (k : Option ValueType) (body : Statements) → GivesResult k body → IsTrue (may_end_all body) → IsGiven k None
-end_given None body w h = tt
-end_given (Some k) body w h = absurd (true≢false (sym h ∙ w.1))
+end_returned : (k : Option ValueType) (body : Statements) → GivesResult k body → IsTrue (may_end_all body) → IsReturned k None
+end_returned None body w h = tt
+end_returned (Some k) body w h = absurd (true≢false (sym h ∙ w.1))
 
 module _ (p : Module) (n : ModuleNames) (env : Environment) (w : World) (m : Meaning) (bound : ℕ) where
   abbrev Calls_complete : List Naming → Type 0
   Calls_complete fs =
-      (g : ℕ) (callee : Function) → function_numbered (functions_of fs) g ≡ Some callee → (vs : List Value) (t : List Event) → IsComplete callee.result (run_call env w m bound (functions_of fs) g vs t)
+      (g : ℕ) (callee : Function) → function_numbered (functions_of fs) g ≡ Some callee →
+      (vs : List Value) (t : List Event) →
+      IsComplete callee.result (run_call env w m bound (functions_of fs) g vs t)
 
-  body_complete : (fs : List Naming) → Calls_complete fs → (f : Naming) → AreRegular p (functions_of fs) f f.function.body → GivesResult f.function.result f.function.body → (vs : List Value) (t : List Event) (g : ℕ) → IsComplete f.function.result (run_body (call_of env w m bound f fs vs t) bound g vs t)
+  body_complete : (fs : List Naming) → Calls_complete fs →
+      (f : Naming) → AreRegular p (functions_of fs) f f.function.body →
+      GivesResult f.function.result f.function.body → (vs : List Value) (t : List Event) (g : ℕ) →
+      IsComplete f.function.result (run_body (call_of env w m bound f fs vs t) bound g vs t)
   body_complete fs earlier f regular gives vs t g = go (first_used_all c kept f.function.first_values)
     where
       c : Call
@@ -329,7 +403,9 @@ module _ (p : Module) (n : ModuleNames) (env : Environment) (w : World) (m : Mea
           let k = f.function.result in
           let body = f.function.body in
           let t1 = Entry g vs firsts ∷ t in
-          answer_complete k (may_end_all body) (any_break body) (run_all c bound body kept t1) (end_given k body gives) (body_leads p c f earlier k bound body regular (values_where k body gives) kept t1)
+          answer_complete k (may_end_all body) (any_break body) (run_all c bound body kept t1)
+          (end_returned k body gives)
+          (body_leads p c f earlier k bound body regular (values_where k body gives) kept t1)
 
   calls_complete : (fs : List Naming) → AllFit p n fs → AllGiveResults (functions_of fs) → Calls_complete fs
   calls_complete [] fits gives g callee e vs t = absurd (none-some callee e)
@@ -343,7 +419,11 @@ module _ (p : Module) (n : ModuleNames) (env : Environment) (w : World) (m : Mea
       own earlier true = body_complete fs earlier f fits.0.regular gives.0 vs t (length (functions_of fs))
       own earlier false = tt
 
-      go : (b : Bool) → cond b (Some f.function) (function_numbered (functions_of fs) g) ≡ Some callee → Calls_complete fs → IsComplete callee.result (cond b (own_call (nat_eq (length vs) (argument_count f.function))) (run_call env w m bound (functions_of fs) g vs t))
+      go : (b : Bool) → cond b (Some f.function) (function_numbered (functions_of fs) g) ≡
+          Some callee → Calls_complete fs →
+          IsComplete callee.result
+          (cond b (own_call (nat_eq (length vs) (argument_count f.function)))
+          (run_call env w m bound (functions_of fs) g vs t))
       go true e earlier =
           let enough = nat_eq (length vs) (argument_count f.function) in
           subst (λ k. IsComplete k.result (own_call enough)) (same_Some f.function callee e) (own earlier enough)

@@ -3,9 +3,9 @@ use Rattle.std.proofs.Common.{◌≡◌, ℕ, zero, suc, ◌+◌, ◌<◌, List,
 use Rattle.std.proofs.Common.{sym, ap, subst, arith}
 use Rattle.std.specs.Prelude.{codes}
 use Rattle.shader_runs.specs.Program.{Function, expression_of, handle_type, operands_of}
-use Rattle.shader_runs.specs.Scope.{given_by_all}
+use Rattle.shader_runs.specs.Scope.{named_by_all}
 use Rattle.shader_runs.specs.Premises.{AllBelow, WordFits, LeafFits, AreDistinct, FixedKey}
-use Rattle.shader_runs.specs.Premises.{NumberedKey, GivenKey, ArgumentName, LocalName, ConstantName}
+use Rattle.shader_runs.specs.Premises.{NumberedKey, NamedKey, ArgumentName, LocalName, ConstantName}
 use Rattle.shader_runs.specs.Premises.{GlobalName, ConstantsFit}
 use Rattle.shader_runs.specs.Typing.{Signature, IsOneOf, IsSpelled, PartsFit, signatures_of}
 use Rattle.shader_runs.specs.Typing.{in_function, in_initialiser}
@@ -31,15 +31,15 @@ numbered_local h e =
     let same : ◌≡◌ {A = ℕ} 95 97 = heads 95 97 (101 ∷ (h + 48) ∷ []) [] e in
     omega arith
 
-none_given : (k : ℕ) → k < given_by_all store_function store_function.body 0 → ⊥
-none_given k lt = omega arith
+none_named : (k : ℕ) → k < named_by_all store_function store_function.body 0 → ⊥
+none_named k lt = omega arith
 
 -- only the one local and the handles have names
 distinct : AreDistinct store_module store_naming
 distinct (FixedKey (ArgumentName i)) b la lb e = absurd (omega arith)
 distinct (FixedKey (ConstantName i)) b la lb e = absurd (omega arith)
 distinct (FixedKey (GlobalName i)) b la lb e = absurd (omega arith)
-distinct (GivenKey k) b la lb e = absurd (none_given k la)
+distinct (NamedKey k) b la lb e = absurd (none_named k la)
 distinct (FixedKey (LocalName i)) (FixedKey (ArgumentName j)) la lb e = absurd (omega arith)
 distinct (FixedKey (LocalName i)) (FixedKey (ConstantName j)) la lb e = absurd (omega arith)
 distinct (FixedKey (LocalName i)) (FixedKey (GlobalName j)) la lb e = absurd (omega arith)
@@ -48,7 +48,7 @@ distinct (FixedKey (LocalName i)) (FixedKey (LocalName j)) la lb e =
     ap (λ i. FixedKey (LocalName i)) same
 distinct (FixedKey (LocalName zero)) (NumberedKey h) la lb e = absurd (local_numbered h e)
 distinct (FixedKey (LocalName (suc i))) (NumberedKey h) la lb e = absurd (omega arith)
-distinct (FixedKey (LocalName i)) (GivenKey k) la lb e = absurd (none_given k lb)
+distinct (FixedKey (LocalName i)) (NamedKey k) la lb e = absurd (none_named k lb)
 distinct (NumberedKey h) (FixedKey (ArgumentName j)) la lb e = absurd (omega arith)
 distinct (NumberedKey h) (FixedKey (ConstantName j)) la lb e = absurd (omega arith)
 distinct (NumberedKey h) (FixedKey (GlobalName j)) la lb e = absurd (omega arith)
@@ -58,7 +58,7 @@ distinct (NumberedKey h) (NumberedKey k) la lb e =
     let sum : h + 48 ≡ k + 48 = thirds (h + 48) (k + 48) e in
     let same : h ≡ k = omega arith in
     ap NumberedKey same
-distinct (NumberedKey h) (GivenKey k) la lb e = absurd (none_given k lb)
+distinct (NumberedKey h) (NamedKey k) la lb e = absurd (none_named k lb)
 
 ordered : (h : ℕ) → AllBelow h (operands_of (expression_of store_function h))
 ordered zero = tt
@@ -121,9 +121,32 @@ no_constants =
 premises : PremisesHold
 premises =
     record {
-      fits = record { functions = refl; distinct = record { functions = λ g k lg lk e. omega arith }; constants = no_constants; all = (record { outer = refl; earlier = refl; ordered = ordered; words = plain; leaves = leaves; regular = (tt, (tt, (refl, tt))); distinct = distinct; scope = refl }, tt) };
-      settings = record { overrides = refl; counted = refl; globals = refl };
-      consistent = record { alike = λ x y s t w o. absurd (no_spelled x s); parts = λ place f e h. subst (λ f. PartsFit row_parts f (handle_type f h) (expression_of f h)) (only_function place f e) (no_parts h) };
+      fits = record {
+        functions = refl;
+        distinct =
+            record { functions = λ g k lg lk e. omega arith };
+        constants = no_constants;
+        all = (
+          record {
+            outer = refl;
+            earlier = refl;
+            ordered = ordered;
+            words = plain;
+            leaves = leaves;
+            regular = (tt, (tt, (refl, tt)));
+            distinct = distinct;
+            scope = refl;
+          },
+          tt,
+        );
+      };
+      settings = record { overrides = refl; globals = refl };
+      consistent = record {
+        alike = λ x y s t w o. absurd (no_spelled x s);
+        parts =
+            λ place f e h. subst (λ f. PartsFit row_parts f (handle_type f h) (expression_of f h))
+            (only_function place f e) (no_parts h);
+      };
       well_formed = (record { loads = loads; body = (tt, (tt, (tt, tt))) }, tt);
       results = ((refl, refl), tt);
     }
@@ -150,8 +173,26 @@ rows_hold =
       select = record { fits = refl; text = refl; module_run = refl; text_run = refl };
       places = record { fits = refl; text = refl; module_run = refl; text_run = refl };
       refused = record { continue_ = refl; after_loop = refl; emitted_again = refl };
-      stuck = record { break_outside = refl; continue_outside = refl; break_in_continuing = refl; continue_in_continuing = refl; number_as_condition = refl; number_as_break_if = refl; number_as_pointer = refl };
+      stuck = record {
+        break_outside = refl;
+        continue_outside = refl;
+        break_in_continuing = refl;
+        continue_in_continuing = refl;
+        number_as_condition = refl;
+        number_as_break_if = refl;
+        number_as_pointer = refl;
+      };
       ends = record { both_return = refl; one_returns = refl; loop_without_break = refl; loop_with_break = refl; loop_with_break_if = refl; with_default = refl; without_default = refl };
-      told_apart = record { load_inlined_past_store = refl; every_emit_bound = refl; name_used_in_sibling_block = refl; name_of_sibling_copied = refl; continuing_uses_skipped_constant_name = refl; loop_names_kept_after_loop = refl; function_hidden_by_local = refl; pointer_argument_not_dereferenced = refl; select_accept_first = refl };
+      distinguished = record {
+        load_inlined_past_store = refl;
+        every_emit_bound = refl;
+        name_used_in_sibling_block = refl;
+        name_of_sibling_copied = refl;
+        continuing_uses_skipped_constant_name = refl;
+        loop_names_kept_after_loop = refl;
+        function_hidden_by_local = refl;
+        pointer_argument_not_dereferenced = refl;
+        select_accept_first = refl;
+      };
       same_step = refl;
     }

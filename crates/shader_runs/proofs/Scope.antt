@@ -6,12 +6,12 @@ use Rattle.shader_runs.specs.Value.{Bytes}
 use Rattle.shader_runs.specs.Program.{Label, Statement, Emit, Store, Block, If, Switch, Loop, Break}
 use Rattle.shader_runs.specs.Program.{Continue, Return, Kill, Barrier, Act, Statements, end, then}
 use Rattle.shader_runs.specs.Program.{Cases, no_case, case, Module, from, binds, holds_continue}
-use Rattle.shader_runs.specs.Program.{any_continue, some_case_continues, expression_of, handle_type}
+use Rattle.shader_runs.specs.Program.{any_continue, some_case_continues, expression_of}
 use Rattle.shader_runs.specs.Text.{Tree, Lines}
 use Rattle.shader_runs.specs.TextRun.{some_continue, some_group_continues, among, group_has}
 use Rattle.shader_runs.specs.ProgramRun.{Call, barrier_words, same_label, has_label}
-use Rattle.shader_runs.specs.Scope.{Named, Handles, Names, Naming, bound_name, after_one}
-use Rattle.shader_runs.specs.Scope.{given_after, given_by, given_by_all, after, after_all}
+use Rattle.shader_runs.specs.Scope.{Bound, Handles, Names, Naming, bound_name, after_one}
+use Rattle.shader_runs.specs.Scope.{named_after, named_by, named_by_all, after, after_all}
 use Rattle.shader_runs.specs.Scope.{forgotten_if}
 use Rattle.shader_runs.specs.Form.{value_form, own_form, written_form, let_if, lets, perform_each}
 use Rattle.shader_runs.specs.Form.{form}
@@ -29,9 +29,9 @@ let_continue false x e tail = refl
 pub lets_continue : (f : Naming) (k : ℕ) (hs : List ℕ) (s : Handles) (tail : Lines) → some_continue (lets f k hs s tail) ≡ some_continue tail
 lets_continue f k [] s tail = refl
 lets_continue f k (h ∷ hs) s tail =
-    let rest = lets f (given_after f.function h k) hs (after_one f k h s) tail in
-    let_continue (binds f.function h) (bound_name f k h) (value_form (own_form f (written_form f s) (handle_type f.function h) (expression_of f.function h))) rest
-    ∙ lets_continue f (given_after f.function h k) hs (after_one f k h s) tail
+    let rest = lets f (named_after f.function h k) hs (after_one f k h s) tail in
+    let_continue (binds f.function h) (bound_name f k h) (value_form (own_form f (written_form f s) (expression_of f.function h))) rest
+    ∙ lets_continue f (named_after f.function h k) hs (after_one f k h s) tail
 
 pub performs_continue : (ws : List Bytes) (tail : Lines) → some_continue (perform_each ws tail) ≡ some_continue tail
 performs_continue [] tail = refl
@@ -48,12 +48,14 @@ falls_followed labels no_case m = absurd m
 falls_followed labels (case l b falls cs) m = tt
 
 mutual
-  continue_one : (p : Module) (c : Call) (n : Names) (k : ℕ) (st : Statement) (s : Handles) (tail : Lines) → Fits p c n k st s → some_continue (form (naming c n) k st s tail) ≡ (holds_continue st || some_continue tail)
+  continue_one : (p : Module) (c : Call) (n : Names) (k : ℕ) (st : Statement) (s : Handles)
+      (tail : Lines) → Fits p c n k st s → some_continue (form (naming c n) k st s tail) ≡
+      (holds_continue st || some_continue tail)
   continue_one p c n k (Emit first count) s tail m = lets_continue (naming c n) k (from first count) s tail
   continue_one p c n k (Store q v) s tail m = refl
   continue_one p c n k (Block b) s tail m = ap (λ b. b || some_continue tail) (continue_all p c n k b s m)
   continue_one p c n k (If x a b) s tail m =
-      let k1 = given_by_all c.function a k in
+      let k1 = named_by_all c.function a k in
       ap (λ x. (x || some_continue (form_all (naming c n) k1 b s)) || some_continue tail) (continue_all p c n k a s m.1)
       ∙ ap (λ x. (any_continue a || x) || some_continue tail) (continue_all p c n k1 b s m.2)
   continue_one p c n k (Switch h cases) s tail m = ap (λ b. b || some_continue tail) (continue_cases p c n k [] cases s m.1)
@@ -69,13 +71,15 @@ mutual
   pub continue_all : (p : Module) (c : Call) (n : Names) (k : ℕ) (ss : Statements) (s : Handles) → FitsAll p c n k ss s → some_continue (form_all (naming c n) k ss s) ≡ any_continue ss
   continue_all p c n k end s m = refl
   continue_all p c n k (then st ss) s m =
-      let rest = form_all (naming c n) (given_by c.function st k) ss (after (naming c n) k st s) in
-      continue_one p c n k st s rest m.0 ∙ ap (λ x. holds_continue st || x) (continue_all p c n (given_by c.function st k) ss (after (naming c n) k st s) m.1)
+      let rest = form_all (naming c n) (named_by c.function st k) ss (after (naming c n) k st s) in
+      continue_one p c n k st s rest m.0 ∙ ap (λ x. holds_continue st || x) (continue_all p c n (named_by c.function st k) ss (after (naming c n) k st s) m.1)
 
-  pub continue_cases : (p : Module) (c : Call) (n : Names) (k : ℕ) (labels : List Label) (cs : Cases) (s : Handles) → FitsCases p c n k cs s → some_group_continues (form_cases (naming c n) k labels cs s) ≡ some_case_continues cs
+  pub continue_cases : (p : Module) (c : Call) (n : Names) (k : ℕ) (labels : List Label)
+      (cs : Cases) (s : Handles) → FitsCases p c n k cs s →
+      some_group_continues (form_cases (naming c n) k labels cs s) ≡ some_case_continues cs
   continue_cases p c n k labels no_case s m = refl
   continue_cases p c n k labels (case l b false cs) s m =
-      ap₂ (λ x y. x || y) (continue_all p c n k b s m.1) (continue_cases p c n (given_by_all c.function b k) [] cs s m.2)
+      ap₂ (λ x y. x || y) (continue_all p c n k b s m.1) (continue_cases p c n (named_by_all c.function b k) [] cs s m.2)
   continue_cases p c n k labels (case l end true cs) s m = continue_cases p c n k (labels ++ l ∷ []) cs s m.2
   continue_cases p c n k labels (case l (then st ss) true cs) s m = absurd m.0
 
@@ -93,11 +97,14 @@ first_followed_by no_case = tt
 first_followed_by (case l b falls cs) = tt
 
 -- the groups have the cases' labels
-has_cases : (p : Module) (c : Call) (n : Names) (k : ℕ) (labels : List Label) (cs : Cases) (s : Handles) → FitsCases p c n k cs s → IsFollowed labels cs → (x : Label) → group_has x (form_cases (naming c n) k labels cs s) ≡ (among x labels || has_label x cs)
+has_cases : (p : Module) (c : Call) (n : Names) (k : ℕ) (labels : List Label) (cs : Cases)
+    (s : Handles) → FitsCases p c n k cs s → IsFollowed labels cs →
+    (x : Label) → group_has x (form_cases (naming c n) k labels cs s) ≡
+    (among x labels || has_label x cs)
 has_cases p c n k [] no_case s m w x = refl
 has_cases p c n k (y ∷ ys) no_case s m w x = absurd w
 has_cases p c n k labels (case l b false cs) s m w x =
-    ap₂ (λ p q. p || q) (among_append x labels l) (has_cases p c n (given_by_all c.function b k) [] cs s m.2 (first_followed_by cs) x)
+    ap₂ (λ p q. p || q) (among_append x labels l) (has_cases p c n (named_by_all c.function b k) [] cs s m.2 (first_followed_by cs) x)
     ∙ or_assoc (among x labels) (same_label x l) (has_label x cs)
 has_cases p c n k labels (case l end true cs) s m w x =
     has_cases p c n k (labels ++ l ∷ []) cs s m.2 (falls_followed (labels ++ l ∷ []) cs m.0) x
@@ -111,7 +118,7 @@ has_all_cases p c n k cs s m x = has_cases p c n k [] cs s m (first_followed_by 
 pub extends_after : (c : Call) (n : Names) (k : ℕ) (st : Statement) (s : Handles) → Extends s (after (naming c n) k st s)
 extends_after c n k (Emit first count) s = extends_emit c n k (from first count) s
 extends_after c n k (Act a xs None) s = extends_refl s
-extends_after c n k (Act a xs (Some h)) s = extends_update s h (Named (n.numbered h)) (λ p. refl)
+extends_after c n k (Act a xs (Some h)) s = extends_update s h (Bound (n.numbered h)) (λ p. refl)
 extends_after c n k _ s = extends_refl s
 
 extends_if : (b : Bool) (s s' : Handles) → Extends s s' → Extends s (forgotten_if b s s')
@@ -121,7 +128,7 @@ extends_if false s s' x = x
 pub extends_all : (c : Call) (n : Names) (k : ℕ) (ss : Statements) (s : Handles) → Extends s (after_all (naming c n) k ss s)
 extends_all c n k end s = extends_refl s
 extends_all c n k (then st ss) s =
-    let k1 = given_by c.function st k in
+    let k1 = named_by c.function st k in
     let s1 = after (naming c n) k st s in
     let s2 = after_all (naming c n) k1 ss s1 in
     extends_if (holds_continue st) s s2 (extends_trans s s1 s2 (extends_after c n k st s) (extends_all c n k1 ss s1))

@@ -1,5 +1,5 @@
--- The check of scope decides the rules of scope: at each point the standings of handles say what
--- the rules do.
+-- The check of scope decides the rules of scope: at each point the availabilities of handles say
+-- what the rules do.
 use Rattle.std.proofs.Common.{◌≡◌, ◌⊎◌, inl, inr, ⊎_elim, ℕ, zero, suc, ◌<◌, ◌≤◌, Bool, true, false}
 use Rattle.std.proofs.Common.{cond, not, List, [], ◌∷◌, length, Option, Some, None, ◌&&◌, ◌||◌}
 use Rattle.std.proofs.Common.{refl, sym, ap, ◌∙◌, subst, true≢false, arith, ltb-true}
@@ -14,26 +14,29 @@ use Rattle.shader_runs.specs.Program.{Return, Act, Statements, end, then, Cases,
 use Rattle.shader_runs.specs.Program.{Function, argument_count, local_count, expression_of}
 use Rattle.shader_runs.specs.Program.{operands_of, is_counted, is_asked, binds_as, binds, from}
 use Rattle.shader_runs.specs.Program.{holds_continue}
-use Rattle.shader_runs.specs.Scope.{Standing, Absent, Barred, Everywhere, Inline, Named, Handles}
+use Rattle.shader_runs.specs.Scope.{Availability, Absent, Barred, Everywhere, Inline, Bound}
+use Rattle.shader_runs.specs.Scope.{Handles}
 use Rattle.shader_runs.specs.Scope.{Naming, before_local, bound_name, is_present, is_new, usable_as}
 use Rattle.shader_runs.specs.Scope.{usable, usable_all, usable_if, is_pure, all_constant}
 use Rattle.shader_runs.specs.Scope.{is_constant_leaf, constant_test, is_constant_below}
-use Rattle.shader_runs.specs.Scope.{start_standing, at_start, standing_without_name}
+use Rattle.shader_runs.specs.Scope.{start_availability, at_start, availability_without_name}
 use Rattle.shader_runs.specs.Scope.{with_emitted_handle, after_one}
-use Rattle.shader_runs.specs.Scope.{given_after, given_by, given_by_all, after_emit, after}
+use Rattle.shader_runs.specs.Scope.{named_after, named_by, named_by_all, after_emit, after}
 use Rattle.shader_runs.specs.Scope.{forgotten_handles, forgotten_one, forgotten_if, after_all}
 use Rattle.shader_runs.specs.Scope.{is_emittable, may_emit, may_emit_all, may_give, fits, fits_all}
 use Rattle.shader_runs.specs.Scope.{fits_cases, first_values_fit}
 use Rattle.shader_runs.specs.Premises.{AllBelow}
-use Rattle.shader_runs.specs.ScopeRules.{GivenHandle, Emitted, AsResult, handle_of, IsAmong}
+use Rattle.shader_runs.specs.ScopeRules.{IntroducedHandle, Emitted, AsResult, handle_of, IsAmong}
 use Rattle.shader_runs.specs.ScopeRules.{IsConstantTree, one_constant, over_constants}
-use Rattle.shader_runs.specs.ScopeRules.{AreConstantTrees, no_tree, and_tree, can_be_given, InScope}
+use Rattle.shader_runs.specs.ScopeRules.{AreConstantTrees, no_tree, and_tree, can_be_introduced}
+use Rattle.shader_runs.specs.ScopeRules.{InScope}
 use Rattle.shader_runs.specs.ScopeRules.{constant_tree, argument, local, global, bound, written_out}
 use Rattle.shader_runs.specs.ScopeRules.{result, still, EachInScope, no_handle, and_handle}
 use Rattle.shader_runs.specs.ScopeRules.{InScopeIf, is_unwritten, with_one, with_emitted}
 use Rattle.shader_runs.specs.ScopeRules.{with_statement, with_statements}
 use Rattle.shader_runs.specs.ScopeRules.{statements_before_continue, Point}
-use Rattle.shader_runs.specs.ScopeRules.{entry_point, behind_one, behind, behind_turn, WasGiven}
+use Rattle.shader_runs.specs.ScopeRules.{entry_point, behind_one, behind, behind_turn}
+use Rattle.shader_runs.specs.ScopeRules.{WasIntroduced}
 use Rattle.shader_runs.specs.ScopeRules.{in_sight, as_a_tree, MayEmit, MayEmitEach, MayResult}
 use Rattle.shader_runs.specs.ScopeRules.{StatementHolds, StatementsHold, CasesHold, FirstValuesHold}
 use Rattle.shader_runs.specs.ScopeRules.{ScopeCheckIsTheRules}
@@ -68,27 +71,27 @@ abbrev operands_at : Function → ℕ → List ℕ
 operands_at f h = operands_of (expression_of f h)
 
 -- what brings a handle into scope
-abbrev Brings : Function → List GivenHandle → GivenHandle → ℕ → Type 0
+abbrev Brings : Function → List IntroducedHandle → IntroducedHandle → ℕ → Type 0
 Brings f v (Emitted h) k = (h ≡ k) × (IsTrue (binds f k) ⊎ EachInScope f v (operands_at f k))
-Brings f v (AsResult h) k = (h ≡ k) × IsTrue (can_be_given (expression_of f k))
+Brings f v (AsResult h) k = (h ≡ k) × IsTrue (can_be_introduced (expression_of f k))
 
-brought : (f : Function) (g : GivenHandle) (v : List GivenHandle) (k : ℕ) →
+brought : (f : Function) (g : IntroducedHandle) (v : List IntroducedHandle) (k : ℕ) →
     InScope f (g ∷ v) k → InScope f v k ⊎ Brings f v g k
 brought f g v k (constant_tree t) = inl (constant_tree t)
 brought f g v k (argument i q l) = inl (argument i q l)
 brought f g v k (local i q l) = inl (local i q l)
-brought f g v k (global i q) = inl (global i q)
+brought f g v k (global held i q) = inl (global held i q)
 brought f g v k (bound b) = inr (refl, inl b)
 brought f g v k (written_out b p os) = inr (refl, inr os)
 brought f g v k (result m) = inr (refl, m)
 brought f g v k (still g0 d) = inl d
 
-brings_itself : (f : Function) (g : GivenHandle) (v : List GivenHandle) (k : ℕ) → Brings f v g k → handle_of g ≡ k
+brings_itself : (f : Function) (g : IntroducedHandle) (v : List IntroducedHandle) (k : ℕ) → Brings f v g k → handle_of g ≡ k
 brings_itself f (Emitted h) v k b = b.0
 brings_itself f (AsResult h) v k b = b.0
 
 -- another handle was in scope before
-older : (f : Function) (g : GivenHandle) (v : List GivenHandle) (k : ℕ) →
+older : (f : Function) (g : IntroducedHandle) (v : List IntroducedHandle) (k : ℕ) →
     (handle_of g ≡ k → ⊥) → InScope f (g ∷ v) k → InScope f v k
 older f g v k n d = ⊎_elim (λ d. d) (λ b. absurd (n (brings_itself f g v k b))) (brought f g v k d)
 
@@ -99,37 +102,39 @@ pure_emittable (Some (Request a w xs es)) h = refl
 pure_emittable (Some _) h = h
 pure_emittable None h = h
 
-emittable_given : (e : Option Expression) → IsTrue (is_emittable e) → IsTrue (can_be_given e)
-emittable_given (Some Result) h = refl
-emittable_given (Some _) h = h
-emittable_given None h = h
+emittable_introduced : (e : Option Expression) → IsTrue (is_emittable e) →
+    IsTrue (can_be_introduced e)
+emittable_introduced (Some Result) h = refl
+emittable_introduced (Some _) h = h
+emittable_introduced None h = h
 
--- what statements give is usable by its standing, and the others are without regard to it
-usable_by : (f : Function) (e : Option Expression) (st : Standing) →
-    usable_as f e st ≡ cond (can_be_given e) (is_present st) (usable_as f e Absent)
+-- what statements give is usable by its availability, and the others are without regard to it
+usable_by : (f : Function) (e : Option Expression) (st : Availability) →
+    usable_as f e st ≡ cond (can_be_introduced e) (is_present st) (usable_as f e Absent)
 usable_by f (Some (Constant c)) st = refl
 usable_by f (Some (Argument i)) st = refl
 usable_by f (Some (Local i)) st = refl
-usable_by f (Some (Global i)) st = refl
+usable_by f (Some (Global held i)) st = refl
 usable_by f (Some _) st = refl
 usable_by f None st = refl
 
-usable_given : (f : Function) (e : Option Expression) (st : Standing) →
-    IsTrue (can_be_given e) → usable_as f e st ≡ is_present st
-usable_given f e st h = usable_by f e st ∙ ap (λ b. cond b (is_present st) (usable_as f e Absent)) h
+usable_introduced : (f : Function) (e : Option Expression) (st : Availability) →
+    IsTrue (can_be_introduced e) → usable_as f e st ≡ is_present st
+usable_introduced f e st h = usable_by f e st
+    ∙ ap (λ b. cond b (is_present st) (usable_as f e Absent)) h
 
-usable_alone : (f : Function) (e : Option Expression) (st : Standing) →
-    can_be_given e ≡ false → usable_as f e st ≡ usable_as f e Absent
+usable_alone : (f : Function) (e : Option Expression) (st : Availability) →
+    can_be_introduced e ≡ false → usable_as f e st ≡ usable_as f e Absent
 usable_alone f e st h = usable_by f e st ∙ ap (λ b. cond b (is_present st) (usable_as f e Absent)) h
 
-usable_alike : (f : Function) (e : Option Expression) (st st' : Standing) →
+usable_alike : (f : Function) (e : Option Expression) (st st' : Availability) →
     is_present st ≡ is_present st' → usable_as f e st ≡ usable_as f e st'
 usable_alike f e st st' q =
-    usable_by f e st ∙ ap (λ p. cond (can_be_given e) p (usable_as f e Absent)) q ∙ sym (usable_by f e st')
+    usable_by f e st ∙ ap (λ p. cond (can_be_introduced e) p (usable_as f e Absent)) q ∙ sym (usable_by f e st')
 
-usable_pure : (f : Function) (e : Option Expression) (st : Standing) →
+usable_pure : (f : Function) (e : Option Expression) (st : Availability) →
     IsTrue (is_pure e) → usable_as f e st ≡ is_present st
-usable_pure f e st h = usable_given f e st (emittable_given e (pure_emittable e h))
+usable_pure f e st h = usable_introduced f e st (emittable_introduced e (pure_emittable e h))
 
 -- what an Emit gives is bound or an operator
 not_alone : (b : Bool) → not b ≡ not (b || false)
@@ -147,7 +152,7 @@ unwritten_kind f h (Some (Request a w xs es)) m = not_alone (is_asked f h a)
 unwritten_kind f h (Some (Constant c)) m = absurd (true≢false (sym m))
 unwritten_kind f h (Some (Argument i)) m = absurd (true≢false (sym m))
 unwritten_kind f h (Some (Local i)) m = absurd (true≢false (sym m))
-unwritten_kind f h (Some (Global i)) m = absurd (true≢false (sym m))
+unwritten_kind f h (Some (Global held i)) m = absurd (true≢false (sym m))
 unwritten_kind f h (Some Result) m = absurd (true≢false (sym m))
 unwritten_kind f h None m = absurd (true≢false (sym m))
 unwritten_kind f h e m = not_either (binds_as f h e)
@@ -206,18 +211,18 @@ parts_of_tree : (f : Function) (h : ℕ) →
 parts_of_tree f h p (one_constant c q) = false_is_not_true (is_pure (expression_of f h)) (ap is_pure q) p
 parts_of_tree f h p (over_constants q ts) = ts
 
-each_tree_in_scope : (f : Function) (v : List GivenHandle) (xs : List ℕ) → AreConstantTrees f xs → EachInScope f v xs
+each_tree_in_scope : (f : Function) (v : List IntroducedHandle) (xs : List ℕ) → AreConstantTrees f xs → EachInScope f v xs
 each_tree_in_scope f v [] no_tree = no_handle
 each_tree_in_scope f v (x ∷ xs) (and_tree t ts) = and_handle (constant_tree t) (each_tree_in_scope f v xs ts)
 
--- the standings of handles say what the rules do at a point
+-- the availabilities of handles say what the rules do at a point
 record Tracks (f : Function) (at : Point) (s : Handles) : Type 0 where
   pub used : (h : ℕ) → (IsTrue (usable f s h) ↔ InScope f at.visible h)
-  pub given : (h : ℕ) → ((is_new (s h) ≡ false) ↔ WasGiven f at h)
+  pub introduced : (h : ℕ) → ((is_new (s h) ≡ false) ↔ WasIntroduced f at h)
   pub trees : (h : ℕ) → s h ≡ Everywhere → IsCompound f h
   pub passed : (h : ℕ) → IsAmong h at.visible → IsAmong h at.passed
 
-each_parts : (f : Function) (v : List GivenHandle) (x : ℕ) (xs : List ℕ) →
+each_parts : (f : Function) (v : List IntroducedHandle) (x : ℕ) (xs : List ℕ) →
     EachInScope f v (x ∷ xs) → InScope f v x × EachInScope f v xs
 each_parts f v x xs (and_handle d ds) = (d, ds)
 
@@ -234,30 +239,30 @@ if_used f at s t None = (λ u. tt, λ d. refl)
 if_used f at s t (Some h) = t.used h
 
 -- one more handle is given
-abbrev with_given : GivenHandle → Point → Point
-with_given g at = record { visible = g ∷ at.visible; passed = g ∷ at.passed }
+abbrev with_introduced : IntroducedHandle → Point → Point
+with_introduced g at = record { visible = g ∷ at.visible; passed = g ∷ at.passed }
 
-given_more : (f : Function) (g : GivenHandle) (at : Point) (h : ℕ) → WasGiven f at h → WasGiven f (with_given g at) h
-given_more f g at h (in_sight a) = in_sight (inr a)
-given_more f g at h (as_a_tree p t a) = as_a_tree p t (inr a)
+introduced_more : (f : Function) (g : IntroducedHandle) (at : Point) (h : ℕ) → WasIntroduced f at h → WasIntroduced f (with_introduced g at) h
+introduced_more f g at h (in_sight a) = in_sight (inr a)
+introduced_more f g at h (as_a_tree p t a) = as_a_tree p t (inr a)
 
-given_less : (f : Function) (g : GivenHandle) (at : Point) (h : ℕ) →
-    (handle_of g ≡ h → ⊥) → WasGiven f (with_given g at) h → WasGiven f at h
-given_less f g at h n (in_sight a) = in_sight (⊎_elim (λ e. absurd (n e)) (λ a. a) a)
-given_less f g at h n (as_a_tree p t a) = as_a_tree p t (⊎_elim (λ e. absurd (n e)) (λ a. a) a)
+introduced_less : (f : Function) (g : IntroducedHandle) (at : Point) (h : ℕ) →
+    (handle_of g ≡ h → ⊥) → WasIntroduced f (with_introduced g at) h → WasIntroduced f at h
+introduced_less f g at h n (in_sight a) = in_sight (⊎_elim (λ e. absurd (n e)) (λ a. a) a)
+introduced_less f g at h n (as_a_tree p t a) = as_a_tree p t (⊎_elim (λ e. absurd (n e)) (λ a. a) a)
 
-not_everywhere : (st : Standing) → is_new st ≡ false → st ≡ Everywhere → ⊥
+not_everywhere : (st : Availability) → is_new st ≡ false → st ≡ Everywhere → ⊥
 not_everywhere st n e = true≢false (sym (ap is_new e) ∙ n)
 
--- this standing of a handle says what the rules do
-abbrev UsedAs : Function → List GivenHandle → ℕ → Standing → Type 0
+-- this availability of a handle says what the rules do
+abbrev UsedAs : Function → List IntroducedHandle → ℕ → Availability → Type 0
 UsedAs f v h st = IsTrue (usable_as f (expression_of f h) st) ↔ InScope f v h
 
--- one handle more is given, and has this standing
-module _ (f : Function) (g : GivenHandle) (st : Standing) (at : Point) (s : Handles)
+-- one handle more is given, and has this availability
+module _ (f : Function) (g : IntroducedHandle) (st : Availability) (at : Point) (s : Handles)
     (t : Tracks f at s) (here : UsedAs f (g ∷ at.visible) (handle_of g) st) (new : is_new st ≡ false) where
-  abbrev GivenAs : ℕ → Standing → Type 0
-  GivenAs k z = (is_new z ≡ false) ↔ WasGiven f (with_given g at) k
+  abbrev IntroducedAs : ℕ → Availability → Type 0
+  IntroducedAs k z = (is_new z ≡ false) ↔ WasIntroduced f (with_introduced g at) k
 
   used_later : (k : ℕ) → UsedAs f (g ∷ at.visible) k (update s (handle_of g) st k)
   used_later k =
@@ -265,12 +270,13 @@ module _ (f : Function) (g : GivenHandle) (st : Standing) (at : Point) (s : Hand
       (λ e. subst (λ k. UsedAs f (g ∷ at.visible) k st) (sym e) here)
       (λ n. (λ u. still g ((t.used k).0 u), λ d. (t.used k).1 (older f g at.visible k (λ e. n (sym e)) d)))
 
-  given_later : (k : ℕ) → GivenAs k (update s (handle_of g) st k)
-  given_later k =
-      update_cases (GivenAs k) s (handle_of g) st k (λ e. (λ i. in_sight (inl (sym e)), λ a. new))
+  introduced_later : (k : ℕ) → IntroducedAs k (update s (handle_of g) st k)
+  introduced_later k =
+      update_cases (IntroducedAs k) s (handle_of g) st k
+      (λ e. (λ i. in_sight (inl (sym e)), λ a. new))
       (λ n. (
-        λ i. given_more f g at k ((t.given k).0 i),
-        λ a. (t.given k).1 (given_less f g at k (λ e. n (sym e)) a),
+        λ i. introduced_more f g at k ((t.introduced k).0 i),
+        λ a. (t.introduced k).1 (introduced_less f g at k (λ e. n (sym e)) a),
       ))
 
   trees_later : (k : ℕ) → update s (handle_of g) st k ≡ Everywhere → IsCompound f k
@@ -278,11 +284,11 @@ module _ (f : Function) (g : GivenHandle) (st : Standing) (at : Point) (s : Hand
       update_cases (λ z. z ≡ Everywhere → IsCompound f k) s (handle_of g) st k
       (λ e z. absurd (not_everywhere st new z)) (λ n. t.trees k)
 
-  tracks_given : Tracks f (with_given g at) (update s (handle_of g) st)
-  tracks_given =
+  tracks_introduced : Tracks f (with_introduced g at) (update s (handle_of g) st)
+  tracks_introduced =
       record {
         used = used_later;
-        given = given_later;
+        introduced = introduced_later;
         trees = trees_later;
         passed = λ k a. ⊎_elim (λ e. inl e) (λ a. inr (t.passed k a)) a;
       }
@@ -309,23 +315,24 @@ module _ (f : Function) (at : Point) (s : Handles) (h : ℕ) (t : Tracks f at s)
       barred u i = false_is_not_true (usable_all f s (operands_at f h)) u i
 
   inline_used : (u : Bool) → usable_all f s (operands_at f h) ≡ u →
-      (IsTrue (is_present (standing_without_name u (s h))) ↔ InScope f (Emitted h ∷ at.visible) h)
+      (IsTrue (is_present (availability_without_name u (s h))) ↔ InScope f (Emitted h ∷ at.visible)
+      h)
   inline_used true u = (λ i. written_out b p (each_operand.0 u), λ d. refl)
   inline_used false u = go (s h) refl
     where
-      go : (st : Standing) → s h ≡ st →
-          (IsTrue (is_present (standing_without_name false st)) ↔ InScope f (Emitted h ∷ at.visible) h)
+      go : (st : Availability) → s h ≡ st →
+          (IsTrue (is_present (availability_without_name false st)) ↔ InScope f (Emitted h ∷ at.visible) h)
       go Absent q = (λ i. absurd (true≢false (sym i)), λ d. ap is_present (sym q) ∙ was_present u d)
       go Barred q = (λ i. absurd (true≢false (sym i)), λ d. ap is_present (sym q) ∙ was_present u d)
       go Everywhere q = (λ i. stays (ap is_present q), λ d. refl)
       go Inline q = (λ i. stays (ap is_present q), λ d. refl)
-      go (Named x) q = (λ i. stays (ap is_present q), λ d. refl)
+      go (Bound x) q = (λ i. stays (ap is_present q), λ d. refl)
 
-  inline_given : (u : Bool) → usable_all f s (operands_at f h) ≡ u → is_new (standing_without_name u (s h)) ≡ false
-  inline_given true u = refl
-  inline_given false u = go (s h) refl
+  inline_introduced : (u : Bool) → usable_all f s (operands_at f h) ≡ u → is_new (availability_without_name u (s h)) ≡ false
+  inline_introduced true u = refl
+  inline_introduced false u = go (s h) refl
     where
-      go : (st : Standing) → s h ≡ st → is_new (standing_without_name false st) ≡ false
+      go : (st : Availability) → s h ≡ st → is_new (availability_without_name false st) ≡ false
       go Absent q = refl
       go Barred q = refl
       go Everywhere q =
@@ -333,7 +340,7 @@ module _ (f : Function) (at : Point) (s : Handles) (h : ℕ) (t : Tracks f at s)
           let parts = each_tree_in_scope f at.visible (operands_at f h) (parts_of_tree f h tree.0 tree.1) in
           false_is_not_true (usable_all f s (operands_at f h)) u (each_operand.1 parts)
       go Inline q = refl
-      go (Named x) q = refl
+      go (Bound x) q = refl
 
 -- an emitted handle
 module _ (f : Function) (h : ℕ) (at : Point) (s : Handles) (t : Tracks f at s)
@@ -349,13 +356,13 @@ module _ (f : Function) (h : ℕ) (at : Point) (s : Handles) (t : Tracks f at s)
   tracks_kind : (b o : Bool) → binds f h ≡ b → is_pure (expression_of f h) ≡ o →
       Tracks f (WithOne (not (b || o))) (with_emitted_handle b o Usable x s h)
   tracks_kind true o b p =
-      let present = usable_given f (expression_of f h) (Named x) (emittable_given (expression_of f h) m) in
-      tracks_given f (Emitted h) (Named x) at s t (λ i. bound b, λ d. present) refl
+      let present = usable_introduced f (expression_of f h) (Bound x) (emittable_introduced (expression_of f h) m) in
+      tracks_introduced f (Emitted h) (Bound x) at s t (λ i. bound b, λ d. present) refl
   tracks_kind false true b p =
-      let same = usable_pure f (expression_of f h) (standing_without_name Usable (s h)) p in
+      let same = usable_pure f (expression_of f h) (availability_without_name Usable (s h)) p in
       let here = inline_used f at s h t p b Usable refl in
-      let new = inline_given f at s h t p b Usable refl in
-      tracks_given f (Emitted h) (standing_without_name Usable (s h)) at s t (λ i. here.0 (sym same ∙ i), λ d. same ∙ here.1 d) new
+      let new = inline_introduced f at s h t p b Usable refl in
+      tracks_introduced f (Emitted h) (availability_without_name Usable (s h)) at s t (λ i. here.0 (sym same ∙ i), λ d. same ∙ here.1 d) new
   tracks_kind false false b p = t
 
   tracks_emitted : Tracks f (behind_one f h at) (with_emitted_handle (binds f h) (is_pure (expression_of f h)) Usable x s h)
@@ -366,29 +373,29 @@ module _ (f : Function) (h : ℕ) (at : Point) (s : Handles) (t : Tracks f at s)
 
 -- a result
 result_used : (f : Function) (h : ℕ) (at : Point) (s : Handles) → Tracks f at s →
-    (x : Bytes) (b : Bool) → can_be_given (expression_of f h) ≡ b →
-    UsedAs f (AsResult h ∷ at.visible) h (Named x)
-result_used f h at s t x true m = (λ i. result m, λ d. usable_given f (expression_of f h) (Named x) m)
+    (x : Bytes) (b : Bool) → can_be_introduced (expression_of f h) ≡ b →
+    UsedAs f (AsResult h ∷ at.visible) h (Bound x)
+result_used f h at s t x true m = (λ i. result m, λ d. usable_introduced f (expression_of f h) (Bound x) m)
 result_used f h at s t x false m =
     let e = expression_of f h in
-    let same = usable_alone f e (Named x) m ∙ sym (usable_alone f e (s h) m) in
+    let same = usable_alone f e (Bound x) m ∙ sym (usable_alone f e (s h) m) in
     let before = brought f (AsResult h) at.visible h in (
       λ i. still (AsResult h) ((t.used h).0 (sym same ∙ i)),
-      λ d. same ∙ ⊎_elim (λ d. (t.used h).1 d) (λ g. false_is_not_true (can_be_given e) m g.1) (before d),
+      λ d. same ∙ ⊎_elim (λ d. (t.used h).1 d) (λ g. false_is_not_true (can_be_introduced e) m g.1) (before d),
     )
 
 tracks_result : (f : Function) (h : ℕ) (at : Point) (s : Handles) → Tracks f at s →
-    (x : Bytes) → Tracks f (with_given (AsResult h) at) (update s h (Named x))
+    (x : Bytes) → Tracks f (with_introduced (AsResult h) at) (update s h (Bound x))
 tracks_result f h at s t x =
-    let here = result_used f h at s t x (can_be_given (expression_of f h)) refl in
-    tracks_given f (AsResult h) (Named x) at s t here refl
+    let here = result_used f h at s t x (can_be_introduced (expression_of f h)) refl in
+    tracks_introduced f (AsResult h) (Bound x) at s t here refl
 
 -- what may be given
 new_rule : (f : Function) (at : Point) (s : Handles) (h : ℕ) → Tracks f at s →
-    (IsTrue (is_new (s h)) ↔ (¬ WasGiven f at h))
+    (IsTrue (is_new (s h)) ↔ (¬ WasIntroduced f at h))
 new_rule f at s h t = (
-  λ i g. false_is_not_true (is_new (s h)) ((t.given h).1 g) i,
-  λ n. true_from_ne_false (is_new (s h)) (λ e. n ((t.given h).0 e)),
+  λ i g. false_is_not_true (is_new (s h)) ((t.introduced h).1 g) i,
+  λ n. true_from_ne_false (is_new (s h)) (λ e. n ((t.introduced h).0 e)),
 )
 
 may_emit_rule : (f : Function) (at : Point) (s : Handles) (h : ℕ) → Tracks f at s →
@@ -407,7 +414,7 @@ emits_rule : (f : Naming) (k : ℕ) (at : Point) (s : Handles) (hs : List ℕ) �
     (IsTrue (may_emit_all f k hs s) ↔ MayEmitEach f.function at hs)
 emits_rule f k at s [] t = (λ i. tt, λ d. refl)
 emits_rule f k at s (h ∷ hs) t =
-    let k1 = given_after f.function h k in
+    let k1 = named_after f.function h k in
     let s1 = after_one f k h s in
     let here = may_emit_rule f.function at s h t in
     both (may_emit f.function h s) (may_emit_all f k1 hs s1) here
@@ -428,7 +435,7 @@ tracks_emit : (f : Naming) (k : ℕ) (hs : List ℕ) (at : Point) (s : Handles) 
     Tracks f.function (behind_each f.function hs at) (after_emit f k hs s)
 tracks_emit f k [] at s t i = t
 tracks_emit f k (h ∷ hs) at s t i =
-    let k1 = given_after f.function h k in
+    let k1 = named_after f.function h k in
     let s1 = after_one f k h s in
     let first = may_emit f.function h s in
     let rest = may_emit_all f k1 hs s1 in
@@ -445,7 +452,7 @@ tracks_after f k (Act a xs None) at s t i = t
 tracks_after f k _ at s t i = t
 
 -- what was given stays given
-among_emitted : (f : Function) (hs : List ℕ) (v : List GivenHandle) (k : ℕ) → IsAmong k v → IsAmong k (with_emitted f hs v)
+among_emitted : (f : Function) (hs : List ℕ) (v : List IntroducedHandle) (k : ℕ) → IsAmong k v → IsAmong k (with_emitted f hs v)
 among_emitted f [] v k a = a
 among_emitted f (h ∷ hs) v k a = among_emitted f hs (with_one f h v) k (one (is_unwritten f h (expression_of f h)))
   where
@@ -453,24 +460,25 @@ among_emitted f (h ∷ hs) v k a = among_emitted f hs (with_one f h v) k (one (i
     one true = a
     one false = inr a
 
-among_statement : (f : Function) (st : Statement) (v : List GivenHandle) (k : ℕ) →
+among_statement : (f : Function) (st : Statement) (v : List IntroducedHandle) (k : ℕ) →
     IsAmong k v → IsAmong k (with_statement f st v)
 among_statement f (Emit first count) v k a = among_emitted f (from first count) v k a
 among_statement f (Act b xs (Some h)) v k a = inr a
 among_statement f (Act b xs None) v k a = a
 among_statement f _ v k a = a
 
-among_statements : (f : Function) (ss : Statements) (v : List GivenHandle) (k : ℕ) →
+among_statements : (f : Function) (ss : Statements) (v : List IntroducedHandle) (k : ℕ) →
     IsAmong k v → IsAmong k (with_statements f ss v)
 among_statements f end v k a = a
 among_statements f (then st ss) v k a =
     among_statements f ss (with_statement f st v) k (among_statement f st v k a)
 
-pub everywhere_forgotten : (st now : Standing) → forgotten_one st now ≡ Everywhere → st ≡ Everywhere
+pub everywhere_forgotten : (st now : Availability) → forgotten_one st now ≡ Everywhere →
+    st ≡ Everywhere
 everywhere_forgotten Everywhere now e = refl
 everywhere_forgotten _ now e = e
 
-new_forgotten : (now : Standing) → is_new (forgotten_one Everywhere now) ≡ is_new now
+new_forgotten : (now : Availability) → is_new (forgotten_one Everywhere now) ≡ is_new now
 new_forgotten now = go (is_new now)
   where
     go : (b : Bool) → is_new (cond b Everywhere Inline) ≡ b
@@ -484,46 +492,53 @@ module _ (f : Function) (at later : Point) (s now : Handles) (t : Tracks f at s)
   abbrev Skipped : Point
   Skipped = record { visible = at.visible; passed = later.passed }
 
-  given_longer : (h : ℕ) → WasGiven f at h → WasGiven f Skipped h
-  given_longer h (in_sight a) = in_sight a
-  given_longer h (as_a_tree p c a) = as_a_tree p c (more h a)
+  introduced_longer : (h : ℕ) → WasIntroduced f at h → WasIntroduced f Skipped h
+  introduced_longer h (in_sight a) = in_sight a
+  introduced_longer h (as_a_tree p c a) = as_a_tree p c (more h a)
 
   -- a constant tree that wasn't given before
-  tree_given : (h : ℕ) → s h ≡ Everywhere → ((is_new (now h) ≡ false) ↔ WasGiven f Skipped h)
-  tree_given h q = (λ i. onwards ((t1.given h).0 i), λ g. (t1.given h).1 (back g))
+  tree_introduced : (h : ℕ) → s h ≡ Everywhere →
+      ((is_new (now h) ≡ false) ↔ WasIntroduced f Skipped h)
+  tree_introduced h q = (λ i. onwards ((t1.introduced h).0 i), λ g. (t1.introduced h).1 (back g))
     where
-      onwards : WasGiven f later h → WasGiven f Skipped h
+      onwards : WasIntroduced f later h → WasIntroduced f Skipped h
       onwards (in_sight a) = as_a_tree (t.trees h q).0 (t.trees h q).1 (t1.passed h a)
       onwards (as_a_tree p c a) = as_a_tree p c a
 
-      back : WasGiven f Skipped h → WasGiven f later h
-      back (in_sight a) = absurd (not_everywhere (s h) ((t.given h).1 (in_sight a)) q)
+      back : WasIntroduced f Skipped h → WasIntroduced f later h
+      back (in_sight a) = absurd (not_everywhere (s h) ((t.introduced h).1 (in_sight a)) q)
       back (as_a_tree p c a) = as_a_tree p c a
 
   -- one that was, or what is no constant tree
   present_tree : (h : ℕ) → IsTrue (is_pure (expression_of f h)) → IsConstantTree f h → IsTrue (is_present (s h))
   present_tree h p c = sym (usable_pure f (expression_of f h) (s h) p) ∙ (t.used h).1 (constant_tree c)
 
-  abbrev GivenSkipped : ℕ → Standing → Type 0
-  GivenSkipped h st = (is_new st ≡ false) ↔ WasGiven f Skipped h
+  abbrev IntroducedSkipped : ℕ → Availability → Type 0
+  IntroducedSkipped h st = (is_new st ≡ false) ↔ WasIntroduced f Skipped h
 
-  other_given : (h : ℕ) → (IsTrue (is_present (s h)) → is_new (s h) ≡ false) → GivenSkipped h (s h)
-  other_given h old = (λ i. given_longer h ((t.given h).0 i), back)
+  other_introduced : (h : ℕ) → (IsTrue (is_present (s h)) → is_new (s h) ≡ false) →
+      IntroducedSkipped h (s h)
+  other_introduced h old = (λ i. introduced_longer h ((t.introduced h).0 i), back)
     where
-      back : WasGiven f Skipped h → is_new (s h) ≡ false
-      back (in_sight a) = (t.given h).1 (in_sight a)
+      back : WasIntroduced f Skipped h → is_new (s h) ≡ false
+      back (in_sight a) = (t.introduced h).1 (in_sight a)
       back (as_a_tree p c a) = old (present_tree h p c)
 
-  given_forgotten : (h : ℕ) (st : Standing) → s h ≡ st → GivenSkipped h (forgotten_one st (now h))
-  given_forgotten h Everywhere q =
-      let r = tree_given h q in
+  introduced_forgotten : (h : ℕ) (st : Availability) → s h ≡ st →
+      IntroducedSkipped h (forgotten_one st (now h))
+  introduced_forgotten h Everywhere q =
+      let r = tree_introduced h q in
       let same = new_forgotten (now h) in
       (λ i. r.0 (sym same ∙ i), λ g. same ∙ r.1 g)
-  given_forgotten h Absent q =
-      subst (GivenSkipped h) q (other_given h (λ p. absurd (true≢false (sym p ∙ ap is_present q))))
-  given_forgotten h Barred q = subst (GivenSkipped h) q (other_given h (λ p. ap is_new q))
-  given_forgotten h Inline q = subst (GivenSkipped h) q (other_given h (λ p. ap is_new q))
-  given_forgotten h (Named x) q = subst (GivenSkipped h) q (other_given h (λ p. ap is_new q))
+  introduced_forgotten h Absent q =
+      subst (IntroducedSkipped h) q
+      (other_introduced h (λ p. absurd (true≢false (sym p ∙ ap is_present q))))
+  introduced_forgotten h Barred q =
+      subst (IntroducedSkipped h) q (other_introduced h (λ p. ap is_new q))
+  introduced_forgotten h Inline q =
+      subst (IntroducedSkipped h) q (other_introduced h (λ p. ap is_new q))
+  introduced_forgotten h (Bound x) q =
+      subst (IntroducedSkipped h) q (other_introduced h (λ p. ap is_new q))
 
   used_forgotten : (h : ℕ) → (IsTrue (usable f (forgotten_handles s now) h) ↔ InScope f at.visible h)
   used_forgotten h =
@@ -535,7 +550,7 @@ module _ (f : Function) (at later : Point) (s now : Handles) (t : Tracks f at s)
   tracks_forgotten =
       record {
         used = used_forgotten;
-        given = λ h. given_forgotten h (s h) refl;
+        introduced = λ h. introduced_forgotten h (s h) refl;
         trees = λ h e. t.trees h (everywhere_forgotten (s h) (now h) e);
         passed = λ h a. more h (t.passed h a);
       }
@@ -561,7 +576,7 @@ tracks_turn : (f : Naming) (k : ℕ) (ss : Statements) (at : Point) (s : Handles
     IsTrue (fits_all f k ss s) → Tracks f.function (behind_turn f.function ss at) (after_all f k ss s)
 tracks_turn f k end at s t i = t
 tracks_turn f k (then st ss) at s t i =
-    let k1 = given_by f.function st k in
+    let k1 = named_by f.function st k in
     let s1 = after f k st s in
     let one = fits f k st s in
     let others = fits_all f k1 ss s1 in
@@ -578,14 +593,14 @@ mutual
       both (usable f.function s p) (usable f.function s v) (t.used p) (λ i. t.used v)
   statement_rule f k (Block b) at s t = statements_rule f k b at s t
   statement_rule f k (If c a b) at s t =
-      let k1 = given_by_all f.function a k in
+      let k1 = named_by_all f.function a k in
       three (usable f.function s c) (fits_all f k a s) (fits_all f k1 b s) (t.used c)
       (λ i. statements_rule f k a at s t) (λ i j. statements_rule f k1 b at s t)
   statement_rule f k (Switch h cases) at s t =
       both (usable f.function s h) (fits_cases f k cases s) (t.used h) (λ i. cases_rule f k cases at s t)
   statement_rule f k (Loop b d e) at s t =
       let s1 = after_all f k b s in
-      let k1 = given_by_all f.function b k in
+      let k1 = named_by_all f.function b k in
       let s2 = after_all f k1 d s1 in
       let continuing = behind_turn f.function b at in
       let break_if = behind_turn f.function d continuing in
@@ -603,7 +618,7 @@ mutual
       (IsTrue (fits_all f k ss s) ↔ StatementsHold f.function at ss)
   statements_rule f k end at s t = (λ i. tt, λ d. refl)
   statements_rule f k (then st ss) at s t =
-      let k1 = given_by f.function st k in
+      let k1 = named_by f.function st k in
       let s1 = after f k st s in
       both (fits f k st s) (fits_all f k1 ss s1) (statement_rule f k st at s t)
       (λ i. statements_rule f k1 ss (behind f.function st at) s1 (tracks_after f k st at s t i))
@@ -612,7 +627,7 @@ mutual
       (IsTrue (fits_cases f k cs s) ↔ CasesHold f.function at cs)
   cases_rule f k no_case at s t = (λ i. tt, λ d. refl)
   cases_rule f k (case l b falls cs) at s t =
-      let k1 = given_by_all f.function b k in
+      let k1 = named_by_all f.function b k in
       both (fits_all f k b s) (fits_cases f k1 cs s) (statements_rule f k b at s t)
       (λ i. cases_rule f k1 cs at s t)
 
@@ -628,18 +643,18 @@ module _ (f : Function) (ordered : (h : ℕ) → AllBelow h (operands_at f h)) w
       let c = is_constant_below f (length f.expressions) h in
       (and_left p c i, tree_tested f (length f.expressions) h (and_right p c i))
 
-  start_everywhere : (b : Bool) → start_standing b ≡ Everywhere → IsTrue b
+  start_everywhere : (b : Bool) → start_availability b ≡ Everywhere → IsTrue b
   start_everywhere true e = refl
   start_everywhere false e = absurd (absent e)
     where
       absent : Absent ≡ Everywhere → ⊥
       absent e = cc
 
-  start_present : (b : Bool) → IsTrue (is_present (start_standing b)) → IsTrue b
+  start_present : (b : Bool) → IsTrue (is_present (start_availability b)) → IsTrue b
   start_present true i = refl
   start_present false i = i
 
-  start_new : (b : Bool) → is_new (start_standing b) ≡ true
+  start_new : (b : Bool) → is_new (start_availability b) ≡ true
   start_new true = refl
   start_new false = refl
 
@@ -655,7 +670,7 @@ module _ (f : Function) (ordered : (h : ℕ) → AllBelow h (operands_at f h)) w
   used_at_start h (Some (Constant c)) q u = constant_tree (one_constant c q)
   used_at_start h (Some (Argument i)) q u = argument i q (ltb-true i (argument_count f) u)
   used_at_start h (Some (Local i)) q u = local i q (ltb-true i (local_count f) u)
-  used_at_start h (Some (Global i)) q u = global i q
+  used_at_start h (Some (Global held i)) q u = global held i q
   used_at_start h None q u = absurd (true≢false (sym u))
   used_at_start h (Some _) q u = constant_tree (tested_trees h (start_present (Tested h) u)).1
 
@@ -665,20 +680,20 @@ module _ (f : Function) (ordered : (h : ℕ) → AllBelow h (operands_at f h)) w
       let e = expression_of f h in
       let c = is_constant_below f (length f.expressions) h in
       let here = test_tree f ordered (length f.expressions) h (pure_within h p) (over_constants p ts) in
-      usable_pure f e (at_start f h) p ∙ ap (λ b. is_present (start_standing b)) (and_both (is_pure e) c p here)
+      usable_pure f e (at_start f h) p ∙ ap (λ b. is_present (start_availability b)) (and_both (is_pure e) c p here)
   in_scope_at_start h (argument i q l) = ap (λ e. usable_as f e (at_start f h)) q ∙ lt-ltb i (argument_count f) l
   in_scope_at_start h (local i q l) = ap (λ e. usable_as f e (at_start f h)) q ∙ lt-ltb i (local_count f) l
-  in_scope_at_start h (global i q) = ap (λ e. usable_as f e (at_start f h)) q
+  in_scope_at_start h (global held i q) = ap (λ e. usable_as f e (at_start f h)) q
 
-  nothing_given : (h : ℕ) → ¬ WasGiven f entry_point h
-  nothing_given h (in_sight a) = a
-  nothing_given h (as_a_tree p t a) = a
+  nothing_introduced : (h : ℕ) → ¬ WasIntroduced f entry_point h
+  nothing_introduced h (in_sight a) = a
+  nothing_introduced h (as_a_tree p t a) = a
 
   tracks_start : Tracks f entry_point (at_start f)
   tracks_start =
       record {
         used = λ h. (used_at_start h (expression_of f h) refl, in_scope_at_start h);
-        given = λ h. (λ i. absurd (true≢false (sym (start_new (Tested h)) ∙ i)), λ g. absurd (nothing_given h g));
+        introduced = λ h. (λ i. absurd (true≢false (sym (start_new (Tested h)) ∙ i)), λ g. absurd (nothing_introduced h g));
         trees = λ h e. tested_trees h (start_everywhere (Tested h) e);
         passed = λ h a. a;
       }

@@ -72,7 +72,10 @@ widen l (same h) = same (still_later l h)
 widen l (out_of_turns h) = out_of_turns (omega (arith, later_length l, h))
 
 -- what goes on from how a run ends
-onward : {X Y : Type 0} {m : Ends X} {l : Ends Y} {k : ℕ} {t : List Event} {q q' : X} (F F' : X → Y) → ((e : List Event) → F (m.out e) ≡ l.out e) → ((x : X) → Settles l k (m.events x) (F x) (F' x)) → Settles m k t q q' → Settles l k t (F q) (F' q')
+onward : {X Y : Type 0} {m : Ends X} {l : Ends Y} {k : ℕ} {t : List Event} {q q' : X} (F F' : X →
+    Y) → ((e : List Event) → F (m.out e) ≡ l.out e) →
+    ((x : X) → Settles l k (m.events x) (F x) (F' x)) → Settles m k t q q' →
+    Settles l k t (F q) (F' q')
 onward F F' o next (same {q = q} h) = widen h (next q)
 onward {l = l} {k = k} {t = t} F F' o next (out_of_turns {e = e} {q = q} h) =
     subst (λ y. Settles l k t y (F' q)) (sym (o e)) (out_of_turns h)
@@ -114,7 +117,10 @@ module _ (k : ℕ) where
       go (Stopped x e) = same here
 
   -- what changes an outcome and makes no event
-  changed_settles : {S : Type 0} {t : List Event} {o o' : Outcome S} (F : Outcome S → Outcome S) → ((e : List Event) → F (Stopped OutOfTurns e) ≡ Stopped OutOfTurns e) → ((o : Outcome S) → events_of (F o) ≡ events_of o) → SettlesOutcome t o o' → SettlesOutcome t (F o) (F o')
+  changed_settles : {S : Type 0} {t : List Event} {o o' : Outcome S} (F : Outcome S → Outcome S) →
+      ((e : List Event) → F (Stopped OutOfTurns e) ≡ Stopped OutOfTurns e) →
+      ((o : Outcome S) → events_of (F o) ≡ events_of o) → SettlesOutcome t o o' →
+      SettlesOutcome t (F o) (F o')
   changed_settles F stop keeps h =
       onward F F stop (λ o. same (subst (λ e. Later (events_of o) e) (sym (keeps o)) here)) h
 
@@ -172,20 +178,29 @@ module _ (k : ℕ) where
   putting_back turn s t = closed_outcome s (turn s t)
 
   -- where a turn makes no event, both loops are out of turns where they began
-  quiet : {S : Type 0} (once once' : Next S) (j n : ℕ) (s : S) (t e : List Event) → t ≡ e → once s t ≡ Done s e → once' s t ≡ Done s e → Settles outcome_ends (suc j) t (turns j once s e) (turns n once' s e)
+  quiet : {S : Type 0} (once once' : Next S) (j n : ℕ) (s : S) (t e : List Event) → t ≡ e →
+      once s t ≡ Done s e → once' s t ≡ Done s e →
+      Settles outcome_ends (suc j) t (turns j once s e) (turns n once' s e)
   quiet once once' j n s t e q p p' =
       let first : turns j once s e ≡ Stopped OutOfTurns e = silent j once s e (ap (once s) (sym q) ∙ p) in
       let second : turns n once' s e ≡ Stopped OutOfTurns e = silent n once' s e (ap (once' s) (sym q) ∙ p') in
       subst (λ o. Settles outcome_ends (suc j) t (turns j once s e) o) (first ∙ sym second) (same (subst (λ o. Later t (events_of o)) (sym first) (subst (λ e. Later t e) q here)))
 
   -- a loop whose turns put the state back
-  turns_settle : {S : Type 0} (turn turn' : Next S) → SettlesNext turn turn' → (j n : ℕ) → j ≤ n → j ≤ k → (s : S) (t : List Event) → Settles outcome_ends j t (turns j (putting_back turn) s t) (turns n (putting_back turn') s t)
+  turns_settle : {S : Type 0} (turn turn' : Next S) → SettlesNext turn turn' →
+      (j n : ℕ) → j ≤ n → j ≤ k → (s : S) (t : List Event) →
+      Settles outcome_ends j t (turns j (putting_back turn) s t) (turns n (putting_back turn') s t)
   turns_settle turn turn' each zero n le lk s t = out_of_turns (omega arith)
   turns_settle turn turn' each (suc j) zero le lk s t = absurd (omega (arith, le))
   turns_settle {S} turn turn' each (suc j) (suc n) le lk s t =
       go (turn s t) (turn' s t) refl refl (each s t) (turns_settle turn turn' each j n (omega (arith, le)) (omega (arith, lk)) s)
     where
-      settled : (o : Outcome S) → turn s t ≡ o → turn' s t ≡ o → Later t (events_of o) → ((e : List Event) → Settles outcome_ends j e (turns j (putting_back turn) s e) (turns n (putting_back turn') s e)) → Settles outcome_ends (suc j) t (and_again (closed_outcome s o) (turns j (putting_back turn))) (and_again (closed_outcome s o) (turns n (putting_back turn')))
+      settled : (o : Outcome S) → turn s t ≡ o → turn' s t ≡ o → Later t (events_of o) →
+          ((e : List Event) → Settles outcome_ends j e (turns j (putting_back turn) s e)
+          (turns n (putting_back turn') s e)) →
+          Settles outcome_ends (suc j) t
+          (and_again (closed_outcome s o) (turns j (putting_back turn)))
+          (and_again (closed_outcome s o) (turns n (putting_back turn')))
       settled (Done s1 e) p p' l rest = grown (eq-or-lt_of_le (later_length l))
         where
           grown : ((length t ≡ length e) ⊎ (length t < length e)) → Settles outcome_ends (suc j) t (turns j (putting_back turn) s e) (turns n (putting_back turn') s e)
@@ -197,7 +212,12 @@ module _ (k : ℕ) where
       settled (Returned v e) p p' l rest = same l
       settled (Stopped x e) p p' l rest = same l
 
-      go : (o o' : Outcome S) → turn s t ≡ o → turn' s t ≡ o' → SettlesOutcome t o o' → ((e : List Event) → Settles outcome_ends j e (turns j (putting_back turn) s e) (turns n (putting_back turn') s e)) → Settles outcome_ends (suc j) t (and_again (closed_outcome s o) (turns j (putting_back turn))) (and_again (closed_outcome s o') (turns n (putting_back turn')))
+      go : (o o' : Outcome S) → turn s t ≡ o → turn' s t ≡ o' → SettlesOutcome t o o' →
+          ((e : List Event) → Settles outcome_ends j e (turns j (putting_back turn) s e)
+          (turns n (putting_back turn') s e)) →
+          Settles outcome_ends (suc j) t
+          (and_again (closed_outcome s o) (turns j (putting_back turn)))
+          (and_again (closed_outcome s o') (turns n (putting_back turn')))
       go o o' p p' (same {q = q} l) rest = settled q p p' l rest
       go o o' p p' (out_of_turns h) rest = out_of_turns (omega (arith, h, lk))
 
@@ -209,7 +229,9 @@ module _ (k : ℕ) where
       go (Gives (IsPlace p) e) = same (later here)
       go (Halts x e) = same here
 
-  followed_settles : {t : List Event} {q q' : ReachedOrHalted Value} (rest rest' : List Event → ReachedOrHalted (List Value)) → ((e : List Event) → SettlesReached e (rest e) (rest' e)) → SettlesReached t q q' → SettlesReached t (followed_by q rest) (followed_by q' rest')
+  followed_settles : {t : List Event} {q q' : ReachedOrHalted Value} (rest rest' : List Event →
+      ReachedOrHalted (List Value)) → ((e : List Event) → SettlesReached e (rest e) (rest' e)) →
+      SettlesReached t q q' → SettlesReached t (followed_by q rest) (followed_by q' rest')
   followed_settles rest rest' next h = onward (λ q. followed_by q rest) (λ q. followed_by q rest') (λ e. refl) go h
     where
       put : (v : Value) (q : ReachedOrHalted (List Value)) → SettlesReached (reached_events q) (put_before v q) (put_before v q)
@@ -228,7 +250,10 @@ module _ (k : ℕ) where
   unless_settles None t h = h
   unless_settles (Some a) t h = same here
 
-  indexed_settles : {t : List Event} {q q' : ReachedOrHalted Denotation} (m : Meaning) (rest rest' : List Event → ReachedOrHalted Value) → ((e : List Event) → SettlesReached e (rest e) (rest' e)) → SettlesReached t q q' → SettlesReached t (index_into m q rest) (index_into m q' rest')
+  indexed_settles : {t : List Event} {q q' : ReachedOrHalted Denotation} (m : Meaning)
+      (rest rest' : List Event → ReachedOrHalted Value) →
+      ((e : List Event) → SettlesReached e (rest e) (rest' e)) → SettlesReached t q q' →
+      SettlesReached t (index_into m q rest) (index_into m q' rest')
   indexed_settles m rest rest' next h = onward (λ q. index_into m q rest) (λ q. index_into m q rest') (λ e. refl) go h
     where
       into_place : (p : Place) (q : ReachedOrHalted Value) → SettlesReached (reached_events q) (part_reached p q) (part_reached p q)
@@ -247,14 +272,20 @@ module _ (k : ℕ) where
       go (Gives (IsValue v) e) = unless_settles (place_in v) e (value_index v e)
       go (Halts x e) = same here
 
-  logical_settles : {t : List Event} {q q' : ReachedOrHalted Value} (m : Meaning) (j : ShortCircuit) (rest rest' : List Event → ReachedOrHalted Value) → ((e : List Event) → SettlesReached e (rest e) (rest' e)) → SettlesReached t q q' → SettlesReached t (logical_reached m j q rest) (logical_reached m j q' rest')
+  logical_settles : {t : List Event} {q q' : ReachedOrHalted Value} (m : Meaning) (j : ShortCircuit)
+      (rest rest' : List Event → ReachedOrHalted Value) →
+      ((e : List Event) → SettlesReached e (rest e) (rest' e)) → SettlesReached t q q' →
+      SettlesReached t (logical_reached m j q rest) (logical_reached m j q' rest')
   logical_settles m j rest rest' next h = onward (λ q. logical_reached m j q rest) (λ q. logical_reached m j q rest') (λ e. refl) go h
     where
       right : (v : Value) (q : ReachedOrHalted Value) → SettlesReached (reached_events q) (undecided_reached m j v q) (undecided_reached m j v q)
       right v (Gives u e) = same here
       right v (Halts x e) = same here
 
-      by : (b : Bool) (v : Value) (e : List Event) → SettlesReached e (elim b [ true ↦ Gives (IsValue v) e | false ↦ undecided_reached m j v (rest e) ]) (elim b [ true ↦ Gives (IsValue v) e | false ↦ undecided_reached m j v (rest' e) ])
+      by : (b : Bool) (v : Value) (e : List Event) →
+          SettlesReached e
+          (elim b [ true ↦ Gives (IsValue v) e | false ↦ undecided_reached m j v (rest e) ])
+          (elim b [ true ↦ Gives (IsValue v) e | false ↦ undecided_reached m j v (rest' e) ])
       by true v e = same here
       by false v e = onward (undecided_reached m j v) (undecided_reached m j v) (λ e. refl) (right v) (next e)
 
@@ -262,14 +293,19 @@ module _ (k : ℕ) where
       go (Gives v e) = by (decides j v) v e
       go (Halts x e) = same here
 
-  with_value_settles : {S : Type 0} {t : List Event} {q q' : ReachedOrHalted Value} (f f' : Value → List Event → Outcome S) → ((v : Value) (e : List Event) → SettlesOutcome e (f v e) (f' v e)) → SettlesReached t q q' → SettlesOutcome t (with_value q f) (with_value q' f')
+  with_value_settles : {S : Type 0} {t : List Event} {q q' : ReachedOrHalted Value} (f f' : Value →
+      List Event → Outcome S) → ((v : Value) (e : List Event) → SettlesOutcome e (f v e) (f' v e)) →
+      SettlesReached t q q' → SettlesOutcome t (with_value q f) (with_value q' f')
   with_value_settles f f' next h = onward (λ q. with_value q f) (λ q. with_value q f') (λ e. refl) go h
     where
       go : (q : ReachedOrHalted Value) → SettlesOutcome (reached_events q) (with_value q f) (with_value q f')
       go (Gives v e) = next v e
       go (Halts x e) = same here
 
-  with_place_settles : {S : Type 0} {t : List Event} {q q' : ReachedOrHalted Denotation} (f f' : Place → List Event → Outcome S) → ((p : Place) (e : List Event) → SettlesOutcome e (f p e) (f' p e)) → SettlesReached t q q' → SettlesOutcome t (with_place q f) (with_place q' f')
+  with_place_settles : {S : Type 0} {t : List Event} {q q' : ReachedOrHalted Denotation}
+      (f f' : Place → List Event → Outcome S) →
+      ((p : Place) (e : List Event) → SettlesOutcome e (f p e) (f' p e)) → SettlesReached t q q' →
+      SettlesOutcome t (with_place q f) (with_place q' f')
   with_place_settles f f' next h = onward (λ q. with_place q f) (λ q. with_place q f') (λ e. refl) go h
     where
       go : (q : ReachedOrHalted Denotation) → SettlesOutcome (reached_events q) (with_place q f) (with_place q f')
@@ -287,14 +323,19 @@ module _ (k : ℕ) where
       go (Returned v e) = same here
       go (Stopped x e) = same here
 
-  module _ (w : World) (m : Meaning) (r r' : Bytes → List Value → List Event → ReachedOrHalted (Option Value)) (responds : (word : Bytes) (vs : List Value) (t : List Event) → SettlesReached t (r word vs t) (r' word vs t)) where
+  module _ (w : World) (m : Meaning) (r r' : Bytes → List Value → List Event →
+      ReachedOrHalted (Option Value))
+      (responds : (word : Bytes) (vs : List Value) (t : List Event) →
+      SettlesReached t (r word vs t) (r' word vs t)) where
     abbrev l : Words
     l = record { world = w; meaning = m; respond = r }
 
     abbrev l' : Words
     l' = record { world = w; meaning = m; respond = r' }
 
-    word_settles : (word : Bytes) (names : Scope) {t : List Event} {q q' : ReachedOrHalted (List Value)} → SettlesReached t q q' → SettlesReached t (word_reached l word names t q) (word_reached l' word names t q')
+    word_settles : (word : Bytes) (names : Scope) {t : List Event}
+        {q q' : ReachedOrHalted (List Value)} → SettlesReached t q q' →
+        SettlesReached t (word_reached l word names t q) (word_reached l' word names t q')
     word_settles word names {t = t} h = unless_settles (names word) t (onward (word_answer l word) (word_answer l' word) (λ e. refl) go h)
       where
         go : (q : ReachedOrHalted (List Value)) → SettlesReached (reached_events q) (word_answer l word q) (word_answer l' word q)
@@ -334,7 +375,10 @@ module _ (k : ℕ) where
       tree_settles (PartOf x a) names t =
           onward (part_picked m x) (part_picked m x) (λ e. refl) (picked_next x) (tree_settles a names t)
       tree_settles (LogicalOf j a b) names t =
-          logical_settles m j (λ e. read_value w (evaluate l b names e)) (λ e. read_value w (evaluate l' b names e)) (λ e. valued_settles w (tree_settles b names e)) (valued_settles w (tree_settles a names t))
+          logical_settles m j (λ e. read_value w (evaluate l b names e))
+          (λ e. read_value w (evaluate l' b names e))
+          (λ e. valued_settles w (tree_settles b names e))
+          (valued_settles w (tree_settles a names t))
 
       trees_settle : (es : Trees) (names : Scope) (t : List Event) → SettlesReached t (evaluate_all l es names t) (evaluate_all l' es names t)
       trees_settle no_more names t = same here
@@ -351,7 +395,10 @@ module _ (k : ℕ) where
     break_settles : (o : Option Tree) → SettlesNext (break_line l o) (break_line l' o)
     break_settles None names t = same here
     break_settles (Some a) names t =
-        with_value_settles (λ v e. branch_by v e (Broke names e) (Done names e)) (λ v e. branch_by v e (Broke names e) (Done names e)) (λ v e. chosen_settles v e (Broke names e) (Done names e) (Broke names e) (Done names e) (same here) (same here)) (value_settles a names t)
+        with_value_settles (λ v e. branch_by v e (Broke names e) (Done names e))
+        (λ v e. branch_by v e (Broke names e) (Done names e))
+        (λ v e. chosen_settles v e (Broke names e) (Done names e) (Broke names e) (Done names e)
+        (same here) (same here)) (value_settles a names t)
 
     return_settles : (o : Option Tree) → SettlesNext (return_line l o) (return_line l' o)
     return_settles None names t = same here
@@ -364,14 +411,53 @@ module _ (k : ℕ) where
         line_settles (Let x a) names t =
             with_value_settles (λ v e. Done (bind names x (Some (IsValue v))) e) (λ v e. Done (bind names x (Some (IsValue v))) e) (λ v e. same here) (value_settles a names t)
         line_settles (Assign p a) names t =
-            with_place_settles (λ place t1. with_value (value_of l a names t1) (λ v t2. Done names (Write place v ∷ t2))) (λ place t1. with_value (value_of l' a names t1) (λ v t2. Done names (Write place v ∷ t2))) (λ place e. with_value_settles (λ v t2. Done names (Write place v ∷ t2)) (λ v t2. Done names (Write place v ∷ t2)) (λ v e. same (later here)) (value_settles a names e)) (tree_settles p names t)
+            with_place_settles
+            (λ place t1. with_value (value_of l a names t1)
+            (λ v t2. Done names (Write place v ∷ t2)))
+            (λ place t1. with_value (value_of l' a names t1)
+            (λ v t2. Done names (Write place v ∷ t2)))
+            (λ place e. with_value_settles (λ v t2. Done names (Write place v ∷ t2))
+            (λ v t2. Done names (Write place v ∷ t2)) (λ v e. same (later here))
+            (value_settles a names e)) (tree_settles p names t)
         line_settles (Braces b) names t = closed_settles names (lines_settle b names t)
         line_settles (IfElse a b c) names t =
-            with_value_settles (λ v e. closed_outcome names (branch_by v e (follow_all l k b names e) (follow_all l k c names e))) (λ v e. closed_outcome names (branch_by v e (follow_all l' n b names e) (follow_all l' n c names e))) (λ v e. closed_settles names (chosen_settles v e (follow_all l k b names e) (follow_all l k c names e) (follow_all l' n b names e) (follow_all l' n c names e) (lines_settle b names e) (lines_settle c names e))) (value_settles a names t)
+            with_value_settles
+            (λ v e. closed_outcome names
+            (branch_by v e (follow_all l k b names e) (follow_all l k c names e)))
+            (λ v e. closed_outcome names
+            (branch_by v e (follow_all l' n b names e) (follow_all l' n c names e)))
+            (λ v e. closed_settles names
+            (chosen_settles v e (follow_all l k b names e) (follow_all l k c names e)
+            (follow_all l' n b names e) (follow_all l' n c names e) (lines_settle b names e)
+            (lines_settle c names e))) (value_settles a names t)
         line_settles (SwitchOn a groups) names t =
-            with_value_settles (λ v e. closed_outcome names (with_integer v e (λ z. after_switch (follow_groups l k groups (label_if (group_has (Numbered z) groups) z) names e)))) (λ v e. closed_outcome names (with_integer v e (λ z. after_switch (follow_groups l' n groups (label_if (group_has (Numbered z) groups) z) names e)))) (λ v e. closed_settles names (there_settles (integer_in v) e (λ z. after_switch (follow_groups l k groups (label_if (group_has (Numbered z) groups) z) names e)) (λ z. after_switch (follow_groups l' n groups (label_if (group_has (Numbered z) groups) z) names e)) (λ z. switch_settles (groups_settle groups (label_if (group_has (Numbered z) groups) z) names e)))) (value_settles a names t)
+            with_value_settles
+            (λ v e. closed_outcome names
+            (with_integer v e
+            (λ z. after_switch
+            (follow_groups l k groups (label_if (group_has (Numbered z) groups) z) names e))))
+            (λ v e. closed_outcome names
+            (with_integer v e
+            (λ z. after_switch
+            (follow_groups l' n groups (label_if (group_has (Numbered z) groups) z) names e))))
+            (λ v e. closed_settles names
+            (there_settles (integer_in v) e
+            (λ z. after_switch
+            (follow_groups l k groups (label_if (group_has (Numbered z) groups) z) names e))
+            (λ z. after_switch
+            (follow_groups l' n groups (label_if (group_has (Numbered z) groups) z) names e))
+            (λ z. switch_settles
+            (groups_settle groups (label_if (group_has (Numbered z) groups) z) names e))))
+            (value_settles a names t)
         line_settles (LoopOf b d o) names t =
-            turns_settle (turn (follow_all l k b) (follow_all l k d) (break_line l o)) (turn (follow_all l' n b) (follow_all l' n d) (break_line l' o)) (λ names e. and_continue_settles (λ s1 t1. and_then (within (follow_all l k d s1 t1)) (break_line l o)) (λ s1 t1. and_then (within (follow_all l' n d s1 t1)) (break_line l' o)) (λ s1 t1. and_then_settles (break_line l o) (break_line l' o) (break_settles o) (within_settles (lines_settle d s1 t1))) (lines_settle b names e)) k n less (omega arith) names t
+            turns_settle (turn (follow_all l k b) (follow_all l k d) (break_line l o))
+            (turn (follow_all l' n b) (follow_all l' n d) (break_line l' o))
+            (λ names e. and_continue_settles
+            (λ s1 t1. and_then (within (follow_all l k d s1 t1)) (break_line l o))
+            (λ s1 t1. and_then (within (follow_all l' n d s1 t1)) (break_line l' o))
+            (λ s1 t1. and_then_settles (break_line l o) (break_line l' o) (break_settles o)
+            (within_settles (lines_settle d s1 t1))) (lines_settle b names e)) k n less
+            (omega arith) names t
         line_settles BreakLine names t = same here
         line_settles ContinueLine names t = same here
         line_settles (ReturnLine o) names t = return_settles o names t
@@ -387,7 +473,10 @@ module _ (k : ℕ) where
         groups_settle : (gs : Groups) (x : Label) → SettlesNext (follow_groups l k gs x) (follow_groups l' n gs x)
         groups_settle no_group x names t = same here
         groups_settle (group labels b gs) x names t =
-            cond_settles (among x labels) (follow_all l k b names t) (follow_groups l k gs x names t) (follow_all l' n b names t) (follow_groups l' n gs x names t) (lines_settle b names t) (groups_settle gs x names t)
+            cond_settles (among x labels) (follow_all l k b names t)
+            (follow_groups l k gs x names t) (follow_all l' n b names t)
+            (follow_groups l' n gs x names t) (lines_settle b names t)
+            (groups_settle gs x names t)
 
     put_settles : {t : List Event} {q q' : ReachedOrHalted (List (Option Value))} (o : Option Value) → SettlesReached t q q' → SettlesReached t (put_first o q) (put_first o q')
     put_settles o h = onward (put_first o) (put_first o) (λ e. refl) go h
@@ -396,30 +485,44 @@ module _ (k : ℕ) where
         go (Gives vs e) = same here
         go (Halts x e) = same here
 
-    first_settles : {t : List Event} {q q' : ReachedOrHalted Value} (rest rest' : List Event → ReachedOrHalted (List (Option Value))) → ((e : List Event) → SettlesReached e (rest e) (rest' e)) → SettlesReached t q q' → SettlesReached t (first_followed q rest) (first_followed q' rest')
+    first_settles : {t : List Event} {q q' : ReachedOrHalted Value} (rest rest' : List Event →
+        ReachedOrHalted (List (Option Value))) →
+        ((e : List Event) → SettlesReached e (rest e) (rest' e)) → SettlesReached t q q' →
+        SettlesReached t (first_followed q rest) (first_followed q' rest')
     first_settles rest rest' next h = onward (λ q. first_followed q rest) (λ q. first_followed q rest') (λ e. refl) go h
       where
         go : (q : ReachedOrHalted Value) → SettlesReached (reached_events q) (first_followed q rest) (first_followed q rest')
         go (Gives v e) = put_settles (Some v) (next e)
         go (Halts x e) = same here
 
-    first_then_settles : (o : Option Tree) (names : Scope) (t : List Event) (rest rest' : List Event → ReachedOrHalted (List (Option Value))) → ((e : List Event) → SettlesReached e (rest e) (rest' e)) → SettlesReached t (first_then l o names t rest) (first_then l' o names t rest')
+    first_then_settles : (o : Option Tree) (names : Scope) (t : List Event)
+        (rest rest' : List Event → ReachedOrHalted (List (Option Value))) →
+        ((e : List Event) → SettlesReached e (rest e) (rest' e)) →
+        SettlesReached t (first_then l o names t rest) (first_then l' o names t rest')
     first_then_settles None names t rest rest' next = put_settles None (next t)
     first_then_settles (Some a) names t rest rest' next = first_settles rest rest' next (value_settles a names t)
 
     firsts_settle : (xs : List Variable) (frame i : ℕ) (names : Scope) (t : List Event) → SettlesReached t (first_of_each l xs frame i names t) (first_of_each l' xs frame i names t)
     firsts_settle [] frame i names t = same here
     firsts_settle (x ∷ xs) frame i names t =
-        first_then_settles x.first_value names t (first_of_each l xs frame (suc i) (with_variable x frame i names)) (first_of_each l' xs frame (suc i) (with_variable x frame i names)) (firsts_settle xs frame (suc i) (with_variable x frame i names))
+        first_then_settles x.first_value names t
+        (first_of_each l xs frame (suc i) (with_variable x frame i names))
+        (first_of_each l' xs frame (suc i) (with_variable x frame i names))
+        (firsts_settle xs frame (suc i) (with_variable x frame i names))
 
     body_settles : (n : ℕ) → k ≤ n → (g : ℕ) (f : TextFunction) (vs : List Value) (names : Scope) (t : List Event) → SettlesReached t (follow_body l k g f vs names t) (follow_body l' n g f vs names t)
     body_settles n less g f vs names t =
-        onward (λ q. entered_by g vs q (λ t1. answer (follow_all l k f.lines inner t1))) (λ q. entered_by g vs q (λ t1. answer (follow_all l' n f.lines inner t1))) (λ e. refl) go (firsts_settle f.variables (entries t) 0 names t)
+        onward (λ q. entered_by g vs q (λ t1. answer (follow_all l k f.lines inner t1)))
+        (λ q. entered_by g vs q (λ t1. answer (follow_all l' n f.lines inner t1)))
+        (λ e. refl) go (firsts_settle f.variables (entries t) 0 names t)
       where
         inner : Scope
         inner = with_variables f.variables (entries t) 0 names
 
-        go : (q : ReachedOrHalted (List (Option Value))) → SettlesReached (reached_events q) (entered_by g vs q (λ t1. answer (follow_all l k f.lines inner t1))) (entered_by g vs q (λ t1. answer (follow_all l' n f.lines inner t1)))
+        go : (q : ReachedOrHalted (List (Option Value))) →
+            SettlesReached (reached_events q)
+            (entered_by g vs q (λ t1. answer (follow_all l k f.lines inner t1)))
+            (entered_by g vs q (λ t1. answer (follow_all l' n f.lines inner t1)))
         go (Gives firsts e) = widen (later here) (answer_settles (lines_settle n less f.lines inner (Entry g vs firsts ∷ e)))
         go (Halts x e) = same here
 
@@ -428,7 +531,10 @@ module _ (k : ℕ) where
   called_settles false t q q' h = same here
 
   -- a call by the text
-  pub call_settles : (outer : Scope) (w : World) (m : Meaning) (uses : Bytes → WordUse) (n : ℕ) → k ≤ n → (fs : List TextFunction) (word : Bytes) (vs : List Value) (t : List Event) → SettlesReached t (follow_call outer w m uses k fs word vs t) (follow_call outer w m uses n fs word vs t)
+  pub call_settles : (outer : Scope) (w : World) (m : Meaning) (uses : Bytes → WordUse) (n : ℕ) →
+      k ≤ n → (fs : List TextFunction) (word : Bytes) (vs : List Value) (t : List Event) →
+      SettlesReached t (follow_call outer w m uses k fs word vs t)
+      (follow_call outer w m uses n fs word vs t)
   call_settles outer w m uses n less [] word vs t = go (uses word)
     where
       go : (u : WordUse) → SettlesReached t (respond_by_use u w m word vs t) (respond_by_use u w m word vs t)
@@ -437,9 +543,15 @@ module _ (k : ℕ) where
       go Operates = same here
   call_settles outer w m uses n less (f ∷ fs) word vs t =
       let callee = call_settles outer w m uses n less fs in
-      cond_settles (same_bytes word f.name) _ _ _ _ (called_settles (nat_eq (length vs) (length f.parameters)) t _ _ (body_settles w m (follow_call outer w m uses k fs) (follow_call outer w m uses n fs) callee n less (length fs) f vs (with_parameters f.parameters vs outer) t)) (callee word vs t)
+      cond_settles (same_bytes word f.name)
+      _ _ _ _ (called_settles (nat_eq (length vs) (length f.parameters)) t
+      _ _ (body_settles w m (follow_call outer w m uses k fs) (follow_call outer w m uses n fs)
+      callee n less (length fs) f vs (with_parameters f.parameters vs outer) t))
+      (callee word vs t)
 
   -- as many events with more turns, or k events
-  pub settled_events : {t : List Event} {q q' : ReachedOrHalted (Option Value)} → SettlesReached t q q' → (length (reached_events q) ≡ length (reached_events q')) ⊎ (k + length t ≤ length (reached_events q))
+  pub settled_events : {t : List Event} {q q' : ReachedOrHalted (Option Value)} →
+      SettlesReached t q q' → (length (reached_events q) ≡ length (reached_events q')) ⊎
+      (k + length t ≤ length (reached_events q))
   settled_events (same l) = inl refl
   settled_events (out_of_turns h) = inr h

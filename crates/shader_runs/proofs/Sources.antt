@@ -6,36 +6,38 @@ use Rattle.shader_runs.specs.Value.{Bytes}
 use Rattle.shader_runs.specs.World.{update}
 use Rattle.shader_runs.specs.Program.{Statement, Emit, Block, If, Switch, Loop, Act, Statements}
 use Rattle.shader_runs.specs.Program.{end, then, Cases, no_case, case, expression_of, operands_of}
-use Rattle.shader_runs.specs.Program.{is_given, binds, from, holds_continue}
-use Rattle.shader_runs.specs.Scope.{Standing, Absent, Everywhere, Inline, Named, Handles, Naming}
-use Rattle.shader_runs.specs.Scope.{bound_name, usable_all, is_new, is_pure, standing_without_name}
+use Rattle.shader_runs.specs.Program.{is_named, binds, from, holds_continue}
+use Rattle.shader_runs.specs.Scope.{Availability, Absent, Everywhere, Inline, Bound, Handles}
+use Rattle.shader_runs.specs.Scope.{Naming}
+use Rattle.shader_runs.specs.Scope.{bound_name, usable_all, is_new, is_pure}
+use Rattle.shader_runs.specs.Scope.{availability_without_name}
 use Rattle.shader_runs.specs.Scope.{with_emitted_handle}
-use Rattle.shader_runs.specs.Scope.{after_one, given_after, given_after_all, after_emit, given_by}
-use Rattle.shader_runs.specs.Scope.{given_by_all, given_by_cases, after_result, after, after_all}
-use Rattle.shader_runs.specs.Scope.{forgotten_one, forgotten_if, start_standing, at_start}
-use Rattle.shader_runs.specs.Premises.{FixedName, FixedKey, NumberedKey, GivenKey}
+use Rattle.shader_runs.specs.Scope.{after_one, named_after, named_after_all, after_emit, named_by}
+use Rattle.shader_runs.specs.Scope.{named_by_all, named_by_cases, after_result, after, after_all}
+use Rattle.shader_runs.specs.Scope.{forgotten_one, forgotten_if, start_availability, at_start}
+use Rattle.shader_runs.specs.Premises.{FixedName, FixedKey, NumberedKey, NamedKey}
 use Rattle.shader_runs.proofs.Update.{update_cases}
 
-pub same_name : (x y : Bytes) → Named x ≡ Named y → x ≡ y
+pub same_name : (x y : Bytes) → Bound x ≡ Bound y → x ≡ y
 same_name x y e = cc
 
 -- a standing behind a `continue` has no other name than before
-pub forgotten_named : (st now : Standing) (x : Bytes) → forgotten_one st now ≡ Named x → st ≡ Named x
-forgotten_named Everywhere now x e = by (is_new now) e
+pub forgotten_bound : (st now : Availability) (x : Bytes) → forgotten_one st now ≡ Bound x → st ≡ Bound x
+forgotten_bound Everywhere now x e = by (is_new now) e
   where
-    by : (b : Bool) → cond b Everywhere Inline ≡ Named x → Everywhere ≡ Named x
+    by : (b : Bool) → cond b Everywhere Inline ≡ Bound x → Everywhere ≡ Bound x
     by true e = e
     by false e = absurd (cc)
-forgotten_named _ now x e = e
+forgotten_bound _ now x e = e
 
 -- nor has one of a handle that is emitted and not bound
-pub unbound_named : (u : Bool) (st : Standing) (x : Bytes) → standing_without_name u st ≡ Named x → st ≡ Named x
-unbound_named true st x e = absurd (cc)
-unbound_named false Absent x e = absurd (cc)
-unbound_named false _ x e = e
+pub nameless_bound : (u : Bool) (st : Availability) (x : Bytes) → availability_without_name u st ≡ Bound x → st ≡ Bound x
+nameless_bound true st x e = absurd (cc)
+nameless_bound false Absent x e = absurd (cc)
+nameless_bound false _ x e = e
 
 -- no handle has a name at the start
-pub start_unnamed : (b : Bool) (x : Bytes) → start_standing b ≡ Named x → ⊥
+pub start_unnamed : (b : Bool) (x : Bytes) → start_availability b ≡ Bound x → ⊥
 start_unnamed true x e = cc
 start_unnamed false x e = cc
 
@@ -43,26 +45,26 @@ start_unnamed false x e = cc
 pub fixed_numbered : (y : FixedName) (h : ℕ) → FixedKey y ≡ NumberedKey h → ⊥
 fixed_numbered y h e = cc
 
-pub fixed_given : (y : FixedName) (k : ℕ) → FixedKey y ≡ GivenKey k → ⊥
-fixed_given y k e = cc
+pub fixed_named : (y : FixedName) (k : ℕ) → FixedKey y ≡ NamedKey k → ⊥
+fixed_named y k e = cc
 
-pub numbered_given : (h k : ℕ) → NumberedKey h ≡ GivenKey k → ⊥
-numbered_given h k e = cc
+pub numbered_named : (h k : ℕ) → NumberedKey h ≡ NamedKey k → ⊥
+numbered_named h k e = cc
 
 pub numbered_same : (h k : ℕ) → NumberedKey h ≡ NumberedKey k → h ≡ k
 numbered_same h k e = cc
 
-pub given_same : (j k : ℕ) → GivenKey j ≡ GivenKey k → j ≡ k
-given_same j k e = cc
+pub named_same : (j k : ℕ) → NamedKey j ≡ NamedKey k → j ≡ k
+named_same j k e = cc
 
 module _ (f : Naming) where
   -- the name of a handle where k names were given
   abbrev pub Source : ℕ → ℕ → Bytes → Type 0
-  Source k h x = (x ≡ f.names.numbered h) ⊎ ((j : ℕ) × (j < k) × (x ≡ f.names.given j))
+  Source k h x = (x ≡ f.names.numbered h) ⊎ ((j : ℕ) × (j < k) × (x ≡ f.names.named j))
 
   -- those of all handles in scope
   abbrev pub Sources : ℕ → Handles → Type 0
-  Sources k s = (h : ℕ) (x : Bytes) → s h ≡ Named x → Source k h x
+  Sources k s = (h : ℕ) (x : Bytes) → s h ≡ Bound x → Source k h x
 
   source_more : (k k1 h : ℕ) (x : Bytes) → k ≤ k1 → Source k h x → Source k1 h x
   source_more k k1 h x le d = ⊎_elim (λ e. inl e) (λ g. inr (g.0, omega (arith, g.1), g.2)) d
@@ -70,85 +72,87 @@ module _ (f : Naming) where
   pub sources_more : (k k1 : ℕ) (s : Handles) → k ≤ k1 → Sources k s → Sources k1 s
   sources_more k k1 s le d h x e = source_more k k1 h x le (d h x e)
 
-  sources_update : (k : ℕ) (s : Handles) (h : ℕ) (st : Standing) → ((x : Bytes) → st ≡ Named x → Source k h x) → Sources k s → Sources k (update s h st)
+  sources_update : (k : ℕ) (s : Handles) (h : ℕ) (st : Availability) → ((x : Bytes) → st ≡ Bound x → Source k h x) → Sources k s → Sources k (update s h st)
   sources_update k s h st new d h1 x =
-      update_cases (λ z. z ≡ Named x → Source k h1 x) s h st h1 (λ e z. subst (λ h. Source k h x) (sym e) (new x z)) (λ e z. d h1 x z)
+      update_cases (λ z. z ≡ Bound x → Source k h1 x) s h st h1 (λ e z. subst (λ h. Source k h x) (sym e) (new x z)) (λ e z. d h1 x z)
 
-  source_bound : (k h : ℕ) → Source (given_after f.function h k) h (bound_name f k h)
-  source_bound k h = by (is_given f.function h)
+  source_bound : (k h : ℕ) → Source (named_after f.function h k) h (bound_name f k h)
+  source_bound k h = by (is_named f.function h)
     where
-      by : (b : Bool) → Source (cond b (suc k) k) h (cond b (f.names.given k) (f.names.numbered h))
+      by : (b : Bool) → Source (cond b (suc k) k) h (cond b (f.names.named k) (f.names.numbered h))
       by true = inr (k, omega arith, refl)
       by false = inl refl
 
   -- ---- names are given one behind another
-  pub given_after_more : (h k : ℕ) → k ≤ given_after f.function h k
-  given_after_more h k = by (is_given f.function h)
+  pub named_after_more : (h k : ℕ) → k ≤ named_after f.function h k
+  named_after_more h k = by (is_named f.function h)
     where
       by : (b : Bool) → k ≤ cond b (suc k) k
       by true = omega arith
       by false = omega arith
 
-  pub given_all_more : (hs : List ℕ) (k : ℕ) → k ≤ given_after_all f.function hs k
-  given_all_more [] k = omega arith
-  given_all_more (h ∷ hs) k = omega (arith, given_after_more h k, given_all_more hs (given_after f.function h k))
+  pub named_all_more : (hs : List ℕ) (k : ℕ) → k ≤ named_after_all f.function hs k
+  named_all_more [] k = omega arith
+  named_all_more (h ∷ hs) k = omega (arith, named_after_more h k, named_all_more hs (named_after f.function h k))
 
   mutual
-    pub given_by_more : (st : Statement) (k : ℕ) → k ≤ given_by f.function st k
-    given_by_more (Emit first count) k = given_all_more (from first count) k
-    given_by_more (Block b) k = list_more b k
-    given_by_more (If c a b) k = omega (arith, list_more a k, list_more b (given_by_all f.function a k))
-    given_by_more (Switch h cs) k = cases_more cs k
-    given_by_more (Loop b d e) k = omega (arith, list_more b k, list_more d (given_by_all f.function b k))
-    given_by_more _ k = omega arith
+    pub named_by_more : (st : Statement) (k : ℕ) → k ≤ named_by f.function st k
+    named_by_more (Emit first count) k = named_all_more (from first count) k
+    named_by_more (Block b) k = list_more b k
+    named_by_more (If c a b) k = omega (arith, list_more a k, list_more b (named_by_all f.function a k))
+    named_by_more (Switch h cs) k = cases_more cs k
+    named_by_more (Loop b d e) k = omega (arith, list_more b k, list_more d (named_by_all f.function b k))
+    named_by_more _ k = omega arith
 
-    pub list_more : (ss : Statements) (k : ℕ) → k ≤ given_by_all f.function ss k
+    pub list_more : (ss : Statements) (k : ℕ) → k ≤ named_by_all f.function ss k
     list_more end k = omega arith
-    list_more (then st ss) k = omega (arith, given_by_more st k, list_more ss (given_by f.function st k))
+    list_more (then st ss) k = omega (arith, named_by_more st k, list_more ss (named_by f.function st k))
 
-    pub cases_more : (cs : Cases) (k : ℕ) → k ≤ given_by_cases f.function cs k
+    pub cases_more : (cs : Cases) (k : ℕ) → k ≤ named_by_cases f.function cs k
     cases_more no_case k = omega arith
-    cases_more (case l b falls cs) k = omega (arith, list_more b k, cases_more cs (given_by_all f.function b k))
+    cases_more (case l b falls cs) k = omega (arith, list_more b k, cases_more cs (named_by_all f.function b k))
 
   -- ---- one step further
-  pub sources_one : (k h : ℕ) (s : Handles) → Sources k s → Sources (given_after f.function h k) (after_one f k h s)
+  pub sources_one : (k h : ℕ) (s : Handles) → Sources k s → Sources (named_after f.function h k) (after_one f k h s)
   sources_one k h s d =
       by (binds f.function h) (is_pure (expression_of f.function h)) (usable_all f.function s (operands_of (expression_of f.function h)))
     where
-      more : Sources (given_after f.function h k) s
-      more = sources_more k (given_after f.function h k) s (given_after_more h k) d
+      more : Sources (named_after f.function h k) s
+      more = sources_more k (named_after f.function h k) s (named_after_more h k) d
 
-      by : (b o u : Bool) → Sources (given_after f.function h k) (with_emitted_handle b o u (bound_name f k h) s h)
-      by true o u = sources_update (given_after f.function h k) s h (Named (bound_name f k h)) (λ x e. subst (λ x. Source (given_after f.function h k) h x) (same_name (bound_name f k h) x e) (source_bound k h)) more
-      by false true u = sources_update (given_after f.function h k) s h (standing_without_name u (s h)) (λ x e. more h x (unbound_named u (s h) x e)) more
+      by : (b o u : Bool) → Sources (named_after f.function h k) (with_emitted_handle b o u (bound_name f k h) s h)
+      by true o u = sources_update (named_after f.function h k) s h (Bound (bound_name f k h))
+          (λ x e. subst (λ x. Source (named_after f.function h k) h x)
+          (same_name (bound_name f k h) x e) (source_bound k h)) more
+      by false true u = sources_update (named_after f.function h k) s h (availability_without_name u (s h)) (λ x e. more h x (nameless_bound u (s h) x e)) more
       by false false u = more
 
-  pub sources_emit : (k : ℕ) (hs : List ℕ) (s : Handles) → Sources k s → Sources (given_after_all f.function hs k) (after_emit f k hs s)
+  pub sources_emit : (k : ℕ) (hs : List ℕ) (s : Handles) → Sources k s → Sources (named_after_all f.function hs k) (after_emit f k hs s)
   sources_emit k [] s d = d
-  sources_emit k (h ∷ hs) s d = sources_emit (given_after f.function h k) hs (after_one f k h s) (sources_one k h s d)
+  sources_emit k (h ∷ hs) s d = sources_emit (named_after f.function h k) hs (after_one f k h s) (sources_one k h s d)
 
   sources_result : (k : ℕ) (r : Option ℕ) (s : Handles) → Sources k s → Sources k (after_result f.names r s)
   sources_result k None s d = d
   sources_result k (Some h) s d =
-      sources_update k s h (Named (f.names.numbered h)) (λ x e. inl (sym (same_name (f.names.numbered h) x e))) d
+      sources_update k s h (Bound (f.names.numbered h)) (λ x e. inl (sym (same_name (f.names.numbered h) x e))) d
 
-  pub sources_after : (k : ℕ) (st : Statement) (s : Handles) → Sources k s → Sources (given_by f.function st k) (after f k st s)
+  pub sources_after : (k : ℕ) (st : Statement) (s : Handles) → Sources k s → Sources (named_by f.function st k) (after f k st s)
   sources_after k (Emit first count) s d = sources_emit k (from first count) s d
   sources_after k (Act a xs r) s d = sources_result k r s d
-  sources_after k (Block b) s d = sources_more k _ s (given_by_more (Block b) k) d
-  sources_after k (If c a b) s d = sources_more k _ s (given_by_more (If c a b) k) d
-  sources_after k (Switch h cs) s d = sources_more k _ s (given_by_more (Switch h cs) k) d
-  sources_after k (Loop b a e) s d = sources_more k _ s (given_by_more (Loop b a e) k) d
+  sources_after k (Block b) s d = sources_more k _ s (named_by_more (Block b) k) d
+  sources_after k (If c a b) s d = sources_more k _ s (named_by_more (If c a b) k) d
+  sources_after k (Switch h cs) s d = sources_more k _ s (named_by_more (Switch h cs) k) d
+  sources_after k (Loop b a e) s d = sources_more k _ s (named_by_more (Loop b a e) k) d
   sources_after k _ s d = d
 
   pub start_sources : Sources 0 (at_start f.function)
   start_sources h x e = absurd (start_unnamed _ x e)
 
   sources_if : (b : Bool) (k k1 : ℕ) (s s1 : Handles) → k ≤ k1 → Sources k s → Sources k1 s1 → Sources k1 (forgotten_if b s s1)
-  sources_if true k k1 s s1 le d d1 = λ h x e. source_more k k1 h x le (d h x (forgotten_named (s h) (s1 h) x e))
+  sources_if true k k1 s s1 le d d1 = λ h x e. source_more k k1 h x le (d h x (forgotten_bound (s h) (s1 h) x e))
   sources_if false k k1 s s1 le d d1 = d1
 
-  pub sources_all : (k : ℕ) (ss : Statements) (s : Handles) → Sources k s → Sources (given_by_all f.function ss k) (after_all f k ss s)
+  pub sources_all : (k : ℕ) (ss : Statements) (s : Handles) → Sources k s → Sources (named_by_all f.function ss k) (after_all f k ss s)
   sources_all k end s d = d
   sources_all k (then st ss) s d =
-      sources_if (holds_continue st) k _ s _ (list_more (then st ss) k) d (sources_all (given_by f.function st k) ss (after f k st s) (sources_after k st s d))
+      sources_if (holds_continue st) k _ s _ (list_more (then st ss) k) d (sources_all (named_by f.function st k) ss (after f k st s) (sources_after k st s d))

@@ -14,7 +14,8 @@ use Rattle.shader_runs.specs.ProgramRun.{gathered_value, all_of, or_constant, co
 use Rattle.shader_runs.specs.ProgramRun.{constant_below, constants_kept}
 use Rattle.shader_runs.specs.TextRun.{Scope}
 use Rattle.shader_runs.specs.Scope.{is_pure, all_constant, is_constant_leaf, constant_test}
-use Rattle.shader_runs.specs.Scope.{is_constant_below, start_standing, at_start, is_present, usable}
+use Rattle.shader_runs.specs.Scope.{is_constant_below, start_availability, at_start, is_present}
+use Rattle.shader_runs.specs.Scope.{usable}
 use Rattle.shader_runs.specs.Scope.{usable_as, usable_all}
 use Rattle.shader_runs.specs.Premises.{AllBelow, LeafFits, LeafTyped, handle_types, IsTypedIn}
 use Rattle.shader_runs.specs.Premises.{EnvironmentFits}
@@ -22,7 +23,10 @@ use Rattle.shader_runs.proofs.Update.{and_left, and_right, and_both}
 use Rattle.shader_runs.proofs.Relation.{TypedValue, Stands}
 use Rattle.shader_runs.proofs.Form.{constant_typed}
 
-leaf_value : (p : Module) (env : Environment) → EnvironmentFits p env → (m : Meaning) (f : Function) (k : ValueType) (e : Option Expression) (o : Option Value) → LeafFits p f k e → LeafTyped env.parts p m e → IsTrue (is_constant_leaf e) → TypedValue env.parts k (or_constant env m e o)
+leaf_value : (p : Module) (env : Environment) → EnvironmentFits p env →
+    (m : Meaning) (f : Function) (k : ValueType) (e : Option Expression) (o : Option Value) →
+    LeafFits p f k e → LeafTyped env.parts p m e → IsTrue (is_constant_leaf e) →
+    TypedValue env.parts k (or_constant env m e o)
 leaf_value p env fits m f k (Some (Constant e)) o l t i =
     let v = constant_typed p env fits m e l.0 t in
     (v.0, v.1, ap (λ k. has_type env.parts k v.0) l.1 ∙ v.2)
@@ -39,8 +43,14 @@ pub or_cases : {A : Type 0} (a b : Bool) → IsTrue (a || b) → (IsTrue a → A
 or_cases true b h f g = f refl
 or_cases false b h f g = g h
 
-module _ (p : Module) (env : Environment) (fits : EnvironmentFits p env) (f : Function) (m : Meaning) (below : (h : ℕ) → AllBelow h (operands_of (expression_of f h))) (leaves : (h : ℕ) → LeafFits p f (handle_type f h) (expression_of f h)) (typed : IsTypedIn env.parts p m f) where
-  typed_list : (value : ℕ → Option Value) (test : ℕ → Bool) (h : ℕ) → ((x : ℕ) → x < h → IsTrue (test x) → TypedValue env.parts (handle_type f x) (value x)) → (xs : List ℕ) → AllBelow h xs → IsTrue (all_constant test xs) → (vs : List Value) × (all_of value xs ≡ Some vs) × IsTrue (has_types env.parts (handle_types f xs) vs)
+module _ (p : Module) (env : Environment) (fits : EnvironmentFits p env) (f : Function)
+    (m : Meaning) (below : (h : ℕ) → AllBelow h (operands_of (expression_of f h)))
+    (leaves : (h : ℕ) → LeafFits p f (handle_type f h) (expression_of f h))
+    (typed : IsTypedIn env.parts p m f) where
+  typed_list : (value : ℕ → Option Value) (test : ℕ → Bool) (h : ℕ) →
+      ((x : ℕ) → x < h → IsTrue (test x) → TypedValue env.parts (handle_type f x) (value x)) →
+      (xs : List ℕ) → AllBelow h xs → IsTrue (all_constant test xs) → (vs : List Value) ×
+      (all_of value xs ≡ Some vs) × IsTrue (has_types env.parts (handle_types f xs) vs)
   typed_list value test h each [] b t = ([], refl, refl)
   typed_list value test h each (x ∷ xs) b t =
       let v = each x b.0 (and_left (test x) (all_constant test xs) t) in
@@ -53,7 +63,18 @@ module _ (p : Module) (env : Environment) (fits : EnvironmentFits p env) (f : Fu
       let e = expression_of f h in
       let test = is_constant_below f n in
       let value = constant_below f env m n in
-      or_cases (is_constant_leaf e) (is_pure e && all_constant test (operands_of e)) t (leaf_value p env fits m f (handle_type f h) e (gathered_value m e (all_of value (operands_of e))) (leaves h) (typed.constants h)) (λ u. let q = and_left (is_pure e) (all_constant test (operands_of e)) u in let vs = typed_list value test h (λ x lt. constant_has_type n x) (operands_of e) (below h) (and_right (is_pure e) (all_constant test (operands_of e)) u) in let v = typed.operators h q vs.0 vs.2 in (v.0, pure_value env m e (gathered_value m e (all_of value (operands_of e))) q ∙ ap (gathered_value m e) vs.1 ∙ v.1, v.2))
+      or_cases (is_constant_leaf e) (is_pure e && all_constant test (operands_of e)) t
+      (leaf_value p env fits m f (handle_type f h) e
+      (gathered_value m e (all_of value (operands_of e))) (leaves h) (typed.constants h))
+      (λ u. let q = and_left (is_pure e) (all_constant test (operands_of e)) u in let vs =
+      typed_list value test h (λ x lt. constant_has_type n x) (operands_of e) (below h)
+      (and_right (is_pure e) (all_constant test (operands_of e)) u) in let v =
+      typed.operators h q vs.0 vs.2 in (
+        v.0,
+        pure_value env m e (gathered_value m e (all_of value (operands_of e))) q
+            ∙ ap (gathered_value m e) vs.1 ∙ v.1,
+        v.2,
+      ))
 
   -- the bound doesn't matter past the handle
   same_list : (a b : ℕ → Option Value) (h : ℕ) → ((x : ℕ) → x < h → a x ≡ b x) → (xs : List ℕ) → AllBelow h xs → all_of a xs ≡ all_of b xs
@@ -101,13 +122,13 @@ module _ (p : Module) (env : Environment) (fits : EnvironmentFits p env) (f : Fu
       go None q t = absurd (true≢false (sym t))
       go (Some x) q t = slice_get_within f.expressions h x q
 
-usable_start : (f : Function) (e : Option Expression) (t : Bool) → IsTrue t → IsTrue (is_constant_leaf e) ⊎ IsTrue (is_pure e) → IsTrue (usable_as f e (start_standing (is_pure e && t)))
+usable_start : (f : Function) (e : Option Expression) (t : Bool) → IsTrue t → IsTrue (is_constant_leaf e) ⊎ IsTrue (is_pure e) → IsTrue (usable_as f e (start_availability (is_pure e && t)))
 usable_start f (Some (Constant v)) t i c = refl
-usable_start f (Some (Operator w xs)) t i c = ap (λ t. is_present (start_standing t)) i
-usable_start f (Some (Access x y)) t i c = ap (λ t. is_present (start_standing t)) i
-usable_start f (Some (AccessIndex x y)) t i c = ap (λ t. is_present (start_standing t)) i
-usable_start f (Some (Logical j x y)) t i c = ap (λ t. is_present (start_standing t)) i
-usable_start f (Some (Swizzle x y)) t i c = ap (λ t. is_present (start_standing t)) i
+usable_start f (Some (Operator w xs)) t i c = ap (λ t. is_present (start_availability t)) i
+usable_start f (Some (Access x y)) t i c = ap (λ t. is_present (start_availability t)) i
+usable_start f (Some (AccessIndex x y)) t i c = ap (λ t. is_present (start_availability t)) i
+usable_start f (Some (Logical j x y)) t i c = ap (λ t. is_present (start_availability t)) i
+usable_start f (Some (Swizzle x y)) t i c = ap (λ t. is_present (start_availability t)) i
 usable_start f (Some _) t i (inl c) = absurd (true≢false (sym c))
 usable_start f (Some _) t i (inr c) = absurd (true≢false (sym c))
 usable_start f None t i (inl c) = absurd (true≢false (sym c))
@@ -139,7 +160,10 @@ pure_test : (test : ℕ → Bool) (e : Option Expression) → IsTrue (is_pure e)
 pure_test test e p t =
     or_cases (is_constant_leaf e) (is_pure e && all_constant test (operands_of e)) t (λ l. absurd (pure_no_leaf e p l)) (λ u. and_right (is_pure e) (all_constant test (operands_of e)) u)
 
-module _ (p : Module) (c : Call) (fits : EnvironmentFits p c.environment) (below : (h : ℕ) → AllBelow h (operands_of (expression_of c.function h))) (leaves : (h : ℕ) → LeafFits p c.function (handle_type c.function h) (expression_of c.function h)) (typed : IsTypedIn c.environment.parts p c.meaning c.function) where
+module _ (p : Module) (c : Call) (fits : EnvironmentFits p c.environment) (below : (h : ℕ) →
+    AllBelow h (operands_of (expression_of c.function h))) (leaves : (h : ℕ) →
+    LeafFits p c.function (handle_type c.function h) (expression_of c.function h))
+    (typed : IsTypedIn c.environment.parts p c.meaning c.function) where
   abbrev Top : ℕ
   Top = length c.function.expressions
 
@@ -159,13 +183,18 @@ module _ (p : Module) (c : Call) (fits : EnvironmentFits p c.environment) (below
   each_used : (x : ℕ) → IsTrue (is_constant_below c.function Top x) → used_value c values x ≡ values x
   each_used x t =
       let e = expression_of c.function x in
-      used_start c e (values x) (gathered_value c.meaning e (all_of values (operands_of e))) (unfold_value p c.environment fits c.function c.meaning below leaves typed Top x (within x t)) (kind_of_constant (is_constant_below c.function Top) e (tested x t))
+      used_start c e (values x) (gathered_value c.meaning e (all_of values (operands_of e)))
+      (unfold_value p c.environment fits c.function c.meaning below leaves typed Top x
+      (within x t)) (kind_of_constant (is_constant_below c.function Top) e (tested x t))
 
   list_usable : (xs : List ℕ) → IsTrue (all_constant (is_constant_below c.function Top) xs) → IsTrue (usable_all c.function (at_start c.function) xs)
   list_usable [] t = refl
   list_usable (x ∷ xs) t =
       let test = is_constant_below c.function Top in
-      and_both (usable c.function (at_start c.function) x) (usable_all c.function (at_start c.function) xs) (each_usable x (and_left (test x) (all_constant test xs) t)) (list_usable xs (and_right (test x) (all_constant test xs) t))
+      and_both (usable c.function (at_start c.function) x)
+      (usable_all c.function (at_start c.function) xs)
+      (each_usable x (and_left (test x) (all_constant test xs) t))
+      (list_usable xs (and_right (test x) (all_constant test xs) t))
 
   list_used : (xs : List ℕ) → IsTrue (all_constant (is_constant_below c.function Top) xs) → used_values c values xs ≡ all_of values xs
   list_used [] t = refl
@@ -176,12 +205,23 @@ module _ (p : Module) (c : Call) (fits : EnvironmentFits p c.environment) (below
   pub start_stands : (names : Scope) (h : ℕ) → Stands c (at_start c.function) names values (handle_type c.function h) (expression_of c.function h) (values h) (at_start c.function h)
   start_stands names h = go (is_pure (expression_of c.function h) && is_constant_below c.function Top h) refl
     where
-      go : (b : Bool) → (is_pure (expression_of c.function h) && is_constant_below c.function Top h) ≡ b → Stands c (at_start c.function) names values (handle_type c.function h) (expression_of c.function h) (values h) (start_standing b)
+      go : (b : Bool) →
+          (is_pure (expression_of c.function h) && is_constant_below c.function Top h) ≡ b →
+          Stands c (at_start c.function) names values (handle_type c.function h)
+          (expression_of c.function h) (values h) (start_availability b)
       go false q = tt
       go true q =
           let e = expression_of c.function h in
           let test = is_constant_below c.function Top in
           let q1 = and_left (is_pure e) (test h) q in
           let t = and_right (is_pure e) (test h) q in
-          let each = pure_test test e q1 (tested h t) in
-          (list_usable (operands_of e) each, constant_has_type p c.environment fits c.function c.meaning below leaves typed Top h t, unfold_value p c.environment fits c.function c.meaning below leaves typed Top h (within h t) ∙ pure_value c.environment c.meaning e (gathered_value c.meaning e (all_of values (operands_of e))) q1 ∙ ap (gathered_value c.meaning e) (sym (list_used (operands_of e) each)))
+          let each = pure_test test e q1 (tested h t) in (
+            list_usable (operands_of e) each,
+            constant_has_type p c.environment fits c.function c.meaning below leaves typed Top h
+                t,
+            unfold_value p c.environment fits c.function c.meaning below leaves typed Top h
+                (within h t)
+                ∙ pure_value c.environment c.meaning e
+                (gathered_value c.meaning e (all_of values (operands_of e))) q1
+                ∙ ap (gathered_value c.meaning e) (sym (list_used (operands_of e) each)),
+          )

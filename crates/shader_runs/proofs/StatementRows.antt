@@ -11,12 +11,12 @@ use Rattle.shader_runs.specs.Form.{form_module}
 use Rattle.shader_runs.specs.WorkedModules.{Example, CallEnd, module_of, outer_of, namings_of}
 use Rattle.shader_runs.specs.WorkedModules.{text_with, run_example, follow_example, IsWorked}
 use Rattle.shader_runs.specs.StatementRows.{StatementRowsHold, LogicalRow, ReadOnTheRight}
-use Rattle.shader_runs.specs.StatementRows.{SilentRow, WordIsTaken, StatementsAreToldApart}
+use Rattle.shader_runs.specs.StatementRows.{SilentRow, WordIsTaken, StatementsAreDistinguished}
 use Rattle.shader_runs.specs.StatementRows.{calls_end, second_local}
 use Rattle.shader_runs.proofs.Settles.{silent}
 use Rattle.shader_runs.specs.WorkedFunctions.{all_fit, local_i32}
 
-worked : {e : Example} {texts : List TextFunction} {g n : ℕ} {vs : List Value} {result : CallEnd} →
+pub worked : {e : Example} {texts : List TextFunction} {g n : ℕ} {vs : List Value} {result : CallEnd} →
     IsTrue (all_fit (namings_of e)) → form_module (module_of e) (outer_of e) (namings_of e) ≡ text_with e texts →
     run_example e g n vs ≡ result → follow_example e texts g n vs ≡ result → IsWorked e texts g n vs result
 worked fits text module_run text_run =
@@ -59,8 +59,8 @@ places_differ e =
     let same : ◌≡◌ {A = ℕ} 117 105 = ap letter e in
     omega arith
 
-told_apart : StatementsAreToldApart
-told_apart =
+distinguished : StatementsAreDistinguished
+distinguished =
     record {
       plain_read = refl;
       no_offset = refl;
@@ -98,5 +98,5 @@ statement_rows_hold =
       silent = silent_row;
       swizzle = worked refl refl refl refl;
       greater = worked refl refl refl refl;
-      told_apart = told_apart;
+      distinguished = distinguished;
     }

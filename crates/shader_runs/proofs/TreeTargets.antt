@@ -1,5 +1,5 @@
 -- The identifiers of an expression's form stand for what is meant by it.
-use Rattle.std.proofs.Common.{◌≡◌, ℕ, zero, suc, ◌<◌, List, [], ◌∷◌, ◌++◌, map, length, Option}
+use Rattle.std.proofs.Common.{◌≡◌, ℕ, zero, suc, ◌<◌, Bool, true, false, List, [], ◌∷◌, ◌++◌, map, length, Option}
 use Rattle.std.proofs.Common.{Some, None, refl, sym, ap, ◌∙◌, append_assoc}
 use Rattle.std.proofs.lemmas.List.{map-append}
 use Rattle.shader_runs.specs.Value.{Bytes, ValueType, PointerType, Selector}
@@ -8,18 +8,19 @@ use Rattle.shader_runs.specs.Program.{ConstantTrees, no_constant, constant, Expr
 use Rattle.shader_runs.specs.Program.{Argument, Local, Global, Load, Operator, Access, AccessIndex}
 use Rattle.shader_runs.specs.Program.{Logical, Swizzle, Request, Result, expression_of, handle_type}
 use Rattle.shader_runs.specs.Program.{operands_of}
-use Rattle.shader_runs.specs.Scope.{Standing, Named, Handles, ModuleNames, Naming}
+use Rattle.shader_runs.specs.Scope.{Availability, Bound, Handles, ModuleNames, Naming}
 use Rattle.shader_runs.specs.Text.{Tree, Trees}
 use Rattle.shader_runs.specs.Form.{Plain, AsValue, AsPlace, value_form, place_form, value_forms}
 use Rattle.shader_runs.specs.Form.{value_forms_then, access_form, part_form, constant_form}
-use Rattle.shader_runs.specs.Form.{constant_forms, global_form, own_form, standing_form}
+use Rattle.shader_runs.specs.Form.{constant_forms, global_form, own_form, availability_form}
 use Rattle.shader_runs.specs.Form.{written_below, written_form, value_at, value_if}
 use Rattle.shader_runs.specs.Premises.{EachWord, EachWordOf, EachLeaf, EachLeafOf, IsLiteral}
 use Rattle.shader_runs.specs.Resolution.{Target, ConstantTarget, GlobalTarget, ArgumentTarget}
 use Rattle.shader_runs.specs.Resolution.{LocalTarget, LetTarget, Lookup, word_target, tree_targets}
 use Rattle.shader_runs.specs.Resolution.{trees_targets, tree_targets_if, constant_targets}
 use Rattle.shader_runs.specs.Resolution.{constants_targets, operands_targets, own_targets}
-use Rattle.shader_runs.specs.Resolution.{LetNumbers, standing_targets, targets_below, value_targets}
+use Rattle.shader_runs.specs.Resolution.{LetNumbers, availability_targets, targets_below}
+use Rattle.shader_runs.specs.Resolution.{value_targets}
 use Rattle.shader_runs.specs.Resolution.{value_targets_if}
 
 -- the identifiers of a plain form
@@ -47,12 +48,14 @@ part_targets : (names : Lookup) (k : ValueType) (x : Selector) (b : Plain) → p
 part_targets names (PointerType spelling) x b = place_targets_of names b
 part_targets names _ x b = value_targets_of names b
 
-global_targets : (names : Lookup) (k : ValueType) (e : Tree) → plain_targets names (global_form k e) ≡ tree_targets names e
-global_targets names (PointerType spelling) e = refl
-global_targets names _ e = refl
+global_targets : (names : Lookup) (held : Bool) (e : Tree) → plain_targets names (global_form held e) ≡ tree_targets names e
+global_targets names true e = refl
+global_targets names false e = refl
 
 -- trees over constants, where named constants stand for themselves and words are no names
-module _ (n : ModuleNames) (names : Lookup) (count : ℕ) (found : (i : ℕ) → i < count → names (n.constant i) ≡ Some (ConstantTarget i)) (IsWord : Bytes → Type 0) (free : (w : Bytes) → IsWord w → names w ≡ None) where
+module _ (n : ModuleNames) (names : Lookup) (count : ℕ) (found : (i : ℕ) → i < count →
+    names (n.constant i) ≡ Some (ConstantTarget i)) (IsWord : Bytes → Type 0) (free : (w : Bytes) →
+    IsWord w → names w ≡ None) where
   mutual
     pub constant_resolves : (e : ConstantTree) → EachLeaf IsLiteral (λ i. i < count) e → EachWord IsWord e → tree_targets names (constant_form n e) ≡ map Some (constant_targets e)
     constant_resolves (Fixed v) range words = refl
@@ -80,7 +83,7 @@ module _ (f : Naming) (names : Lookup) where
   IsNamed (Some (Constant e)) = tree_targets names (constant_form f.names.outer e) ≡ map Some (constant_targets e)
   IsNamed (Some (Argument i)) = names (f.names.argument i) ≡ Some (ArgumentTarget i)
   IsNamed (Some (Local i)) = names (f.names.local_ i) ≡ Some (LocalTarget i)
-  IsNamed (Some (Global i)) = names (f.names.outer.global i) ≡ Some (GlobalTarget i)
+  IsNamed (Some (Global held i)) = names (f.names.outer.global i) ≡ Some (GlobalTarget i)
   IsNamed (Some (Operator word xs)) = names word ≡ None
   IsNamed (Some (Request a word xs es)) =
       (names word ≡ None) × (trees_targets names (constant_forms f.names.outer es) ≡ map Some (constants_targets es))
@@ -96,48 +99,56 @@ module _ (f : Naming) (names : Lookup) where
     operands_resolve (x ∷ xs) same =
         both (like x) (operands_targets like xs) (value_targets_of names (operand x) ∙ same.0) (operands_resolve xs same.1)
 
-    operands_then : (xs : List ℕ) (tail : Trees) (more_meant : List Target) → EachOf Same xs → trees_targets names tail ≡ map Some more_meant → trees_targets names (value_forms_then operand xs tail) ≡ map Some (operands_targets like xs ++ more_meant)
+    operands_then : (xs : List ℕ) (tail : Trees) (more_meant : List Target) → EachOf Same xs →
+        trees_targets names tail ≡ map Some more_meant →
+        trees_targets names (value_forms_then operand xs tail) ≡ map Some
+        (operands_targets like xs ++ more_meant)
     operands_then [] tail more_meant same rest = rest
     operands_then (x ∷ xs) tail more_meant same rest =
         both (like x) (operands_targets like xs ++ more_meant) (value_targets_of names (operand x) ∙ same.0) (operands_then xs tail more_meant same.1 rest)
         ∙ ap (map Some) (sym (append_assoc (like x) (operands_targets like xs) more_meant))
 
-    own_resolves : (k : ValueType) (e : Option Expression) → IsNamed e → EachOf Same (operands_of e) → plain_targets names (own_form f operand k e) ≡ map Some (own_targets like e)
-    own_resolves k (Some (Constant e)) named same = named
-    own_resolves k (Some (Argument i)) named same = ap (λ o. o ∷ []) named
-    own_resolves k (Some (Local i)) named same = ap (λ o. o ∷ []) named
-    own_resolves k (Some (Global i)) named same =
-        global_targets names k _ ∙ ap (λ o. o ∷ []) named
-    own_resolves k (Some (Load p)) named same = place_targets_of names (operand p) ∙ same.0
-    own_resolves k (Some (Operator word xs)) named same =
+    own_resolves : (e : Option Expression) → IsNamed e → EachOf Same (operands_of e) → plain_targets names (own_form f operand e) ≡ map Some (own_targets like e)
+    own_resolves (Some (Constant e)) named same = named
+    own_resolves (Some (Argument i)) named same = ap (λ o. o ∷ []) named
+    own_resolves (Some (Local i)) named same = ap (λ o. o ∷ []) named
+    own_resolves (Some (Global held i)) named same =
+        global_targets names held _ ∙ ap (λ o. o ∷ []) named
+    own_resolves (Some (Load p)) named same = place_targets_of names (operand p) ∙ same.0
+    own_resolves (Some (Operator word xs)) named same =
         (λ j. word_target (named j) ++ trees_targets names (value_forms operand xs)) ∙ operands_resolve xs same
-    own_resolves k (Some (Access b i)) named same =
+    own_resolves (Some (Access b i)) named same =
         access_targets names (handle_type f.function b) (operand b) (operand i) ∙ both (like b) (like i) same.0 same.1.0
-    own_resolves k (Some (AccessIndex x b)) named same =
+    own_resolves (Some (AccessIndex x b)) named same =
         part_targets names (handle_type f.function b) x (operand b) ∙ same.0
-    own_resolves k (Some (Logical j a b)) named same =
+    own_resolves (Some (Logical j a b)) named same =
         both (like a) (like b) (value_targets_of names (operand a) ∙ same.0) (value_targets_of names (operand b) ∙ same.1.0)
-    own_resolves k (Some (Swizzle letters v)) named same = value_targets_of names (operand v) ∙ same.0
-    own_resolves k (Some (Request a word xs es)) named same =
+    own_resolves (Some (Swizzle letters v)) named same = value_targets_of names (operand v) ∙ same.0
+    own_resolves (Some (Request a word xs es)) named same =
         (λ j. word_target (named.0 j) ++ trees_targets names (value_forms_then operand xs (constant_forms f.names.outer es)))
         ∙ operands_then xs (constant_forms f.names.outer es) (constants_targets es) same named.1
-    own_resolves k (Some Result) named same = refl
-    own_resolves k None named same = refl
+    own_resolves (Some Result) named same = refl
+    own_resolves None named same = refl
 
   -- a handle whose name is in scope, and any other by its own form
-  standing_resolves : (st : Standing) (number : ℕ) → ((x : Bytes) → st ≡ Named x → names x ≡ Some (LetTarget number)) → (q : Plain) (own : List Target) → plain_targets names q ≡ map Some own → plain_targets names (standing_form st q) ≡ map Some (standing_targets st number own)
-  standing_resolves (Named x) number found q own same = ap (λ o. o ∷ []) (found x refl)
-  standing_resolves _ number found q own same = same
+  availability_resolves : (st : Availability) (number : ℕ) →
+      ((x : Bytes) → st ≡ Bound x → names x ≡ Some (LetTarget number)) →
+      (q : Plain) (own : List Target) → plain_targets names q ≡ map Some own →
+      plain_targets names (availability_form st q) ≡ map Some (availability_targets st number own)
+  availability_resolves (Bound x) number found q own same = ap (λ o. o ∷ []) (found x refl)
+  availability_resolves _ number found q own same = same
 
-  module _ (s : Handles) (numbers : LetNumbers) (found : (h : ℕ) (x : Bytes) → s h ≡ Named x → names x ≡ Some (LetTarget (numbers h))) where
+  module _ (s : Handles) (numbers : LetNumbers) (found : (h : ℕ) (x : Bytes) → s h ≡ Bound x → names x ≡ Some (LetTarget (numbers h))) where
     -- what the form of a handle below the bound stands for, and what is meant by it
     abbrev pub Below : ℕ → ℕ → Type 0
     Below n h = plain_targets names (written_below f s n h) ≡ map Some (targets_below f.function s numbers n h)
 
     pub one_below : (n h : ℕ) → IsNamed (expression_of f.function h) → EachOf (Below n) (operands_of (expression_of f.function h)) → Below (suc n) h
     one_below n h named same =
-        standing_resolves (s h) (numbers h) (found h) (own_form f (written_below f s n) (handle_type f.function h) (expression_of f.function h)) (own_targets (targets_below f.function s numbers n) (expression_of f.function h))
-        (own_resolves (written_below f s n) (targets_below f.function s numbers n) (handle_type f.function h) (expression_of f.function h) named same)
+        availability_resolves (s h) (numbers h) (found h)
+        (own_form f (written_below f s n) (expression_of f.function h))
+        (own_targets (targets_below f.function s numbers n) (expression_of f.function h))
+        (own_resolves (written_below f s n) (targets_below f.function s numbers n) (expression_of f.function h) named same)
 
     module _ (all : (h : ℕ) → IsNamed (expression_of f.function h)) where
       below_resolves : (n h : ℕ) → Below n h
@@ -160,8 +171,14 @@ module _ (f : Naming) (names : Lookup) where
           (each_of (λ x. plain_targets names (written_form f s x) ≡ map Some (value_targets f.function s numbers x)) (below_resolves (length f.function.expressions)) xs)
 
       -- what a `let` binds
-      pub let_resolves : (h : ℕ) → tree_targets names (value_form (own_form f (written_form f s) (handle_type f.function h) (expression_of f.function h))) ≡ map Some (own_targets (value_targets f.function s numbers) (expression_of f.function h))
+      pub let_resolves : (h : ℕ) →
+          tree_targets names
+          (value_form (own_form f (written_form f s) (expression_of f.function h))) ≡ map Some
+          (own_targets (value_targets f.function s numbers) (expression_of f.function h))
       let_resolves h =
-          value_targets_of names (own_form f (written_form f s) (handle_type f.function h) (expression_of f.function h))
-          ∙ own_resolves (written_form f s) (value_targets f.function s numbers) (handle_type f.function h) (expression_of f.function h) (all h)
-          (each_of (λ x. plain_targets names (written_form f s x) ≡ map Some (value_targets f.function s numbers x)) (below_resolves (length f.function.expressions)) (operands_of (expression_of f.function h)))
+          value_targets_of names (own_form f (written_form f s) (expression_of f.function h))
+          ∙ own_resolves (written_form f s) (value_targets f.function s numbers) (expression_of f.function h) (all h)
+          (each_of (λ x. plain_targets names (written_form f s x) ≡ map Some
+          (value_targets f.function s numbers x))
+          (below_resolves (length f.function.expressions))
+          (operands_of (expression_of f.function h)))

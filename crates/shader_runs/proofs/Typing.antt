@@ -112,7 +112,9 @@ abbrev meaning_of : PartTypes → List Signature → Meaning
 meaning_of parts xs w vs = default_value (result_in xs w (types_of parts vs))
 
 -- one of a list whose signatures agree
-result_found : (xs : List Signature) (x : Signature) → ((y : Signature) → IsOneOf y xs → y.word ≡ x.word → y.operands ≡ x.operands → y.result ≡ x.result) → IsOneOf x xs → result_in xs x.word x.operands ≡ x.result
+result_found : (xs : List Signature) (x : Signature) →
+    ((y : Signature) → IsOneOf y xs → y.word ≡ x.word → y.operands ≡ x.operands →
+    y.result ≡ x.result) → IsOneOf x xs → result_in xs x.word x.operands ≡ x.result
 result_found [] x same m = elim m [ ]
 result_found (y ∷ xs) x same m = go (same_word y.word x.word && same_types y.operands x.operands) refl m (λ n. result_found xs x (λ z k. same z (later_of k)) n)
   where
@@ -124,9 +126,15 @@ result_found (y ∷ xs) x same m = go (same_word y.word x.word && same_types y.o
     first_alike e first_of = absurd (true≢false (sym itself ∙ e))
     first_alike e (later_of m) = m
 
-    go : (b : Bool) → (same_word y.word x.word && same_types y.operands x.operands) ≡ b → IsOneOf x (y ∷ xs) → (IsOneOf x xs → result_in xs x.word x.operands ≡ x.result) → cond b y.result (result_in xs x.word x.operands) ≡ x.result
+    go : (b : Bool) → (same_word y.word x.word && same_types y.operands x.operands) ≡ b →
+        IsOneOf x (y ∷ xs) → (IsOneOf x xs → result_in xs x.word x.operands ≡ x.result) →
+        cond b y.result (result_in xs x.word x.operands) ≡ x.result
     go true e m rest =
-        same y first_of (same_word_true y.word x.word (and_left (same_word y.word x.word) (same_types y.operands x.operands) e)) (same_types_true y.operands x.operands (and_right (same_word y.word x.word) (same_types y.operands x.operands) e))
+        same y first_of
+        (same_word_true y.word x.word
+        (and_left (same_word y.word x.word) (same_types y.operands x.operands) e))
+        (same_types_true y.operands x.operands
+        (and_right (same_word y.word x.word) (same_types y.operands x.operands) e))
     go false e m rest = rest (first_alike e m)
 
 one_of_left : (x : Signature) (xs ys : List Signature) → IsOneOf x xs → IsOneOf x (xs ++ ys)
@@ -229,7 +237,9 @@ abbrev initialiser_signatures : Module → List ConstantTree → List Signature
 initialiser_signatures p [] = []
 initialiser_signatures p (e ∷ es) = constant_signatures p e ++ initialiser_signatures p es
 
-initialiser_there : (p : Module) (es : List ConstantTree) (i : ℕ) (e : ConstantTree) → slice_get es i ≡ Some e → (x : Signature) → IsOneOf x (constant_signatures p e) → IsOneOf x (initialiser_signatures p es)
+initialiser_there : (p : Module) (es : List ConstantTree) (i : ℕ) (e : ConstantTree) →
+    slice_get es i ≡ Some e → (x : Signature) → IsOneOf x (constant_signatures p e) →
+    IsOneOf x (initialiser_signatures p es)
 initialiser_there p [] i e q x k = absurd (none-some e q)
 initialiser_there p (d ∷ es) zero e q x k =
     one_of_left x (constant_signatures p d) (initialiser_signatures p es) (subst (λ e. IsOneOf x (constant_signatures p e)) (sym (same_Some d e q)) k)
@@ -285,8 +295,12 @@ module _ (p : Module) (consistent : IsConsistent p) where
 
     constants_fit : (es : ConstantTrees) → ((x : Signature) → IsOneOf x (constants_signatures p es) → IsSpelled p x) → ConstantsTyped p.parts p m es
     constants_fit no_constant at = tt
-    constants_fit (constant e es) at =
-        (constant_fits e (λ y k. at y (one_of_left y (constant_signatures p e) (constants_signatures p es) k)), constants_fit es (λ y k. at y (one_of_right y (constant_signatures p e) (constants_signatures p es) k)))
+    constants_fit (constant e es) at = (
+      constant_fits e
+          (λ y k. at y (one_of_left y (constant_signatures p e) (constants_signatures p es) k)),
+      constants_fit es
+          (λ y k. at y (one_of_right y (constant_signatures p e) (constants_signatures p es) k)),
+    )
 
   module _ (place : ℕ) (f : Function) (here : slice_get p.functions place ≡ Some f) where
     abbrev IsHere : ℕ → Signature → Type 0
@@ -308,7 +322,10 @@ module _ (p : Module) (consistent : IsConsistent p) where
     abbrev pair_types : ValueType → ValueType → List Value → Bool
     pair_types a b vs = has_types p.parts (a ∷ b ∷ []) vs
 
-    by_pair : (k a b : ValueType) (e : Option Expression) → ((x y : Value) → IsTrue (has_type p.parts a x) → IsTrue (has_type p.parts b y) → Gives_typed k e (x ∷ y ∷ [])) → (vs : List Value) → IsTrue (has_types p.parts (a ∷ b ∷ []) vs) → Gives_typed k e vs
+    by_pair : (k a b : ValueType) (e : Option Expression) →
+        ((x y : Value) → IsTrue (has_type p.parts a x) → IsTrue (has_type p.parts b y) →
+        Gives_typed k e (x ∷ y ∷ [])) →
+        (vs : List Value) → IsTrue (has_types p.parts (a ∷ b ∷ []) vs) → Gives_typed k e vs
     by_pair k a b e g [] h = absurd (true≢false (sym h))
     by_pair k a b e g (x ∷ []) h =
         absurd (true≢false (sym (and_right (has_type p.parts a x) (has_types p.parts (b ∷ []) []) h)))
@@ -319,7 +336,9 @@ module _ (p : Module) (consistent : IsConsistent p) where
         let rest = and_right (has_type p.parts a x) (has_types p.parts (b ∷ []) (y ∷ z ∷ vs)) h in
         absurd (true≢false (sym (and_right (has_type p.parts b y) (has_types p.parts [] (z ∷ vs)) rest)))
 
-    by_one : (k a : ValueType) (e : Option Expression) → ((x : Value) → IsTrue (has_type p.parts a x) → Gives_typed k e (x ∷ [])) → (vs : List Value) → IsTrue (has_types p.parts (a ∷ []) vs) → Gives_typed k e vs
+    by_one : (k a : ValueType) (e : Option Expression) →
+        ((x : Value) → IsTrue (has_type p.parts a x) → Gives_typed k e (x ∷ [])) →
+        (vs : List Value) → IsTrue (has_types p.parts (a ∷ []) vs) → Gives_typed k e vs
     by_one k a e g [] h = absurd (true≢false (sym h))
     by_one k a e g (x ∷ []) h = g x (and_left (has_type p.parts a x) true h)
     by_one k a e g (x ∷ y ∷ vs) h = absurd (true≢false (sym (and_right (has_type p.parts a x) (has_types p.parts [] (y ∷ vs)) h)))
@@ -328,46 +347,82 @@ module _ (p : Module) (consistent : IsConsistent p) where
     pair_typed a b x y h k = and_both (has_type p.parts a x) (has_types p.parts (b ∷ []) (y ∷ [])) h (and_both (has_type p.parts b y) true k refl)
 
     -- a pointer to a part has the type that its place has
-    part_has_type : (k : ValueType) (whole : Bytes) (q : Place) (x : Step) → k ≡ PointerType (p.parts whole x) → IsTrue (has_type p.parts (PointerType whole) (Pointer q)) → IsTrue (has_type p.parts k (Pointer (Part q x)))
+    part_has_type : (k : ValueType) (whole : Bytes) (q : Place) (x : Step) →
+        k ≡ PointerType (p.parts whole x) →
+        IsTrue (has_type p.parts (PointerType whole) (Pointer q)) →
+        IsTrue (has_type p.parts k (Pointer (Part q x)))
     part_has_type k whole q x w h =
         let same = same_bytes_true whole (place_type p.parts q) h in
         ap (λ k. has_type p.parts k (Pointer (Part q x))) (w ∙ ap (λ s. PointerType (p.parts s x)) same)
         ∙ same_bytes_self (p.parts (place_type p.parts q) x)
 
-    access_pointer : (whole : Bytes) (i k : ValueType) → AccessFits p.parts (PointerType whole) i k → (b j : ℕ) (x y : Value) → IsTrue (has_type p.parts (PointerType whole) x) → IsTrue (has_type p.parts i y) → Gives_typed k (Some (Access b j)) (x ∷ y ∷ [])
+    access_pointer : (whole : Bytes) (i k : ValueType) →
+        AccessFits p.parts (PointerType whole) i k → (b j : ℕ) (x y : Value) →
+        IsTrue (has_type p.parts (PointerType whole) x) → IsTrue (has_type p.parts i y) →
+        Gives_typed k (Some (Access b j)) (x ∷ y ∷ [])
     access_pointer whole (IntegerType s) k w b j x y h l =
         let q = pointer_typed p.parts (PointerType whole) tt x h in
-        let z = integer_typed p.parts (IntegerType s) tt y l in
-        (Pointer (Part q.0 (At z.0)), ap (λ x. index_value_of m x y) q.1 ∙ ap (option_map (λ z. Pointer (Part q.0 (At z)))) z.1, part_has_type k whole q.0 (At z.0) (w z.0) (subst (λ v. IsTrue (has_type p.parts (PointerType whole) v)) q.1 h))
+        let z = integer_typed p.parts (IntegerType s) tt y l in (
+          Pointer (Part q.0 (At z.0)),
+          ap (λ x. index_value_of m x y) q.1
+              ∙ ap (option_map (λ z. Pointer (Part q.0 (At z)))) z.1,
+          part_has_type k whole q.0 (At z.0) (w z.0)
+              (subst (λ v. IsTrue (has_type p.parts (PointerType whole) v)) q.1 h),
+        )
     access_pointer whole i k w b j x y h l = absurd w
 
-    access_other : (a i k : ValueType) → IsTrue (not_pointer_type a) → ((vs : List Value) → IsTrue (has_types p.parts (a ∷ i ∷ []) vs) → IsTrue (has_type p.parts k (m IndexWord vs))) → (b j : ℕ) (x y : Value) → IsTrue (has_type p.parts a x) → IsTrue (has_type p.parts i y) → Gives_typed k (Some (Access b j)) (x ∷ y ∷ [])
+    access_other : (a i k : ValueType) → IsTrue (not_pointer_type a) →
+        ((vs : List Value) → IsTrue (has_types p.parts (a ∷ i ∷ []) vs) →
+        IsTrue (has_type p.parts k (m IndexWord vs))) → (b j : ℕ) (x y : Value) →
+        IsTrue (has_type p.parts a x) → IsTrue (has_type p.parts i y) →
+        Gives_typed k (Some (Access b j)) (x ∷ y ∷ [])
     access_other a i k n g b j x y h l =
         (m IndexWord (x ∷ y ∷ []), index_value_is m x y (typed_not_pointer p.parts a x n h), g (x ∷ y ∷ []) (pair_typed a i x y h l))
 
-    access_typed : (a i k : ValueType) → AccessFits p.parts a i k → ((vs : List Value) → IsTrue (has_types p.parts (a ∷ i ∷ []) vs) → IsTrue (has_type p.parts k (m IndexWord vs))) → (b j : ℕ) (x y : Value) → IsTrue (has_type p.parts a x) → IsTrue (has_type p.parts i y) → Gives_typed k (Some (Access b j)) (x ∷ y ∷ [])
+    access_typed : (a i k : ValueType) → AccessFits p.parts a i k →
+        ((vs : List Value) → IsTrue (has_types p.parts (a ∷ i ∷ []) vs) →
+        IsTrue (has_type p.parts k (m IndexWord vs))) → (b j : ℕ) (x y : Value) →
+        IsTrue (has_type p.parts a x) → IsTrue (has_type p.parts i y) →
+        Gives_typed k (Some (Access b j)) (x ∷ y ∷ [])
     access_typed (PointerType s) i k w g b j x y h l = access_pointer s i k w b j x y h l
     access_typed a i k w g b j x y h l = access_other a i k refl g b j x y h l
 
-    part_other : (x : Selector) (a k : ValueType) → IsTrue (not_pointer_type a) → ((vs : List Value) → IsTrue (has_types p.parts (a ∷ []) vs) → IsTrue (has_type p.parts k (m (PartWord x) vs))) → (b : ℕ) (y : Value) → IsTrue (has_type p.parts a y) → Gives_typed k (Some (AccessIndex x b)) (y ∷ [])
+    part_other : (x : Selector) (a k : ValueType) → IsTrue (not_pointer_type a) →
+        ((vs : List Value) → IsTrue (has_types p.parts (a ∷ []) vs) →
+        IsTrue (has_type p.parts k (m (PartWord x) vs))) → (b : ℕ) (y : Value) →
+        IsTrue (has_type p.parts a y) → Gives_typed k (Some (AccessIndex x b)) (y ∷ [])
     part_other x a k n g b y h =
         (m (PartWord x) (y ∷ []), part_value_is m x y (typed_not_pointer p.parts a y n h), g (y ∷ []) (and_both (has_type p.parts a y) true h refl))
 
-    part_pointer : (whole : Bytes) (x : Selector) (k : ValueType) → k ≡ PointerType (p.parts whole (step_of x)) → (b : ℕ) (y : Value) → IsTrue (has_type p.parts (PointerType whole) y) → Gives_typed k (Some (AccessIndex x b)) (y ∷ [])
+    part_pointer : (whole : Bytes) (x : Selector) (k : ValueType) →
+        k ≡ PointerType (p.parts whole (step_of x)) → (b : ℕ) (y : Value) →
+        IsTrue (has_type p.parts (PointerType whole) y) →
+        Gives_typed k (Some (AccessIndex x b)) (y ∷ [])
     part_pointer whole x k w b y h =
         let q = pointer_typed p.parts (PointerType whole) tt y h in
         (Pointer (Part q.0 (step_of x)), ap (part_value m x) q.1, part_has_type k whole q.0 (step_of x) w (subst (λ v. IsTrue (has_type p.parts (PointerType whole) v)) q.1 h))
 
-    part_typed : (x : Selector) (a k : ValueType) → AccessIndexFits p.parts x a k → ((vs : List Value) → IsTrue (has_types p.parts (a ∷ []) vs) → IsTrue (has_type p.parts k (m (PartWord x) vs))) → (b : ℕ) (y : Value) → IsTrue (has_type p.parts a y) → Gives_typed k (Some (AccessIndex x b)) (y ∷ [])
+    part_typed : (x : Selector) (a k : ValueType) → AccessIndexFits p.parts x a k →
+        ((vs : List Value) → IsTrue (has_types p.parts (a ∷ []) vs) →
+        IsTrue (has_type p.parts k (m (PartWord x) vs))) → (b : ℕ) (y : Value) →
+        IsTrue (has_type p.parts a y) → Gives_typed k (Some (AccessIndex x b)) (y ∷ [])
     part_typed x (PointerType s) k w g b y h = part_pointer s x k w b y h
     part_typed x a k w g b y h = part_other x a k refl g b y h
 
     -- what `&&` or `||` gives behind a truth value
-    truths_typed : (j : ShortCircuit) (t k : ValueType) → k ≡ BooleanType → ((vs : List Value) → IsTrue (has_types p.parts (BooleanType ∷ t ∷ []) vs) → IsTrue (has_type p.parts k (m (Spelled (short_circuit_word j)) vs))) → (a : Bool) (y : Value) → IsTrue (has_type p.parts t y) → IsTrue (has_type p.parts k (undecided_value m j (Truth a) y))
+    truths_typed : (j : ShortCircuit) (t k : ValueType) → k ≡ BooleanType →
+        ((vs : List Value) → IsTrue (has_types p.parts (BooleanType ∷ t ∷ []) vs) →
+        IsTrue (has_type p.parts k (m (Spelled (short_circuit_word j)) vs))) →
+        (a : Bool) (y : Value) → IsTrue (has_type p.parts t y) →
+        IsTrue (has_type p.parts k (undecided_value m j (Truth a) y))
     truths_typed j t k w g a (Truth b) l = ap (λ k. has_type p.parts k (Truth b)) w
     truths_typed j t k w g a y l = g (Truth a ∷ y ∷ []) (pair_typed BooleanType t (Truth a) y refl l)
 
-    truth_cases : (j : ShortCircuit) (t k : ValueType) → k ≡ BooleanType → ((vs : List Value) → IsTrue (has_types p.parts (BooleanType ∷ t ∷ []) vs) → IsTrue (has_type p.parts k (m (Spelled (short_circuit_word j)) vs))) → (d a : Bool) (y : Value) → IsTrue (has_type p.parts t y) → IsTrue (has_type p.parts k (cond d (Truth a) (undecided_value m j (Truth a) y)))
+    truth_cases : (j : ShortCircuit) (t k : ValueType) → k ≡ BooleanType →
+        ((vs : List Value) → IsTrue (has_types p.parts (BooleanType ∷ t ∷ []) vs) →
+        IsTrue (has_type p.parts k (m (Spelled (short_circuit_word j)) vs))) →
+        (d a : Bool) (y : Value) → IsTrue (has_type p.parts t y) →
+        IsTrue (has_type p.parts k (cond d (Truth a) (undecided_value m j (Truth a) y)))
     truth_cases j t k w g true a y l = ap (λ k. has_type p.parts k (Truth a)) w
     truth_cases j t k w g false a y l = truths_typed j t k w g a y l
 
@@ -375,28 +430,53 @@ module _ (p : Module) (consistent : IsConsistent p) where
     boolean_of BooleanType k w b h = (refl, w)
     boolean_of a k w b h = absurd (true≢false (sym h))
 
-    logical_typed : (j : ShortCircuit) (a t k : ValueType) → LogicalFits a k → ((vs : List Value) → IsTrue (has_types p.parts (a ∷ t ∷ []) vs) → IsTrue (has_type p.parts k (m (Spelled (short_circuit_word j)) vs))) → (x y : Value) → IsTrue (has_type p.parts a x) → IsTrue (has_type p.parts t y) → IsTrue (has_type p.parts k (cond (decides j x) x (undecided_value m j x y)))
+    logical_typed : (j : ShortCircuit) (a t k : ValueType) → LogicalFits a k →
+        ((vs : List Value) → IsTrue (has_types p.parts (a ∷ t ∷ []) vs) →
+        IsTrue (has_type p.parts k (m (Spelled (short_circuit_word j)) vs))) →
+        (x y : Value) → IsTrue (has_type p.parts a x) → IsTrue (has_type p.parts t y) →
+        IsTrue (has_type p.parts k (cond (decides j x) x (undecided_value m j x y)))
     logical_typed j a t k w g (Truth b) y h l =
         let q = boolean_of a k w b h in
-        truth_cases j t k q.1 (subst (λ a. (vs : List Value) → IsTrue (has_types p.parts (a ∷ t ∷ []) vs) → IsTrue (has_type p.parts k (m (Spelled (short_circuit_word j)) vs))) q.0 g) (decides j (Truth b)) b y l
+        truth_cases j t k q.1
+        (subst (λ a. (vs : List Value) → IsTrue (has_types p.parts (a ∷ t ∷ []) vs) →
+        IsTrue (has_type p.parts k (m (Spelled (short_circuit_word j)) vs))) q.0 g)
+        (decides j (Truth b)) b y l
     logical_typed j a t k w g x y h l = g (x ∷ y ∷ []) (pair_typed a t x y h l)
 
-    operator_fits : (h : ℕ) (e : Option Expression) → PartsFit p.parts f (handle_type f h) e → ((x : Signature) → IsOneOf x (signatures_of p f (handle_type f h) e) → IsHere h x) → IsTrue (is_pure e) → (vs : List Value) → IsTrue (has_types p.parts (handle_types f (operands_of e)) vs) → Gives_typed (handle_type f h) e vs
+    operator_fits : (h : ℕ) (e : Option Expression) → PartsFit p.parts f (handle_type f h) e →
+        ((x : Signature) → IsOneOf x (signatures_of p f (handle_type f h) e) → IsHere h x) →
+        IsTrue (is_pure e) →
+        (vs : List Value) → IsTrue (has_types p.parts (handle_types f (operands_of e)) vs) →
+        Gives_typed (handle_type f h) e vs
     operator_fits h (Some (Operator w xs)) fit at q vs t =
         let x : Signature = record { word = Spelled w; operands = handle_types f xs; result = handle_type f h } in
         (m (Spelled w) vs, refl, spelled_typed x (spelled h x (at x first_of)) vs t)
     operator_fits h (Some (Access b i)) fit at q vs t =
         let x : Signature = record { word = IndexWord; operands = handle_types f (b ∷ i ∷ []); result = handle_type f h } in
-        by_pair (handle_type f h) (handle_type f b) (handle_type f i) (Some (Access b i)) (access_typed (handle_type f b) (handle_type f i) (handle_type f h) fit (λ vs k. spelled_typed x (spelled h x (at x first_of)) vs k) b i) vs t
+        by_pair (handle_type f h) (handle_type f b) (handle_type f i) (Some (Access b i))
+        (access_typed (handle_type f b) (handle_type f i) (handle_type f h) fit
+        (λ vs k. spelled_typed x (spelled h x (at x first_of)) vs k) b i) vs t
     operator_fits h (Some (AccessIndex s b)) fit at q vs t =
         let x : Signature = record { word = PartWord s; operands = handle_types f (b ∷ []); result = handle_type f h } in
         by_one (handle_type f h) (handle_type f b) (Some (AccessIndex s b)) (part_typed s (handle_type f b) (handle_type f h) fit (λ vs k. spelled_typed x (spelled h x (at x first_of)) vs k) b) vs t
     operator_fits h (Some (Logical j l r)) fit at q vs t =
         let x : Signature = record { word = Spelled (short_circuit_word j); operands = handle_types f (l ∷ r ∷ []); result = handle_type f h } in
-        by_pair (handle_type f h) (handle_type f l) (handle_type f r) (Some (Logical j l r)) (λ a b ta tb. (cond (decides j a) a (undecided_value m j a b), refl, logical_typed j (handle_type f l) (handle_type f r) (handle_type f h) fit (λ vs k. spelled_typed x (spelled h x (at x first_of)) vs k) a b ta tb)) vs t
+        by_pair (handle_type f h) (handle_type f l) (handle_type f r) (Some (Logical j l r))
+        (λ a b ta tb. (
+          cond (decides j a) a (undecided_value m j a b),
+          refl,
+          logical_typed j (handle_type f l) (handle_type f r) (handle_type f h) fit
+              (λ vs k. spelled_typed x (spelled h x (at x first_of)) vs k) a b ta tb,
+        )) vs t
     operator_fits h (Some (Swizzle s v)) fit at q vs t =
         let x : Signature = record { word = PartWord (MemberNamed s); operands = handle_types f (v ∷ []); result = handle_type f h } in
-        by_one (handle_type f h) (handle_type f v) (Some (Swizzle s v)) (λ y k. (m (PartWord (MemberNamed s)) (y ∷ []), refl, spelled_typed x (spelled h x (at x first_of)) (y ∷ []) (and_both (has_type p.parts (handle_type f v) y) true k refl))) vs t
+        by_one (handle_type f h) (handle_type f v) (Some (Swizzle s v))
+        (λ y k. (
+          m (PartWord (MemberNamed s)) (y ∷ []),
+          refl,
+          spelled_typed x (spelled h x (at x first_of)) (y ∷ [])
+              (and_both (has_type p.parts (handle_type f v) y) true k refl),
+        )) vs t
     operator_fits h (Some _) fit at q vs t = absurd (true≢false (sym q))
     operator_fits h None fit at q vs t = absurd (true≢false (sym q))
 

@@ -4,7 +4,7 @@ use Rattle.std.specs.Prelude.{ℕ, true, false, cond, List, [], ◌∷◌, ◌++
 use Rattle.shader_runs.specs.Value.{Bytes}
 use Rattle.shader_runs.specs.Program.{Statement, Emit, Block, If, Switch, Loop, Act, Statements}
 use Rattle.shader_runs.specs.Program.{end, then, Cases, no_case, case, binds, from}
-use Rattle.shader_runs.specs.Scope.{Names, Naming, bound_name, given_after, given_by, given_by_all}
+use Rattle.shader_runs.specs.Scope.{Names, Naming, bound_name, named_after, named_by, named_by_all}
 use Rattle.shader_runs.specs.Text.{Line, Let, Braces, IfElse, SwitchOn, LoopOf, Lines, last, before}
 use Rattle.shader_runs.specs.Text.{Groups, no_group, group, TextModule}
 
@@ -39,7 +39,7 @@ pub record Binding : Type 0 where
 abbrev pub emit_bindings : Naming → ℕ → List ℕ → List Binding
 emit_bindings f k [] = []
 emit_bindings f k (h ∷ hs) =
-    let rest = emit_bindings f (given_after f.function h k) hs in
+    let rest = emit_bindings f (named_after f.function h k) hs in
     cond (binds f.function h) (record { handle = h; name = bound_name f k h } ∷ rest) rest
 
 -- a result
@@ -54,23 +54,23 @@ abbrev mutual
   statement_bindings f k (Emit first count) = emit_bindings f k (from first count)
   statement_bindings f k (Block b) = statements_bindings f k b
   statement_bindings f k (If c a b) =
-      statements_bindings f k a ++ statements_bindings f (given_by_all f.function a k) b
+      statements_bindings f k a ++ statements_bindings f (named_by_all f.function a k) b
   statement_bindings f k (Switch h cases) = cases_bindings f k cases
   statement_bindings f k (Loop b d e) =
-      statements_bindings f k b ++ statements_bindings f (given_by_all f.function b k) d
+      statements_bindings f k b ++ statements_bindings f (named_by_all f.function b k) d
   statement_bindings f k (Act a xs r) = result_bindings f.names r
   statement_bindings f k _ = []
 
   pub statements_bindings : Naming → ℕ → Statements → List Binding
   statements_bindings f k end = []
   statements_bindings f k (then st ss) =
-      statement_bindings f k st ++ statements_bindings f (given_by f.function st k) ss
+      statement_bindings f k st ++ statements_bindings f (named_by f.function st k) ss
 
   pub cases_bindings : Naming → ℕ → Cases → List Binding
   cases_bindings f k no_case = []
-  cases_bindings f k (case label b true cs) = cases_bindings f (given_by_all f.function b k) cs
+  cases_bindings f k (case label b true cs) = cases_bindings f (named_by_all f.function b k) cs
   cases_bindings f k (case label b false cs) =
-      statements_bindings f k b ++ cases_bindings f (given_by_all f.function b k) cs
+      statements_bindings f k b ++ cases_bindings f (named_by_all f.function b k) cs
 
 -- those of a function's body
 abbrev pub function_bindings : Naming → List Binding

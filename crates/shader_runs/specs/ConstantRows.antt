@@ -4,12 +4,13 @@
 -- Throughout, b is the value of the override.
 use Rattle.std.specs.Prelude.{◌≡◌, ℕ, ◌+◌, ◌*◌, pos, cond, [], ◌∷◌, get_or, Option, Some, None}
 use Rattle.std.specs.Prelude.{codes}
-use Rattle.shader_runs.specs.Value.{Bytes, same_bytes, OtherType, PointerType, Value, Whole, Opaque}
+use Rattle.shader_runs.specs.Value.{Bytes, same_bytes, OtherType, Value, Whole, Opaque}
 use Rattle.shader_runs.specs.Value.{Spelled}
 use Rattle.shader_runs.specs.World.{Entry, Meaning, Settings}
 use Rattle.shader_runs.specs.Outcome.{ReachedOrHalted, Gives, Halts, Stuck}
 use Rattle.shader_runs.specs.Program.{ConstantTree, Fixed, NamedConstant, Constructed, no_constant}
 use Rattle.shader_runs.specs.Program.{constant, Constant, Return, end, then, Function, Module}
+use Rattle.shader_runs.specs.Program.{AtPlace}
 use Rattle.shader_runs.specs.Text.{Tree, Name, LiteralOf, Apply, no_more, more, ReturnLine, last}
 use Rattle.shader_runs.specs.Text.{before, TextModule}
 use Rattle.shader_runs.specs.Constants.{run_module, follow_module}
@@ -48,7 +49,7 @@ pair_function =
       expressions = Constant (NamedConstant 0) ∷ [];
       types = OtherType pair_word ∷ [];
       counts = 1 ∷ [];
-      given_names = [];
+      named_expressions = [];
       body = then (Return (Some 0)) end;
     }
 
@@ -65,7 +66,7 @@ pair_module =
     record {
       constant_types = OtherType pair_word ∷ i32 ∷ i32 ∷ [];
       initialisers = pair_initialiser ∷ Fixed (number 6) ∷ [];
-      global_types = PointerType private_pair ∷ [];
+      globals = AtPlace private_pair ∷ [];
       parts = no_parts;
       functions = pair_function ∷ [];
     }
@@ -89,7 +90,7 @@ pair_naming =
         outer = pair_names;
         argument = λ i. [];
         local_ = λ i. [];
-        given = λ k. [];
+        named = λ k. [];
         numbered = numbered_name;
         earlier = 0;
       };
@@ -108,7 +109,7 @@ pair_text initialiser =
           ∷ record { name = codes "N"; initialiser = initialiser }
           ∷ [];
       overrides = codes "m" ∷ [];
-      globals = record { name = codes "v"; pointer = private_pair } ∷ [];
+      globals = record { name = codes "v"; pointer = Some private_pair } ∷ [];
       functions =
           text_of (codes "f") [] [] (before (ReturnLine (Some (Name (codes "P")))) last) ∷ [];
     }

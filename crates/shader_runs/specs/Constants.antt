@@ -2,17 +2,19 @@
 -- their initialisers, under what the caller chooses.
 --
 -- Throughout, p is a module, s are the settings of its caller, m is the meaning, w the world, n the
--- bound on turns or the number of rounds, g the number of a function or what holds of a variable, k
--- a type, o a value that may be missing, l is what words do, e an initialiser, i an index and t are
--- the events so far.
+-- bound on turns or the number of rounds, g the number of a function or what is chosen for a
+-- variable, x such a variable or a constant, o a value that may be missing, l is what words do, e
+-- an initialiser, i an index and t are the events so far.
 use Rattle.std.specs.Prelude.{ℕ, zero, suc, Bool, cond, List, [], ◌∷◌, ◌++◌, map, length, get_or}
 use Rattle.std.specs.Prelude.{Option, Some, None, unwrap_or, ◌||◌}
 use Rattle.std.specs.List.{list_any}
-use Rattle.shader_runs.specs.Value.{Bytes, same_bytes, ValueType, pointer_spelling, Value, Spelled}
-use Rattle.shader_runs.specs.World.{Event, World, Meaning, GlobalValue, Stored, Held, Settings}
+use Rattle.shader_runs.specs.Value.{Bytes, same_bytes, Value, Spelled}
+use Rattle.shader_runs.specs.World.{Event, World, Meaning, GlobalValue, Stored, InHandleSpace}
+use Rattle.shader_runs.specs.World.{Settings}
 use Rattle.shader_runs.specs.World.{Environment, bind}
 use Rattle.shader_runs.specs.Outcome.{Stuck, ReachedOrHalted, Gives, Halts}
-use Rattle.shader_runs.specs.Program.{ConstantTree, Module, constant_count}
+use Rattle.shader_runs.specs.Program.{ConstantTree, VariableShape, Held, AtPlace, Module}
+use Rattle.shader_runs.specs.Program.{constant_count}
 use Rattle.shader_runs.specs.ProgramRun.{also, tree_value, run_call}
 use Rattle.shader_runs.specs.Text.{Tree, TextConstant, TextModule}
 use Rattle.shader_runs.specs.TextRun.{Denotation, IsValue, Scope, Words, evaluate, with_parameters}
@@ -37,15 +39,14 @@ abbrev pub all_found : List (Option Value) → Option (List Value)
 all_found [] = Some []
 all_found (o ∷ os) = also o (all_found os)
 
--- what a variable's name stands for: the value that is
--- held, or a place that pointers of its type lead to
-abbrev pub global_value_by : ValueType → Option Value → GlobalValue
-global_value_by k None = Stored (pointer_spelling k)
-global_value_by k (Some v) = Held v
+-- what a variable's name stands for: its place, or what the caller chose
+abbrev pub global_value_by : VariableShape → Option Value → GlobalValue
+global_value_by (AtPlace pointer) chosen = Stored pointer
+global_value_by (Held type) chosen = InHandleSpace chosen
 
 -- what the names of all variables stand for
-abbrev pub global_values : List ValueType → List (Option Value) → List GlobalValue
-global_values (k ∷ ks) (g ∷ gs) = global_value_by k g ∷ global_values ks gs
+abbrev pub global_values : List VariableShape → List (Option Value) → List GlobalValue
+global_values (x ∷ xs) (g ∷ gs) = global_value_by x g ∷ global_values xs gs
 global_values _ _ = []
 
 -- what the module's names stand for. Where no constant leads back to itself, as many rounds as
@@ -55,7 +56,7 @@ environment_of p s m =
     let found = found_after p s m (constant_count p) in
     record {
       constants = unwrap_or (all_found found) [];
-      globals = global_values p.global_types s.globals;
+      globals = global_values p.globals s.globals;
       parts = p.parts;
     }
 

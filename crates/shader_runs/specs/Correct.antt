@@ -3,7 +3,7 @@
 -- Throughout, p is a module, n are its names and fs its functions with theirs, m is the meaning, w
 -- the world, g the number of a function f, vs are its arguments and t the events so far, i is an
 -- index and e an initialiser.
-use Rattle.std.specs.Prelude.{◌≡◌, ℕ, List, [], Some, IsTrue, slice_get, drop}
+use Rattle.std.specs.Prelude.{◌≡◌, ℕ, List, Some, IsTrue, slice_get, drop}
 use Rattle.shader_runs.specs.Value.{Value, has_types}
 use Rattle.shader_runs.specs.World.{World, Meaning, Event, Settings, Environment}
 use Rattle.shader_runs.specs.Outcome.{Mistyped, ReachedOrHalted, Gives, Halts}
@@ -53,7 +53,7 @@ pub record IsSolution (p : Module) (s : Settings) (m : Meaning) (env : Environme
   pub initialisers : (i : ℕ) (e : ConstantTree) → slice_get p.initialisers i ≡ Some e →
       slice_get env.constants i ≡ constant_value env m e
   pub overrides : drop (constant_count p) env.constants ≡ s.overrides
-  pub globals : env.globals ≡ global_values p.global_types s.globals
+  pub globals : env.globals ≡ global_values p.globals s.globals
   pub parts : env.parts ≡ p.parts
 
 -- what a module computes for its named constants is
@@ -73,15 +73,20 @@ ConstantsAreComputed =
 abbrev pub HasTypedMeaning : Type 0
 HasTypedMeaning = (p : Module) → IsConsistent p → (m : Meaning) × IsTyped p m
 
--- with each bound on loop turns, from each function and entry point with arguments of its types,
--- each answer of this world that the run asks for has its type
+-- with each bound on loop turns, from each function and entry point with arguments of its types
+-- and behind each past, each answer of this world that the run asks for has its type
 abbrev pub AlwaysKeepsTypes : Module → Settings → Meaning → World → Type 0
 AlwaysKeepsTypes p settings m w =
     (turns : ℕ) (g : ℕ) (f : Function) → function_numbered p.functions g ≡ Some f →
     (vs : List Value) → IsTrue (has_types p.parts f.argument_types vs) →
-    KeepsTypes (run_module p settings w m turns g vs [])
+    (past : List Event) →
+    KeepsTypes (run_module p settings w m turns g vs past)
 
--- nor is its premise on the world: one world keeps the types in all these runs
+-- Nor is its premise on the world: one world keeps the types in all these runs. The same events may
+-- be a past and a run behind it in several ways, since a run may have begun at each entry among
+-- them. No two of these runs want answers of different types. Where the later one began, the
+-- earlier one called the same function with the same arguments behind the same events. So until
+-- that call ends both do the same, and then the later run asks for nothing more.
 abbrev pub HasTypedWorld : Type 0
 HasTypedWorld =
     (p : Module) (n : ModuleNames) (fs : List Naming) →

@@ -1,13 +1,13 @@
 -- The abstract text that is written for a module.
 --
 -- Throughout, f is a function with its names, n are names, s the handles in scope (s1 those behind
--- a part), k is how many names have been given, or a type, h a handle, e an expression or a
+-- a part), k is how many names have been given, h a handle, e an expression or a
 -- constant tree, st a statement, b a body, i an index, j a short circuit, w a word, x a name, a
--- selector or a handle, and l a label or a local.
+-- selector, a variable or a handle, and l a label or a local.
 use Rattle.std.specs.Prelude.{ℕ, zero, suc, Bool, true, false, List, [], ◌∷◌, ◌++◌, length, Option}
 use Rattle.std.specs.Prelude.{Some, None}
 use Rattle.shader_runs.specs.Value.{Bytes, Selector, MemberNamed, ValueType, PointerType}
-use Rattle.shader_runs.specs.Value.{pointer_spelling, Truth}
+use Rattle.shader_runs.specs.Value.{Truth}
 use Rattle.shader_runs.specs.Program.{ConstantTree, Fixed, NamedConstant, Constructed}
 use Rattle.shader_runs.specs.Program.{ConstantTrees, no_constant, constant, Expression, Constant}
 use Rattle.shader_runs.specs.Program.{Argument, Local, Global, Load, Operator, Access, AccessIndex}
@@ -15,7 +15,8 @@ use Rattle.shader_runs.specs.Program.{Logical, Swizzle, Request, Result, Action,
 use Rattle.shader_runs.specs.Program.{Label, Statement, Emit, Store, Block, If, Switch, Loop, Break}
 use Rattle.shader_runs.specs.Program.{Continue, Return, Kill, Barrier, Act, Statements, end, then}
 use Rattle.shader_runs.specs.Program.{Cases, no_case, case, Function, argument_count, local_pointer}
-use Rattle.shader_runs.specs.Program.{expression_of, handle_type, binds, from, Module}
+use Rattle.shader_runs.specs.Program.{expression_of, handle_type, binds, from, VariableShape}
+use Rattle.shader_runs.specs.Program.{pointer_to, Module}
 use Rattle.shader_runs.specs.Program.{constant_count, override_types}
 use Rattle.shader_runs.specs.ProgramRun.{barrier_words}
 use Rattle.shader_runs.specs.Text.{Tree, Name, LiteralOf, Apply, Deref, AddressOf, Index, PartOf}
@@ -24,8 +25,8 @@ use Rattle.shader_runs.specs.Text.{IfElse, SwitchOn, LoopOf, BreakLine, Continue
 use Rattle.shader_runs.specs.Text.{DiscardLine, Perform, Lines, last, before, Groups, no_group}
 use Rattle.shader_runs.specs.Text.{group, Variable, ModuleVariable, TextFunction, TextModule}
 use Rattle.shader_runs.specs.Text.{TextConstant}
-use Rattle.shader_runs.specs.Scope.{Standing, Named, Handles, ModuleNames, Names, Naming}
-use Rattle.shader_runs.specs.Scope.{bound_name, after_one, given_after, given_by, given_by_all}
+use Rattle.shader_runs.specs.Scope.{Availability, Bound, Handles, ModuleNames, Names, Naming}
+use Rattle.shader_runs.specs.Scope.{bound_name, after_one, named_after, named_by, named_by_all}
 use Rattle.shader_runs.specs.Scope.{after, after_all, at_start}
 
 -- a plain form, a value or a reference
@@ -74,42 +75,42 @@ abbrev mutual
   constant_forms n no_constant = no_more
   constant_forms n (constant e es) = more (constant_form n e) (constant_forms n es)
 
--- a module-level variable's name is a reference if the name stands for a pointer
-abbrev pub global_form : ValueType → Tree → Plain
-global_form (PointerType spelling) e = AsPlace e
-global_form _ e = AsValue e
+-- a module-level variable's name is a value if the variable is held, else a reference
+abbrev pub global_form : (held : Bool) → Tree → Plain
+global_form true e = AsValue e
+global_form false e = AsPlace e
 
 -- an expression that isn't named, over its operands' forms
-abbrev pub own_form : Naming → (ℕ → Plain) → ValueType → Option Expression → Plain
-own_form f operand k (Some (Constant e)) = AsValue (constant_form f.names.outer e)
-own_form f operand k (Some (Argument i)) = AsValue (Name (f.names.argument i))
-own_form f operand k (Some (Local i)) = AsPlace (Name (f.names.local_ i))
-own_form f operand k (Some (Global i)) = global_form k (Name (f.names.outer.global i))
-own_form f operand k (Some (Load p)) = AsValue (place_form (operand p))
-own_form f operand k (Some (Operator w xs)) = AsValue (Apply w (value_forms operand xs))
-own_form f operand k (Some (Access b i)) =
+abbrev pub own_form : Naming → (ℕ → Plain) → Option Expression → Plain
+own_form f operand (Some (Constant e)) = AsValue (constant_form f.names.outer e)
+own_form f operand (Some (Argument i)) = AsValue (Name (f.names.argument i))
+own_form f operand (Some (Local i)) = AsPlace (Name (f.names.local_ i))
+own_form f operand (Some (Global held i)) = global_form held (Name (f.names.outer.global i))
+own_form f operand (Some (Load p)) = AsValue (place_form (operand p))
+own_form f operand (Some (Operator w xs)) = AsValue (Apply w (value_forms operand xs))
+own_form f operand (Some (Access b i)) =
     access_form (handle_type f.function b) (operand b) (operand i)
-own_form f operand k (Some (AccessIndex x b)) = part_form (handle_type f.function b) x (operand b)
-own_form f operand k (Some (Logical j l r)) =
+own_form f operand (Some (AccessIndex x b)) = part_form (handle_type f.function b) x (operand b)
+own_form f operand (Some (Logical j l r)) =
     AsValue (LogicalOf j (value_form (operand l)) (value_form (operand r)))
-own_form f operand k (Some (Swizzle w v)) =
+own_form f operand (Some (Swizzle w v)) =
     AsValue (PartOf (MemberNamed w) (value_form (operand v)))
-own_form f operand k (Some (Request a w xs es)) =
+own_form f operand (Some (Request a w xs es)) =
     AsValue (Apply w (value_forms_then operand xs (constant_forms f.names.outer es)))
-own_form f operand k (Some Result) = AsValue (LiteralOf (Truth false))
-own_form f operand k None = AsValue (LiteralOf (Truth false))
+own_form f operand (Some Result) = AsValue (LiteralOf (Truth false))
+own_form f operand None = AsValue (LiteralOf (Truth false))
 
 -- a bound handle is written as its name
-abbrev pub standing_form : Standing → Plain → Plain
-standing_form (Named x) own = AsValue (Name x)
-standing_form _ own = own
+abbrev pub availability_form : Availability → Plain → Plain
+availability_form (Bound x) own = AsValue (Name x)
+availability_form _ own = own
 
 -- the form of a handle below the bound
 abbrev pub written_below : Naming → Handles → ℕ → ℕ → Plain
 written_below f s zero h = AsValue (LiteralOf (Truth false))
 written_below f s (suc n) h =
-    standing_form (s h)
-    (own_form f (written_below f s n) (handle_type f.function h) (expression_of f.function h))
+    availability_form (s h)
+    (own_form f (written_below f s n) (expression_of f.function h))
 
 -- a handle's form: its name where it is bound, else its expression over its operands' forms
 abbrev pub written_form : Naming → Handles → ℕ → Plain
@@ -135,8 +136,8 @@ lets f k [] s tail = tail
 lets f k (h ∷ hs) s tail =
     let_if (binds f.function h) (bound_name f k h)
     (value_form
-    (own_form f (written_form f s) (handle_type f.function h) (expression_of f.function h)))
-    (lets f (given_after f.function h k) hs (after_one f k h s) tail)
+    (own_form f (written_form f s) (expression_of f.function h)))
+    (lets f (named_after f.function h k) hs (after_one f k h s) tail)
 
 -- what an action's line calls
 abbrev pub word_of : Names → Action → Bytes
@@ -163,12 +164,12 @@ abbrev mutual
   form f k (Block b) s tail = before (Braces (form_all f k b s)) tail
   form f k (If c a b) s tail =
       before (IfElse (value_at f s c) (form_all f k a s)
-      (form_all f (given_by_all f.function a k) b s)) tail
+      (form_all f (named_by_all f.function a k) b s)) tail
   form f k (Switch h cases) s tail =
       before (SwitchOn (value_at f s h) (form_cases f k [] cases s)) tail
   form f k (Loop b d e) s tail =
       let s1 = after_all f k b s in
-      let k1 = given_by_all f.function b k in
+      let k1 = named_by_all f.function b k in
       before
       (LoopOf (form_all f k b s) (form_all f k1 d s1) (value_if f (after_all f k1 d s1) e)) tail
   form f k Break s tail = before BreakLine tail
@@ -182,16 +183,16 @@ abbrev mutual
   pub form_all : Naming → ℕ → Statements → Handles → Lines
   form_all f k end s = last
   form_all f k (then st ss) s =
-      form f k st s (form_all f (given_by f.function st k) ss (after f k st s))
+      form f k st s (form_all f (named_by f.function st k) ss (after f k st s))
 
   -- a case that falls through gives its label to the next one
   pub form_cases : Naming → ℕ → List Label → Cases → Handles → Groups
   form_cases f k labels no_case s = no_group
   form_cases f k labels (case l b true cs) s =
-      form_cases f (given_by_all f.function b k) (labels ++ l ∷ []) cs s
+      form_cases f (named_by_all f.function b k) (labels ++ l ∷ []) cs s
   form_cases f k labels (case l b false cs) s =
       group (labels ++ l ∷ []) (form_all f k b s)
-      (form_cases f (given_by_all f.function b k) [] cs s)
+      (form_cases f (named_by_all f.function b k) [] cs s)
 
 -- the names from the index i on
 abbrev pub names_from : (ℕ → Bytes) → ℕ → ℕ → List Bytes
@@ -229,10 +230,10 @@ functions_of [] = []
 functions_of (f ∷ fs) = f.function ∷ functions_of fs
 
 -- the module-level variables from the index i on
-abbrev pub globals_from : (ℕ → Bytes) → ℕ → List ValueType → List ModuleVariable
+abbrev pub globals_from : (ℕ → Bytes) → ℕ → List VariableShape → List ModuleVariable
 globals_from name i [] = []
-globals_from name i (k ∷ ks) =
-    record { name = name i; pointer = pointer_spelling k } ∷ globals_from name (suc i) ks
+globals_from name i (x ∷ xs) =
+    record { name = name i; pointer = pointer_to x } ∷ globals_from name (suc i) xs
 
 -- the named constants from the index i on, with their initialisers
 abbrev pub constants_from : ModuleNames → ℕ → List ConstantTree → List TextConstant
@@ -246,6 +247,6 @@ form_module p n fs =
     record {
       constants = constants_from n 0 p.initialisers;
       overrides = names_from n.constant (constant_count p) (length (override_types p));
-      globals = globals_from n.global 0 p.global_types;
+      globals = globals_from n.global 0 p.globals;
       functions = form_functions fs;
     }

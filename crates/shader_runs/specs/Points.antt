@@ -14,9 +14,9 @@ use Rattle.shader_runs.specs.Program.{Cases, no_case, case, Function, from, Modu
 use Rattle.shader_runs.specs.ProgramRun.{Call, KeptValues, used_value, constants_kept, run_call}
 use Rattle.shader_runs.specs.TextRun.{IsValue, Scope, Words, value_of, with_parameters}
 use Rattle.shader_runs.specs.TextRun.{with_variables, word_use, follow_call}
-use Rattle.shader_runs.specs.Scope.{Named, Handles, ModuleNames, Naming, usable, given_by}
-use Rattle.shader_runs.specs.Scope.{given_by_all, after, after_emit, after_all, at_start}
-use Rattle.shader_runs.specs.Scope.{given_after_all}
+use Rattle.shader_runs.specs.Scope.{Bound, Handles, ModuleNames, Naming, usable, named_by}
+use Rattle.shader_runs.specs.Scope.{named_by_all, after, after_emit, after_all, at_start}
+use Rattle.shader_runs.specs.Scope.{named_after_all}
 use Rattle.shader_runs.specs.Constants.{environment_of, module_scope}
 use Rattle.shader_runs.specs.Form.{value_at, form_all, form_function, form_functions, form_module}
 use Rattle.shader_runs.specs.Form.{functions_of}
@@ -30,7 +30,7 @@ use Rattle.shader_runs.specs.Passes.{lines_behind, Passes, TextPasses, point_in_
 -- handle in scope makes no event and gives, evaluated now, the value that the module uses
 pub record FactsHold (c : Call) (l : Words) (f : Naming) (s : Handles) (kept : KeptValues)
     (names : Scope) : Type 0 where
-  pub named : (h : ℕ) (x : Bytes) → s h ≡ Named x →
+  pub named : (h : ℕ) (x : Bytes) → s h ≡ Bound x →
       (v : Value) × (used_value c kept h ≡ Some v) × (names x ≡ Some (IsValue v))
   pub written : (h : ℕ) → IsTrue (usable c.function s h) →
       (v : Value)
@@ -73,23 +73,23 @@ names_of outer f vs t =
     with_variables text.variables (entries t) 0 (with_parameters text.parameters vs outer)
 
 -- how many names were given in front of the case with this index
-abbrev pub given_before : Function → Cases → ℕ → ℕ → ℕ
-given_before f no_case i k = k
-given_before f (case l b falls cs) zero k = k
-given_before f (case l b falls cs) (suc i) k = given_before f cs i (given_by_all f b k)
+abbrev pub named_before : Function → Cases → ℕ → ℕ → ℕ
+named_before f no_case i k = k
+named_before f (case l b falls cs) zero k = k
+named_before f (case l b falls cs) (suc i) k = named_before f cs i (named_by_all f b k)
 
 -- how many names were given in front of a region
-abbrev pub given_in : Function → Statement → Region → ℕ → ℕ
-given_in f (If h a b) Reject k = given_by_all f a k
-given_in f (Switch h cases) (CaseBody i) k = given_before f cases i k
-given_in f (Loop b d e) (Continuing j) k = given_by_all f b k
-given_in f _ _ k = k
+abbrev pub named_in : Function → Statement → Region → ℕ → ℕ
+named_in f (If h a b) Reject k = named_by_all f a k
+named_in f (Switch h cases) (CaseBody i) k = named_before f cases i k
+named_in f (Loop b d e) (Continuing j) k = named_by_all f b k
+named_in f _ _ k = k
 
 -- the handles in scope in front of a region
 abbrev pub handles_in : Naming → ℕ → Statement → Region → Handles → Handles
 handles_in f k (Loop b d e) (Continuing j) s = after_all f k b s
 handles_in f k (Loop b d e) (BreakIf j) s =
-    after_all f (given_by_all f.function b k) d (after_all f k b s)
+    after_all f (named_by_all f.function b k) d (after_all f k b s)
 handles_in f k _ _ s = s
 
 -- the handles in scope at a point of a list
@@ -97,20 +97,20 @@ abbrev pub handles_at : Naming → ℕ → Statements → Point → Handles → 
 handles_at f k ss here s = s
 handles_at f k end q s = s
 handles_at f k (then st ss) (behind q) s =
-    handles_at f (given_by f.function st k) ss q (after f k st s)
+    handles_at f (named_by f.function st k) ss q (after f k st s)
 handles_at f k (then st ss) (inside g q) s =
-    handles_at f (given_in f.function st g k) (statements_in st g) q (handles_in f k st g s)
+    handles_at f (named_in f.function st g k) (statements_in st g) q (handles_in f k st g s)
 handles_at f k (then (Emit first count) ss) (emitting i) s = after_emit f k (from first i) s
 handles_at f k (then _ ss) (emitting i) s = s
 
 -- how many names were given in front of a point of a list
-abbrev pub given_at : Function → ℕ → Statements → Point → ℕ
-given_at f k ss here = k
-given_at f k end q = k
-given_at f k (then st ss) (behind q) = given_at f (given_by f st k) ss q
-given_at f k (then st ss) (inside g q) = given_at f (given_in f st g k) (statements_in st g) q
-given_at f k (then (Emit first count) ss) (emitting i) = given_after_all f (from first i) k
-given_at f k (then _ ss) (emitting i) = k
+abbrev pub named_at : Function → ℕ → Statements → Point → ℕ
+named_at f k ss here = k
+named_at f k end q = k
+named_at f k (then st ss) (behind q) = named_at f (named_by f st k) ss q
+named_at f k (then st ss) (inside g q) = named_at f (named_in f st g k) (statements_in st g) q
+named_at f k (then (Emit first count) ss) (emitting i) = named_after_all f (from first i) k
+named_at f k (then _ ss) (emitting i) = k
 
 -- the lines behind the point of the text are those that are written, with these handles in scope,
 -- for the statements behind the point of the list. A case that falls through is empty, and has the
@@ -120,7 +120,7 @@ LinesAreTheForm f body q =
     let start = at_start f.function in
     falls_at body q ≡ false →
     lines_behind (form_all f 0 body start) (point_in_text f.function body q)
-    ≡ form_all f (given_at f.function 0 body q) (statements_at body q) (handles_at f 0 body q start)
+    ≡ form_all f (named_at f.function 0 body q) (statements_at body q) (handles_at f 0 body q start)
 
 -- of each function of a module, behind those before it, called with arguments of its types at any
 -- history: where the module's run of its body passes a point, the text's run of its lines passes

@@ -1,15 +1,17 @@
 -- What is asked of a module, of its names, of the environment and of the meaning.
 --
 -- Throughout, p is a module, f a function, mostly with its names, n are names, g
--- is the number of a function, h a handle, e an expression or a constant tree, i
--- an index, m the meaning, w a word, xs are operands, r is a result, k a type, s
--- are settings, v is a value, and a and b are keys of names or bodies.
+-- is the number of a function, or what is chosen for a variable x or its name stands for,
+-- h a handle, e an expression or a constant tree, i an index, m the meaning, w a word, xs
+-- are operands, r is a result, k a type, s are settings, v is a value, and a and b are keys
+-- of names or bodies.
 use Rattle.std.specs.Prelude.{◌≡◌, ◌≢◌, ℕ, ◌<◌, Bool, true, false, List, [], ◌∷◌, length, Option}
 use Rattle.std.specs.Prelude.{Some, None, ◌&&◌, IsTrue, ◌≤◌, slice_get}
 use Rattle.shader_runs.specs.Value.{Bytes, same_bytes, PartTypes, ValueType, BooleanType}
 use Rattle.shader_runs.specs.Value.{IntegerType, PointerType, OtherType, type_at, Value, Truth}
 use Rattle.shader_runs.specs.Value.{Whole, Pointer, Opaque, has_type, has_types, Spelled}
-use Rattle.shader_runs.specs.World.{Environment, GlobalValue, Stored, Held, Meaning, Settings}
+use Rattle.shader_runs.specs.World.{Environment, GlobalValue, Stored, InHandleSpace, Meaning}
+use Rattle.shader_runs.specs.World.{Settings}
 use Rattle.shader_runs.specs.Program.{ConstantTree, Fixed, NamedConstant, Constructed}
 use Rattle.shader_runs.specs.Program.{ConstantTrees, no_constant, constant, Expression, Constant}
 use Rattle.shader_runs.specs.Program.{Argument, Local, Global, Operator, Swizzle, Request, Result}
@@ -17,10 +19,10 @@ use Rattle.shader_runs.specs.Program.{Action, Asked, Called, Statement, Block, I
 use Rattle.shader_runs.specs.Program.{Return, Barrier, Act, Statements, end, then, Cases, no_case}
 use Rattle.shader_runs.specs.Program.{case, Function, argument_count, local_count, local_pointer}
 use Rattle.shader_runs.specs.Program.{function_numbered, expression_of, handle_type, operands_of}
-use Rattle.shader_runs.specs.Program.{Module, constant_count, override_types}
+use Rattle.shader_runs.specs.Program.{VariableShape, Held, AtPlace, is_held, variable_type}
+use Rattle.shader_runs.specs.Program.{variable_shape_at, Module, constant_count, override_types}
 use Rattle.shader_runs.specs.ProgramRun.{combined_value, barrier_words}
-use Rattle.shader_runs.specs.Constants.{global_values}
-use Rattle.shader_runs.specs.Scope.{ModuleNames, Names, Naming, is_pure, given_by_all}
+use Rattle.shader_runs.specs.Scope.{ModuleNames, Names, Naming, is_pure, named_by_all}
 use Rattle.shader_runs.specs.Scope.{fits_function}
 use Rattle.shader_runs.specs.Form.{functions_of}
 
@@ -35,7 +37,7 @@ pub data FixedName : Type 0 where
 pub data NameKey : Type 0 where
   FixedKey : FixedName → NameKey
   NumberedKey : ℕ → NameKey
-  GivenKey : ℕ → NameKey
+  NamedKey : ℕ → NameKey
 
 -- the name itself
 abbrev pub fixed_name : Names → FixedName → Bytes
@@ -48,20 +50,20 @@ fixed_name n (GlobalName i) = n.outer.global i
 abbrev pub name_at : Names → NameKey → Bytes
 name_at n (FixedKey x) = fixed_name n x
 name_at n (NumberedKey h) = n.numbered h
-name_at n (GivenKey k) = n.given k
+name_at n (NamedKey k) = n.named k
 
 -- the function or the module has such an item
 abbrev pub IsFixedName : Module → Function → FixedName → Type 0
 IsFixedName p f (ArgumentName i) = i < argument_count f
 IsFixedName p f (LocalName i) = i < local_count f
 IsFixedName p f (ConstantName i) = i < length p.constant_types
-IsFixedName p f (GlobalName i) = i < length p.global_types
+IsFixedName p f (GlobalName i) = i < length p.globals
 
 -- the function uses such a name: a handle may have one, and given names are counted
 abbrev pub IsName : Module → Function → NameKey → Type 0
 IsName p f (FixedKey x) = IsFixedName p f x
 IsName p f (NumberedKey h) = Unit {0}
-IsName p f (GivenKey k) = k < given_by_all f f.body 0
+IsName p f (NamedKey k) = k < named_by_all f f.body 0
 
 -- a word that is none of a function's names, which would hide it
 abbrev pub IsNoName : Module → Naming → Bytes → Type 0
@@ -229,12 +231,15 @@ abbrev pub IsNoPointer : ValueType → Type 0
 IsNoPointer (PointerType spelling) = ⊥
 IsNoPointer _ = Unit {0}
 
--- a leaf has the type of its item; and what is swizzled is a vector, and no pointer to one
+-- a leaf has the type of its item, and tells of a variable whether it is held; and what is swizzled
+-- is a vector, and no pointer to one
 abbrev pub LeafFits : Module → Function → ValueType → Option Expression → Type 0
 LeafFits p f k (Some (Constant e)) = ConstantInRange p e × (k ≡ constant_type p e)
 LeafFits p f k (Some (Argument i)) = k ≡ type_at f.argument_types i
 LeafFits p f k (Some (Local i)) = k ≡ PointerType (local_pointer f i)
-LeafFits p f k (Some (Global i)) = (i < length p.global_types) × (k ≡ type_at p.global_types i)
+LeafFits p f k (Some (Global held i)) =
+    let x = variable_shape_at p.globals i in
+    (i < length p.globals) × (held ≡ is_held x) × (k ≡ variable_type x)
 LeafFits p f k (Some (Request a w xs es)) = ConstantsInRange p es
 LeafFits p f k (Some (Swizzle w v)) = IsNoPointer (handle_type f v)
 LeafFits p f k _ = Unit {0}
@@ -308,7 +313,7 @@ pub record OperatesOutside (p : Module) (n : ModuleNames) (w : Bytes) : Type 0 w
   pub asks_nothing : n.is_request w ≡ false
   pub functions : (g : ℕ) → g < length p.functions → n.function g ≢ w
   pub constants : (i : ℕ) → i < length p.constant_types → n.constant i ≢ w
-  pub globals : (i : ℕ) → i < length p.global_types → n.global i ≢ w
+  pub globals : (i : ℕ) → i < length p.globals → n.global i ≢ w
 
 -- the initialiser of the constant i has its type, its words are operators, and each named constant
 -- in it has a smaller rank than i
@@ -329,33 +334,46 @@ pub record ConstantsFit (p : Module) (n : ModuleNames) : Type 0 where
   pub distinct : (i k : ℕ) → i < length p.constant_types → k < length p.constant_types →
       n.constant i ≡ n.constant k → i ≡ k
 
--- what the variables' names stand for
-abbrev pub global_has_type : PartTypes → ValueType → GlobalValue → Bool
-global_has_type parts (PointerType spelling) (Stored pointer) = same_bytes spelling pointer
-global_has_type parts (PointerType spelling) (Held v) = false
-global_has_type parts t (Stored pointer) = false
-global_has_type parts t (Held v) = has_type parts t v
+-- a value is chosen exactly where the variable is held, and has its type
+abbrev pub choice_fits : PartTypes → VariableShape → Option Value → Bool
+choice_fits parts (AtPlace pointer) None = true
+choice_fits parts (AtPlace pointer) (Some v) = false
+choice_fits parts (Held type) None = false
+choice_fits parts (Held type) (Some v) = has_type parts type v
 
--- as many variables as types, each as its type says
-abbrev pub globals_have_types : PartTypes → List ValueType → List GlobalValue → Bool
-globals_have_types parts [] [] = true
-globals_have_types parts [] (g ∷ gs) = false
-globals_have_types parts (t ∷ ts) [] = false
-globals_have_types parts (t ∷ ts) (g ∷ gs) =
-    global_has_type parts t g && globals_have_types parts ts gs
+-- as many choices as variables, each as its variable says
+abbrev pub choices_fit : PartTypes → List VariableShape → List (Option Value) → Bool
+choices_fit parts [] [] = true
+choices_fit parts [] (g ∷ gs) = false
+choices_fit parts (x ∷ xs) [] = false
+choices_fit parts (x ∷ xs) (g ∷ gs) = choice_fits parts x g && choices_fit parts xs gs
 
--- the overrides and variables have their types
+-- the overrides have their types, and of the variables those that are held have values of theirs
 pub record SettingsFit (p : Module) (s : Settings) : Type 0 where
   pub overrides : IsTrue (has_types p.parts (override_types p) s.overrides)
-  pub counted : length s.globals ≡ length p.global_types
-  pub globals :
-      IsTrue (globals_have_types p.parts p.global_types (global_values p.global_types s.globals))
+  pub globals : IsTrue (choices_fit p.parts p.globals s.globals)
 
--- the constants, overrides and variables have their types, and types have the module's parts
+-- a variable's name stands for a value of its type where the variable is held, else for its place
+abbrev pub global_fits : PartTypes → VariableShape → GlobalValue → Bool
+global_fits parts (AtPlace spelling) (Stored pointer) = same_bytes spelling pointer
+global_fits parts (AtPlace spelling) (InHandleSpace chosen) = false
+global_fits parts (Held type) (Stored pointer) = false
+global_fits parts (Held type) (InHandleSpace None) = false
+global_fits parts (Held type) (InHandleSpace (Some v)) = has_type parts type v
+
+-- each variable's name
+abbrev pub globals_fit : PartTypes → List VariableShape → List GlobalValue → Bool
+globals_fit parts [] [] = true
+globals_fit parts [] (g ∷ gs) = false
+globals_fit parts (x ∷ xs) [] = false
+globals_fit parts (x ∷ xs) (g ∷ gs) = global_fits parts x g && globals_fit parts xs gs
+
+-- the constants and overrides have their types, the variables' names stand for what their spaces
+-- say, and types have the module's parts
 pub record EnvironmentFits (p : Module) (env : Environment) : Type 0 where
   pub parts : env.parts ≡ p.parts
   pub constants : IsTrue (has_types env.parts p.constant_types env.constants)
-  pub globals : IsTrue (globals_have_types env.parts p.global_types env.globals)
+  pub globals : IsTrue (globals_fit env.parts p.globals env.globals)
 
 -- no two items of a module have one name
 pub record ModuleNamesAreDistinct (p : Module) (n : ModuleNames) : Type 0 where

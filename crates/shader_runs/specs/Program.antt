@@ -6,7 +6,8 @@
 use Rattle.std.specs.Prelude.{ℕ, zero, suc, ℤ, Bool, true, false, cond, ◌-◌, ◌^◌, List, [], ◌∷◌}
 use Rattle.std.specs.Prelude.{length, Option, Some, None, ◌||◌, nat_eq, nat_le, get_or, slice_get}
 use Rattle.std.specs.Prelude.{drop}
-use Rattle.shader_runs.specs.Value.{Bytes, PartTypes, Selector, Value, ValueType, type_at}
+use Rattle.shader_runs.specs.Value.{Bytes, PartTypes, Selector, Value, ValueType, BooleanType}
+use Rattle.shader_runs.specs.Value.{PointerType, type_at}
 use Rattle.shader_runs.specs.Value.{ShortCircuit}
 
 mutual
@@ -27,13 +28,13 @@ pub data AskingRule : Type 0 where
   WhenCounted : AskingRule
   Always : AskingRule
 
--- a request's last operands may be constants, which are
--- written out and not by a handle: a level of zero, an offset
+-- a variable of the module is told to be held or at a place; a request's last operands may be
+-- constants, which are written out and not by a handle: a level of zero, an offset
 pub data Expression : Type 0 where
   Constant : ConstantTree → Expression
   Argument : ℕ → Expression
   Local : ℕ → Expression
-  Global : ℕ → Expression
+  Global : (held : Bool) → ℕ → Expression
   Load : (pointer : ℕ) → Expression
   Operator : (word : Bytes) → (operands : List ℕ) → Expression
   Access : (base index : ℕ) → Expression
@@ -95,7 +96,7 @@ pub record Function : Type 0 where
   pub expressions : List Expression
   pub types : List ValueType
   pub counts : List ℕ
-  pub given_names : List Bool
+  pub named_expressions : List Bool
   pub body : Statements
 
 -- how many arguments it takes
@@ -135,12 +136,12 @@ operands_of (Some (Request a w xs es)) = xs
 operands_of _ = []
 
 -- a front end named the handle
-abbrev pub is_given : Function → ℕ → Bool
-is_given f h = get_or f.given_names h false
+abbrev pub is_named : Function → ℕ → Bool
+is_named f h = get_or f.named_expressions h false
 
 -- a front end's name, or that many uses
 abbrev pub is_counted : Function → (least : ℕ) → ℕ → Bool
-is_counted f least h = is_given f h || nat_le least (get_or f.counts h 0)
+is_counted f least h = is_named f h || nat_le least (get_or f.counts h 0)
 
 -- an access is bound by its name alone, or at a count that can't be raised any more
 abbrev pub greatest_count : ℕ
@@ -196,14 +197,40 @@ abbrev mutual
   some_case_continues no_case = false
   some_case_continues (case l b falls cs) = any_continue b || some_case_continues cs
 
+-- a variable of a module, by its address space: in the handle space it holds a value of this type,
+-- in any other it is at a place, with the spelling of a pointer to it. What is held may itself be a
+-- pointer, to something else
+pub data VariableShape : Type 0 where
+  Held : (type : ValueType) → VariableShape
+  AtPlace : (pointer : Bytes) → VariableShape
+
+-- it is held
+abbrev pub is_held : VariableShape → Bool
+is_held (Held type) = true
+is_held (AtPlace pointer) = false
+
+-- the spelling of a pointer to it, if it is at a place
+abbrev pub pointer_to : VariableShape → Option Bytes
+pointer_to (Held type) = None
+pointer_to (AtPlace pointer) = Some pointer
+
+-- the type of an expression that is its name: what is held has its own, a place has a pointer's
+abbrev pub variable_type : VariableShape → ValueType
+variable_type (Held type) = type
+variable_type (AtPlace pointer) = PointerType pointer
+
+-- the variable at an index
+abbrev pub variable_shape_at : List VariableShape → ℕ → VariableShape
+variable_shape_at vs i = get_or vs i (Held BooleanType)
+
 -- a module: the types of its named constants and, behind them, of its
--- overrides; the initialisers of the named constants; the types of what its
--- variables' names stand for; how pointers to parts of its types are spelled;
--- and its functions, then its entry points, in their order, the last one first
+-- overrides; the initialisers of the named constants; its variables;
+-- how pointers to parts of its types are spelled; and its functions,
+-- then its entry points, in their order, the last one first
 pub record Module : Type 0 where
   pub constant_types : List ValueType
   pub initialisers : List ConstantTree
-  pub global_types : List ValueType
+  pub globals : List VariableShape
   pub parts : PartTypes
   pub functions : List Function
 

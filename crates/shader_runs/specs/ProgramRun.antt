@@ -14,7 +14,8 @@ use Rattle.shader_runs.specs.Value.{ValueType, has_type, Selector, MemberNamed, 
 use Rattle.shader_runs.specs.Value.{Pointer, Word, Spelled, PartWord, IndexWord, ShortCircuit}
 use Rattle.shader_runs.specs.Value.{short_circuit_word, is_decided}
 use Rattle.shader_runs.specs.World.{Event, Entry, Ask, Read, Write, Discard, entries, World}
-use Rattle.shader_runs.specs.World.{Meaning, GlobalValue, Stored, Held, Environment, update}
+use Rattle.shader_runs.specs.World.{Meaning, GlobalValue, Stored, InHandleSpace, Environment}
+use Rattle.shader_runs.specs.World.{update}
 use Rattle.shader_runs.specs.Outcome.{Stuck, Discarded, Mistyped, Outcome, Done, Continued, Broke}
 use Rattle.shader_runs.specs.Outcome.{or_stuck, Returned, Stopped, ReachedOrHalted, Gives, Halts}
 use Rattle.shader_runs.specs.Outcome.{answer}
@@ -80,7 +81,7 @@ constant_values env m es = tree_values (slice_get env.constants) m es
 abbrev pub global_value : ℕ → Option GlobalValue → Option Value
 global_value i None = None
 global_value i (Some (Stored pointer)) = Some (Pointer (Rooted (GlobalRoot pointer i)))
-global_value i (Some (Held v)) = Some v
+global_value i (Some (InHandleSpace o)) = o
 
 -- what a use of a handle takes
 abbrev pub used_value_as : Call → Option Expression → Option Value → Option Value
@@ -88,7 +89,7 @@ used_value_as c (Some (Constant e)) kept = constant_value c.environment c.meanin
 used_value_as c (Some (Argument i)) kept = slice_get c.arguments i
 used_value_as c (Some (Local i)) kept =
     Some (Pointer (Rooted (LocalRoot (local_pointer c.function i) c.frame i)))
-used_value_as c (Some (Global i)) kept = global_value i (slice_get c.environment.globals i)
+used_value_as c (Some (Global held i)) kept = global_value i (slice_get c.environment.globals i)
 used_value_as c None kept = None
 used_value_as c _ kept = kept
 

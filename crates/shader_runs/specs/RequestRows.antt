@@ -1,6 +1,6 @@
 -- Worked functions that ask for events: atomics, images, derivatives, collectives, barriers and ray
 -- traces. Each with its text, and what both runs of it do.
-use Rattle.std.specs.Prelude.{true, List, [], ◌∷◌, Some, None, codes}
+use Rattle.std.specs.Prelude.{true, false, List, [], ◌∷◌, Some, None, codes}
 use Rattle.shader_runs.specs.Value.{Bytes, Place, Rooted, GlobalRoot, ValueType, PointerType}
 use Rattle.shader_runs.specs.Value.{OtherType, Value, Pointer, Opaque}
 use Rattle.shader_runs.specs.World.{Event, Ask, Write}
@@ -30,7 +30,7 @@ counter_place = Rooted (GlobalRoot counter_type 0)
 abbrev pub count_function : Function
 count_function =
     function_with [] (Some i32) [] (
-    row (Global 0) (PointerType counter_type) 3
+    row (Global false 0) (PointerType counter_type) 3
     ∷ row (literal 5) i32 2
     ∷ row Result i32 1
     ∷ row (Request WhenCounted (codes "atomicLoad") (0 ∷ []) no_constant) i32 1
@@ -102,8 +102,8 @@ sample_function =
     let constants = constant (Fixed level_zero) (constant (NamedConstant 0) no_constant) in
     let sample = Request Always (codes "textureSampleLevel") (0 ∷ 1 ∷ 2 ∷ 3 ∷ []) constants in
     function_with (coordinate_type ∷ i32 ∷ []) (Some texel_type) [] (
-    row (Global 0) (OtherType layers_type) 1
-    ∷ row (Global 1) (OtherType sampler_type) 1
+    row (Global true 0) (OtherType layers_type) 1
+    ∷ row (Global true 1) (OtherType sampler_type) 1
     ∷ row (Argument 0) coordinate_type 1
     ∷ row (Argument 1) i32 1
     ∷ row sample texel_type 1 ∷ []) (
@@ -165,7 +165,7 @@ abbrev pub texel_function : Function
 texel_function =
     let load = Request Always (codes "textureLoad") (6 ∷ 2 ∷ 4 ∷ []) no_constant in
     function_with (i32 ∷ pair_type ∷ []) (Some texel_type) [] (
-    row (Global 0) (OtherType images_type) 1
+    row (Global true 0) (OtherType images_type) 1
     ∷ row (Argument 0) i32 1
     ∷ row (Argument 1) pair_type 1
     ∷ row (literal 1) i32 1
@@ -210,8 +210,8 @@ abbrev pub unused_function : Function
 unused_function =
     let load = Request Always (codes "textureLoad") (1 ∷ 2 ∷ 3 ∷ []) no_constant in
     function_with (pair_type ∷ []) None [] (
-    row (Global 0) (PointerType counter_type) 0
-    ∷ row (Global 1) (OtherType image_type) 1
+    row (Global false 0) (PointerType counter_type) 0
+    ∷ row (Global true 1) (OtherType image_type) 1
     ∷ row (Argument 0) pair_type 1
     ∷ row (literal 0) i32 1
     ∷ row (Request WhenCounted (codes "atomicLoad") (0 ∷ []) no_constant) i32 0
@@ -253,7 +253,7 @@ abbrev pub edge_function : Function
 edge_function =
     let derivative = Request WhenCounted (codes "dpdx") (2 ∷ []) no_constant in
     function_with (pair_type ∷ texel_type ∷ []) None [] (
-    row (Global 0) (OtherType canvas_type) 1
+    row (Global true 0) (OtherType canvas_type) 1
     ∷ row (Argument 0) pair_type 1
     ∷ row (Argument 1) texel_type 1
     ∷ row derivative texel_type 1 ∷ []) (
@@ -316,9 +316,9 @@ together_function =
     let all : BarrierBits =
     record { storage = true; work_group = true; sub_group = true; texture = true } in
     function_with (i32 ∷ OtherType ray_type ∷ []) (Some ballot_type) [] (
-    row (Global 0) (PointerType cell_type) 2
-    ∷ row (Global 1) (OtherType scene_type) 1
-    ∷ row (Global 2) (PointerType payload_type) 2
+    row (Global false 0) (PointerType cell_type) 2
+    ∷ row (Global true 1) (OtherType scene_type) 1
+    ∷ row (Global false 2) (PointerType payload_type) 2
     ∷ row (Argument 0) i32 1
     ∷ row (Argument 1) (OtherType ray_type) 1
     ∷ row Result i32 1

@@ -13,8 +13,8 @@ use Rattle.shader_runs.specs.Program.{Logical, Swizzle, Request, Action, Asked, 
 use Rattle.shader_runs.specs.Program.{Emit, Store, Block, If, Switch, Loop, Return, Act, Statements}
 use Rattle.shader_runs.specs.Program.{end, then, Cases, no_case, case, Function, expression_of}
 use Rattle.shader_runs.specs.Program.{binds, from, holds_continue, Module}
-use Rattle.shader_runs.specs.Scope.{Standing, Named, Handles, Naming, at_start, given_after}
-use Rattle.shader_runs.specs.Scope.{given_by, given_by_all, after_one, after, after_all}
+use Rattle.shader_runs.specs.Scope.{Availability, Bound, Handles, Naming, at_start, named_after}
+use Rattle.shader_runs.specs.Scope.{named_by, named_by_all, after_one, after, after_all}
 use Rattle.shader_runs.specs.Text.{Tree, Name, LiteralOf, Apply, Deref, AddressOf, Index, PartOf}
 use Rattle.shader_runs.specs.Text.{LogicalOf, Trees, no_more, more, Line, Let, Assign, Braces}
 use Rattle.shader_runs.specs.Text.{IfElse, SwitchOn, LoopOf, ReturnLine, Perform, Lines, last}
@@ -184,7 +184,7 @@ abbrev pub own_targets : (ℕ → List Target) → Option Expression → List Ta
 own_targets operand (Some (Constant e)) = constant_targets e
 own_targets operand (Some (Argument i)) = ArgumentTarget i ∷ []
 own_targets operand (Some (Local i)) = LocalTarget i ∷ []
-own_targets operand (Some (Global i)) = GlobalTarget i ∷ []
+own_targets operand (Some (Global held i)) = GlobalTarget i ∷ []
 own_targets operand (Some (Load p)) = operand p
 own_targets operand (Some (Operator word xs)) = operands_targets operand xs
 own_targets operand (Some (Access b i)) = operand b ++ operand i
@@ -200,15 +200,15 @@ abbrev pub LetNumbers : Type 0
 LetNumbers = ℕ → ℕ
 
 -- a handle that has a name means its `let`, and any other what its expression means
-abbrev pub standing_targets : Standing → (number : ℕ) → List Target → List Target
-standing_targets (Named x) number own = LetTarget number ∷ []
-standing_targets _ number own = own
+abbrev pub availability_targets : Availability → (number : ℕ) → List Target → List Target
+availability_targets (Bound x) number own = LetTarget number ∷ []
+availability_targets _ number own = own
 
 -- what a handle below the bound means
 abbrev pub targets_below : Function → Handles → LetNumbers → ℕ → ℕ → List Target
 targets_below f s numbers zero h = []
 targets_below f s numbers (suc n) h =
-    standing_targets (s h) (numbers h)
+    availability_targets (s h) (numbers h)
     (own_targets (targets_below f s numbers n) (expression_of f h))
 
 -- what a handle means
@@ -285,7 +285,7 @@ abbrev pub emit_targets : Naming → (k l : ℕ) → List ℕ → Handles → Le
 emit_targets f k l [] s numbers = []
 emit_targets f k l (h ∷ hs) s numbers =
     let own = own_targets (value_targets f.function s numbers) (expression_of f.function h) in
-    let k1 = given_after f.function h k in
+    let k1 = named_after f.function h k in
     let l1 = lets_after f.function h l in
     cond (binds f.function h) own []
     ++ emit_targets f k1 l1 hs (after_one f k h s) (numbers_after f.function l h numbers)
@@ -304,14 +304,14 @@ abbrev mutual
       value_targets f.function s numbers p ++ value_targets f.function s numbers v
   statement_targets f k l (Block b) s numbers = statements_targets f k l b s numbers
   statement_targets f k l (If c a b) s numbers =
-      let k1 = given_by_all f.function a k in
+      let k1 = named_by_all f.function a k in
       let l1 = lets_by_all f.function a l in
       value_targets f.function s numbers c
       ++ (statements_targets f k l a s numbers ++ statements_targets f k1 l1 b s numbers)
   statement_targets f k l (Switch h cases) s numbers =
       value_targets f.function s numbers h ++ cases_targets f k l cases s numbers
   statement_targets f k l (Loop b d e) s numbers =
-      let k1 = given_by_all f.function b k in
+      let k1 = named_by_all f.function b k in
       let l1 = lets_by_all f.function b l in
       let s1 = after_all f k b s in
       let numbers1 = numbers_left f.function l b numbers in
@@ -327,7 +327,7 @@ abbrev mutual
   pub statements_targets : Naming → (k l : ℕ) → Statements → Handles → LetNumbers → List Target
   statements_targets f k l end s numbers = []
   statements_targets f k l (then st ss) s numbers =
-      let k1 = given_by f.function st k in
+      let k1 = named_by f.function st k in
       let l1 = lets_by f.function st l in
       statement_targets f k l st s numbers
       ++ statements_targets f k1 l1 ss (after f k st s) (numbers_by f.function l st numbers)
@@ -335,10 +335,10 @@ abbrev mutual
   pub cases_targets : Naming → (k l : ℕ) → Cases → Handles → LetNumbers → List Target
   cases_targets f k l no_case s numbers = []
   cases_targets f k l (case label b true cs) s numbers =
-      cases_targets f (given_by_all f.function b k) l cs s numbers
+      cases_targets f (named_by_all f.function b k) l cs s numbers
   cases_targets f k l (case label b false cs) s numbers =
       statements_targets f k l b s numbers
-      ++ cases_targets f (given_by_all f.function b k) (lets_by_all f.function b l) cs s numbers
+      ++ cases_targets f (named_by_all f.function b k) (lets_by_all f.function b l) cs s numbers
 
 -- no `let` stands before a function's body
 abbrev pub no_numbers : LetNumbers

@@ -80,9 +80,9 @@ AllGiveResults [] = Unit {0}
 AllGiveResults (f ∷ fs) = GivesResult f.result f.body × AllGiveResults fs
 
 -- what is returned is there, where there is a result
-abbrev pub IsGiven : Option ValueType → Option Value → Type 0
-IsGiven (Some k) None = ⊥
-IsGiven _ _ = Unit {0}
+abbrev pub IsReturned : Option ValueType → Option Value → Type 0
+IsReturned (Some k) None = ⊥
+IsReturned _ _ = Unit {0}
 
 -- a reason to end, other than that a wanted result wasn't returned
 abbrev pub NotUnreturned : Stop → Type 0
@@ -91,7 +91,7 @@ NotUnreturned _ = Unit {0}
 
 -- a call gives its function's result, and inside it no result is missing
 abbrev pub IsComplete : Option ValueType → ReachedOrHalted (Option Value) → Type 0
-IsComplete k (Gives v t) = IsGiven k v
+IsComplete k (Gives v t) = IsReturned k v
 IsComplete k (Halts x t) = NotUnreturned x
 
 -- where each function with a result returns a value on all paths, no call misses a result

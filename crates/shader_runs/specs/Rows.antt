@@ -9,9 +9,10 @@ use Rattle.shader_runs.specs.Value.{At, Field, Rooted, GlobalRoot, LocalRoot, Pa
 use Rattle.shader_runs.specs.Value.{ValueType, BooleanType, PointerType, Value, Truth, Pointer}
 use Rattle.shader_runs.specs.World.{Event, Entry, Ask, Read, Write, Settings}
 use Rattle.shader_runs.specs.Outcome.{ReachedOrHalted, Gives, Halts, Stuck, Unreturned, OutOfTurns}
-use Rattle.shader_runs.specs.Program.{BarrierBits, Fixed, NamedConstant, Module, Expression}
-use Rattle.shader_runs.specs.Program.{Constant, Argument, Local, Global, Load, Operator, Access}
-use Rattle.shader_runs.specs.Program.{AccessIndex, Result, Called, Numbered, Default, Statements}
+use Rattle.shader_runs.specs.Program.{BarrierBits, Fixed, NamedConstant, AtPlace, Module}
+use Rattle.shader_runs.specs.Program.{Expression, Constant, Argument, Local, Global, Load}
+use Rattle.shader_runs.specs.Program.{Operator, Access, AccessIndex, Result, Called, Numbered}
+use Rattle.shader_runs.specs.Program.{Default, Statements}
 use Rattle.shader_runs.specs.Program.{Emit, Store, If, Switch, Loop, Break, Continue, Return, Act}
 use Rattle.shader_runs.specs.Program.{Barrier, end, then, no_case, case, Function, Statement}
 use Rattle.shader_runs.specs.Text.{Tree, Name, LiteralOf, Deref, Index, PartOf, Let, Assign, IfElse}
@@ -243,7 +244,7 @@ SiblingRow =
 abbrev pub twice_naming : Naming
 twice_naming =
     with_names (codes "k" ∷ []) 0 (c_name ∷ x_name ∷ []) [] (codes "y" ∷ codes "y_1" ∷ []) (
-    record sibling_function { given_names = false ∷ false ∷ true ∷ [] })
+    record sibling_function { named_expressions = false ∷ false ∷ true ∷ [] })
 
 -- [twice]: a given name is given anew in each branch
 abbrev pub TwiceRow : Type 0
@@ -420,7 +421,7 @@ abbrev pub without_default : Statement
 without_default = Switch 0 (case (Numbered (pos 1)) returning_body false no_case)
 
 -- where a run may come to the end of a body
-pub record EndsAreTold : Type 0 where
+pub record EndsAreDistinguished : Type 0 where
   pub both_return : ends_behind (If 0 returning_body returning_body) ≡ false
   pub one_returns : ends_behind (If 0 returning_body end) ≡ true
   pub loop_without_break : ends_behind (Loop end end None) ≡ false
@@ -552,7 +553,7 @@ abbrev pub places_function : Function
 places_function =
     function_with (i32 ∷ []) (Some i32) [] (
     row (Argument 0) i32 1
-    ∷ row (Global 0) (PointerType private_vector) 2
+    ∷ row (Global false 0) (PointerType private_vector) 2
     ∷ row (Constant (NamedConstant 0)) i32 1
     ∷ row (AccessIndex (MemberNamed x_name) 1) (PointerType private_i32) 1
     ∷ row (Access 1 0) (PointerType private_i32) 1
@@ -580,7 +581,7 @@ places_naming =
         };
         argument = λ i. codes "i";
         local_ = λ i. [];
-        given = λ k. [];
+        named = λ k. [];
         numbered = numbered_name;
         earlier = 0;
       };
@@ -592,7 +593,7 @@ places_module =
     record {
       constant_types = i32 ∷ [];
       initialisers = Fixed (number 5) ∷ [];
-      global_types = PointerType private_vector ∷ [];
+      globals = AtPlace private_vector ∷ [];
       parts = vector_parts;
       functions = places_function ∷ [];
     }
@@ -610,7 +611,7 @@ places_text =
     record {
       constants = record { name = codes "N"; initialiser = digits 5 } ∷ [];
       overrides = [];
-      globals = record { name = codes "v"; pointer = private_vector } ∷ [];
+      globals = record { name = codes "v"; pointer = Some private_vector } ∷ [];
       functions = places_lines ∷ [];
     }
 
@@ -727,7 +728,7 @@ not_dereferenced_text =
     text_of (codes "h") (codes "p" ∷ []) [] (lines (
     return_of (Index (Name (codes "p")) (digits 0)) ∷ []))
 
-pub record AreToldApart : Type 0 where
+pub record AreDistinguished : Type 0 where
   pub load_inlined_past_store : Follows load_inlined_text [] (
       Gives (Some (number 2)) (Read a_place ∷ Write a_place (number 2) ∷ entered_with_one))
   pub every_emit_bound : Follows every_emit_text [] (
@@ -793,6 +794,6 @@ pub record RowsHold : Type 0 where
   pub places : PlacesRow
   pub refused : AreRefused
   pub stuck : AreStuck
-  pub ends : EndsAreTold
-  pub told_apart : AreToldApart
+  pub ends : EndsAreDistinguished
+  pub distinguished : AreDistinguished
   pub same_step : SameStep

@@ -11,21 +11,21 @@ use Rattle.shader_runs.specs.Program.{Expression, Constant, Argument, Local, Glo
 use Rattle.shader_runs.specs.Program.{Access, AccessIndex, Logical, Swizzle, Request, Statement}
 use Rattle.shader_runs.specs.Program.{Emit, Store, Block, If, Switch, Loop, Return, Act, Statements}
 use Rattle.shader_runs.specs.Program.{end, then, Cases, no_case, case, Function, argument_count}
-use Rattle.shader_runs.specs.Program.{local_count, expression_of, operands_of, is_given, binds}
+use Rattle.shader_runs.specs.Program.{local_count, expression_of, operands_of, is_named, binds}
 use Rattle.shader_runs.specs.Program.{from, holds_continue}
 
 -- a handle at a point: not emitted here; emitted where an operand was out of scope; a constant tree
 -- that wasn't emitted here; written where it is used; or bound under a name
-pub data Standing : Type 0 where
-  Absent : Standing
-  Barred : Standing
-  Everywhere : Standing
-  Inline : Standing
-  Named : Bytes → Standing
+pub data Availability : Type 0 where
+  Absent : Availability
+  Barred : Availability
+  Everywhere : Availability
+  Inline : Availability
+  Bound : Bytes → Availability
 
--- the standing of each handle
+-- the availability of each handle
 abbrev pub Handles : Type 0
-Handles = ℕ → Standing
+Handles = ℕ → Availability
 
 -- the names of a module's items. is_request: the words that ask for an event
 pub record ModuleNames : Type 0 where
@@ -40,7 +40,7 @@ pub record Names : Type 0 where
   pub outer : ModuleNames
   pub argument : ℕ → Bytes
   pub local_ : ℕ → Bytes
-  pub given : ℕ → Bytes
+  pub named : ℕ → Bytes
   pub numbered : ℕ → Bytes
   pub earlier : ℕ
 
@@ -51,30 +51,30 @@ pub record Naming : Type 0 where
 
 -- an emitted handle's name, behind k given ones
 abbrev pub bound_name : Naming → ℕ → ℕ → Bytes
-bound_name f k h = cond (is_given f.function h) (f.names.given k) (f.names.numbered h)
+bound_name f k h = cond (is_named f.function h) (f.names.named k) (f.names.numbered h)
 
 -- it may be written
-abbrev pub is_present : Standing → Bool
+abbrev pub is_present : Availability → Bool
 is_present Absent = false
 is_present Barred = false
 is_present Everywhere = true
 is_present Inline = true
-is_present (Named x) = true
+is_present (Bound x) = true
 
 -- an Emit may give it: no Emit in this block or an enclosing one did
-abbrev pub is_new : Standing → Bool
+abbrev pub is_new : Availability → Bool
 is_new Absent = true
 is_new Barred = false
 is_new Everywhere = true
 is_new Inline = false
-is_new (Named x) = false
+is_new (Bound x) = false
 
--- leaves are in scope everywhere, and other expressions by their standing
-abbrev pub usable_as : Function → Option Expression → Standing → Bool
+-- leaves are in scope everywhere, and other expressions by their availability
+abbrev pub usable_as : Function → Option Expression → Availability → Bool
 usable_as f (Some (Constant e)) s = true
 usable_as f (Some (Argument i)) s = nat_lt i (argument_count f)
 usable_as f (Some (Local i)) s = nat_lt i (local_count f)
-usable_as f (Some (Global i)) s = true
+usable_as f (Some (Global held i)) s = true
 usable_as f None s = false
 usable_as f _ s = is_present s
 
@@ -121,29 +121,29 @@ is_constant_below f zero h = false
 is_constant_below f (suc n) h = constant_test (is_constant_below f n) (expression_of f h)
 
 -- a constant tree at the start
-abbrev pub start_standing : Bool → Standing
-start_standing true = Everywhere
-start_standing false = Absent
+abbrev pub start_availability : Bool → Availability
+start_availability true = Everywhere
+start_availability false = Absent
 
 -- constant trees are in scope from the start
 abbrev pub start_below : Function → ℕ → Handles
-start_below f n h = start_standing (is_pure (expression_of f h) && is_constant_below f n h)
+start_below f n h = start_availability (is_pure (expression_of f h) && is_constant_below f n h)
 
 -- the handles in scope at the start of a function
 abbrev pub at_start : Function → Handles
 at_start f = start_below f (length f.expressions)
 
 -- an operator that no name binds is written where it is used, if its operands are in scope here
-abbrev pub standing_without_name : Bool → Standing → Standing
-standing_without_name true s = Inline
-standing_without_name false Absent = Barred
-standing_without_name false s = s
+abbrev pub availability_without_name : Bool → Availability → Availability
+availability_without_name true s = Inline
+availability_without_name false Absent = Barred
+availability_without_name false s = s
 
 -- a read that isn't bound is never in scope
 abbrev pub with_emitted_handle : (is_bound is_operator has_operands : Bool) → Bytes → Handles → ℕ →
     Handles
-with_emitted_handle true o u x s h = update s h (Named x)
-with_emitted_handle false true u x s h = update s h (standing_without_name u (s h))
+with_emitted_handle true o u x s h = update s h (Bound x)
+with_emitted_handle false true u x s h = update s h (availability_without_name u (s h))
 with_emitted_handle false false u x s h = s
 
 -- the handles in scope after one is emitted, k names having been given
@@ -154,41 +154,41 @@ after_one f k h s =
     (bound_name f k h) s h
 
 -- how many names are given after a handle
-abbrev pub given_after : Function → ℕ → ℕ → ℕ
-given_after f h k = cond (is_given f h) (suc k) k
+abbrev pub named_after : Function → ℕ → ℕ → ℕ
+named_after f h k = cond (is_named f h) (suc k) k
 
 -- how many names are given after these handles
-abbrev pub given_after_all : Function → List ℕ → ℕ → ℕ
-given_after_all f [] k = k
-given_after_all f (h ∷ hs) k = given_after_all f hs (given_after f h k)
+abbrev pub named_after_all : Function → List ℕ → ℕ → ℕ
+named_after_all f [] k = k
+named_after_all f (h ∷ hs) k = named_after_all f hs (named_after f h k)
 
 -- the handles in scope after an Emit
 abbrev pub after_emit : Naming → ℕ → List ℕ → Handles → Handles
 after_emit f k [] s = s
-after_emit f k (h ∷ hs) s = after_emit f (given_after f.function h k) hs (after_one f k h s)
+after_emit f k (h ∷ hs) s = after_emit f (named_after f.function h k) hs (after_one f k h s)
 
 -- how many names are given after a statement
 abbrev mutual
-  pub given_by : Function → Statement → ℕ → ℕ
-  given_by f (Emit first count) k = given_after_all f (from first count) k
-  given_by f (Block b) k = given_by_all f b k
-  given_by f (If c a b) k = given_by_all f b (given_by_all f a k)
-  given_by f (Switch h cases) k = given_by_cases f cases k
-  given_by f (Loop b d e) k = given_by_all f d (given_by_all f b k)
-  given_by f _ k = k
+  pub named_by : Function → Statement → ℕ → ℕ
+  named_by f (Emit first count) k = named_after_all f (from first count) k
+  named_by f (Block b) k = named_by_all f b k
+  named_by f (If c a b) k = named_by_all f b (named_by_all f a k)
+  named_by f (Switch h cases) k = named_by_cases f cases k
+  named_by f (Loop b d e) k = named_by_all f d (named_by_all f b k)
+  named_by f _ k = k
 
-  pub given_by_all : Function → Statements → ℕ → ℕ
-  given_by_all f end k = k
-  given_by_all f (then s ss) k = given_by_all f ss (given_by f s k)
+  pub named_by_all : Function → Statements → ℕ → ℕ
+  named_by_all f end k = k
+  named_by_all f (then s ss) k = named_by_all f ss (named_by f s k)
 
-  pub given_by_cases : Function → Cases → ℕ → ℕ
-  given_by_cases f no_case k = k
-  given_by_cases f (case l b falls cs) k = given_by_cases f cs (given_by_all f b k)
+  pub named_by_cases : Function → Cases → ℕ → ℕ
+  named_by_cases f no_case k = k
+  named_by_cases f (case l b falls cs) k = named_by_cases f cs (named_by_all f b k)
 
 -- a result is bound to its own name
 abbrev pub after_result : Names → Option ℕ → Handles → Handles
 after_result n None s = s
-after_result n (Some h) s = update s h (Named (n.numbered h))
+after_result n (Some h) s = update s h (Bound (n.numbered h))
 
 -- the handles in scope after a statement
 abbrev pub after : Naming → ℕ → Statement → Handles → Handles
@@ -197,12 +197,12 @@ after f k (Act a xs r) s = after_result f.names r s
 after f k _ s = s
 
 -- a constant tree that was emitted meanwhile isn't emitted again, and is written where it is used
-abbrev pub forgotten_one : Standing → Standing → Standing
+abbrev pub forgotten_one : Availability → Availability → Availability
 forgotten_one Everywhere now = cond (is_new now) Everywhere Inline
 forgotten_one Absent now = Absent
 forgotten_one Barred now = Barred
 forgotten_one Inline now = Inline
-forgotten_one (Named x) now = Named x
+forgotten_one (Bound x) now = Bound x
 
 -- the same for all handles
 abbrev pub forgotten_handles : Handles → Handles → Handles
@@ -218,7 +218,7 @@ forgotten_if false s now = now
 abbrev pub after_all : Naming → ℕ → Statements → Handles → Handles
 after_all f k end s = s
 after_all f k (then st ss) s =
-    forgotten_if (holds_continue st) s (after_all f (given_by f.function st k) ss (after f k st s))
+    forgotten_if (holds_continue st) s (after_all f (named_by f.function st k) ss (after f k st s))
 
 -- an Emit of a result, or of what is in scope everywhere, is refused
 abbrev pub is_emittable : Option Expression → Bool
@@ -236,7 +236,7 @@ may_emit f h s =
 abbrev pub may_emit_all : Naming → ℕ → List ℕ → Handles → Bool
 may_emit_all f k [] s = true
 may_emit_all f k (h ∷ hs) s =
-    may_emit f.function h s && may_emit_all f (given_after f.function h k) hs (after_one f k h s)
+    may_emit f.function h s && may_emit_all f (named_after f.function h k) hs (after_one f k h s)
 
 -- a result is given where its handle isn't in scope
 abbrev pub may_give : Option ℕ → Handles → Bool
@@ -250,11 +250,11 @@ abbrev mutual
   fits f k (Store p v) s = usable f.function s p && usable f.function s v
   fits f k (Block b) s = fits_all f k b s
   fits f k (If c a b) s =
-      usable f.function s c && (fits_all f k a s && fits_all f (given_by_all f.function a k) b s)
+      usable f.function s c && (fits_all f k a s && fits_all f (named_by_all f.function a k) b s)
   fits f k (Switch h cases) s = usable f.function s h && fits_cases f k cases s
   fits f k (Loop b d e) s =
       let s1 = after_all f k b s in
-      let k1 = given_by_all f.function b k in
+      let k1 = named_by_all f.function b k in
       fits_all f k b s && (fits_all f k1 d s1 && usable_if f.function (after_all f k1 d s1) e)
   fits f k (Return v) s = usable_if f.function s v
   fits f k (Act a xs r) s = usable_all f.function s xs && may_give r s
@@ -263,12 +263,12 @@ abbrev mutual
   pub fits_all : Naming → ℕ → Statements → Handles → Bool
   fits_all f k end s = true
   fits_all f k (then st ss) s =
-      fits f k st s && fits_all f (given_by f.function st k) ss (after f k st s)
+      fits f k st s && fits_all f (named_by f.function st k) ss (after f k st s)
 
   pub fits_cases : Naming → ℕ → Cases → Handles → Bool
   fits_cases f k no_case s = true
   fits_cases f k (case l b falls cs) s =
-      fits_all f k b s && fits_cases f (given_by_all f.function b k) cs s
+      fits_all f k b s && fits_cases f (named_by_all f.function b k) cs s
 
 -- the function with its first locals alone, as many as these: what is in scope in front of the
 -- declaration of the next one

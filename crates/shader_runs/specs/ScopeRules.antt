@@ -15,17 +15,17 @@ use Rattle.shader_runs.specs.Scope.{Naming, is_pure, is_emittable, before_local,
 use Rattle.shader_runs.specs.Premises.{AllBelow}
 
 -- a handle that a statement gave, by an Emit or as its result
-pub data GivenHandle : Type 0 where
-  Emitted : (handle : ℕ) → GivenHandle
-  AsResult : (handle : ℕ) → GivenHandle
+pub data IntroducedHandle : Type 0 where
+  Emitted : (handle : ℕ) → IntroducedHandle
+  AsResult : (handle : ℕ) → IntroducedHandle
 
 -- the handle that was given
-abbrev pub handle_of : GivenHandle → ℕ
+abbrev pub handle_of : IntroducedHandle → ℕ
 handle_of (Emitted h) = h
 handle_of (AsResult h) = h
 
 -- the handle is one of those that were given
-abbrev pub IsAmong : ℕ → List GivenHandle → Type 0
+abbrev pub IsAmong : ℕ → List IntroducedHandle → Type 0
 IsAmong h [] = ⊥
 IsAmong h (g ∷ gs) = (handle_of g ≡ h) ⊎ IsAmong h gs
 
@@ -44,45 +44,48 @@ mutual
 
 -- what statements give: an Emit operators and reads, and
 -- others their `Result`. The rest is there by itself
-abbrev pub can_be_given : Option Expression → Bool
-can_be_given (Some Result) = true
-can_be_given e = is_emittable e
+abbrev pub can_be_introduced : Option Expression → Bool
+can_be_introduced (Some Result) = true
+can_be_introduced e = is_emittable e
 
 mutual
   -- the handle is in scope, so that it may be used, where these were given, the latest first
-  pub data InScope (f : Function) : List GivenHandle → ℕ → Type 0 where
+  pub data InScope (f : Function) : List IntroducedHandle → ℕ → Type 0 where
     -- everywhere: constant trees, and each argument, local and global
-    constant_tree : {given : List GivenHandle} {h : ℕ} → IsConstantTree f h → InScope f given h
-    argument : {given : List GivenHandle} {h : ℕ} (i : ℕ) →
-        expression_of f h ≡ Some (Argument i) → i < argument_count f → InScope f given h
-    local : {given : List GivenHandle} {h : ℕ} (i : ℕ) →
-        expression_of f h ≡ Some (Local i) → i < local_count f → InScope f given h
-    global : {given : List GivenHandle} {h : ℕ} (i : ℕ) →
-        expression_of f h ≡ Some (Global i) → InScope f given h
+    constant_tree : {introduced : List IntroducedHandle} {h : ℕ} → IsConstantTree f h →
+        InScope f introduced h
+    argument : {introduced : List IntroducedHandle} {h : ℕ} (i : ℕ) →
+        expression_of f h ≡ Some (Argument i) → i < argument_count f → InScope f introduced h
+    local : {introduced : List IntroducedHandle} {h : ℕ} (i : ℕ) →
+        expression_of f h ≡ Some (Local i) → i < local_count f → InScope f introduced h
+    global : {introduced : List IntroducedHandle} {h : ℕ} (held : Bool) (i : ℕ) →
+        expression_of f h ≡ Some (Global held i) → InScope f introduced h
     -- behind its Emit, if a `let` binds it
-    bound : {given : List GivenHandle} {h : ℕ} → IsTrue (binds f h) →
-        InScope f (Emitted h ∷ given) h
+    bound : {introduced : List IntroducedHandle} {h : ℕ} → IsTrue (binds f h) →
+        InScope f (Emitted h ∷ introduced) h
     -- behind its Emit, if it is an operator that no `let` binds and its operands were in scope
     -- there: it is written out where it is used
-    written_out : {given : List GivenHandle} {h : ℕ} →
+    written_out : {introduced : List IntroducedHandle} {h : ℕ} →
         IsFalse (binds f h) → IsTrue (is_pure (expression_of f h)) →
-        EachInScope f given (operands_of (expression_of f h)) → InScope f (Emitted h ∷ given) h
+        EachInScope f introduced (operands_of (expression_of f h)) →
+        InScope f (Emitted h ∷ introduced) h
     -- behind the statement whose result it is
-    result : {given : List GivenHandle} {h : ℕ} →
-        IsTrue (can_be_given (expression_of f h)) → InScope f (AsResult h ∷ given) h
+    result : {introduced : List IntroducedHandle} {h : ℕ} →
+        IsTrue (can_be_introduced (expression_of f h)) → InScope f (AsResult h ∷ introduced) h
     -- and it stays in scope as more is given
-    still : {given : List GivenHandle} {h : ℕ} (g : GivenHandle) → InScope f given h →
-        InScope f (g ∷ given) h
+    still : {introduced : List IntroducedHandle} {h : ℕ} (g : IntroducedHandle) →
+        InScope f introduced h →
+        InScope f (g ∷ introduced) h
 
-  pub data EachInScope (f : Function) : List GivenHandle → List ℕ → Type 0 where
-    no_handle : {given : List GivenHandle} → EachInScope f given []
-    and_handle : {given : List GivenHandle} {h : ℕ} {hs : List ℕ} →
-        InScope f given h → EachInScope f given hs → EachInScope f given (h ∷ hs)
+  pub data EachInScope (f : Function) : List IntroducedHandle → List ℕ → Type 0 where
+    no_handle : {introduced : List IntroducedHandle} → EachInScope f introduced []
+    and_handle : {introduced : List IntroducedHandle} {h : ℕ} {hs : List ℕ} →
+        InScope f introduced h → EachInScope f introduced hs → EachInScope f introduced (h ∷ hs)
 
 -- the handle is in scope, if one is wanted
-abbrev pub InScopeIf : Function → List GivenHandle → Option ℕ → Type 0
-InScopeIf f given None = Unit {0}
-InScopeIf f given (Some h) = InScope f given h
+abbrev pub InScopeIf : Function → List IntroducedHandle → Option ℕ → Type 0
+InScopeIf f introduced None = Unit {0}
+InScopeIf f introduced (Some h) = InScope f introduced h
 
 -- the reads that are never in scope: they count nowhere and have no name, so they are not written.
 -- Their Emit is allowed, and gives nothing
@@ -92,24 +95,25 @@ is_unwritten f h (Some (Request a w xs es)) = not (is_asked f h a)
 is_unwritten f h _ = false
 
 -- what was given, one emitted handle later
-abbrev pub with_one : Function → ℕ → List GivenHandle → List GivenHandle
-with_one f h given = cond (is_unwritten f h (expression_of f h)) given (Emitted h ∷ given)
+abbrev pub with_one : Function → ℕ → List IntroducedHandle → List IntroducedHandle
+with_one f h introduced = cond (is_unwritten f h (expression_of f h)) introduced
+    (Emitted h ∷ introduced)
 
 -- all of an Emit's handles later
-abbrev pub with_emitted : Function → List ℕ → List GivenHandle → List GivenHandle
-with_emitted f [] given = given
-with_emitted f (h ∷ hs) given = with_emitted f hs (with_one f h given)
+abbrev pub with_emitted : Function → List ℕ → List IntroducedHandle → List IntroducedHandle
+with_emitted f [] introduced = introduced
+with_emitted f (h ∷ hs) introduced = with_emitted f hs (with_one f h introduced)
 
 -- a statement later. What is given in a block inside it is given to the end of that block only
-abbrev pub with_statement : Function → Statement → List GivenHandle → List GivenHandle
-with_statement f (Emit first count) given = with_emitted f (from first count) given
-with_statement f (Act a xs (Some h)) given = AsResult h ∷ given
-with_statement f _ given = given
+abbrev pub with_statement : Function → Statement → List IntroducedHandle → List IntroducedHandle
+with_statement f (Emit first count) introduced = with_emitted f (from first count) introduced
+with_statement f (Act a xs (Some h)) introduced = AsResult h ∷ introduced
+with_statement f _ introduced = introduced
 
 -- a list of statements later
-abbrev pub with_statements : Function → Statements → List GivenHandle → List GivenHandle
-with_statements f end given = given
-with_statements f (then st ss) given = with_statements f ss (with_statement f st given)
+abbrev pub with_statements : Function → Statements → List IntroducedHandle → List IntroducedHandle
+with_statements f end introduced = introduced
+with_statements f (then st ss) introduced = with_statements f ss (with_statement f st introduced)
 
 -- the statements of a list before its first that holds
 -- a `continue` of this loop: no `continue` skips them
@@ -123,8 +127,8 @@ statements_before_continue (then st ss) =
 -- `continue` can skip it, if the point is in `continuing`. passed: with all that
 -- the body's own list gave, since the body encloses its `continuing`
 pub record Point : Type 0 where
-  pub visible : List GivenHandle
-  pub passed : List GivenHandle
+  pub visible : List IntroducedHandle
+  pub passed : List IntroducedHandle
 
 -- where a function starts
 abbrev pub entry_point : Point
@@ -149,16 +153,16 @@ behind_turn f ss at =
 
 -- the handle can't be given at this point: it was given before in this block or an enclosing one.
 -- For a constant tree that isn't a constant by itself all counts that was passed
-pub data WasGiven (f : Function) (at : Point) (h : ℕ) : Type 0 where
-  in_sight : IsAmong h at.visible → WasGiven f at h
+pub data WasIntroduced (f : Function) (at : Point) (h : ℕ) : Type 0 where
+  in_sight : IsAmong h at.visible → WasIntroduced f at h
   as_a_tree : IsTrue (is_pure (expression_of f h)) → IsConstantTree f h →
-      IsAmong h at.passed → WasGiven f at h
+      IsAmong h at.passed → WasIntroduced f at h
 
 -- an Emit may give the handle: it is an operator or a read, it was not given before, and if a `let`
 -- binds it its operands are in scope
 pub record MayEmit (f : Function) (at : Point) (h : ℕ) : Type 0 where
   pub kind : IsTrue (is_emittable (expression_of f h))
-  pub new : ¬ WasGiven f at h
+  pub new : ¬ WasIntroduced f at h
   pub operands : IsTrue (binds f h) → EachInScope f at.visible (operands_of (expression_of f h))
 
 -- an Emit may give these handles, one after the other
@@ -169,7 +173,7 @@ MayEmitEach f at (h ∷ hs) = MayEmit f at h × MayEmitEach f (behind_one f h at
 -- a statement may give its result, if it has one: it was not given before
 abbrev pub MayResult : Function → Point → Option ℕ → Type 0
 MayResult f at None = Unit {0}
-MayResult f at (Some h) = ¬ WasGiven f at h
+MayResult f at (Some h) = ¬ WasIntroduced f at h
 
 -- each operand is in scope where it is used, and each
 -- Emit and each result may be given where it stands

@@ -467,7 +467,7 @@ pub record WordIsTaken : Type 0 where
   pub refused : FitsExample (greater_example (codes "max")) → ⊥
 
 -- what other writers would give for these functions, and what it does
-pub record StatementsAreToldApart : Type 0 where
+pub record StatementsAreDistinguished : Type 0 where
   -- an atomic that is read like any other variable
   pub plain_read :
       follow_example atomic_example (atomic_text (Name (codes "counter"))) 0 3 []
@@ -509,4 +509,4 @@ pub record StatementRowsHold : Type 0 where
   pub silent : SilentRow
   pub swizzle : SwizzleRow
   pub greater : GreaterRow
-  pub told_apart : StatementsAreToldApart
+  pub distinguished : StatementsAreDistinguished

@@ -267,18 +267,18 @@ abbrev pub with_variables : List Variable → (entries index : ℕ) → Scope �
 with_variables [] k i names = names
 with_variables (x ∷ xs) k i names = with_variables xs k (suc i) (with_variable x k i names)
 
--- what a module-level variable's name stands for: the
--- value that is held, or a place of the declared type
-abbrev pub global_denoted : (pointer : Bytes) → ℕ → Option Value → Denotation
-global_denoted pointer i None = IsPlace (Rooted (GlobalRoot pointer i))
-global_denoted pointer i (Some v) = IsValue v
+-- what a module-level variable's name stands for, by its declaration: a place of the declared type,
+-- or what the caller chose, if any, where no pointer leads to it
+abbrev pub global_denoted : (pointer : Option Bytes) → ℕ → Option Value → Option Denotation
+global_denoted (Some pointer) i chosen = Some (IsPlace (Rooted (GlobalRoot pointer i)))
+global_denoted None i chosen = option_map IsValue chosen
 
 -- module-level variables with their places or values
 abbrev pub with_globals : List ModuleVariable → List (Option Value) → ℕ → Scope → Scope
 with_globals [] gs i names = names
 with_globals (x ∷ xs) [] i names = names
 with_globals (x ∷ xs) (g ∷ gs) i names =
-    bind (with_globals xs gs (suc i) names) x.name (Some (global_denoted x.pointer i g))
+    bind (with_globals xs gs (suc i) names) x.name (global_denoted x.pointer i g)
 
 -- nothing is in scope
 abbrev pub no_names : Scope

@@ -79,11 +79,6 @@ pub data ValueType : Type 0 where
   PointerType : (spelling : Bytes) → ValueType
   OtherType : (spelling : Bytes) → ValueType
 
--- the spelling of a pointer's type; what is held and not stored has none
-abbrev pub pointer_spelling : ValueType → Bytes
-pointer_spelling (PointerType spelling) = spelling
-pointer_spelling _ = []
-
 -- a payload stands for whatever a value of another type is
 pub data Value : Type 0 where
   Truth : Bool → Value

@@ -84,7 +84,7 @@ function_with arguments result locals expressions body =
       expressions = map (λ x. x.expression) expressions;
       types = map (λ x. x.type) expressions;
       counts = map (λ x. x.count) expressions;
-      given_names = [];
+      named_expressions = [];
       body = statements body;
     }
 
@@ -200,7 +200,7 @@ functions_alone fs =
     record {
       constant_types = [];
       initialisers = [];
-      global_types = [];
+      globals = [];
       parts = no_parts;
       functions = fs;
     }
@@ -217,7 +217,7 @@ function_names fs =
 
 -- a function with the names of its arguments, its locals and its given expressions
 abbrev pub with_names :
-    List Bytes → (earlier : ℕ) → (arguments locals given : List Bytes) → Function → Naming
+    List Bytes → (earlier : ℕ) → (arguments locals named : List Bytes) → Function → Naming
 with_names fs earlier xs ls gs f =
     record {
       function = f;
@@ -225,7 +225,7 @@ with_names fs earlier xs ls gs f =
         outer = function_names fs;
         argument = λ i. get_or xs i [];
         local_ = λ i. get_or ls i [];
-        given = λ k. get_or gs k [];
+        named = λ k. get_or gs k [];
         numbered = numbered_name;
         earlier = earlier;
       };

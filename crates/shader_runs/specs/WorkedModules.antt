@@ -7,12 +7,13 @@ use Rattle.std.specs.Prelude.{◌≡◌, ℕ, ◌+◌, ◌*◌, ◌/◌, ◌%◌
 use Rattle.std.specs.Prelude.{◌∷◌, length, map, reverse, Option, Some, None, ◌||◌, nat_eq, get_or}
 use Rattle.std.specs.Prelude.{unwrap_or, IsTrue, codes}
 use Rattle.shader_runs.specs.Value.{Bytes, same_bytes, Place, Rooted, LocalRoot, ValueType}
-use Rattle.shader_runs.specs.Value.{PointerType, OtherType, pointer_spelling, Value, Whole, Pointer}
+use Rattle.shader_runs.specs.Value.{OtherType, Value, Whole, Pointer}
 use Rattle.shader_runs.specs.Value.{Opaque, Spelled, PartWord, IndexWord, MemberNamed}
 use Rattle.shader_runs.specs.World.{Event, Entry, Ask, Read, Write, Discard, entries, World}
 use Rattle.shader_runs.specs.World.{Meaning, Settings}
 use Rattle.shader_runs.specs.Outcome.{ReachedOrHalted}
-use Rattle.shader_runs.specs.Program.{Fixed, Module, Function}
+use Rattle.shader_runs.specs.Program.{Fixed, VariableShape, Held, AtPlace, pointer_to, Module}
+use Rattle.shader_runs.specs.Program.{Function}
 use Rattle.shader_runs.specs.Text.{LiteralOf, TextFunction, TextModule}
 use Rattle.shader_runs.specs.Constants.{run_module, follow_module}
 use Rattle.shader_runs.specs.Scope.{ModuleNames, Naming}
@@ -59,13 +60,13 @@ after_entry (Rooted (LocalRoot pointer k i)) earlier firsts was =
 after_entry p earlier firsts was = was
 
 -- what is at a place: what was stored or added last, or its first value, or 7
-abbrev pub held_value : Place → List Event → Value
-held_value p [] = number 7
-held_value p (Write q v ∷ t) = cond (same_place p q) v (held_value p t)
-held_value p (Ask word vs ∷ t) = after_ask p word vs (held_value p t)
-held_value p (Entry g vs firsts ∷ t) = after_entry p (entries t) firsts (held_value p t)
-held_value p (Read q ∷ t) = held_value p t
-held_value p (Discard ∷ t) = held_value p t
+abbrev pub stored_value : Place → List Event → Value
+stored_value p [] = number 7
+stored_value p (Write q v ∷ t) = cond (same_place p q) v (stored_value p t)
+stored_value p (Ask word vs ∷ t) = after_ask p word vs (stored_value p t)
+stored_value p (Entry g vs firsts ∷ t) = after_entry p (entries t) firsts (stored_value p t)
+stored_value p (Read q ∷ t) = stored_value p t
+stored_value p (Discard ∷ t) = stored_value p t
 
 -- a texel by its number
 abbrev pub texel : ℕ → Value
@@ -83,14 +84,14 @@ sampled_value (Opaque i n ∷ vs) = texel n
 sampled_value vs = texel 0
 
 -- what is asked of no place
-abbrev pub told_value : (word : Bytes) → List Value → Value
-told_value word vs = cond (same_bytes word (codes "subgroupBallot")) ballot (sampled_value vs)
+abbrev pub asked_value : (word : Bytes) → List Value → Value
+asked_value word vs = cond (same_bytes word (codes "subgroupBallot")) ballot (sampled_value vs)
 
 -- the one world of these rows
 abbrev pub memory_world : World
-memory_world t (Read p) = held_value p t
-memory_world t (Ask word (Pointer p ∷ vs)) = held_value p t
-memory_world t (Ask word vs) = told_value word vs
+memory_world t (Read p) = stored_value p t
+memory_world t (Ask word (Pointer p ∷ vs)) = stored_value p t
+memory_world t (Ask word vs) = asked_value word vs
 memory_world t request = number 7
 
 -- ---- the meaning
@@ -133,19 +134,23 @@ pub record NamedValue : Type 0 where
   pub type : ValueType
   pub value : Value
 
--- a module-level variable, with the value that it holds if it isn't stored
+-- a module-level variable, with the value that it holds if it isn't at a place
 pub record NamedVariable : Type 0 where
   pub name : Bytes
-  pub type : ValueType
+  pub shape : VariableShape
   pub value : Option Value
 
 -- a variable that stands in memory
 abbrev pub in_memory : Bytes → (pointer : Bytes) → NamedVariable
-in_memory x pointer = record { name = x; type = PointerType pointer; value = None }
+in_memory x pointer = record { name = x; shape = AtPlace pointer; value = None }
 
--- a variable in the handle space: an image or such, by its number
+-- a variable in the handle space that holds this value
+abbrev pub holding : Bytes → ValueType → Value → NamedVariable
+holding x type v = record { name = x; shape = Held type; value = Some v }
+
+-- an image or such, by its number
 abbrev pub resource : Bytes → (type : Bytes) → ℕ → NamedVariable
-resource x type n = record { name = x; type = OtherType type; value = Some (Opaque type n) }
+resource x type n = holding x (OtherType type) (Opaque type n)
 
 -- a function with the names of its arguments and locals
 pub record NamedFunction : Type 0 where
@@ -175,7 +180,7 @@ module_of e =
     record {
       constant_types = map (λ c. c.type) e.constants;
       initialisers = map (λ c. Fixed c.value) e.constants;
-      global_types = map (λ x. x.type) e.variables;
+      globals = map (λ x. x.shape) e.variables;
       parts = no_parts;
       functions = map (λ f. f.function) e.functions;
     }
@@ -204,7 +209,7 @@ namings_with n (f ∷ fs) =
         outer = n;
         argument = λ i. get_or f.arguments i [];
         local_ = λ i. get_or f.locals i [];
-        given = λ k. [];
+        named = λ k. [];
         numbered = numbered_name;
         earlier = length fs;
       };
@@ -221,7 +226,7 @@ text_with e texts =
       constants =
           map (λ c. record { name = c.name; initialiser = LiteralOf c.value }) e.constants;
       overrides = [];
-      globals = map (λ x. record { name = x.name; pointer = pointer_spelling x.type }) e.variables;
+      globals = map (λ x. record { name = x.name; pointer = pointer_to x.shape }) e.variables;
       functions = texts;
     }
 

@@ -12,6 +12,7 @@ ghost use Rattle.shader_runs.specs.Rows.{RowsHold};
 ghost use Rattle.shader_runs.specs.ScopeRules.{ScopeCheckIsTheRules};
 ghost use Rattle.shader_runs.specs.ConstantRows.{ConstantRowsHold};
 ghost use Rattle.shader_runs.specs.StatementRows.{StatementRowsHold};
+ghost use Rattle.shader_runs.specs.VariableRows.{VariableRowsHold};
 
 /// A module's functions and entry points and their texts make the same events and end alike.
 pub fn runs_alike()
@@ -69,7 +70,8 @@ pub fn has_typed_meaning()
     ensures { HasTypedMeaning }
 {}
 
-/// What it asks of the world can be met: by one world for all bounds on loop turns and all starts.
+/// What it asks of the world can be met: by one world for all bounds on loop turns, all starts and
+/// all pasts.
 pub fn has_typed_world()
     ensures { HasTypedWorld }
 {}
@@ -82,6 +84,12 @@ pub fn rows_hold()
 /// A worked module with named constants and an override, and texts with other initialisers.
 pub fn constant_rows_hold()
     ensures { ConstantRowsHold }
+{}
+
+/// A worked module whose variable holds a pointer, and texts that declare it, or what it points to,
+/// with another space.
+pub fn variable_rows_hold()
+    ensures { VariableRowsHold }
 {}
 
 /// Worked functions for kinds of statements run as they are said to: atomics, images, collectives,

@@ -1,7 +1,7 @@
 -- What a syntax tree does when it runs: the abstract text of each tree of the grammar, a line for
 -- each row.
-use Rattle.std.specs.Prelude.{pos, ◌||◌, List, [], ◌∷◌, ◌++◌, map, reverse, ◌==◌, if◌then◌else◌}
-use Rattle.std.specs.Prelude.{Some, None, codes, decimal}
+use Rattle.std.specs.Prelude.{pos, List, [], ◌∷◌, ◌++◌, map, reverse}
+use Rattle.std.specs.Prelude.{Option, Some, None, codes, decimal}
 use Rattle.std.specs.Option.{option_map}
 use Rattle.wgsl_text.specs.Types.{TypeSpecifier, pointer_tree}
 use Rattle.wgsl_text.specs.Expressions.{BinaryOperator, LogicalAnd, LogicalOr, Constant}
@@ -110,15 +110,15 @@ abbrev mutual
       group (labels_read labels) (statements_read body) (cases_read rest)
 
 -- the spelling of a pointer to a local of the declared type, and to a module-level variable by its
--- space; what has no space is held, and no pointer
+-- space; what is declared without a space is held, whatever its type, and no pointer leads to it
 abbrev pub local_pointer_read : TypeSpecifier → Bytes
 local_pointer_read type = type_layout (pointer_tree (codes "function") None type)
 
-abbrev pub global_pointer_read : tree_declarations.Space → TypeSpecifier → Bytes
-global_pointer_read NoSpace type = []
-global_pointer_read (SpaceAlone space) type = type_layout (pointer_tree space None type)
+abbrev pub global_pointer_read : tree_declarations.Space → TypeSpecifier → Option Bytes
+global_pointer_read NoSpace type = None
+global_pointer_read (SpaceAlone space) type = Some (type_layout (pointer_tree space None type))
 global_pointer_read (SpaceAndAccess space access) type =
-    type_layout (pointer_tree space (Some access) type)
+    Some (type_layout (pointer_tree space (Some access) type))
 
 abbrev pub variable_read : tree_functions.Local → Variable
 variable_read l =

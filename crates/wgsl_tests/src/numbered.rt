@@ -2,7 +2,7 @@
 
 ghost use Rattle.std.specs.Prelude.{◌≡◌, [], ◌∷◌, false, IfOk, IsTrue};
 ghost use Rattle.naga_words.specs.Output.{Spells};
-ghost use Rattle.naga_words.specs.Parts.{Word};
+ghost use Rattle.naga_words.specs.Segments.{Word};
 ghost use Rattle.naga_words.specs.Spelling.{IsInOrder};
 ghost use Rattle.wgsl_tests.specs.Numbered.{AreNumbered, numbered_context, override_number};
 

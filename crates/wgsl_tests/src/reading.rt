@@ -1,4 +1,5 @@
-//! What is read from JSON, and what is told where nothing is. A row has the texts of a module and of an info.
+//! What is read from JSON, and what is told where nothing is. A row has the texts of a module and
+//! of an info.
 
 use naga_json::{read_info, read_known, read_module};
 use std::alloc::{AllocError, Global};
@@ -172,7 +173,7 @@ const REFUSALS: &[(&str, &str, &str)] = &[
         "module.functions[0].body[0].Switch.cases: missing",
     ),
     (
-        r#"{"functions": [{"body": [{"Switch": {"selector":0, "cases":[{"value":{"I32": 1}}]}}]}]}"#,
+        r#"{"functions": [{"body": [{"Switch": {"selector":0, "cases":[{"value":"Default"}]}}]}]}"#,
         "{}",
         "module.functions[0].body[0].Switch.cases[0].body: missing",
     ),

@@ -29,6 +29,9 @@ fn words_are_there_or_not(rt: HostRuntime) {
     assert_eq!(rt; MathFunction::DESCRIPTION, "math function");
     assert_eq!(rt; BuiltIn::DESCRIPTION, "builtin value");
     assert_eq!(rt; <Scalar as TryToWgsl>::DESCRIPTION, "scalar type");
+    assert_eq!(rt; MathFunction::described(), "math function");
+    assert_eq!(rt; BuiltIn::described(), "builtin value");
+    assert_eq!(rt; Scalar::described(), "scalar type");
 }
 
 #[test]

@@ -72,15 +72,24 @@ pub attributes_run : (list attributes : List Attribute) (p : Program) → Runs (
 attributes_run [] attributes p = at_end
 attributes_run (a ∷ more) attributes p = attribute_runs a refl onward attributes_run more (a ∷ attributes) p
 
-pub member_attributes_run : (list : List Attribute) (w : List ℕ) (done : List StructMember) (attributes : List Attribute) (s : Stack) → Runs (attributes_pieces list) (WantMemberName (InMembers w done attributes s)) (WantMemberName (InMembers w done (turned list attributes) s))
+pub member_attributes_run : (list : List Attribute) (w : List ℕ) (done : List StructMember)
+    (attributes : List Attribute) (s : Stack) →
+    Runs (attributes_pieces list) (WantMemberName (InMembers w done attributes s))
+    (WantMemberName (InMembers w done (turned list attributes) s))
 member_attributes_run [] w done attributes s = at_end
 member_attributes_run (a ∷ more) w done attributes s = attribute_runs a refl onward member_attributes_run more w done (a ∷ attributes) s
 
-pub parameter_attributes_run : (list : List Attribute) (f : List ℕ) (done : List Parameter) (attributes : List Attribute) (s : Stack) → Runs (attributes_pieces list) (WantParameter (InParameters f done attributes s)) (WantParameter (InParameters f done (turned list attributes) s))
+pub parameter_attributes_run : (list : List Attribute) (f : List ℕ) (done : List Parameter)
+    (attributes : List Attribute) (s : Stack) →
+    Runs (attributes_pieces list) (WantParameter (InParameters f done attributes s))
+    (WantParameter (InParameters f done (turned list attributes) s))
 parameter_attributes_run [] f done attributes s = at_end
 parameter_attributes_run (a ∷ more) f done attributes s = attribute_runs a refl onward parameter_attributes_run more f done (a ∷ attributes) s
 
-pub result_attributes_run : (list : List Attribute) (f : List ℕ) (ps : List Parameter) (attributes : List Attribute) (s : Stack) → Runs (attributes_pieces list) (WantResult (InResult f ps attributes s)) (WantResult (InResult f ps (turned list attributes) s))
+pub result_attributes_run : (list : List Attribute) (f : List ℕ) (ps : List Parameter)
+    (attributes : List Attribute) (s : Stack) →
+    Runs (attributes_pieces list) (WantResult (InResult f ps attributes s))
+    (WantResult (InResult f ps (turned list attributes) s))
 result_attributes_run [] f ps attributes s = at_end
 result_attributes_run (a ∷ more) f ps attributes s = attribute_runs a refl onward result_attributes_run more f ps (a ∷ attributes) s
 

@@ -10,7 +10,8 @@ use Rattle.wgsl_text.specs.Expressions.{may_take, IsExpression, IsArguments}
 use Rattle.wgsl_text.specs.Functions.{Each}
 use Rattle.wgsl_text.specs.Literals.{IsPlainNumber}
 use Rattle.wgsl_text.specs.Statements.{CallStatement, IsStatement}
-use Rattle.wgsl_text.specs.Types.{TypeSpecifier, Named, Template, NoParts, TypePart, SizePart}
+use Rattle.wgsl_text.specs.Types.{TypeSpecifier, Named, Template, NoTemplateArguments, TypeArgument}
+use Rattle.wgsl_text.specs.Types.{SizeArgument}
 use Rattle.wgsl_text.specs.Types.{plain_type_words, is_type, TakesScalar, TakesElements, rule_among}
 use Rattle.wgsl_text.specs.Types.{type_templates, IsType}
 use Rattle.wgsl_text.specs.Tables.{scalar_words, depth_image_words, sampler_words, ray_words}
@@ -57,17 +58,19 @@ name_is w is = record { part = is.word; whole = by (stands_in plain_type_words w
     by false b e = ap not e
 
 -- a word with a scalar
-pub of_scalar_word_is : (word w : List ℕ) → rule_among type_templates word ≡ TakesScalar → stands_in scalar_words w ≡ true → IsType (Template word (TypePart (Named w) NoParts))
+pub of_scalar_word_is : (word w : List ℕ) → rule_among type_templates word ≡ TakesScalar → stands_in scalar_words w ≡ true → IsType (Template word (TypeArgument (Named w) NoTemplateArguments))
 of_scalar_word_is word w rule scalar = record { part = (rw rule scalar, (table_word scalar_words w scalars_free scalar, tt)); whole = refl }
 
 -- an array of as many as are bound, and of a number
-pub dynamic_is : (word : List ℕ) (t : TypeSpecifier) → rule_among type_templates word ≡ TakesElements → IsType t → IsType (Template word (TypePart t NoParts))
+pub dynamic_is : (word : List ℕ) (t : TypeSpecifier) → rule_among type_templates word ≡ TakesElements → IsType t → IsType (Template word (TypeArgument t NoTemplateArguments))
 dynamic_is word t rule is = record { part = (rw rule is.whole, (is.part, tt)); whole = refl }
 
-pub sized_is : (word : List ℕ) (t : TypeSpecifier) (n : ℕ) → rule_among type_templates word ≡ TakesElements → IsType t → IsPlainNumber n → IsType (Template word (TypePart t (SizePart n NoParts)))
+pub sized_is : (word : List ℕ) (t : TypeSpecifier) (n : ℕ) →
+    rule_among type_templates word ≡ TakesElements → IsType t → IsPlainNumber n →
+    IsType (Template word (TypeArgument t (SizeArgument n NoTemplateArguments)))
 sized_is word t n rule is number = record { part = (rw rule is.whole, (is.part, (number, tt))); whole = refl }
 
-pub pointer_to_is : (a : List ℕ) (t : TypeSpecifier) → stands_in address_space_words a ≡ true → IsType t → IsType (Template (codes "ptr") (TypePart (Named a) (TypePart t NoParts)))
+pub pointer_to_is : (a : List ℕ) (t : TypeSpecifier) → stands_in address_space_words a ≡ true → IsType t → IsType (Template (codes "ptr") (TypeArgument (Named a) (TypeArgument t NoTemplateArguments)))
 pointer_to_is a t known is =
     record { part = (and_from (stands_in address_space_words a) (is_type t) known is.whole, (table_word address_space_words a address_spaces_free known, (is.part, tt))); whole = refl }
 
@@ -113,7 +116,9 @@ levels_free : all_words is_free level_words ≡ true
 unfolding is_reserved
 levels_free = refl
 
-gather_is : (w : List ℕ) (n : ℕ) (e : Expression) (es : List Expression) → stands_in gather_words w ≡ true → n < 4 → Each IsExpression (e ∷ es) → IsExpression (Call (Named w) (NumberArgument n (operands (e ∷ es))))
+gather_is : (w : List ℕ) (n : ℕ) (e : Expression) (es : List Expression) →
+    stands_in gather_words w ≡ true → n < 4 → Each IsExpression (e ∷ es) →
+    IsExpression (Call (Named w) (NumberArgument n (operands (e ∷ es))))
 gather_is w n e es gathers low all =
     let plain : IsPlainNumber n = omega (arith, low) in (
       table_word gather_words w gathers_free gathers,
@@ -129,16 +134,21 @@ has_level : (first more : List Expression) → have_a_zero (operands_with_level 
 has_level [] more = operands_alone more
 has_level (e ∷ first) more = has_level first more
 
-level_is : (w : List ℕ) (e : Expression) (es more : List Expression) → stands_in level_words w ≡ true → Each IsExpression (e ∷ es) → Each IsExpression more → IsExpression (Call (Named w) (operands_with_level (e ∷ es) more))
+level_is : (w : List ℕ) (e : Expression) (es more : List Expression) →
+    stands_in level_words w ≡ true → Each IsExpression (e ∷ es) → Each IsExpression more →
+    IsExpression (Call (Named w) (operands_with_level (e ∷ es) more))
 level_is w e es more levels all last = (
   table_word level_words w levels_free levels,
   with_level_are (e ∷ es) more all last,
-  or_right (are_expressions (operands_with_level es more)) (stands_in level_words w && have_a_zero (operands_with_level es more)) (and_from (stands_in level_words w) (have_a_zero (operands_with_level es more)) levels (has_level es more)),
+  or_right (are_expressions (operands_with_level es more))
+      (stands_in level_words w && have_a_zero (operands_with_level es more))
+      (and_from (stands_in level_words w) (have_a_zero (operands_with_level es more)) levels
+      (has_level es more)),
 )
 
 -- a word that takes a type
 
-taking_type_is : (w : List ℕ) (t : TypeSpecifier) → stands_in type_taking_words w ≡ true → IsType t → IsCallee (Template w (TypePart t NoParts))
+taking_type_is : (w : List ℕ) (t : TypeSpecifier) → stands_in type_taking_words w ≡ true → IsType t → IsCallee (Template w (TypeArgument t NoTemplateArguments))
 taking_type_is w t taking is = (rw taking is.whole, (is.part, tt))
 
 pub called_words : CalledWordsAreExpressions

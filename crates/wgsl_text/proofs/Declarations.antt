@@ -58,7 +58,10 @@ enables_run : (list : List (List ℕ)) (p : Program) → Runs (enables_pieces li
 enables_run [] p = at_end
 enables_run (w ∷ more) p = reads $ over_gap $ reads $ reads $ over_line $ enables_run more (record p { enables = w ∷ p.enables })
 
-members_run : (ms : List StructMember) → Each IsMember ms → (w : List ℕ) (done : List StructMember) (s : Stack) → Runs (members_pieces ms) (WantMemberName (InMembers w done [] s)) (WantMemberName (InMembers w (turned ms done) [] s))
+members_run : (ms : List StructMember) → Each IsMember ms →
+    (w : List ℕ) (done : List StructMember) (s : Stack) →
+    Runs (members_pieces ms) (WantMemberName (InMembers w done [] s))
+    (WantMemberName (InMembers w (turned ms done) [] s))
 members_run [] is w done s = at_end
 members_run (m ∷ more) is w done s =
     over_indent $ member_attributes_run m.attributes w done [] s onward reads $ reads $ over_gap $ type_runs m.type is.0.type.part _ onward reads $
@@ -72,7 +75,9 @@ structs_run (d ∷ more) is p =
     as_state (ap (λ v. Want (InProgram [] (record p { structs = record d { members = v } ∷ p.structs }))) (turned_back d.members [])) $
     over_line $ over_line $ structs_run more is.1 (record p { structs = d ∷ p.structs })
 
-constants_run : (list : List NamedConstant) → Each IsNamedConstant list → (p : Program) → Runs (constants_pieces list) (Want (InProgram [] p)) (Want (InProgram [] (record p { constants = turned list p.constants })))
+constants_run : (list : List NamedConstant) → Each IsNamedConstant list →
+    (p : Program) → Runs (constants_pieces list) (Want (InProgram [] p))
+    (Want (InProgram [] (record p { constants = turned list p.constants })))
 constants_run [] is p = at_end
 constants_run (d ∷ more) is p =
     reads $ over_gap $ reads $ reads $ over_gap $ type_runs d.type is.0.type.part _ onward over_gap $ reads $ over_gap $ expression_runs d.value is.0.value _ onward reads $ over_line $
@@ -82,11 +87,16 @@ override_value_runs : (value : Option Expression) → IsValue value → (w : Lis
 override_value_runs None is w t s = at_end
 override_value_runs (Some e) is w t s = over_gap $ reads $ over_gap $ expression_runs e is _ onward at_end
 
-overrides_run : (list : List Override) → Each IsOverride list → (p : Program) → Runs (overrides_pieces list) (Want (InProgram [] p)) (Want (InProgram [] (record p { overrides = turned list p.overrides })))
+overrides_run : (list : List Override) → Each IsOverride list →
+    (p : Program) → Runs (overrides_pieces list) (Want (InProgram [] p))
+    (Want (InProgram [] (record p { overrides = turned list p.overrides })))
 overrides_run [] is p = at_end
 overrides_run (d ∷ more) is p =
     attributes_run d.attributes [] p onward reads $ over_gap $ reads $ reads $ over_gap $ type_runs d.type is.0.type.part _ onward
-    to_state (override_value_runs d.value is.0.value d.name d.type _) (ap (λ v. Want (InProgram [] (record p { overrides = record d { attributes = v } ∷ p.overrides }))) (turned_back d.attributes [])) onward
+    to_state (override_value_runs d.value is.0.value d.name d.type _)
+    (ap (λ v. Want
+    (InProgram [] (record p { overrides = record d { attributes = v } ∷ p.overrides })))
+    (turned_back d.attributes [])) onward
     overrides_run more is.1 (record p { overrides = d ∷ p.overrides })
 
 space_runs : (space : Space) (w : List ℕ) {s : Stack} {qs : List Piece} {s' : State} → Runs qs (AfterGlobalName space w s) s' → Runs (space_pieces space ++ (Blank ∷ word w ∷ qs)) (AfterVar s) s'
@@ -94,7 +104,9 @@ space_runs NoSpace w b = over_gap $ reads b
 space_runs (SpaceAlone a) w b = reads $ reads $ reads $ over_gap $ reads b
 space_runs (SpaceAndAccess a m) w b = reads $ reads $ reads $ over_gap $ reads $ reads $ over_gap $ reads b
 
-global_value_runs : (value : Option Expression) → IsValue value → (space : Space) (w : List ℕ) (t : TypeSpecifier) (s : Stack) → Runs (value_pieces value) (GotType t (InGlobalType space w s)) (add_global space w t value s)
+global_value_runs : (value : Option Expression) → IsValue value →
+    (space : Space) (w : List ℕ) (t : TypeSpecifier) (s : Stack) →
+    Runs (value_pieces value) (GotType t (InGlobalType space w s)) (add_global space w t value s)
 global_value_runs None is space w t s = at_end
 global_value_runs (Some e) is space w t s = over_gap $ reads $ over_gap $ expression_runs e is _ onward at_end
 
@@ -102,7 +114,10 @@ globals_run : (list : List Global) → Each IsGlobal list → (p : Program) → 
 globals_run [] is p = at_end
 globals_run (d ∷ more) is p =
     global_attributes_run d.attributes [] p onward reads $ space_runs d.space d.name $ reads $ over_gap $ type_runs d.type is.0.type.part _ onward
-    to_state (global_value_runs d.value is.0.value d.space d.name d.type _) (ap (λ v. Want (InProgram [] (record p { globals = record d { attributes = v } ∷ p.globals }))) (turned_back d.attributes [])) onward
+    to_state (global_value_runs d.value is.0.value d.space d.name d.type _)
+    (ap (λ v. Want
+    (InProgram [] (record p { globals = record d { attributes = v } ∷ p.globals })))
+    (turned_back d.attributes [])) onward
     globals_run more is.1 (record p { globals = d ∷ p.globals })
 
 -- the declarations of each kind, the newest first
@@ -128,9 +143,33 @@ program_runs p is =
 pub newest_twice : (p : Program) → newest_first (newest_first p) ≡ p
 newest_twice p =
     ap (λ v. record (newest_first (newest_first p)) { enables = v }) (turned_back p.enables [])
-    ∙ ap (λ v. record p { structs = v; constants = (newest_first (newest_first p)).constants; overrides = (newest_first (newest_first p)).overrides; globals = (newest_first (newest_first p)).globals; functions = (newest_first (newest_first p)).functions; entry_points = (newest_first (newest_first p)).entry_points }) (turned_back p.structs [])
-    ∙ ap (λ v. record p { constants = v; overrides = (newest_first (newest_first p)).overrides; globals = (newest_first (newest_first p)).globals; functions = (newest_first (newest_first p)).functions; entry_points = (newest_first (newest_first p)).entry_points }) (turned_back p.constants [])
-    ∙ ap (λ v. record p { overrides = v; globals = (newest_first (newest_first p)).globals; functions = (newest_first (newest_first p)).functions; entry_points = (newest_first (newest_first p)).entry_points }) (turned_back p.overrides [])
+    ∙ ap (λ v. record p {
+      structs = v;
+      constants = (newest_first (newest_first p)).constants;
+      overrides = (newest_first (newest_first p)).overrides;
+      globals =
+          (newest_first (newest_first p)).globals;
+      functions =
+          (newest_first (newest_first p)).functions;
+      entry_points =
+          (newest_first (newest_first p)).entry_points;
+    }) (turned_back p.structs [])
+    ∙ ap (λ v. record p {
+      constants = v;
+      overrides = (newest_first (newest_first p)).overrides;
+      globals = (newest_first (newest_first p)).globals;
+      functions =
+          (newest_first (newest_first p)).functions;
+      entry_points =
+          (newest_first (newest_first p)).entry_points;
+    }) (turned_back p.constants [])
+    ∙ ap (λ v. record p {
+      overrides = v;
+      globals = (newest_first (newest_first p)).globals;
+      functions = (newest_first (newest_first p)).functions;
+      entry_points =
+          (newest_first (newest_first p)).entry_points;
+    }) (turned_back p.overrides [])
     ∙ ap (λ v. record p { globals = v; functions = (newest_first (newest_first p)).functions; entry_points = (newest_first (newest_first p)).entry_points }) (turned_back p.globals [])
     ∙ ap (λ v. record p { functions = v; entry_points = (newest_first (newest_first p)).entry_points }) (turned_back p.functions [])
     ∙ ap (λ v. record p { entry_points = v }) (turned_back p.entry_points [])
@@ -208,20 +247,49 @@ program_closed p is =
 pub enables_text : (w : List ℕ) (more : List (List ℕ)) → text (enables_pieces (w ∷ more)) ≡ codes "enable " ++ (w ++ (codes ";\n" ++ text (enables_pieces more)))
 enables_text w more = refl
 
-pub members_text : (m : StructMember) (more : List StructMember) → text (members_pieces (m ∷ more)) ≡ codes "    " ++ (text (attributes_pieces m.attributes) ++ (m.name ++ (codes ": " ++ (type_layout m.type ++ (codes ",\n" ++ text (members_pieces more))))))
+pub members_text : (m : StructMember) (more : List StructMember) →
+    text (members_pieces (m ∷ more)) ≡ codes "    " ++
+    (text (attributes_pieces m.attributes) ++
+    (m.name ++ (codes ": " ++ (type_layout m.type ++ (codes ",\n" ++ text (members_pieces more))))))
 members_text m more = simp text-append
 
-pub structs_text : (d : Struct) (more : List Struct) → text (structs_pieces (d ∷ more)) ≡ codes "struct " ++ (d.name ++ (codes " {\n" ++ (text (members_pieces d.members) ++ (codes "}\n\n" ++ text (structs_pieces more)))))
+pub structs_text : (d : Struct) (more : List Struct) →
+    text (structs_pieces (d ∷ more)) ≡ codes "struct " ++
+    (d.name ++ (codes " {\n" ++
+    (text (members_pieces d.members) ++ (codes "}\n\n" ++ text (structs_pieces more)))))
 structs_text d more = simp text-append
 
-pub constants_text : (d : NamedConstant) (more : List NamedConstant) → text (constants_pieces (d ∷ more)) ≡ codes "const " ++ (d.name ++ (codes ": " ++ (type_layout d.type ++ (codes " = " ++ (expression_layout d.value ++ (codes ";\n" ++ text (constants_pieces more)))))))
+pub constants_text : (d : NamedConstant) (more : List NamedConstant) →
+    text (constants_pieces (d ∷ more)) ≡ codes "const " ++
+    (d.name ++ (codes ": " ++
+    (type_layout d.type ++
+    (codes " = " ++ (expression_layout d.value ++ (codes ";\n" ++ text (constants_pieces more)))))))
 constants_text d more = simp text-append
 
-pub overrides_text : (d : Override) (more : List Override) → text (overrides_pieces (d ∷ more)) ≡ text (attributes_pieces d.attributes) ++ (codes "override " ++ (d.name ++ (codes ": " ++ (type_layout d.type ++ (text (value_pieces d.value) ++ text (overrides_pieces more))))))
+pub overrides_text : (d : Override) (more : List Override) →
+    text (overrides_pieces (d ∷ more)) ≡ text (attributes_pieces d.attributes) ++
+    (codes "override " ++
+    (d.name ++ (codes ": " ++
+    (type_layout d.type ++ (text (value_pieces d.value) ++ text (overrides_pieces more))))))
 overrides_text d more = simp text-append
 
-pub globals_text : (d : Global) (more : List Global) → text (globals_pieces (d ∷ more)) ≡ text (global_attributes_pieces d.attributes) ++ (codes "var" ++ (text (space_pieces d.space) ++ (codes " " ++ (d.name ++ (codes ": " ++ (type_layout d.type ++ (text (value_pieces d.value) ++ text (globals_pieces more))))))))
+pub globals_text : (d : Global) (more : List Global) →
+    text (globals_pieces (d ∷ more)) ≡ text (global_attributes_pieces d.attributes) ++
+    (codes "var" ++
+    (text (space_pieces d.space) ++
+    (codes " " ++
+    (d.name ++ (codes ": " ++
+    (type_layout d.type ++ (text (value_pieces d.value) ++ text (globals_pieces more))))))))
 globals_text d more = simp text-append
 
-pub program_text : (p : Program) → layout p ≡ text (enables_pieces p.enables) ++ (text (group_end p.enables) ++ (text (structs_pieces p.structs) ++ (text (constants_pieces p.constants) ++ (text (group_end p.constants) ++ (text (overrides_pieces p.overrides) ++ (text (group_end p.overrides) ++ (text (globals_pieces p.globals) ++ (text (group_end p.globals) ++ (text (functions_pieces p.functions) ++ text (entry_points_pieces p.entry_points))))))))))
+pub program_text : (p : Program) → layout p ≡ text (enables_pieces p.enables) ++
+    (text (group_end p.enables) ++
+    (text (structs_pieces p.structs) ++
+    (text (constants_pieces p.constants) ++
+    (text (group_end p.constants) ++
+    (text (overrides_pieces p.overrides) ++
+    (text (group_end p.overrides) ++
+    (text (globals_pieces p.globals) ++
+    (text (group_end p.globals) ++
+    (text (functions_pieces p.functions) ++ text (entry_points_pieces p.entry_points))))))))))
 program_text p = simp text-append

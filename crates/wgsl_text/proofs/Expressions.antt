@@ -11,7 +11,8 @@ use Rattle.wgsl_text.specs.Expressions.{more_arguments_pieces, call_templates, I
 use Rattle.wgsl_text.specs.Expressions.{IsExpression, IsArguments}
 use Rattle.wgsl_text.specs.Token.{OpenParen, CloseBracket, LessThan, NoSuffix, Number, Piece, Blank}
 use Rattle.wgsl_text.specs.Token.{mark}
-use Rattle.wgsl_text.specs.Types.{TypeSpecifier, Named, Template, TypeParts, has_gaps, type_pieces}
+use Rattle.wgsl_text.specs.Types.{TypeSpecifier, Named, Template, TemplateArguments, has_gaps}
+use Rattle.wgsl_text.specs.Types.{type_pieces}
 use Rattle.wgsl_text.specs.Types.{TakesType, rule_among, type_templates, fits, IsType}
 use Rattle.wgsl_text.specs.Words.{stands_in, is_builtin, is_reserved}
 use Rattle.wgsl_text.proofs.Chain.{◌$◌}
@@ -54,11 +55,17 @@ base_runs (Unary op e) s a = reads $ a _ onward at_end
 base_runs (Constant l) s a = a s
 base_runs _ s a = a s
 
-argument_done : (more : Arguments) {e : Expression} {t : TypeSpecifier} {done : Arguments} {s : Stack} {s' : State} → Runs (more_arguments_pieces more) (AfterArgument t (Argument e done) s) s' → Runs (more_arguments_pieces more) (Got e (InArguments t done s)) s'
+argument_done : (more : Arguments) {e : Expression} {t : TypeSpecifier} {done : Arguments}
+    {s : Stack} {s' : State} →
+    Runs (more_arguments_pieces more) (AfterArgument t (Argument e done) s) s' →
+    Runs (more_arguments_pieces more) (Got e (InArguments t done s)) s'
 argument_done NoArguments a = record { to = a.to }
 argument_done _ a = record { to = a.to }
 
-number_done : (more : Arguments) → IsSome more → {n : ℕ} {t : TypeSpecifier} {done : Arguments} {s : Stack} {s' : State} → Runs (more_arguments_pieces more) (AfterArgument t (NumberArgument n done) s) s' → Runs (more_arguments_pieces more) (GotNumberArgument t done false n s) s'
+number_done : (more : Arguments) → IsSome more →
+    {n : ℕ} {t : TypeSpecifier} {done : Arguments} {s : Stack} {s' : State} →
+    Runs (more_arguments_pieces more) (AfterArgument t (NumberArgument n done) s) s' →
+    Runs (more_arguments_pieces more) (GotNumberArgument t done false n s) s'
 number_done NoArguments is a = absurd is
 number_done _ is a = record { to = a.to }
 
@@ -68,13 +75,15 @@ calls_are_templates : all_rows is_template call_templates ≡ true
 unfolding is_reserved is_builtin
 calls_are_templates = refl
 
-pub call_template : (w : List ℕ) (parts : TypeParts) → IsTrue (fits (rule_among call_templates w) parts) → IsTemplateWord w
+pub call_template : (w : List ℕ) (parts : TemplateArguments) → IsTrue (fits (rule_among call_templates w) parts) → IsTemplateWord w
 call_template w parts fit = template_of w (row_word is_template call_templates w parts calls_are_templates fit)
 
 -- The machine reads back expressions.
 
 -- what stands in front of the parenthesis of a call
-pub callee_runs : (t : TypeSpecifier) → IsCallee t → (ps : List Piece) (s : Stack) (s' : State) → Runs ps (Want (InArguments t NoArguments s)) s' → Runs (type_pieces t ++ (mark OpenParen ∷ ps)) (Want s) s'
+pub callee_runs : (t : TypeSpecifier) → IsCallee t → (ps : List Piece) (s : Stack) (s' : State) →
+    Runs ps (Want (InArguments t NoArguments s)) s' →
+    Runs (type_pieces t ++ (mark OpenParen ∷ ps)) (Want s) s'
 callee_runs (Named w) is ps s s' a = record { to = a.to }
 callee_runs (Template w parts) is ps s s' a =
     reads $ reads $ as_state (when_true _ (call_template w parts is.0).builtin) $ parts_run parts is.1 (has_gaps w) w (InCallee s) onward reads a
@@ -99,7 +108,10 @@ mutual
   arguments_run (NumberArgument n more) is t s = reads $ number_done more is.1 (more_arguments_run more is.2 (NumberArgument n NoArguments) t s)
   arguments_run (ZeroArgument more) is t s = reads $ more_arguments_run more is (ZeroArgument NoArguments) t s
 
-  pub more_arguments_run : (args : Arguments) → IsArguments args → (done : Arguments) (t : TypeSpecifier) (s : Stack) → Runs (more_arguments_pieces args) (AfterArgument t done s) (Got (Call t (unwind_arguments done args)) s)
+  pub more_arguments_run : (args : Arguments) → IsArguments args →
+      (done : Arguments) (t : TypeSpecifier) (s : Stack) →
+      Runs (more_arguments_pieces args) (AfterArgument t done s)
+      (Got (Call t (unwind_arguments done args)) s)
   more_arguments_run NoArguments is done t s = at_end
   more_arguments_run (Argument e more) is done t s = reads $ over_gap $ expression_runs e is.0 _ onward argument_done more (more_arguments_run more is.1 (Argument e done) t s)
   more_arguments_run (NumberArgument n more) is done t s = reads $ over_gap $ reads $ number_done more is.1 (more_arguments_run more is.2 (NumberArgument n done) t s)
@@ -108,7 +120,7 @@ mutual
 -- Words that take parts.
 
 -- A function that takes a type is no type.
-call_fits : (w : List ℕ) (parts : TypeParts) → IsTrue (fits (rule_among type_templates w) parts) → IsTrue (fits (rule_among call_templates w) parts)
+call_fits : (w : List ℕ) (parts : TemplateArguments) → IsTrue (fits (rule_among type_templates w) parts) → IsTrue (fits (rule_among call_templates w) parts)
 call_fits w parts fit = by_word (stands_in type_taking_words w) refl
   where
     by_word : (b : Bool) → stands_in type_taking_words w ≡ b → IsTrue (fits (cond b TakesType (rule_among type_templates w)) parts)
@@ -179,7 +191,10 @@ mutual
   expression_spaced (Unary op e) is = unary_spaced op (part (expression_spaced e is) (λ more e. refl) close)
   expression_spaced (Call t args) is = part (callee_spaced t is.0) (λ more e. refl) $ tok tt (λ more e. refl) $ arguments_spaced args is.1
   expression_spaced (Member e w) is = part (base_spaced e (expression_spaced e is.0)) (λ more _. refl) $ tok tt (λ more _. refl) $ free is.1 (λ more h. h) end
-  expression_spaced (Index e i) is = part (base_spaced e (expression_spaced e is.0)) (λ more _. refl) $ tok tt (λ more _. refl) $ part (expression_spaced i is.1) (λ more _. refl) $ tok tt (λ more _. refl) end
+  expression_spaced (Index e i) is =
+      part (base_spaced e (expression_spaced e is.0)) (λ more _. refl) $ tok tt
+      (λ more _. refl) $ part (expression_spaced i is.1) (λ more _. refl) $ tok tt
+      (λ more _. refl) end
   expression_spaced (IndexAt e n) is = part (base_spaced e (expression_spaced e is.0)) (λ more _. refl) $ tok tt (λ more _. refl) $ size is.1 (λ more _. refl) $ tok tt (λ more _. refl) end
   expression_spaced (AddressOf e) is = tok tt (λ more _. refl) $ tok tt (λ more _. (opens_first _ (expression_opens e is)).at more) $ part (expression_spaced e is) (λ more _. refl) close
   expression_spaced (Dereference e) is = tok tt (λ more _. refl) $ tok tt (λ more _. refl) $ part (expression_spaced e is) (λ more _. refl) close
@@ -201,7 +216,10 @@ mutual
 pub name_text : (w : List ℕ) → expression_layout (Name w) ≡ w
 name_text w = append-nil w
 
-pub binary_text : (a : Expression) (op : BinaryOperator) (b : Expression) → expression_layout (Binary a op b) ≡ codes "(" ++ (expression_layout a ++ (codes " " ++ (text (binary_pieces op) ++ (codes " " ++ (expression_layout b ++ codes ")")))))
+pub binary_text : (a : Expression) (op : BinaryOperator) (b : Expression) →
+    expression_layout (Binary a op b) ≡ codes "(" ++
+    (expression_layout a ++
+    (codes " " ++ (text (binary_pieces op) ++ (codes " " ++ (expression_layout b ++ codes ")")))))
 binary_text a op b = simp text-append
 
 pub unary_text : (op : UnaryOperator) (e : Expression) → expression_layout (Unary op e) ≡ mark_text (unary_mark op) ++ (codes "(" ++ (expression_layout e ++ codes ")"))

@@ -38,7 +38,10 @@ use Rattle.wgsl_text.specs.Reading.{type_layout, expression_layout}
 -- functions
 
 -- a parameter, up to its type
-parameter_runs : (p : Parameter) → IsParameter p → (f : List ℕ) (done : List Parameter) (s : Stack) → Runs (parameter_pieces p) (WantParameter (InParameters f done [] s)) (GotType p.type (InParameterType f done (turned p.attributes []) p.name s))
+parameter_runs : (p : Parameter) → IsParameter p →
+    (f : List ℕ) (done : List Parameter) (s : Stack) →
+    Runs (parameter_pieces p) (WantParameter (InParameters f done [] s))
+    (GotType p.type (InParameterType f done (turned p.attributes []) p.name s))
 parameter_runs p is f done s = parameter_attributes_run p.attributes f done [] s onward reads $ reads $ over_gap $ type_runs p.type is.type.part _
 
 -- the parameter that has been read, with the others
@@ -48,7 +51,11 @@ parameter_done p f done s = InParameters f (record p { attributes = turned (turn
 kept : (p : Parameter) (f : List ℕ) (done : List Parameter) (s : Stack) → parameter_done p f done s ≡ InParameters f (p ∷ done) [] s
 kept p f done s = ap (λ v. InParameters f (record p { attributes = v } ∷ done) [] s) (turned_back p.attributes [])
 
-more_parameters_run : (ps : List Parameter) → Each IsParameter ps → (p : Parameter) (f : List ℕ) (done : List Parameter) (s : Stack) → Runs (more_parameters_pieces ps) (GotType p.type (InParameterType f done (turned p.attributes []) p.name s)) (AfterParameters f (turned (p ∷ done) ps) s)
+more_parameters_run : (ps : List Parameter) → Each IsParameter ps →
+    (p : Parameter) (f : List ℕ) (done : List Parameter) (s : Stack) →
+    Runs (more_parameters_pieces ps)
+    (GotType p.type (InParameterType f done (turned p.attributes []) p.name s))
+    (AfterParameters f (turned (p ∷ done) ps) s)
 more_parameters_run [] is p f done s = reads $ as_state (ap close_parameters (kept p f done s)) at_end
 more_parameters_run (q ∷ more) is p f done s =
     reads $ as_state (ap WantParameter (kept p f done s)) $ over_gap $ parameter_runs q is.0 f (p ∷ done) s onward more_parameters_run more is.1 q f (p ∷ done) s
@@ -63,7 +70,10 @@ result_type (Named w) a = record { to = a.to }
 result_type (Template w parts) a = record { to = a.to }
 
 -- what stands between the parameters and the body
-result_runs : (r : Result) → IsResult r → (f : List ℕ) (ps : List Parameter) (s : Stack) {qs : List Piece} {s' : State} → Runs qs (Want (InStatements NoStatements (InLocals f ps r [] s))) s' → Runs (result_pieces r ++ (Blank ∷ mark OpenBrace ∷ qs)) (AfterParameters f ps s) s'
+result_runs : (r : Result) → IsResult r →
+    (f : List ℕ) (ps : List Parameter) (s : Stack) {qs : List Piece} {s' : State} →
+    Runs qs (Want (InStatements NoStatements (InLocals f ps r [] s))) s' →
+    Runs (result_pieces r ++ (Blank ∷ mark OpenBrace ∷ qs)) (AfterParameters f ps s) s'
 result_runs NoResult is f ps s b = over_gap $ reads b
 result_runs (ResultOf attributes t) is f ps s b =
     over_gap $ reads $ reads $ over_gap $ (result_attributes_run attributes f ps [] s onward result_type t (type_runs t is.2.part _)) onward over_gap $ reads $
@@ -73,7 +83,10 @@ value_runs : (value : Option Expression) → IsValue value → (w : List ℕ) (t
 value_runs None is w t s = at_end
 value_runs (Some e) is w t s = over_gap $ reads $ over_gap $ expression_runs e is _ onward at_end
 
-locals_run : (locals : List Local) → Each IsLocal locals → (f : List ℕ) (ps : List Parameter) (r : Result) (done : List Local) (s : Stack) → Runs (locals_pieces locals) (Want (InStatements NoStatements (InLocals f ps r done s))) (Want (InStatements NoStatements (InLocals f ps r (turned locals done) s)))
+locals_run : (locals : List Local) → Each IsLocal locals →
+    (f : List ℕ) (ps : List Parameter) (r : Result) (done : List Local) (s : Stack) →
+    Runs (locals_pieces locals) (Want (InStatements NoStatements (InLocals f ps r done s)))
+    (Want (InStatements NoStatements (InLocals f ps r (turned locals done) s)))
 locals_run [] is f ps r done s = at_end
 locals_run (l ∷ more) is f ps r done s =
     over_indent $ reads $ over_gap $ reads $ reads $ over_gap $ type_runs l.type is.0.type.part _ onward value_runs l.value is.0.value l.name l.type _ onward locals_run more is.1 f ps r (l ∷ done) s
@@ -82,17 +95,25 @@ pub group_end_runs : {A : Type 0} (list : List A) (s : State) → Runs (group_en
 group_end_runs [] s = at_end
 group_end_runs (x ∷ more) s = at_end
 
-pub function_runs : (f : Function) → IsFunction f → (attributes : List Attribute) (p : Program) → Runs (function_pieces f) (Want (InProgram attributes p)) (Want (InProgram [] (function_added (turned attributes []) f p)))
+pub function_runs : (f : Function) → IsFunction f → (attributes : List Attribute) (p : Program) →
+    Runs (function_pieces f) (Want (InProgram attributes p))
+    (Want (InProgram [] (function_added (turned attributes []) f p)))
 function_runs f is attributes p =
     reads $ over_gap $ reads $ reads $ parameters_run f.parameters is.parameters f.name _ onward result_runs f.result is.result f.name f.parameters _ (over_line (
     locals_run f.locals is.locals f.name f.parameters f.result [] _ onward (group_end_runs f.locals _ onward (statements_run f.body is.body 1 NoStatements _ onward closes f.body (over_line (
     as_state (ap (λ l. Want (InProgram [] (function_added (turned attributes []) (record f { locals = l }) p))) (turned_back f.locals [])) at_end))))))
 
-pub functions_run : (list : List Function) → Each IsFunction list → (p : Program) → Runs (functions_pieces list) (Want (InProgram [] p)) (Want (InProgram [] (record p { functions = turned list p.functions })))
+pub functions_run : (list : List Function) → Each IsFunction list →
+    (p : Program) → Runs (functions_pieces list) (Want (InProgram [] p))
+    (Want (InProgram [] (record p { functions = turned list p.functions })))
 functions_run [] is p = at_end
 functions_run (f ∷ more) is p = function_runs f is.0 [] p onward over_line $ functions_run more is.1 (record p { functions = f ∷ p.functions })
 
-entry_added : (stage : List Attribute) → IsTrue (is_stage stage) → (f : Function) (p : Program) → function_added stage f p ≡ record p { entry_points = record { stage = stage; function = f } ∷ p.entry_points }
+entry_added : (stage : List Attribute) → IsTrue (is_stage stage) → (f : Function) (p : Program) →
+    function_added stage f p ≡ record p {
+      entry_points =
+          record { stage = stage; function = f } ∷ p.entry_points;
+    }
 entry_added [] is f p = absurd (false≢true is)
 entry_added (a ∷ more) is f p = refl
 
@@ -101,11 +122,15 @@ entry_point_runs e is p =
     attributes_run e.stage [] p onward over_line $ to_state (function_runs e.function is.function _ p)
     (ap (λ v. Want (InProgram [] (function_added v e.function p))) (turned_back e.stage []) ∙ ap (λ v. Want (InProgram [] v)) (entry_added e.stage is.stage e.function p))
 
-more_entry_points_run : (list : List EntryPoint) → Each IsEntryPoint list → (p : Program) → Runs (more_entry_points_pieces list) (Want (InProgram [] p)) (Want (InProgram [] (record p { entry_points = turned list p.entry_points })))
+more_entry_points_run : (list : List EntryPoint) → Each IsEntryPoint list →
+    (p : Program) → Runs (more_entry_points_pieces list) (Want (InProgram [] p))
+    (Want (InProgram [] (record p { entry_points = turned list p.entry_points })))
 more_entry_points_run [] is p = at_end
 more_entry_points_run (e ∷ more) is p = over_line $ entry_point_runs e is.0 p onward more_entry_points_run more is.1 (record p { entry_points = e ∷ p.entry_points })
 
-pub entry_points_run : (list : List EntryPoint) → Each IsEntryPoint list → (p : Program) → Runs (entry_points_pieces list) (Want (InProgram [] p)) (Want (InProgram [] (record p { entry_points = turned list p.entry_points })))
+pub entry_points_run : (list : List EntryPoint) → Each IsEntryPoint list →
+    (p : Program) → Runs (entry_points_pieces list) (Want (InProgram [] p))
+    (Want (InProgram [] (record p { entry_points = turned list p.entry_points })))
 entry_points_run [] is p = at_end
 entry_points_run (e ∷ more) is p = entry_point_runs e is.0 p onward more_entry_points_run more is.1 (record p { entry_points = e ∷ p.entry_points })
 
@@ -128,7 +153,10 @@ before_type ps qs rest a = subst Closed (sym (append_assoc ps qs rest)) a
 
 parameter_closed : (p : Parameter) → IsParameter p → {qs : List Piece} → ((more : List Piece) → ends_word (text (qs ++ more)) ≡ true) → Closed qs → Closed (parameter_pieces p ++ qs)
 parameter_closed p is {qs} front b =
-    before_type (attributes_pieces p.attributes) (word p.name ∷ mark Colon ∷ Blank ∷ type_pieces p.type) qs (attributes_closed p.attributes is.attributes then free is.name.word (λ _. refl) $ sign (λ _. refl) $ gap $ part (type_spaced p.type is.type.part) front b)
+    before_type (attributes_pieces p.attributes)
+    (word p.name ∷ mark Colon ∷ Blank ∷ type_pieces p.type) qs
+    (attributes_closed p.attributes is.attributes then free is.name.word (λ _. refl) $ sign
+    (λ _. refl) $ gap $ part (type_spaced p.type is.type.part) front b)
 
 more_parameters_end : (ps : List Parameter) (more : List Piece) → ends_word (text (more_parameters_pieces ps ++ more)) ≡ true
 more_parameters_end [] more = refl
@@ -145,7 +173,9 @@ parameters_closed (p ∷ more) is = parameter_closed p is.0 (more_parameters_end
 result_closed : (r : Result) → IsResult r → {qs : List Piece} → Closed qs → Closed (result_pieces r ++ (Blank ∷ qs))
 result_closed NoResult is a = gap a
 result_closed (ResultOf attributes t) is {qs} a =
-    gap $ sign (λ _. refl) $ sign (λ _. refl) $ gap $ before_type (attributes_pieces attributes) (type_pieces t) (Blank ∷ qs) (attributes_closed attributes is.0 then part (type_spaced t is.2.part) (λ _. refl) $ gap a)
+    gap $ sign (λ _. refl) $ sign (λ _. refl) $ gap $ before_type (attributes_pieces attributes)
+    (type_pieces t) (Blank ∷ qs)
+    (attributes_closed attributes is.0 then part (type_spaced t is.2.part) (λ _. refl) $ gap a)
 
 locals_closed : (locals : List Local) → Each IsLocal locals → Closed (locals_pieces locals)
 locals_closed [] is = none
@@ -193,10 +223,19 @@ next_parameter_text p more = ap (λ v. codes ", " ++ v) (text-append (parameter_
 pub result_text : (list : List Attribute) (t : TypeSpecifier) → text (result_pieces (ResultOf list t)) ≡ codes " -> " ++ (text (attributes_pieces list) ++ type_layout t)
 result_text list t = simp text-append
 
-pub locals_text : (l : Local) (more : List Local) → text (locals_pieces (l ∷ more)) ≡ codes "    var " ++ (l.name ++ (codes ": " ++ (type_layout l.type ++ (text (value_pieces l.value) ++ text (locals_pieces more)))))
+pub locals_text : (l : Local) (more : List Local) →
+    text (locals_pieces (l ∷ more)) ≡ codes "    var " ++
+    (l.name ++ (codes ": " ++
+    (type_layout l.type ++ (text (value_pieces l.value) ++ text (locals_pieces more)))))
 locals_text l more = simp text-append
 
-pub function_text : (f : Function) → text (function_pieces f) ≡ codes "fn " ++ (f.name ++ (codes "(" ++ (text (parameters_pieces f.parameters) ++ (text (result_pieces f.result) ++ (codes " {\n" ++ (text (locals_pieces f.locals) ++ (text (group_end f.locals) ++ (text (statements_pieces f.body 1) ++ codes "}\n"))))))))
+pub function_text : (f : Function) → text (function_pieces f) ≡ codes "fn " ++
+    (f.name ++ (codes "(" ++
+    (text (parameters_pieces f.parameters) ++
+    (text (result_pieces f.result) ++
+    (codes " {\n" ++
+    (text (locals_pieces f.locals) ++
+    (text (group_end f.locals) ++ (text (statements_pieces f.body 1) ++ codes "}\n"))))))))
 function_text f = simp text-append
 
 pub functions_text : (f : Function) (more : List Function) → text (functions_pieces (f ∷ more)) ≡ text (function_pieces f) ++ (codes "\n" ++ text (functions_pieces more))

@@ -2,7 +2,7 @@
 use Rattle.std.proofs.Common.{ℕ, zero, suc, refl, rules}
 use Rattle.std.specs.Prelude.{codes}
 use Rattle.wgsl_text.specs.Words.{is_reserved, is_builtin, IsIdentifier}
-use Rattle.wgsl_text.specs.Types.{Template, NoParts, TypePart, IsType}
+use Rattle.wgsl_text.specs.Types.{Template, NoTemplateArguments, TypeArgument, IsType}
 use Rattle.wgsl_text.specs.Expressions.{IsExpression}
 use Rattle.wgsl_text.specs.Declarations.{IsProgram}
 use Rattle.wgsl_text.specs.WorkedTrees.{named_type}
@@ -28,7 +28,7 @@ is_d : IsIdentifier (codes "d")
 unfolding is_reserved is_builtin
 is_d = search rules
 
-is_vector : IsType (Template (codes "vec4") (TypePart (named_type "i32") NoParts))
+is_vector : IsType (Template (codes "vec4") (TypeArgument (named_type "i32") NoTemplateArguments))
 unfolding is_reserved is_builtin
 is_vector = search rules
 

@@ -15,7 +15,9 @@ use Rattle.wgsl_text.proofs.Text.{IsNumber}
 use Rattle.wgsl_text.proofs.Machine.{Stack, Want, Got}
 use Rattle.std.specs.Prelude.{codes, ◌<◌, ◌^◌}
 
-suffixed_runs : (suffix : Suffix) (negative : Bool) (n : ℕ) → IsSuffixed suffix negative n → (s : Stack) → Runs (TokenPiece (Number negative n suffix) ∷ []) (Want s) (Got (Constant (Suffixed negative n suffix)) s)
+suffixed_runs : (suffix : Suffix) (negative : Bool) (n : ℕ) → IsSuffixed suffix negative n →
+    (s : Stack) → Runs (TokenPiece (Number negative n suffix) ∷ []) (Want s)
+    (Got (Constant (Suffixed negative n suffix)) s)
 suffixed_runs NoSuffix negative n is s = absurd is
 suffixed_runs _ negative n is s = at_end
 

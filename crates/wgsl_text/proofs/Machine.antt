@@ -16,8 +16,9 @@ use Rattle.wgsl_text.specs.Token.{Number, ZeroPointZero, Foreign, Piece, TokenPi
 use Rattle.wgsl_text.specs.Token.{Indent}
 use Rattle.wgsl_text.specs.Literals.{Literal, Truth, Suffixed, SignedShort, UnsignedShort}
 use Rattle.wgsl_text.specs.Literals.{LeastInteger, LeastLong}
-use Rattle.wgsl_text.specs.Types.{TypeSpecifier, Named, Template, TypeParts, NoParts, TypePart}
-use Rattle.wgsl_text.specs.Types.{SizePart}
+use Rattle.wgsl_text.specs.Types.{TypeSpecifier, Named, Template, TemplateArguments}
+use Rattle.wgsl_text.specs.Types.{NoTemplateArguments, TypeArgument}
+use Rattle.wgsl_text.specs.Types.{SizeArgument}
 use Rattle.wgsl_text.specs.Expressions.{BinaryOperator, Add, Subtract, Multiply, Divide, Modulo}
 use Rattle.wgsl_text.specs.Expressions.{Equal, NotEqual, Less, LessEqual, Greater, GreaterEqual}
 use Rattle.wgsl_text.specs.Expressions.{And, ExclusiveOr, InclusiveOr, LogicalAnd, LogicalOr}
@@ -54,7 +55,7 @@ pub data Stack : Type 0 where
   InDeref : Stack → Stack
   InArguments : TypeSpecifier → Arguments → Stack → Stack
   InIndex : Expression → Stack → Stack
-  InTemplate : List ℕ → TypeParts → Stack → Stack
+  InTemplate : List ℕ → TemplateArguments → Stack → Stack
   InCallee : Stack → Stack
   -- statements, newest first, and what they stand in
   InStatements : Statements → Stack → Stack
@@ -116,7 +117,7 @@ pub data State : Type 0 where
   InLeastLong : Stack → State
   WantType : Stack → State
   GotType : TypeSpecifier → Stack → State
-  AfterPart : List ℕ → TypeParts → Stack → State
+  AfterPart : List ℕ → TemplateArguments → Stack → State
   LetName : Stack → State
   AfterLetName : List ℕ → Stack → State
   WantBrace : Stack → State
@@ -164,10 +165,10 @@ unwind_arguments (Argument e done) args = unwind_arguments done (Argument e args
 unwind_arguments (NumberArgument n done) args = unwind_arguments done (NumberArgument n args)
 unwind_arguments (ZeroArgument done) args = unwind_arguments done (ZeroArgument args)
 
-abbrev pub unwind_parts : TypeParts → TypeParts → TypeParts
-unwind_parts NoParts args = args
-unwind_parts (TypePart t done) args = unwind_parts done (TypePart t args)
-unwind_parts (SizePart n done) args = unwind_parts done (SizePart n args)
+abbrev pub unwind_parts : TemplateArguments → TemplateArguments → TemplateArguments
+unwind_parts NoTemplateArguments args = args
+unwind_parts (TypeArgument t done) args = unwind_parts done (TypeArgument t args)
+unwind_parts (SizeArgument n done) args = unwind_parts done (SizeArgument n args)
 
 abbrev pub unwind_statements : Statements → Statements → Statements
 unwind_statements NoStatements more = more
@@ -401,7 +402,7 @@ got_open _ s = Failed
 
 -- Is this the word of a type, or of a call that takes a type?
 abbrev pub got_less : (List ℕ → Bool) → Expression → Stack → State
-got_less takes_types (Name w) s = cond (takes_types w) (WantType (InTemplate w NoParts (InCallee s))) (got_operator Less (Name w) s)
+got_less takes_types (Name w) s = cond (takes_types w) (WantType (InTemplate w NoTemplateArguments (InCallee s))) (got_operator Less (Name w) s)
 got_less takes_types e s = got_operator Less e s
 
 abbrev pub call_statement : Expression → Statements → Stack → State
@@ -497,17 +498,18 @@ in_least_long (Number negative n suffix) s = InLeastLong s
 in_least_long (Fixed CloseParen) s = Got (Constant LeastLong) s
 in_least_long _ s = Failed
 
-abbrev pub after_part : Mark → List ℕ → TypeParts → Stack → State
+abbrev pub after_part : Mark → List ℕ → TemplateArguments → Stack → State
 after_part Comma w done s = WantType (InTemplate w done s)
-after_part GreaterThan w done s = GotType (Template w (unwind_parts done NoParts)) s
+after_part GreaterThan w done s = GotType (Template w (unwind_parts done NoTemplateArguments)) s
 after_part _ w done s = Failed
 
 abbrev pub want_size : ℕ → Stack → State
-want_size n (InTemplate w done s) = AfterPart w (SizePart n done) s
+want_size n (InTemplate w done s) = AfterPart w (SizeArgument n done) s
 want_size n _ = Failed
 
 abbrev pub want_type_greater : Stack → State
-want_type_greater (InTemplate w done s) = GotType (Template w (unwind_parts done NoParts)) s
+want_type_greater (InTemplate w done s) =
+    GotType (Template w (unwind_parts done NoTemplateArguments)) s
 want_type_greater _ = Failed
 
 abbrev pub want_type : Token → Stack → State
@@ -517,7 +519,7 @@ want_type (Fixed GreaterThan) s = want_type_greater s
 want_type _ s = Failed
 
 abbrev pub got_type_less : TypeSpecifier → Stack → State
-got_type_less (Named w) s = WantType (InTemplate w NoParts s)
+got_type_less (Named w) s = WantType (InTemplate w NoTemplateArguments s)
 got_type_less _ s = Failed
 
 abbrev pub got_type_open : TypeSpecifier → Stack → State
@@ -554,7 +556,7 @@ after_global_type Equals space w t s = Want (InGlobal space w t s)
 after_global_type _ space w t s = Failed
 
 abbrev pub got_type_in : Mark → TypeSpecifier → Stack → State
-got_type_in m t (InTemplate w done s) = after_part m w (TypePart t done) s
+got_type_in m t (InTemplate w done s) = after_part m w (TypeArgument t done) s
 got_type_in m t (InLetType w s) = Want (InTypedLet w t s)
 got_type_in m t (InParameterType f done attributes w s) = after_parameter m (add_parameter w t (InParameters f done attributes s))
 got_type_in m t (InResult f parameters attributes s) = Want (InStatements NoStatements (InLocals f parameters (ResultOf (turned attributes []) t) [] s))

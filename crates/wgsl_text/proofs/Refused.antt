@@ -5,7 +5,7 @@ use Rattle.std.specs.Prelude.{codes, ◌==◌, ◌<◌, ◌^◌}
 use Rattle.std.proofs.lemmas.Bool.{false≢true}
 use Rattle.wgsl_text.specs.Token.{SuffixI, SuffixU, Token}
 use Rattle.wgsl_text.specs.Literals.{Suffixed}
-use Rattle.wgsl_text.specs.Types.{TypeSpecifier, Named, Template, NoParts, TypePart}
+use Rattle.wgsl_text.specs.Types.{TypeSpecifier, Named, Template, NoTemplateArguments, TypeArgument}
 use Rattle.wgsl_text.specs.Expressions.{Negate, Expression, Constant, Name, Unary, Call, Member}
 use Rattle.wgsl_text.specs.Expressions.{NoArguments, Argument, NumberArgument, ZeroArgument}
 use Rattle.wgsl_text.specs.Attributes.{Compute, Location, Size, Align, Builtin, Attribute, Plain}
@@ -133,7 +133,11 @@ refused = record {
   negative_unsigned = found_expression _ (Constant (Suffixed true 5 SuffixU)) refl (λ r. r.form);
   too_great = found_expression _ (Constant (Suffixed false 2147483648 SuffixI)) refl (λ r. let small : 2147483648 < 2 ^ 31 = r.form in omega arith);
   half_type = no_type _ refl;
-  vector_of_vectors = found_type _ (Template (codes "vec3") (TypePart (Template (codes "vec3") (TypePart (Named (codes "f32")) NoParts)) NoParts)) refl (λ r. false≢true r.form.part.0);
+  vector_of_vectors =
+      found_type _ (Template (codes "vec3")
+      (TypeArgument
+      (Template (codes "vec3") (TypeArgument (Named (codes "f32")) NoTemplateArguments))
+      NoTemplateArguments)) refl (λ r. false≢true r.form.part.0);
   keyword_function = no_program _ refl;
   reserved_parameter = found_program _ reserved_parameter_tree refl (λ r. false≢true (sym r.form.functions.0.parameters.0.name.word.free));
   cut = no_program _ refl;

@@ -42,7 +42,9 @@ pub number_of_plain : (n : ℕ) → IsPlainNumber n → IsNumber n
 number_of_plain n is = omega arith
 
 -- a plain number
-pub size : {n : ℕ} {qs : List Piece} → IsPlainNumber n → ((more : List Piece) → ends_word (text more) ≡ true → ends (Number false n NoSuffix) (text (qs ++ more)) ≡ true) → Spaced qs → Spaced (plain n ∷ qs)
+pub size : {n : ℕ} {qs : List Piece} → IsPlainNumber n →
+    ((more : List Piece) → ends_word (text more) ≡ true →
+    ends (Number false n NoSuffix) (text (qs ++ more)) ≡ true) → Spaced qs → Spaced (plain n ∷ qs)
 size {n} is front b = tok (number_of_plain n is) front b
 
 pub gap : {qs : List Piece} → Spaced qs → Spaced (Blank ∷ qs)

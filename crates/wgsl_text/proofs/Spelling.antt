@@ -116,7 +116,10 @@ digits_at_least negative b (d ∷ ds) more bytes =
     let digits : length (ds ++ more) ≡ length ds + length more = length-append ds more in
     moved (suc (suc (length ds))) (when_false _ (and_last_false (is_point_zero bytes) (not negative) (b == 48) false refl)) (tt, omega arith)
 
-number_at_least : (negative : Bool) (b : ℕ) (ds : List ℕ) (suffix : Suffix) (rest : List ℕ) → all_ascii_digits ds ≡ true → AtLeast (suc (length (ds ++ suffix_text suffix))) (number_lexeme negative b (ds ++ (suffix_text suffix ++ rest)))
+number_at_least : (negative : Bool) (b : ℕ) (ds : List ℕ) (suffix : Suffix) (rest : List ℕ) →
+    all_ascii_digits ds ≡ true →
+    AtLeast (suc (length (ds ++ suffix_text suffix)))
+    (number_lexeme negative b (ds ++ (suffix_text suffix ++ rest)))
 number_at_least negative b ds NoSuffix rest is =
     let found : number_lexeme negative b (ds ++ rest) ≡ number_of negative b (ds ++ take (digits_length rest) rest) (drop (digits_length rest) rest) =
     ap (λ v. number_of negative b v (drop (digits_length (ds ++ rest)) (ds ++ rest))) (digits_taken ds rest is)
@@ -132,12 +135,18 @@ one_more_at_least : (n : ℕ) (l : Lexeme) → AtLeast n l → AtLeast (suc n) (
 one_more_at_least n (Takes t m) a = (a.0, omega arith)
 one_more_at_least n Skips a = absurd a
 
-number_front : (negative : Bool) (ds : List ℕ) (suffix : Suffix) (rest : List ℕ) → 0 < length ds → all_ascii_digits ds ≡ true → AtLeast (length (number_text negative ds suffix)) (lexeme_of (number_text negative ds suffix ++ rest))
+number_front : (negative : Bool) (ds : List ℕ) (suffix : Suffix) (rest : List ℕ) → 0 < length ds →
+    all_ascii_digits ds ≡ true →
+    AtLeast (length (number_text negative ds suffix))
+    (lexeme_of (number_text negative ds suffix ++ rest))
 number_front negative [] suffix rest some is = absurd (omega arith)
 number_front false (b ∷ ds) suffix rest some is =
     let h = and_parts (is_ascii_digit b) (all_ascii_digits ds) is in
     subst (λ v. AtLeast (suc (length (ds ++ suffix_text suffix))) (lexeme b v)) (sym (append_assoc ds (suffix_text suffix) rest))
-    (moved (suc (length (ds ++ suffix_text suffix))) {l = number_lexeme false b (ds ++ (suffix_text suffix ++ rest))} (when_false _ (digit_no_letter b h.0) ∙ when_true _ h.0) (number_at_least false b ds suffix rest h.1))
+    (moved (suc (length (ds ++ suffix_text suffix))) {l =
+    number_lexeme false b (ds ++ (suffix_text suffix ++ rest))}
+    (when_false _ (digit_no_letter b h.0) ∙ when_true _ h.0)
+    (number_at_least false b ds suffix rest h.1))
 number_front true (b ∷ ds) suffix rest some is =
     let h = and_parts (is_ascii_digit b) (all_ascii_digits ds) is in
     let n = suc (length (ds ++ suffix_text suffix)) in
@@ -157,7 +166,10 @@ sign_or_at_least short long false = (tt, omega arith)
 
 minus_at_least : (rest : List ℕ) → AtLeast 1 (minus_lexeme rest)
 minus_at_least [] = (tt, omega arith)
-minus_at_least (b ∷ rest) = at_least_if 1 (is_ascii_digit b) _ _ (one_less 1 (one_more (number_lexeme true b rest)) (one_more_at_least 1 _ (digits_at_least true b [] (take (digits_length rest) rest) (drop (digits_length rest) rest)))) (tt, omega arith)
+minus_at_least (b ∷ rest) =
+    at_least_if 1 (is_ascii_digit b) _ _ (one_less 1 (one_more (number_lexeme true b rest))
+    (one_more_at_least 1 _ (digits_at_least true b [] (take (digits_length rest) rest)
+    (drop (digits_length rest) rest)))) (tt, omega arith)
 
 sign_at_least : (m : Mark) → is_sign m ≡ true → (rest : List ℕ) → AtLeast (length (mark_text m)) (lexeme_of (mark_text m ++ rest))
 sign_at_least KeywordTrue is rest = absurd (false≢true is)
@@ -289,7 +301,10 @@ suffix_front (b ∷ bytes) =
 -- what a number that begins with the digit b is
 data NumberFront (negative : Bool) (b : ℕ) (bytes : List ℕ) (l : Lexeme) : Type 0 where
   PointZero : negative ≡ false → b ≡ 48 → (rest : List ℕ) → bytes ≡ 46 ∷ 48 ∷ rest → l ≡ Takes ZeroPointZero 2 → NumberFront negative b bytes l
-  Digits : (ds rest : List ℕ) (suffix : Suffix) → all_ascii_digits ds ≡ true → bytes ≡ (ds ++ suffix_text suffix) ++ rest → l ≡ Takes (Number negative (digits_value 10 (b ∷ ds)) suffix) (length (ds ++ suffix_text suffix)) → NumberFront negative b bytes l
+  Digits : (ds rest : List ℕ) (suffix : Suffix) → all_ascii_digits ds ≡ true →
+      bytes ≡ (ds ++ suffix_text suffix) ++ rest →
+      l ≡ Takes (Number negative (digits_value 10 (b ∷ ds)) suffix)
+      (length (ds ++ suffix_text suffix)) → NumberFront negative b bytes l
 
 no_more : (ds : List ℕ) → is_empty ds ≡ true → ds ≡ []
 no_more [] e = refl
@@ -308,7 +323,11 @@ number_of_digits negative b bytes ds rest is whole = zero_or (is_point_zero rest
     s : SuffixFront rest (suffix_at rest)
     s = suffix_front rest
 
-    zero_or : (c : Bool) → (is_point_zero rest && (not negative && (b == 48 && is_empty ds))) ≡ c → NumberFront negative b bytes (cond c (Takes ZeroPointZero 2) (Takes (Number negative (digits_value 10 (b ∷ ds)) (suffix_at rest)) (length (ds ++ suffix_text (suffix_at rest)))))
+    zero_or : (c : Bool) → (is_point_zero rest && (not negative && (b == 48 && is_empty ds))) ≡ c →
+        NumberFront negative b bytes
+        (cond c (Takes ZeroPointZero 2)
+        (Takes (Number negative (digits_value 10 (b ∷ ds)) (suffix_at rest))
+        (length (ds ++ suffix_text (suffix_at rest)))))
     zero_or true e =
         let h = and_parts (is_point_zero rest) (not negative && (b == 48 && is_empty ds)) e in
         let i = and_parts (not negative) (b == 48 && is_empty ds) h.1 in
@@ -346,12 +365,17 @@ minus_answer (b ∷ bytes) = choose (is_ascii_digit b) _ _ (λ digit. negative_n
     negative_number digit f = elim f [
       | PointZero positive zero_ rest whole l ↦ absurd (false≢true (sym positive))
       | Digits ds rest suffix is whole l ↦
-          Spelled (b ∷ (ds ++ suffix_text suffix)) rest (Number true (digits_value 10 (b ∷ ds)) suffix) (ap (λ v. b ∷ v) whole) (SpellsNumber true (b ∷ ds) suffix (omega arith) (all_digits b ds digit is)) (ap one_more l)
+          Spelled (b ∷ (ds ++ suffix_text suffix)) rest
+          (Number true (digits_value 10 (b ∷ ds)) suffix) (ap (λ v. b ∷ v) whole)
+          (SpellsNumber true (b ∷ ds) suffix (omega arith) (all_digits b ds digit is))
+          (ap one_more l)
     ]
 
 -- signs
 
-sign_or_answer : (short long : Mark) (b x : ℕ) → is_sign short ≡ true → is_sign long ≡ true → mark_text short ≡ b ∷ [] → mark_text long ≡ b ∷ x ∷ [] → (bytes : List ℕ) → Answer b bytes (sign_or short (starts_with x bytes) long)
+sign_or_answer : (short long : Mark) (b x : ℕ) → is_sign short ≡ true → is_sign long ≡ true →
+    mark_text short ≡ b ∷ [] → mark_text long ≡ b ∷ x ∷ [] →
+    (bytes : List ℕ) → Answer b bytes (sign_or short (starts_with x bytes) long)
 sign_or_answer short long b x s l e f bytes =
     choose (starts_with x bytes) _ _
     (λ next. let r = starts x bytes next in Spelled (x ∷ []) r.0 (Fixed long) r.1 (subst (λ v. Spells v (Fixed long)) f (SpellsSign long l)) refl)
@@ -422,7 +446,9 @@ nothing_behind SuffixU = refl
 nothing_behind SuffixLi = refl
 nothing_behind SuffixLu = refl
 
-number_alone : (negative : Bool) (ds : List ℕ) (suffix : Suffix) → 0 < length ds → all_ascii_digits ds ≡ true → tokens (number_text negative ds suffix) ≡ Number negative (digits_value 10 ds) suffix ∷ []
+number_alone : (negative : Bool) (ds : List ℕ) (suffix : Suffix) → 0 < length ds →
+    all_ascii_digits ds ≡ true → tokens (number_text negative ds suffix) ≡ Number negative
+    (digits_value 10 ds) suffix ∷ []
 number_alone false ds suffix some is = ap (λ v. scan (ds ++ v) 0) (sym (append-nil (suffix_text suffix))) ∙ number_scans false ds suffix [] some is (nothing_behind suffix)
 number_alone true ds suffix some is = ap (λ v. scan (45 ∷ (ds ++ v)) 0) (sym (append-nil (suffix_text suffix))) ∙ number_scans true ds suffix [] some is (nothing_behind suffix)
 

@@ -58,7 +58,9 @@ label_runs : (l : Label) (e : Expression) (done : Cases) (labels : List Label) (
 label_runs DefaultLabel e done labels s = at_end
 label_runs _ e done labels s = at_end
 
-labels_run : (ls : Labels) (e : Expression) (done : Cases) (labels : List Label) (s : Stack) → Runs (labels_pieces ls) (WantLabel e done labels s) (WantBrace (InCase e done (unwind_labels labels ls) s))
+labels_run : (ls : Labels) (e : Expression) (done : Cases) (labels : List Label) (s : Stack) →
+    Runs (labels_pieces ls) (WantLabel e done labels s)
+    (WantBrace (InCase e done (unwind_labels labels ls) s))
 labels_run (LastLabel l) e done labels s = label_runs l e done labels s onward at_end
 labels_run (MoreLabels l more) e done labels s = label_runs l e done labels s onward reads $ over_gap $ labels_run more e done (l ∷ labels) s
 
@@ -79,7 +81,10 @@ loop_closes : (body : Statements) (rest : OptionalBlock) (done : Statements) (s 
 loop_closes body NoBlock done s = closes body at_end
 loop_closes body (SomeBlock rest) done s = at_end
 
-continues : (body : Statements) {s : Stack} {qs : List Piece} {s' : State} → Runs qs (WantBrace (InContinuing body s)) s' → Runs (mark KeywordContinuing ∷ qs) (Want (InStatements (rewind_statements body NoStatements) (InLoop s))) s'
+continues : (body : Statements) {s : Stack} {qs : List Piece} {s' : State} →
+    Runs qs (WantBrace (InContinuing body s)) s' →
+    Runs (mark KeywordContinuing ∷ qs)
+    (Want (InStatements (rewind_statements body NoStatements) (InLoop s))) s'
 continues body {s} b = reads $ as_state (ap (λ v. WantBrace (InContinuing v s)) (unwind_rewind body NoStatements)) b
 
 mutual
@@ -91,19 +96,29 @@ mutual
   statement_runs (CallStatement t args) is n done s = over_indent $ callee_runs t is.0 _ _ _ (arguments_run args is.1 t _ onward at_end)
   statement_runs (ReturnValue e) is n done s = over_indent $ reads $ over_gap $ expression_runs e is _ onward at_end
   statement_runs (If e accept reject) is n done s =
-      over_indent $ reads $ over_gap $ expression_runs e is.0 _ onward over_gap $ reads $ over_line $ statements_run accept is.1 (suc n) NoStatements _ onward over_indent $ closes accept $ else_runs reject is.2 n e accept done s
+      over_indent $ reads $ over_gap $ expression_runs e is.0 _ onward over_gap $ reads $ over_line
+      $ statements_run accept is.1 (suc n) NoStatements _ onward over_indent $ closes accept $
+      else_runs reject is.2 n e accept done s
   statement_runs (Loop body rest) is n done s =
-      over_indent $ reads $ over_gap $ reads $ over_line $ statements_run body is.0 (suc n) NoStatements _ onward continuing_runs rest is.1 (suc n) body (InStatements done s) onward over_indent $ loop_closes body rest done s
+      over_indent $ reads $ over_gap $ reads $ over_line $ statements_run body is.0
+      (suc n) NoStatements _ onward continuing_runs rest is.1 (suc n) body (InStatements done s)
+      onward over_indent $ loop_closes body rest done s
   statement_runs (LoopBreakIf body rest e) is n done s =
       over_indent (reads (over_gap (reads (over_line (statements_run body is.0 (suc n) NoStatements _ onward over_indent (continues body (over_gap (reads (over_line (
       statements_run rest is.1 (suc (suc n)) NoStatements _ onward over_indent (reads (over_gap (reads (over_gap (expression_runs e is.2 _ onward
       reads (as_state (ap (λ v. CloseTwice (LoopBreakIf body v e) (InStatements done s)) (unwind_rewind rest NoStatements)) at_end))))))))))))))))
   statement_runs (Switch e cases) is n done s =
-      over_indent $ reads $ over_gap $ expression_runs e is.0 _ onward over_gap $ reads $ over_line $ cases_run cases is.1 (suc n) e NoCases _ onward over_indent $ reads $ as_state (ap (λ cs. add_statement (Switch e cs) (InStatements done s)) (unwind_rewind_cases cases NoCases)) at_end
+      over_indent $ reads $ over_gap $ expression_runs e is.0 _ onward over_gap $ reads $ over_line
+      $ cases_run cases is.1 (suc n) e NoCases _ onward over_indent $ reads $ as_state
+      (ap (λ cs. add_statement (Switch e cs) (InStatements done s))
+      (unwind_rewind_cases cases NoCases)) at_end
   statement_runs (Block body) is n done s = over_indent $ reads $ over_line $ statements_run body is (suc n) NoStatements _ onward over_indent $ closes body at_end
   statement_runs _ is n done s = at_end
 
-  pub statements_run : (ss : Statements) → IsStatements ss → (n : ℕ) (done : Statements) (s : Stack) → Runs (statements_pieces ss n) (Want (InStatements done s)) (Want (InStatements (rewind_statements ss done) s))
+  pub statements_run : (ss : Statements) → IsStatements ss →
+      (n : ℕ) (done : Statements) (s : Stack) →
+      Runs (statements_pieces ss n) (Want (InStatements done s))
+      (Want (InStatements (rewind_statements ss done) s))
   statements_run NoStatements is n done s = at_end
   statements_run (Then st more) is n done s = statement_runs st is.0 n done s onward statements_run more is.1 n (Then st done) s
 
@@ -129,11 +144,16 @@ mutual
   cases_run : (cs : Cases) → IsCases cs → (n : ℕ) (e : Expression) (done : Cases) (s : Stack) → Runs (cases_pieces cs n) (AtCase e done s) (AtCase e (rewind_cases cs done) s)
   cases_run NoCases is n e done s = at_end
   cases_run (Case labels body more) is n e done s =
-      over_indent $ case_runs labels e done s onward over_gap $ reads $ over_line $ statements_run body is.1 (suc n) NoStatements _ onward over_indent $ closes body $ over_line $ cases_run more is.2 n e (Case labels body done) s
+      over_indent $ case_runs labels e done s onward over_gap $ reads $ over_line $ statements_run
+      body is.1 (suc n) NoStatements _ onward over_indent $ closes body $ over_line $ cases_run
+      more is.2 n e (Case labels body done) s
 
 -- In their pieces no token runs into the next.
 
-label_closed : (l : Label) → IsLabel l → {qs : List Piece} → ((more : List Piece) → ends (Number false 0 NoSuffix) (text (qs ++ more)) ≡ true) → ((more : List Piece) → ends_word (text (qs ++ more)) ≡ true) → Closed qs → Closed (label_pieces l ++ qs)
+label_closed : (l : Label) → IsLabel l → {qs : List Piece} →
+    ((more : List Piece) → ends (Number false 0 NoSuffix) (text (qs ++ more)) ≡ true) →
+    ((more : List Piece) → ends_word (text (qs ++ more)) ≡ true) → Closed qs →
+    Closed (label_pieces l ++ qs)
 label_closed DefaultLabel is number front a = sign front a
 label_closed (SignedLabel negative n) is number front a = tok (signed_number negative n (2 ^ 31) (omega arith) is) number a
 label_closed (UnsignedLabel n) is number front a = tok (number_of_plain n is) (λ _. refl) a
@@ -153,16 +173,24 @@ mutual
   statement_closed (Let w e) is n =
       indent $ sign (λ _. refl) $ gap $ free is.0.word (λ _. refl) $ gap $ sign (λ _. refl) $ gap $ part (expression_spaced e is.1) (λ _. refl) stop
   statement_closed (TypedLet w t e) is n =
-      indent $ sign (λ _. refl) $ gap $ free is.0.word (λ _. refl) $ sign (λ _. refl) $ gap $ part (type_spaced t is.1.part) (λ _. refl) $ gap $ sign (λ _. refl) $ gap $ part (expression_spaced e is.2) (λ _. refl) stop
+      indent $ sign (λ _. refl) $ gap $ free is.0.word (λ _. refl) $ sign (λ _. refl) $ gap $ part
+      (type_spaced t is.1.part) (λ _. refl) $ gap $ sign (λ _. refl) $ gap $ part
+      (expression_spaced e is.2) (λ _. refl) stop
   statement_closed (Assign a b) is n = indent $ part (expression_spaced a is.0) (λ _. refl) $ gap $ sign (λ _. refl) $ gap $ part (expression_spaced b is.1) (λ _. refl) stop
   statement_closed (CallStatement t args) is n = indent $ part (callee_spaced t is.0) (λ _. refl) $ sign (λ _. refl) $ part (arguments_spaced args is.1) (λ _. refl) stop
   statement_closed (ReturnValue e) is n = indent $ sign (λ _. refl) $ gap $ part (expression_spaced e is) (λ _. refl) stop
   statement_closed (If e accept reject) is n =
-      indent $ sign (λ _. refl) $ gap $ part (expression_spaced e is.0) (λ _. refl) $ gap $ sign (λ _. refl) $ line $ statements_closed accept is.1 (suc n) then indent $ sign (λ _. refl) $ else_closed reject is.2 n
+      indent $ sign (λ _. refl) $ gap $ part (expression_spaced e is.0) (λ _. refl) $ gap $ sign
+      (λ _. refl) $ line $ statements_closed accept is.1 (suc n) then indent $ sign
+      (λ _. refl) $ else_closed reject is.2 n
   statement_closed (Loop body rest) is n =
       indent $ sign (λ _. refl) $ gap $ sign (λ _. refl) $ line $ statements_closed body is.0 (suc n) then continuing_closed rest is.1 (suc n) then indent close_line
   statement_closed (LoopBreakIf body rest e) is n =
-      indent $ sign (λ _. refl) $ gap $ sign (λ _. refl) $ line $ statements_closed body is.0 (suc n) then indent $ sign (λ _. refl) $ gap $ sign (λ _. refl) $ line $ statements_closed rest is.1 (suc (suc n)) then indent $ sign (λ _. refl) $ gap $ sign (λ _. refl) $ gap $ part (expression_spaced e is.2) (λ _. refl) $ sign (λ _. refl) $ line $ indent $ sign (λ _. refl) $ line $ indent close_line
+      indent $ sign (λ _. refl) $ gap $ sign (λ _. refl) $ line $ statements_closed body is.0
+      (suc n) then indent $ sign (λ _. refl) $ gap $ sign (λ _. refl) $ line $ statements_closed
+      rest is.1 (suc (suc n)) then indent $ sign (λ _. refl) $ gap $ sign
+      (λ _. refl) $ gap $ part (expression_spaced e is.2) (λ _. refl) $ sign
+      (λ _. refl) $ line $ indent $ sign (λ _. refl) $ line $ indent close_line
   statement_closed (Switch e cases) is n =
       indent $ sign (λ _. refl) $ gap $ part (expression_spaced e is.0) (λ _. refl) $ gap $ sign (λ _. refl) $ line $ cases_closed cases is.1 (suc n) then indent close_line
   statement_closed (Block body) is n = indent $ sign (λ _. refl) $ line $ statements_closed body is (suc n) then indent close_line
@@ -196,19 +224,30 @@ mutual
 pub let_text : (w : List ℕ) (e : Expression) (n : ℕ) → text (statement_pieces (Let w e) n) ≡ indent_text n ++ (codes "let " ++ (w ++ (codes " = " ++ (expression_layout e ++ codes ";\n"))))
 let_text w e n = simp text-append
 
-pub typed_let_text : (w : List ℕ) (t : TypeSpecifier) (e : Expression) (n : ℕ) → text (statement_pieces (TypedLet w t e) n) ≡ indent_text n ++ (codes "let " ++ (w ++ (codes ": " ++ (type_layout t ++ (codes " = " ++ (expression_layout e ++ codes ";\n"))))))
+pub typed_let_text : (w : List ℕ) (t : TypeSpecifier) (e : Expression) (n : ℕ) →
+    text (statement_pieces (TypedLet w t e) n) ≡ indent_text n ++
+    (codes "let " ++
+    (w ++ (codes ": " ++ (type_layout t ++ (codes " = " ++ (expression_layout e ++ codes ";\n"))))))
 typed_let_text w t e n = simp text-append
 
 pub assign_text : (a b : Expression) (n : ℕ) → text (statement_pieces (Assign a b) n) ≡ indent_text n ++ (expression_layout a ++ (codes " = " ++ (expression_layout b ++ codes ";\n")))
 assign_text a b n = simp text-append
 
-pub call_statement_text : (t : TypeSpecifier) (args : Arguments) (n : ℕ) → text (statement_pieces (CallStatement t args) n) ≡ indent_text n ++ (type_layout t ++ (codes "(" ++ (text (arguments_pieces args) ++ codes ";\n")))
+pub call_statement_text : (t : TypeSpecifier) (args : Arguments) (n : ℕ) →
+    text (statement_pieces (CallStatement t args) n) ≡ indent_text n ++
+    (type_layout t ++ (codes "(" ++ (text (arguments_pieces args) ++ codes ";\n")))
 call_statement_text t args n = simp text-append
 
 pub return_text : (e : Expression) (n : ℕ) → text (statement_pieces (ReturnValue e) n) ≡ indent_text n ++ (codes "return " ++ (expression_layout e ++ codes ";\n"))
 return_text e n = simp text-append
 
-pub if_text : (e : Expression) (accept : Statements) (reject : OptionalBlock) (n : ℕ) → text (statement_pieces (If e accept reject) n) ≡ indent_text n ++ (codes "if " ++ (expression_layout e ++ (codes " {\n" ++ (text (statements_pieces accept (suc n)) ++ (indent_text n ++ (codes "}" ++ text (else_pieces reject n)))))))
+pub if_text : (e : Expression) (accept : Statements) (reject : OptionalBlock) (n : ℕ) →
+    text (statement_pieces (If e accept reject) n) ≡ indent_text n ++
+    (codes "if " ++
+    (expression_layout e ++
+    (codes " {\n" ++
+    (text (statements_pieces accept (suc n)) ++
+    (indent_text n ++ (codes "}" ++ text (else_pieces reject n)))))))
 if_text e accept reject n = simp text-append
 
 pub else_text : (body : Statements) (n : ℕ) →
@@ -216,10 +255,25 @@ pub else_text : (body : Statements) (n : ℕ) →
     ≡ codes " else {\n" ++ (text (statements_pieces body (suc n)) ++ (indent_text n ++ codes "}\n"))
 else_text body n = simp text-append
 
-pub loop_text : (body : Statements) (rest : OptionalBlock) (n : ℕ) → text (statement_pieces (Loop body rest) n) ≡ indent_text n ++ (codes "loop {\n" ++ (text (statements_pieces body (suc n)) ++ (text (continuing_pieces rest (suc n)) ++ (indent_text n ++ codes "}\n"))))
+pub loop_text : (body : Statements) (rest : OptionalBlock) (n : ℕ) →
+    text (statement_pieces (Loop body rest) n) ≡ indent_text n ++
+    (codes "loop {\n" ++
+    (text (statements_pieces body (suc n)) ++
+    (text (continuing_pieces rest (suc n)) ++ (indent_text n ++ codes "}\n"))))
 loop_text body rest n = simp text-append
 
-pub loop_break_if_text : (body rest : Statements) (e : Expression) (n : ℕ) → text (statement_pieces (LoopBreakIf body rest e) n) ≡ indent_text n ++ (codes "loop {\n" ++ (text (statements_pieces body (suc n)) ++ (indent_text (suc n) ++ (codes "continuing {\n" ++ (text (statements_pieces rest (suc (suc n))) ++ (indent_text (suc (suc n)) ++ (codes "break if " ++ (expression_layout e ++ (codes ";\n" ++ (indent_text (suc n) ++ (codes "}\n" ++ (indent_text n ++ codes "}\n"))))))))))))
+pub loop_break_if_text : (body rest : Statements) (e : Expression) (n : ℕ) →
+    text (statement_pieces (LoopBreakIf body rest e) n) ≡ indent_text n ++
+    (codes "loop {\n" ++
+    (text (statements_pieces body (suc n)) ++
+    (indent_text (suc n) ++
+    (codes "continuing {\n" ++
+    (text (statements_pieces rest (suc (suc n))) ++
+    (indent_text (suc (suc n)) ++
+    (codes "break if " ++
+    (expression_layout e ++
+    (codes ";\n" ++
+    (indent_text (suc n) ++ (codes "}\n" ++ (indent_text n ++ codes "}\n"))))))))))))
 loop_break_if_text body rest e n = simp text-append
 
 pub continuing_text : (body : Statements) (n : ℕ) →
@@ -228,10 +282,19 @@ pub continuing_text : (body : Statements) (n : ℕ) →
     (text (statements_pieces body (suc n)) ++ (indent_text n ++ codes "}\n")))
 continuing_text body n = simp text-append
 
-pub switch_text : (e : Expression) (cases : Cases) (n : ℕ) → text (statement_pieces (Switch e cases) n) ≡ indent_text n ++ (codes "switch " ++ (expression_layout e ++ (codes " {\n" ++ (text (cases_pieces cases (suc n)) ++ (indent_text n ++ codes "}\n")))))
+pub switch_text : (e : Expression) (cases : Cases) (n : ℕ) →
+    text (statement_pieces (Switch e cases) n) ≡ indent_text n ++
+    (codes "switch " ++
+    (expression_layout e ++
+    (codes " {\n" ++ (text (cases_pieces cases (suc n)) ++ (indent_text n ++ codes "}\n")))))
 switch_text e cases n = simp text-append
 
-pub case_text : (labels : Labels) (body : Statements) (more : Cases) (n : ℕ) → text (cases_pieces (Case labels body more) n) ≡ indent_text n ++ (text (case_pieces labels) ++ (codes " {\n" ++ (text (statements_pieces body (suc n)) ++ (indent_text n ++ (codes "}\n" ++ text (cases_pieces more n))))))
+pub case_text : (labels : Labels) (body : Statements) (more : Cases) (n : ℕ) →
+    text (cases_pieces (Case labels body more) n) ≡ indent_text n ++
+    (text (case_pieces labels) ++
+    (codes " {\n" ++
+    (text (statements_pieces body (suc n)) ++
+    (indent_text n ++ (codes "}\n" ++ text (cases_pieces more n))))))
 case_text labels body more n = simp text-append
 
 pub block_text : (body : Statements) (n : ℕ) → text (statement_pieces (Block body) n) ≡ indent_text n ++ (codes "{\n" ++ (text (statements_pieces body (suc n)) ++ (indent_text n ++ codes "}\n")))

@@ -188,14 +188,19 @@ no_point SuffixU rest e = refl
 no_point SuffixLi rest e = refl
 no_point SuffixLu rest e = refl
 
-pub digits_scan : (negative : Bool) (b : ℕ) (ds : List ℕ) (suffix : Suffix) (rest : List ℕ) → all_ascii_digits ds ≡ true → ends_number suffix rest ≡ true → number_lexeme negative b (ds ++ (suffix_text suffix ++ rest)) ≡ Takes (Number negative (digits_value 10 (b ∷ ds)) suffix) (length (ds ++ suffix_text suffix))
+pub digits_scan : (negative : Bool) (b : ℕ) (ds : List ℕ) (suffix : Suffix) (rest : List ℕ) →
+    all_ascii_digits ds ≡ true → ends_number suffix rest ≡ true →
+    number_lexeme negative b (ds ++ (suffix_text suffix ++ rest)) ≡ Takes
+    (Number negative (digits_value 10 (b ∷ ds)) suffix) (length (ds ++ suffix_text suffix))
 digits_scan negative b ds suffix rest is e =
     let after = suffix_text suffix ++ rest in
     let n = digits_whole ds after is (digits_end suffix rest e) in
     ap (λ k. number_of negative b (take k (ds ++ after)) (drop k (ds ++ after))) n
     ∙ ap (λ v. number_of negative b v (drop (length ds) (ds ++ after))) (take-append_seam ds after)
     ∙ ap (λ v. number_of negative b ds v) (drop-append_seam ds after)
-    ∙ ap (λ c. cond (c && (not negative && (b == 48 && is_empty ds))) (Takes ZeroPointZero 2) (Takes (Number negative (digits_value 10 (b ∷ ds)) (suffix_at after)) (length (ds ++ suffix_text (suffix_at after))))) (no_point suffix rest e)
+    ∙ ap (λ c. cond (c && (not negative && (b == 48 && is_empty ds))) (Takes ZeroPointZero 2)
+    (Takes (Number negative (digits_value 10 (b ∷ ds)) (suffix_at after))
+    (length (ds ++ suffix_text (suffix_at after))))) (no_point suffix rest e)
     ∙ ap (λ v. Takes (Number negative (digits_value 10 (b ∷ ds)) v) (length (ds ++ suffix_text v))) (suffix_found suffix rest e)
 
 -- what the digits and the suffix of a number leave
@@ -203,7 +208,10 @@ number_left : (ds : List ℕ) (suffix : Suffix) (rest : List ℕ) → scan (ds +
 number_left ds suffix rest =
     ap (λ v. scan v (length (ds ++ suffix_text suffix))) (sym (append_assoc ds (suffix_text suffix) rest)) ∙ past (ds ++ suffix_text suffix) rest
 
-pub number_scans : (negative : Bool) (ds : List ℕ) (suffix : Suffix) (rest : List ℕ) → 0 < length ds → all_ascii_digits ds ≡ true → ends_number suffix rest ≡ true → scan (cond negative (codes "-") [] ++ (ds ++ (suffix_text suffix ++ rest))) 0 ≡ Number negative (digits_value 10 ds) suffix ∷ scan rest 0
+pub number_scans : (negative : Bool) (ds : List ℕ) (suffix : Suffix) (rest : List ℕ) →
+    0 < length ds → all_ascii_digits ds ≡ true → ends_number suffix rest ≡ true →
+    scan (cond negative (codes "-") [] ++ (ds ++ (suffix_text suffix ++ rest))) 0 ≡ Number negative
+    (digits_value 10 ds) suffix ∷ scan rest 0
 number_scans negative [] suffix rest some is e = absurd (omega arith)
 number_scans false (b ∷ ds) suffix rest some is e =
     let h = and_parts (is_ascii_digit b) (all_ascii_digits ds) is in
@@ -218,7 +226,10 @@ number_scans true (b ∷ ds) suffix rest some is e =
     ap (λ l. behind l (scan (b ∷ after))) (first ∙ ap one_more (digits_scan true b ds suffix rest h.1 e))
     ∙ ap (λ ts. Number true (digits_value 10 (b ∷ ds)) suffix ∷ ts) (number_left ds suffix rest)
 
-own_number_scans : (negative : Bool) (n : ℕ) (suffix : Suffix) (rest : List ℕ) → IsNumber n → ends_number suffix rest ≡ true → scan (cond negative (codes "-") [] ++ (decimal n ++ (suffix_text suffix ++ rest))) 0 ≡ Number negative n suffix ∷ scan rest 0
+own_number_scans : (negative : Bool) (n : ℕ) (suffix : Suffix) (rest : List ℕ) → IsNumber n →
+    ends_number suffix rest ≡ true →
+    scan (cond negative (codes "-") [] ++ (decimal n ++ (suffix_text suffix ++ rest))) 0 ≡
+    Number negative n suffix ∷ scan rest 0
 own_number_scans negative n suffix rest is e =
     number_scans negative (decimal n) suffix rest (decimal_nonempty n is) (digits_decimal own_digits n is) e
     ∙ ap (λ v. Number negative v suffix ∷ scan rest 0) (digits_value-decimal own_digits n is)

@@ -3,12 +3,13 @@
 use Rattle.std.proofs.Common.{◌≡◌, ℕ, Bool, true, false, ◌&&◌, List, [], ◌∷◌, ◌++◌, refl, sym, ap}
 use Rattle.std.proofs.Common.{◌∙◌}
 use Rattle.wgsl_text.specs.Token.{NoSuffix, Number, Piece}
-use Rattle.wgsl_text.specs.Types.{TypeSpecifier, Named, Template, TypeParts, NoParts, TypePart}
-use Rattle.wgsl_text.specs.Types.{SizePart, has_gaps, gap_if, type_pieces, parts_pieces}
-use Rattle.wgsl_text.specs.Types.{more_parts_pieces, PartsRule, TakesNone, TakesScalar}
+use Rattle.wgsl_text.specs.Types.{TypeSpecifier, Named, Template, TemplateArguments}
+use Rattle.wgsl_text.specs.Types.{NoTemplateArguments, TypeArgument}
+use Rattle.wgsl_text.specs.Types.{SizeArgument, has_gaps, gap_if, type_pieces, template_pieces}
+use Rattle.wgsl_text.specs.Types.{more_template_pieces, TemplateRule, TakesNone, TakesScalar}
 use Rattle.wgsl_text.specs.Types.{TakesSampled, TakesElements, TakesPointee, TakesFormat}
 use Rattle.wgsl_text.specs.Types.{TakesVertexReturn, TakesRole, TakesType, rule_among}
-use Rattle.wgsl_text.specs.Types.{type_templates, fits, IsPart, IsParts}
+use Rattle.wgsl_text.specs.Types.{type_templates, fits, IsTemplateArgument, AreTemplateArguments}
 use Rattle.wgsl_text.specs.Words.{stands_in, is_builtin, IsWord, is_reserved}
 use Rattle.wgsl_text.proofs.Chain.{◌$◌}
 use Rattle.wgsl_text.proofs.Runs.{Runs, ◌onward◌, reads, over_gap, at_end}
@@ -29,25 +30,34 @@ gap_runs : (gaps : Bool) {qs : List Piece} {s s' : State} → Runs qs s s' → R
 gap_runs true b = over_gap b
 gap_runs false b = b
 
-part_done : (more : TypeParts) (gaps : Bool) {t : TypeSpecifier} {w : List ℕ} {done : TypeParts} {s : Stack} {s' : State} → Runs (more_parts_pieces more gaps) (AfterPart w (TypePart t done) s) s' → Runs (more_parts_pieces more gaps) (GotType t (InTemplate w done s)) s'
-part_done NoParts gaps a = record { to = a.to }
-part_done (TypePart t more) gaps a = record { to = a.to }
-part_done (SizePart n more) gaps a = record { to = a.to }
+part_done : (more : TemplateArguments) (gaps : Bool) {t : TypeSpecifier} {w : List ℕ}
+    {done : TemplateArguments} {s : Stack} {s' : State} →
+    Runs (more_template_pieces more gaps) (AfterPart w (TypeArgument t done) s) s' →
+    Runs (more_template_pieces more gaps) (GotType t (InTemplate w done s)) s'
+part_done NoTemplateArguments gaps a = record { to = a.to }
+part_done (TypeArgument t more) gaps a = record { to = a.to }
+part_done (SizeArgument n more) gaps a = record { to = a.to }
 
 mutual
-  pub type_runs : (t : TypeSpecifier) → IsPart t → (s : Stack) → Runs (type_pieces t) (WantType s) (GotType t s)
+  pub type_runs : (t : TypeSpecifier) → IsTemplateArgument t → (s : Stack) → Runs (type_pieces t) (WantType s) (GotType t s)
   type_runs (Named w) is s = at_end
   type_runs (Template w args) is s = reads $ reads $ parts_run args is.1 (has_gaps w) w s
 
-  pub parts_run : (args : TypeParts) → IsParts args → (gaps : Bool) (w : List ℕ) (s : Stack) → Runs (parts_pieces args gaps) (WantType (InTemplate w NoParts s)) (GotType (Template w args) s)
-  parts_run NoParts is gaps w s = at_end
-  parts_run (TypePart t more) is gaps w s = type_runs t is.0 _ onward part_done more gaps (more_parts_run more is.1 gaps _ w s)
-  parts_run (SizePart n more) is gaps w s = reads $ more_parts_run more is.1 gaps (SizePart n NoParts) w s
+  pub parts_run : (args : TemplateArguments) → AreTemplateArguments args →
+      (gaps : Bool) (w : List ℕ) (s : Stack) →
+      Runs (template_pieces args gaps) (WantType (InTemplate w NoTemplateArguments s))
+      (GotType (Template w args) s)
+  parts_run NoTemplateArguments is gaps w s = at_end
+  parts_run (TypeArgument t more) is gaps w s = type_runs t is.0 _ onward part_done more gaps (more_parts_run more is.1 gaps _ w s)
+  parts_run (SizeArgument n more) is gaps w s = reads $ more_parts_run more is.1 gaps (SizeArgument n NoTemplateArguments) w s
 
-  pub more_parts_run : (args : TypeParts) → IsParts args → (gaps : Bool) (done : TypeParts) (w : List ℕ) (s : Stack) → Runs (more_parts_pieces args gaps) (AfterPart w done s) (GotType (Template w (unwind_parts done args)) s)
-  more_parts_run NoParts is gaps done w s = at_end
-  more_parts_run (TypePart t more) is gaps done w s = reads $ gap_runs gaps $ type_runs t is.0 _ onward part_done more gaps (more_parts_run more is.1 gaps (TypePart t done) w s)
-  more_parts_run (SizePart n more) is gaps done w s = reads $ gap_runs gaps $ reads $ more_parts_run more is.1 gaps (SizePart n done) w s
+  pub more_parts_run : (args : TemplateArguments) → AreTemplateArguments args →
+      (gaps : Bool) (done : TemplateArguments) (w : List ℕ) (s : Stack) →
+      Runs (more_template_pieces args gaps) (AfterPart w done s)
+      (GotType (Template w (unwind_parts done args)) s)
+  more_parts_run NoTemplateArguments is gaps done w s = at_end
+  more_parts_run (TypeArgument t more) is gaps done w s = reads $ gap_runs gaps $ type_runs t is.0 _ onward part_done more gaps (more_parts_run more is.1 gaps (TypeArgument t done) w s)
+  more_parts_run (SizeArgument n more) is gaps done w s = reads $ gap_runs gaps $ reads $ more_parts_run more is.1 gaps (SizeArgument n done) w s
 
 -- Words that take parts.
 
@@ -59,16 +69,16 @@ pub record IsTemplateWord (w : List ℕ) : Type 0 where
 abbrev pub is_template : List ℕ → Bool
 is_template w = is_free w && is_builtin w
 
-abbrev pub all_rows : (List ℕ → Bool) → List (List (List ℕ) × PartsRule) → Bool
+abbrev pub all_rows : (List ℕ → Bool) → List (List (List ℕ) × TemplateRule) → Bool
 all_rows p [] = true
 all_rows p (row ∷ rows) = all_words p row.0 && all_rows p rows
 
-pub fits_none : (parts : TypeParts) → fits TakesNone parts ≡ false
-fits_none NoParts = refl
+pub fits_none : (parts : TemplateArguments) → fits TakesNone parts ≡ false
+fits_none NoTemplateArguments = refl
 fits_none _ = refl
 
 -- A word whose parts fit stands in a row.
-pub row_word : (p : List ℕ → Bool) (rows : List (List (List ℕ) × PartsRule)) (w : List ℕ) (parts : TypeParts) → all_rows p rows ≡ true → IsTrue (fits (rule_among rows w) parts) → p w ≡ true
+pub row_word : (p : List ℕ → Bool) (rows : List (List (List ℕ) × TemplateRule)) (w : List ℕ) (parts : TemplateArguments) → all_rows p rows ≡ true → IsTrue (fits (rule_among rows w) parts) → p w ≡ true
 row_word p [] w parts all fit = absurd (false≢true (sym (fits_none parts) ∙ fit))
 row_word p (row ∷ rows) w parts all fit =
     let h = and_parts (all_words p row.0) (all_rows p rows) all in
@@ -85,33 +95,33 @@ types_are_templates = refl
 pub template_of : (w : List ℕ) → is_template w ≡ true → IsTemplateWord w
 template_of w e = let h = and_parts (is_free w) (is_builtin w) e in record { word = free_word w h.0; builtin = h.1 }
 
-pub type_template : (w : List ℕ) (parts : TypeParts) → IsTrue (fits (rule_among type_templates w) parts) → IsTemplateWord w
+pub type_template : (w : List ℕ) (parts : TemplateArguments) → IsTrue (fits (rule_among type_templates w) parts) → IsTemplateWord w
 type_template w parts fit = template_of w (row_word is_template type_templates w parts types_are_templates fit)
 
 -- No rule takes no parts.
-abbrev pub HasParts : TypeParts → Type 0
-HasParts NoParts = ⊥
+abbrev pub HasParts : TemplateArguments → Type 0
+HasParts NoTemplateArguments = ⊥
 HasParts _ = ⊤
 
-pub parts_of_fit : (rule : PartsRule) (parts : TypeParts) → IsTrue (fits rule parts) → HasParts parts
-parts_of_fit TakesNone NoParts fit = absurd (false≢true fit)
-parts_of_fit TakesScalar NoParts fit = absurd (false≢true fit)
-parts_of_fit TakesSampled NoParts fit = absurd (false≢true fit)
-parts_of_fit TakesElements NoParts fit = absurd (false≢true fit)
-parts_of_fit TakesPointee NoParts fit = absurd (false≢true fit)
-parts_of_fit TakesFormat NoParts fit = absurd (false≢true fit)
-parts_of_fit TakesVertexReturn NoParts fit = absurd (false≢true fit)
-parts_of_fit TakesRole NoParts fit = absurd (false≢true fit)
-parts_of_fit TakesType NoParts fit = absurd (false≢true fit)
+pub parts_of_fit : (rule : TemplateRule) (parts : TemplateArguments) → IsTrue (fits rule parts) → HasParts parts
+parts_of_fit TakesNone NoTemplateArguments fit = absurd (false≢true fit)
+parts_of_fit TakesScalar NoTemplateArguments fit = absurd (false≢true fit)
+parts_of_fit TakesSampled NoTemplateArguments fit = absurd (false≢true fit)
+parts_of_fit TakesElements NoTemplateArguments fit = absurd (false≢true fit)
+parts_of_fit TakesPointee NoTemplateArguments fit = absurd (false≢true fit)
+parts_of_fit TakesFormat NoTemplateArguments fit = absurd (false≢true fit)
+parts_of_fit TakesVertexReturn NoTemplateArguments fit = absurd (false≢true fit)
+parts_of_fit TakesRole NoTemplateArguments fit = absurd (false≢true fit)
+parts_of_fit TakesType NoTemplateArguments fit = absurd (false≢true fit)
 parts_of_fit _ _ fit = tt
 
 -- calls
 
-abbrev pub takes_none : PartsRule → Bool
+abbrev pub takes_none : TemplateRule → Bool
 takes_none TakesNone = true
 takes_none _ = false
 
-pub fits_nothing : (rule : PartsRule) (parts : TypeParts) → takes_none rule ≡ true → fits rule parts ≡ false
+pub fits_nothing : (rule : TemplateRule) (parts : TemplateArguments) → takes_none rule ≡ true → fits rule parts ≡ false
 fits_nothing TakesNone parts e = fits_none parts
 fits_nothing TakesScalar parts e = absurd (false≢true e)
 fits_nothing TakesSampled parts e = absurd (false≢true e)
@@ -124,59 +134,60 @@ fits_nothing TakesType parts e = absurd (false≢true e)
 
 -- In their pieces no token runs into the next.
 
-part_opens : (t : TypeSpecifier) → IsPart t → Opens (type_pieces t)
+part_opens : (t : TypeSpecifier) → IsTemplateArgument t → Opens (type_pieces t)
 part_opens (Named w) is = word_opens w is
 part_opens (Template w parts) is = word_opens w (type_template w parts is.0).word
 
-pub parts_open : (parts : TypeParts) → HasParts parts → IsParts parts → (gaps : Bool) → Opens (parts_pieces parts gaps)
-parts_open NoParts some is gaps = absurd some
-parts_open (TypePart t more) some is gaps = opens_first _ (part_opens t is.0)
-parts_open (SizePart n more) some is gaps = number_opens false n NoSuffix (number_of_plain n is.0)
+pub parts_open : (parts : TemplateArguments) → HasParts parts → AreTemplateArguments parts → (gaps : Bool) → Opens (template_pieces parts gaps)
+parts_open NoTemplateArguments some is gaps = absurd some
+parts_open (TypeArgument t more) some is gaps = opens_first _ (part_opens t is.0)
+parts_open (SizeArgument n more) some is gaps =
+    number_opens false n NoSuffix (number_of_plain n is.0)
 
 gap_spaced : (gaps : Bool) {qs : List Piece} → Spaced qs → Spaced (gap_if gaps ++ qs)
 gap_spaced true b = gap b
 gap_spaced false b = b
 
-more_parts_end : (args : TypeParts) (gaps : Bool) → Ends (more_parts_pieces args gaps)
-more_parts_end NoParts gaps more e = refl
+more_parts_end : (args : TemplateArguments) (gaps : Bool) → Ends (more_template_pieces args gaps)
+more_parts_end NoTemplateArguments gaps more e = refl
 more_parts_end _ gaps more e = refl
 
-number_end : (args : TypeParts) (gaps : Bool) (n : ℕ) (more : List Piece) → ends (Number false n NoSuffix) (text (more_parts_pieces args gaps ++ more)) ≡ true
-number_end NoParts gaps n more = refl
+number_end : (args : TemplateArguments) (gaps : Bool) (n : ℕ) (more : List Piece) → ends (Number false n NoSuffix) (text (more_template_pieces args gaps ++ more)) ≡ true
+number_end NoTemplateArguments gaps n more = refl
 number_end _ gaps n more = refl
 
 mutual
-  pub type_spaced : (t : TypeSpecifier) → IsPart t → Spaced (type_pieces t)
+  pub type_spaced : (t : TypeSpecifier) → IsTemplateArgument t → Spaced (type_pieces t)
   type_spaced (Named w) is = free is (λ more e. e) end
   type_spaced (Template w parts) is =
       free (type_template w parts is.0).word (λ more e. refl) $ tok tt (λ more e. (parts_open parts (parts_of_fit _ parts is.0) is.1 (has_gaps w)).at more) $ parts_spaced parts is.1 (has_gaps w)
 
-  pub parts_spaced : (parts : TypeParts) → IsParts parts → (gaps : Bool) → Spaced (parts_pieces parts gaps)
-  parts_spaced NoParts is gaps = tok tt (λ more e. refl) end
-  parts_spaced (TypePart t more) is gaps = part (type_spaced t is.0) (more_parts_end more gaps) $ more_parts_spaced more is.1 gaps
-  parts_spaced (SizePart n more) is gaps = size is.0 (λ ps e. number_end more gaps n ps) $ more_parts_spaced more is.1 gaps
+  pub parts_spaced : (parts : TemplateArguments) → AreTemplateArguments parts → (gaps : Bool) → Spaced (template_pieces parts gaps)
+  parts_spaced NoTemplateArguments is gaps = tok tt (λ more e. refl) end
+  parts_spaced (TypeArgument t more) is gaps = part (type_spaced t is.0) (more_parts_end more gaps) $ more_parts_spaced more is.1 gaps
+  parts_spaced (SizeArgument n more) is gaps = size is.0 (λ ps e. number_end more gaps n ps) $ more_parts_spaced more is.1 gaps
 
-  more_parts_spaced : (parts : TypeParts) → IsParts parts → (gaps : Bool) → Spaced (more_parts_pieces parts gaps)
-  more_parts_spaced NoParts is gaps = tok tt (λ more e. refl) end
-  more_parts_spaced (TypePart t more) is gaps = tok tt (λ ps e. refl) $ gap_spaced gaps $ part (type_spaced t is.0) (more_parts_end more gaps) $ more_parts_spaced more is.1 gaps
-  more_parts_spaced (SizePart n more) is gaps = tok tt (λ ps e. refl) $ gap_spaced gaps $ size is.0 (λ ps e. number_end more gaps n ps) $ more_parts_spaced more is.1 gaps
+  more_parts_spaced : (parts : TemplateArguments) → AreTemplateArguments parts → (gaps : Bool) → Spaced (more_template_pieces parts gaps)
+  more_parts_spaced NoTemplateArguments is gaps = tok tt (λ more e. refl) end
+  more_parts_spaced (TypeArgument t more) is gaps = tok tt (λ ps e. refl) $ gap_spaced gaps $ part (type_spaced t is.0) (more_parts_end more gaps) $ more_parts_spaced more is.1 gaps
+  more_parts_spaced (SizeArgument n more) is gaps = tok tt (λ ps e. refl) $ gap_spaced gaps $ size is.0 (λ ps e. number_end more gaps n ps) $ more_parts_spaced more is.1 gaps
 
 -- The text of each row, from the texts of its parts.
 
 pub named_text : (w : List ℕ) → type_layout (Named w) ≡ w
 named_text w = append-nil w
 
-pub template_text : (w : List ℕ) (parts : TypeParts) → type_layout (Template w parts) ≡ w ++ (codes "<" ++ text (parts_pieces parts (has_gaps w)))
+pub template_text : (w : List ℕ) (parts : TemplateArguments) → type_layout (Template w parts) ≡ w ++ (codes "<" ++ text (template_pieces parts (has_gaps w)))
 template_text w parts = refl
 
-pub type_part_text : (t : TypeSpecifier) (more : TypeParts) (gaps : Bool) → text (parts_pieces (TypePart t more) gaps) ≡ type_layout t ++ text (more_parts_pieces more gaps)
+pub type_part_text : (t : TypeSpecifier) (more : TemplateArguments) (gaps : Bool) → text (template_pieces (TypeArgument t more) gaps) ≡ type_layout t ++ text (more_template_pieces more gaps)
 type_part_text t more gaps = simp text-append
 
-pub next_part_text : (t : TypeSpecifier) (more : TypeParts) → text (more_parts_pieces (TypePart t more) true) ≡ codes ", " ++ (type_layout t ++ text (more_parts_pieces more true))
+pub next_part_text : (t : TypeSpecifier) (more : TemplateArguments) → text (more_template_pieces (TypeArgument t more) true) ≡ codes ", " ++ (type_layout t ++ text (more_template_pieces more true))
 next_part_text t more = simp text-append
 
-pub size_part_text : (n : ℕ) (more : TypeParts) (gaps : Bool) → text (parts_pieces (SizePart n more) gaps) ≡ decimal n ++ text (more_parts_pieces more gaps)
-size_part_text n more gaps = plain_text n (more_parts_pieces more gaps)
+pub size_part_text : (n : ℕ) (more : TemplateArguments) (gaps : Bool) → text (template_pieces (SizeArgument n more) gaps) ≡ decimal n ++ text (more_template_pieces more gaps)
+size_part_text n more gaps = plain_text n (more_template_pieces more gaps)
 
-pub next_size_text : (n : ℕ) (more : TypeParts) → text (more_parts_pieces (SizePart n more) true) ≡ codes ", " ++ (decimal n ++ text (more_parts_pieces more true))
-next_size_text n more = ap (λ v. codes ", " ++ v) (plain_text n (more_parts_pieces more true))
+pub next_size_text : (n : ℕ) (more : TemplateArguments) → text (more_template_pieces (SizeArgument n more) true) ≡ codes ", " ++ (decimal n ++ text (more_template_pieces more true))
+next_size_text n more = ap (λ v. codes ", " ++ v) (plain_text n (more_template_pieces more true))

@@ -52,14 +52,19 @@ found word (v ∷ vs) (u ∷ words) e w at =
       | inr later ↦ found word vs words behind w later
     ]
 
-are_the_words : {A : Type 0} (word : A → Option (List ℕ)) (words : List (List ℕ)) → ((v : A) → stands_if_there words (word v) ≡ true) → (vs : List A) → map word vs ≡ map Some words → AreTheWordsOf word words
+are_the_words : {A : Type 0} (word : A → Option (List ℕ)) (words : List (List ℕ)) →
+    ((v : A) → stands_if_there words (word v) ≡ true) →
+    (vs : List A) → map word vs ≡ map Some words → AreTheWordsOf word words
 are_the_words word words all vs e = record {
   each = λ v w is. ap (stands_if_there words) (sym is) ∙ all v;
   others = found word vs words e;
 }
 
 -- scalars, by three widths
-by_width : (words : List (List ℕ)) (a b c : Bool) (x y z : List ℕ) → stands_in words x ≡ true → stands_in words y ≡ true → stands_in words z ≡ true → stands_if_there words (if a then Some x else (if b then Some y else (if c then Some z else None))) ≡ true
+by_width : (words : List (List ℕ)) (a b c : Bool) (x y z : List ℕ) → stands_in words x ≡ true →
+    stands_in words y ≡ true → stands_in words z ≡ true →
+    stands_if_there words
+    (if a then Some x else (if b then Some y else (if c then Some z else None))) ≡ true
 by_width words true b c x y z p q r = p
 by_width words false true c x y z p q r = q
 by_width words false false true x y z p q r = r

@@ -4,7 +4,8 @@
 -- s the name of a struct.
 use Rattle.std.specs.Prelude.{◌≡◌, ℕ, ◌<◌, List, ◌∷◌, codes, IsTrue}
 use Rattle.wgsl_text.specs.Literals.{IsPlainNumber}
-use Rattle.wgsl_text.specs.Types.{TypeSpecifier, Named, Template, NoParts, TypePart, SizePart}
+use Rattle.wgsl_text.specs.Types.{TypeSpecifier, Named, Template, NoTemplateArguments, TypeArgument}
+use Rattle.wgsl_text.specs.Types.{SizeArgument}
 use Rattle.wgsl_text.specs.Types.{plain_type_words, TakesScalar, TakesElements, rule_among}
 use Rattle.wgsl_text.specs.Types.{type_templates, IsType}
 use Rattle.wgsl_text.specs.Expressions.{Expression, Call, NumberArgument, operands}
@@ -21,17 +22,19 @@ pub record WordsAreTypes : Type 0 where
   pub struct_name : (w : List ℕ) → IsIdentifier w → IsType (Named w)
   -- a vector, a matrix or an atomic
   pub of_scalar : (w s : List ℕ) → rule_among type_templates w ≡ TakesScalar →
-      IsTrue (stands_in scalar_words s) → IsType (Template w (TypePart (Named s) NoParts))
+      IsTrue (stands_in scalar_words s) →
+      IsType (Template w (TypeArgument (Named s) NoTemplateArguments))
   -- an array of as many elements as are bound, and of n
   pub dynamic_array : (w : List ℕ) (t : TypeSpecifier) → rule_among type_templates w ≡
       TakesElements →
-      IsType t → IsType (Template w (TypePart t NoParts))
+      IsType t → IsType (Template w (TypeArgument t NoTemplateArguments))
   pub sized_array : (w : List ℕ) (t : TypeSpecifier) (n : ℕ) →
       rule_among type_templates w ≡ TakesElements → IsType t → IsPlainNumber n →
-      IsType (Template w (TypePart t (SizePart n NoParts)))
+      IsType (Template w (TypeArgument t (SizeArgument n NoTemplateArguments)))
   pub pointer : (space : List ℕ) (t : TypeSpecifier) →
       IsTrue (stands_in address_space_words space) → IsType t →
-      IsType (Template (codes "ptr") (TypePart (Named space) (TypePart t NoParts)))
+      IsType (Template (codes "ptr")
+      (TypeArgument (Named space) (TypeArgument t NoTemplateArguments)))
 
 -- calls of what may be called, a word that is not reserved or a type, with expressions as operands
 pub record CalledWordsAreExpressions : Type 0 where
@@ -39,7 +42,7 @@ pub record CalledWordsAreExpressions : Type 0 where
   pub type : (t : TypeSpecifier) → IsType t → IsCallee t
   -- `bitcast` and the like, with a type
   pub taking_type : (w : List ℕ) (t : TypeSpecifier) → IsTrue (stands_in type_taking_words w) →
-      IsType t → IsCallee (Template w (TypePart t NoParts))
+      IsType t → IsCallee (Template w (TypeArgument t NoTemplateArguments))
   pub expression : (t : TypeSpecifier) (es : List Expression) → IsCallee t →
       Each IsExpression es → IsExpression (Call t (operands es))
   pub statement : (t : TypeSpecifier) (es : List Expression) → IsCallee t →

@@ -11,8 +11,9 @@ use Rattle.wgsl_text.specs.Token.{Dot, Equals, LessThan, GreaterThan, Plus, Minu
 use Rattle.wgsl_text.specs.Token.{Percent, Ampersand, Bar, Caret, Not, Tilde, EqualsEquals}
 use Rattle.wgsl_text.specs.Token.{NotEquals, LessEquals, AndAnd, BarBar, LessLess, ZeroPointZero}
 use Rattle.wgsl_text.specs.Token.{Piece, TokenPiece, Blank, mark, word, plain}
-use Rattle.wgsl_text.specs.Types.{TypeSpecifier, Named, Template, type_pieces, PartsRule, TakesType}
-use Rattle.wgsl_text.specs.Types.{rule_among, type_templates, fits, IsParts}
+use Rattle.wgsl_text.specs.Types.{TypeSpecifier, Named, Template, type_pieces, TemplateRule}
+use Rattle.wgsl_text.specs.Types.{TakesType}
+use Rattle.wgsl_text.specs.Types.{rule_among, type_templates, fits, AreTemplateArguments}
 use Rattle.wgsl_text.specs.Words.{stands_in, IsWord, IsIdentifier}
 use Rattle.wgsl_text.specs.Tables.{type_taking_words, gather_words, level_words}
 
@@ -137,14 +138,15 @@ abbrev mutual
 -- Which expressions the grammar has.
 
 -- the words of calls with parts: these, and types
-abbrev pub call_templates : List (List (List ℕ) × PartsRule)
+abbrev pub call_templates : List (List (List ℕ) × TemplateRule)
 call_templates = (type_taking_words, TakesType) ∷ type_templates
 
 -- what stands before the parenthesis of a call: a function's name, a word outside the reserved
 -- ones, or a type
 abbrev pub IsCallee : TypeSpecifier → Type 0
 IsCallee (Named w) = IsWord w
-IsCallee (Template w parts) = IsTrue (fits (rule_among call_templates w) parts) × IsParts parts
+IsCallee (Template w parts) = IsTrue (fits (rule_among call_templates w) parts) ×
+    AreTemplateArguments parts
 
 abbrev pub are_expressions : Arguments → Bool
 are_expressions NoArguments = true

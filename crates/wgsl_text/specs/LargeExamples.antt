@@ -2,7 +2,7 @@
 --
 -- Throughout, n is the depth.
 use Rattle.std.specs.Prelude.{◌≡◌, ℕ, zero, suc, ◌*◌, List, [], ◌∷◌, ◌++◌, codes, length, replicate}
-use Rattle.wgsl_text.specs.Types.{Template, NoParts, TypePart}
+use Rattle.wgsl_text.specs.Types.{Template, NoTemplateArguments, TypeArgument}
 use Rattle.wgsl_text.specs.Expressions.{Add, Expression, Binary, Index}
 use Rattle.wgsl_text.specs.Statements.{ReturnValue, Block, Statements, NoStatements, Then}
 use Rattle.wgsl_text.specs.Functions.{NoResult, ResultOf}
@@ -41,7 +41,9 @@ doubled_operand (suc n) = Index (name "t") (Binary (doubled_operand n) Add (doub
 
 abbrev pub double : Program
 double = of_functions (
-    function "d" (parameter "t" (Template (codes "vec4") (TypePart (named_type "i32") NoParts)) ∷
+    function "d"
+    (parameter "t"
+    (Template (codes "vec4") (TypeArgument (named_type "i32") NoTemplateArguments)) ∷
     parameter "x" (named_type "i32") ∷ []) (ResultOf [] (named_type "i32")) [] (
     ReturnValue (doubled_operand 12) ∷ []) ∷ [])
 

@@ -18,13 +18,13 @@ use Rattle.std.specs.Str.{bytes_eq}
 mutual
   pub data TypeSpecifier : Type 0 where
     Named : List ℕ → TypeSpecifier
-    Template : List ℕ → TypeParts → TypeSpecifier
+    Template : List ℕ → TemplateArguments → TypeSpecifier
 
   -- A size is a plain number. An address space, an access mode and the like are named parts.
-  pub data TypeParts : Type 0 where
-    NoParts : TypeParts
-    TypePart : TypeSpecifier → TypeParts → TypeParts
-    SizePart : ℕ → TypeParts → TypeParts
+  pub data TemplateArguments : Type 0 where
+    NoTemplateArguments : TemplateArguments
+    TypeArgument : TypeSpecifier → TemplateArguments → TemplateArguments
+    SizeArgument : ℕ → TemplateArguments → TemplateArguments
 
 -- The pieces of types.
 
@@ -40,19 +40,19 @@ gap_if false = []
 abbrev mutual
   pub type_pieces : TypeSpecifier → List Piece
   type_pieces (Named w) = word w ∷ []
-  type_pieces (Template w parts) = word w ∷ mark LessThan ∷ parts_pieces parts (has_gaps w)
+  type_pieces (Template w parts) = word w ∷ mark LessThan ∷ template_pieces parts (has_gaps w)
 
-  pub parts_pieces : TypeParts → Bool → List Piece
-  parts_pieces NoParts gaps = mark GreaterThan ∷ []
-  parts_pieces (TypePart t more) gaps = type_pieces t ++ more_parts_pieces more gaps
-  parts_pieces (SizePart n more) gaps = plain n ∷ more_parts_pieces more gaps
+  pub template_pieces : TemplateArguments → Bool → List Piece
+  template_pieces NoTemplateArguments gaps = mark GreaterThan ∷ []
+  template_pieces (TypeArgument t more) gaps = type_pieces t ++ more_template_pieces more gaps
+  template_pieces (SizeArgument n more) gaps = plain n ∷ more_template_pieces more gaps
 
-  pub more_parts_pieces : TypeParts → Bool → List Piece
-  more_parts_pieces NoParts gaps = mark GreaterThan ∷ []
-  more_parts_pieces (TypePart t more) gaps =
-      mark Comma ∷ (gap_if gaps ++ (type_pieces t ++ more_parts_pieces more gaps))
-  more_parts_pieces (SizePart n more) gaps =
-      mark Comma ∷ (gap_if gaps ++ (plain n ∷ more_parts_pieces more gaps))
+  pub more_template_pieces : TemplateArguments → Bool → List Piece
+  more_template_pieces NoTemplateArguments gaps = mark GreaterThan ∷ []
+  more_template_pieces (TypeArgument t more) gaps =
+      mark Comma ∷ (gap_if gaps ++ (type_pieces t ++ more_template_pieces more gaps))
+  more_template_pieces (SizeArgument n more) gaps =
+      mark Comma ∷ (gap_if gaps ++ (plain n ∷ more_template_pieces more gaps))
 
 -- Which types the grammar has.
 
@@ -66,16 +66,16 @@ is_type (Named w) = stands_in plain_type_words w || not (is_builtin w)
 is_type (Template w parts) = true
 
 -- what parts a word takes
-pub data PartsRule : Type 0 where
-  TakesNone TakesScalar TakesSampled TakesElements TakesPointee : PartsRule
-  TakesFormat TakesVertexReturn TakesRole TakesType : PartsRule
+pub data TemplateRule : Type 0 where
+  TakesNone TakesScalar TakesSampled TakesElements TakesPointee : TemplateRule
+  TakesFormat TakesVertexReturn TakesRole TakesType : TemplateRule
 
-abbrev pub rule_among : List (List (List ℕ) × PartsRule) → List ℕ → PartsRule
+abbrev pub rule_among : List (List (List ℕ) × TemplateRule) → List ℕ → TemplateRule
 rule_among [] w = TakesNone
 rule_among (row ∷ rows) w = if stands_in row.0 w then row.1 else rule_among rows w
 
 -- the words of types with parts
-abbrev pub type_templates : List (List (List ℕ) × PartsRule)
+abbrev pub type_templates : List (List (List ℕ) × TemplateRule)
 type_templates =
     (vector_words, TakesScalar) ∷
     (matrix_words, TakesScalar) ∷
@@ -88,53 +88,59 @@ type_templates =
     (cooperative_matrix_words, TakesRole) ∷ []
 
 -- Are these the parts that the rule wants?
-abbrev pub fits : PartsRule → TypeParts → Bool
-fits TakesScalar (TypePart (Named s) NoParts) = stands_in scalar_words s
-fits TakesSampled (TypePart (Named s) NoParts) = stands_in sampled_words s
+abbrev pub fits : TemplateRule → TemplateArguments → Bool
+fits TakesScalar (TypeArgument (Named s) NoTemplateArguments) = stands_in scalar_words s
+fits TakesSampled (TypeArgument (Named s) NoTemplateArguments) = stands_in sampled_words s
 -- a dynamic size, a number, or the name of an override
-fits TakesElements (TypePart t NoParts) = is_type t
-fits TakesElements (TypePart t (SizePart n NoParts)) = is_type t
-fits TakesElements (TypePart t (TypePart (Named w) NoParts)) = is_type t && not (is_builtin w)
+fits TakesElements (TypeArgument t NoTemplateArguments) = is_type t
+fits TakesElements (TypeArgument t (SizeArgument n NoTemplateArguments)) = is_type t
+fits TakesElements (TypeArgument t (TypeArgument (Named w) NoTemplateArguments)) =
+    is_type t && not (is_builtin w)
 -- an address space and a type, and in the space `storage` perhaps an access mode
-fits TakesPointee (TypePart (Named a) (TypePart t NoParts)) =
+fits TakesPointee (TypeArgument (Named a) (TypeArgument t NoTemplateArguments)) =
     stands_in address_space_words a && is_type t
-fits TakesPointee (TypePart (Named a) (TypePart t (TypePart (Named m) NoParts))) =
+fits TakesPointee
+    (TypeArgument (Named a) (TypeArgument t (TypeArgument (Named m) NoTemplateArguments))) =
     bytes_eq (codes "storage") a && (is_type t && stands_in access_words m)
-fits TakesFormat (TypePart (Named f) (TypePart (Named m) NoParts)) =
+fits TakesFormat (TypeArgument (Named f) (TypeArgument (Named m) NoTemplateArguments)) =
     stands_in format_words f && stands_in access_words m
-fits TakesVertexReturn (TypePart (Named v) NoParts) = bytes_eq (codes "vertex_return") v
-fits TakesRole (TypePart (Named s) (TypePart (Named r) NoParts)) =
+fits TakesVertexReturn (TypeArgument (Named v) NoTemplateArguments) =
+    bytes_eq (codes "vertex_return") v
+fits TakesRole (TypeArgument (Named s) (TypeArgument (Named r) NoTemplateArguments)) =
     stands_in scalar_words s && stands_in role_words r
-fits TakesType (TypePart t NoParts) = is_type t
+fits TakesType (TypeArgument t NoTemplateArguments) = is_type t
 fits _ _ = false
 
 abbrev mutual
   -- a type or a part of one
-  pub IsPart : TypeSpecifier → Type 0
-  IsPart (Named w) = IsWord w
-  IsPart (Template w parts) = IsTrue (fits (rule_among type_templates w) parts) × IsParts parts
+  pub IsTemplateArgument : TypeSpecifier → Type 0
+  IsTemplateArgument (Named w) = IsWord w
+  IsTemplateArgument (Template w parts) = IsTrue (fits (rule_among type_templates w) parts) ×
+      AreTemplateArguments parts
 
-  pub IsParts : TypeParts → Type 0
-  IsParts NoParts = ⊤
-  IsParts (TypePart t more) = IsPart t × IsParts more
-  IsParts (SizePart n more) = IsPlainNumber n × IsParts more
+  pub AreTemplateArguments : TemplateArguments → Type 0
+  AreTemplateArguments NoTemplateArguments = ⊤
+  AreTemplateArguments (TypeArgument t more) = IsTemplateArgument t × AreTemplateArguments more
+  AreTemplateArguments (SizeArgument n more) = IsPlainNumber n × AreTemplateArguments more
 
 pub record IsType (t : TypeSpecifier) : Type 0 where
-  pub part : IsPart t
+  pub part : IsTemplateArgument t
   pub whole : IsTrue (is_type t)
 
 -- Words with parts, as types are built of them.
 
 -- a word with one part, two or three
 abbrev pub of_one : List ℕ → TypeSpecifier → TypeSpecifier
-of_one word part = Template word (TypePart part NoParts)
+of_one word part = Template word (TypeArgument part NoTemplateArguments)
 
 abbrev pub of_two : List ℕ → TypeSpecifier → TypeSpecifier → TypeSpecifier
-of_two word first second = Template word (TypePart first (TypePart second NoParts))
+of_two word first second =
+    Template word (TypeArgument first (TypeArgument second NoTemplateArguments))
 
 abbrev pub of_three : List ℕ → TypeSpecifier → TypeSpecifier → TypeSpecifier → TypeSpecifier
 of_three word first second third =
-    Template word (TypePart first (TypePart second (TypePart third NoParts)))
+    Template word
+    (TypeArgument first (TypeArgument second (TypeArgument third NoTemplateArguments)))
 
 -- a pointer in a space that has a word, by the word of its access
 abbrev pub pointer_tree : List ℕ → Option (List ℕ) → TypeSpecifier → TypeSpecifier

@@ -6,8 +6,9 @@ use Prim.Native.String.{String}
 use Rattle.std.specs.Prelude.{◌≡◌, ℕ, false, List, [], ◌∷◌, ◌++◌, codes, Option}
 use Rattle.wgsl_text.specs.Token.{SuffixI, SuffixU}
 use Rattle.wgsl_text.specs.Literals.{Suffixed}
-use Rattle.wgsl_text.specs.Types.{TypeSpecifier, Named, Template, TypeParts, NoParts, TypePart}
-use Rattle.wgsl_text.specs.Types.{SizePart}
+use Rattle.wgsl_text.specs.Types.{TypeSpecifier, Named, Template, TemplateArguments}
+use Rattle.wgsl_text.specs.Types.{NoTemplateArguments, TypeArgument}
+use Rattle.wgsl_text.specs.Types.{SizeArgument}
 use Rattle.wgsl_text.specs.Expressions.{Expression, Constant, Name, Call, Member, Arguments}
 use Rattle.wgsl_text.specs.Expressions.{NoArguments, Argument}
 use Rattle.wgsl_text.specs.Statements.{Statement, Let, TypedLet, Statements, NoStatements, Then}
@@ -32,22 +33,22 @@ lines (line ∷ more) = codes line ++ (codes "\n" ++ lines more)
 abbrev pub named_type : String → TypeSpecifier
 named_type w = Named (codes w)
 
-abbrev pub parts : List TypeSpecifier → TypeParts
-parts [] = NoParts
-parts (t ∷ more) = TypePart t (parts more)
+abbrev pub parts : List TypeSpecifier → TemplateArguments
+parts [] = NoTemplateArguments
+parts (t ∷ more) = TypeArgument t (parts more)
 
 abbrev pub template : String → List TypeSpecifier → TypeSpecifier
 template w list = Template (codes w) (parts list)
 
-abbrev pub named_parts : List String → TypeParts
-named_parts [] = NoParts
-named_parts (w ∷ more) = TypePart (named_type w) (named_parts more)
+abbrev pub named_parts : List String → TemplateArguments
+named_parts [] = NoTemplateArguments
+named_parts (w ∷ more) = TypeArgument (named_type w) (named_parts more)
 
 abbrev pub template_of : String → List String → TypeSpecifier
 template_of w words = Template (codes w) (named_parts words)
 
 abbrev pub sized_template : String → TypeSpecifier → ℕ → TypeSpecifier
-sized_template w t n = Template (codes w) (TypePart t (SizePart n NoParts))
+sized_template w t n = Template (codes w) (TypeArgument t (SizeArgument n NoTemplateArguments))
 
 abbrev pub name : String → Expression
 name w = Name (codes w)

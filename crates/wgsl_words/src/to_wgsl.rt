@@ -133,11 +133,18 @@ pub trait TryToWgsl: Sized {
     /// What kind of value this is, in a diagnostic: `scalar type`.
     const DESCRIPTION: &'static str;
 
+    /// The text of `DESCRIPTION`.
+    ghost description: { List ℕ };
+
     /// The word of a value, if it has one.
     ghost try_word: { Self → Option (List ℕ) };
 
     /// What a diagnostic may call a value.
     ghost Tells: { Self → List ℕ → Type 0 };
+
+    /// `DESCRIPTION`, for callers that are to know its text.
+    fn described() -> &'static str
+        ensures { result.now ≡ description };
 
     /// WGSL's word for the value, if it has one.
     fn try_to_wgsl(self) -> Option<&'static str>
@@ -151,9 +158,15 @@ pub trait TryToWgsl: Sized {
 impl TryToWgsl for MathFunction {
     const DESCRIPTION: &'static str = "math function";
 
+    ghost description = { codes "math function" };
+
     ghost try_word = { math_word };
 
     ghost Tells = { λ value. IsWordOrBraced (codes "math function") (math_word value) };
+
+    fn described() -> &'static str {
+        Self::DESCRIPTION
+    }
 
     fn to_wgsl_for_diagnostics(self, alloc: Global) -> Result<String, AllocError> {
         match self.try_to_wgsl() {
@@ -252,9 +265,15 @@ impl TryToWgsl for MathFunction {
 impl TryToWgsl for BuiltIn {
     const DESCRIPTION: &'static str = "builtin value";
 
+    ghost description = { codes "builtin value" };
+
     ghost try_word = { builtin_word };
 
     ghost Tells = { λ value. IsWordOrBraced (codes "builtin value") (builtin_word value) };
+
+    fn described() -> &'static str {
+        Self::DESCRIPTION
+    }
 
     fn to_wgsl_for_diagnostics(self, alloc: Global) -> Result<String, AllocError> {
         match self.try_to_wgsl() {
@@ -325,9 +344,15 @@ impl TryToWgsl for BuiltIn {
 impl TryToWgsl for Scalar {
     const DESCRIPTION: &'static str = "scalar type";
 
+    ghost description = { codes "scalar type" };
+
     ghost try_word = { scalar_word };
 
     ghost Tells = { IsScalarDiagnostic };
+
+    fn described() -> &'static str {
+        Self::DESCRIPTION
+    }
 
     fn to_wgsl_for_diagnostics(self, alloc: Global) -> Result<String, AllocError> {
         match self.try_to_wgsl() {

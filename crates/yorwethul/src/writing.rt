@@ -3,7 +3,7 @@
 ghost use Rattle.std.specs.Prelude.{◌≡◌, [], IfErr, IfOk, OnOk, is_ok, string_bytes};
 ghost use Rattle.module_meaning.specs.Accepted.{is_accepted};
 ghost use Rattle.naga_acceptance.specs.Faults.{Fails};
-ghost use Rattle.naga_wgsl_fns.specs.FunctionText.{tells_types};
+ghost use Rattle.naga_wgsl_fns.specs.FunctionText.{annotates_types};
 ghost use Rattle.naga_wgsl_out.specs.Headline.{FaithfulWriting};
 ghost use Rattle.naga_wgsl_out.specs.Writing.{written_text};
 
@@ -31,7 +31,7 @@ pub fn write(
 ) -> Result<Written, Unaccepted>
     ensures accepted { is_ok result ≡ is_accepted «module».now info.old }
     ensures fault { IfErr result (Fails «module».now info.old) }
-    ensures faithful { IfOk result (λ w. FaithfulWriting (tells_types flags) «module».now info.new
+    ensures faithful { IfOk result (λ w. FaithfulWriting (annotates_types flags) «module».now info.new
         w.answer [] (string_bytes w.text) 0 0) }
     ensures text { IfOk result (λ w. OnOk w.answer
         (string_bytes w.text ≡ written_text «module».now info.new flags)) }
@@ -48,7 +48,7 @@ pub fn write(
 
 /// The flags for `let`s that tell their types, or do not.
 pub fn flags_for(explicit_types: bool) -> WriterFlags
-    ensures { tells_types result ≡ explicit_types }
+    ensures { annotates_types result ≡ explicit_types }
 {
     if explicit_types {
         WriterFlags::EXPLICIT_TYPES

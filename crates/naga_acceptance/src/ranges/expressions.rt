@@ -47,17 +47,11 @@ pub(crate) fn literal_is_within(literal: Literal) -> bool
     }
 }
 
-/// Whether what an expression names beside its operands is there, in a function that may call the
-/// first `callees` functions and has so many arguments and locals; and a literal has a value of its
-/// type, an index 32 bits, and a pattern four letters.
-fn names_in_range(
-    module: &Module,
-    callees: usize,
-    arguments: usize,
-    locals: usize,
-    expression: &Expression,
-) -> bool
-    ensures { result ≡ names_in_range «module».now callees arguments locals expression.now }
+/// Whether what an expression names beside its operands is there, in a function that has so many
+/// arguments and locals; and a literal has a value of its type, an index 32 bits, and a pattern
+/// four letters.
+fn names_in_range(module: &Module, arguments: usize, locals: usize, expression: &Expression) -> bool
+    ensures { result ≡ names_in_range «module».now arguments locals expression.now }
 {
     match expression {
         Expression::Constant(handle) => handle.index() < module.constants.len(),
@@ -70,7 +64,7 @@ fn names_in_range(
         Expression::FunctionArgument(number) => (*number as usize) < arguments,
         Expression::GlobalVariable(handle) => handle.index() < module.global_variables.len(),
         Expression::LocalVariable(handle) => handle.index() < locals,
-        Expression::CallResult(function) => function.index() < callees,
+        Expression::CallResult(function) => function.index() < module.functions.len(),
         Expression::Literal(literal) => literal_is_within(*literal),
         Expression::AccessIndex { index, .. } => fits_32_bits(*index),
         Expression::Swizzle { pattern, .. } => pattern_is_whole(*pattern),
@@ -101,19 +95,18 @@ fn names_in_range(
 /// names is not there.
 fn expression_range_fault(
     module: &Module,
-    callees: usize,
     arguments: usize,
     locals: usize,
     here: Handle<Expression>,
     expression: &Expression,
 ) -> Option<Fault>
-    ensures { result ≡ expression_range_fault «module».now callees arguments locals here
+    ensures { result ≡ expression_range_fault «module».now arguments locals here
         expression.now }
 {
     if !operands_before(here.index(), expression) {
         return Some(Fault::Operands);
     }
-    if !names_in_range(module, callees, arguments, locals, expression) {
+    if !names_in_range(module, arguments, locals, expression) {
         return Some(Fault::Names);
     }
     None
@@ -152,7 +145,7 @@ fn global_expression_range_fault(
 ) -> Option<Fault>
     ensures { result ≡ global_expression_range_fault «module».now here expression.now }
 {
-    let found = expression_range_fault(module, module.functions.len(), 0, 0, here, expression);
+    let found = expression_range_fault(module, 0, 0, here, expression);
     if found.is_some() {
         return found;
     }
@@ -177,21 +170,19 @@ pub(crate) fn first_global_expression_out_of_range(
     None
 }
 
-/// The first expression of a function, which may call the first `callees` functions, that names
-/// what is not there or does not stand before it.
+/// The first expression of a function that names what is not there or does not stand before it.
 pub(crate) fn first_expression_out_of_range(
     module: &Module,
-    callees: usize,
     function: &Function,
 ) -> Option<(Handle<Expression>, Fault)>
-    ensures { result ≡ first_faulty (expression_range_fault «module».now callees
+    ensures { result ≡ first_faulty (expression_range_fault «module».now
         (length function.now.arguments.items) (length function.now.local_variables))
         (enumerate_from 0 function.now.expressions) }
 {
     let arguments = function.arguments.len();
     let locals = function.local_variables.len();
     for (handle, expression) in function.expressions.iter() {
-        let found = expression_range_fault(module, callees, arguments, locals, handle, expression);
+        let found = expression_range_fault(module, arguments, locals, handle, expression);
         if let Some(fault) = found {
             return Some((handle, fault));
         }

@@ -10,7 +10,7 @@ ghost use Rattle.module_meaning.specs.InfoSizes.{function_size_fits, is_handle_p
 ghost use Rattle.module_meaning.specs.InfoSizes.{is_handle_space, resolution_is_fit, type_is_fit};
 ghost use Rattle.naga_words.specs.Spelling.{is_struct};
 
-use crate::faults::{Fault, Item, Part, Unaccepted, at};
+use crate::faults::{Fault, FunctionPlace, Item, Unaccepted, at};
 use naga_info::{FunctionInfo, ModuleInfo, TypeResolution};
 use naga_ir::{
     AddressSpace, Arena, EntryPoint, Function, Handle, Module, Place, Type_, TypeInner, UniqueArena,
@@ -32,7 +32,10 @@ fn function_sizes_fault(functions: &Arena<Function>, infos: &[FunctionInfo]) -> 
     for (index, info) in infos.iter().enumerate() {
         let handle = Place::from_index(index);
         if !function_size_fits(&functions[handle], info) {
-            return Some(at(Item::Function(handle, Part::Whole), Fault::InfoSize));
+            return Some(at(
+                Item::Function(handle, FunctionPlace::Whole),
+                Fault::InfoSize,
+            ));
         }
     }
     None
@@ -49,7 +52,10 @@ fn entry_point_sizes_fault(
     }
     for (index, info) in infos.iter().enumerate() {
         if !function_size_fits(&entry_points[index].function, info) {
-            return Some(at(Item::EntryPoint(index, Part::Whole), Fault::InfoSize));
+            return Some(at(
+                Item::EntryPoint(index, FunctionPlace::Whole),
+                Fault::InfoSize,
+            ));
         }
     }
     None

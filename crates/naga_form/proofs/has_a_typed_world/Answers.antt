@@ -1,11 +1,13 @@
 use Rattle.naga_form.proofs.FreeModules as every
 use Rattle.naga_form.proofs.Meanings.{has_world}
-use Rattle.naga_form.proofs.ToldItems.{types_are_told}
+use Rattle.naga_form.proofs.DistinguishedItems.{types_are_distinguished}
 use Rattle.naga_form.proofs.has_a_typed_world.Goals as goal
 
 pub returns-clause-written : goal.returns-clause-written
-returns-clause-written c = λ m info accepted written. has_world m info written
+returns-clause-written c = λ m info explicit accepted written have scopes.
+    has_world m info explicit accepted written have scopes
 
 pub returns-clause-every : goal.returns-clause-every
 returns-clause-every c = λ m info accepted writable scopes.
-    every.has_world m info accepted (types_are_told m) writable.constants writable.cases scopes
+    every.has_world m info accepted (types_are_distinguished m) writable.constants writable.cases
+    scopes

@@ -1,12 +1,13 @@
 use Rattle.naga_form.proofs.FreeModules as every
 use Rattle.naga_form.proofs.Meanings.{never_stuck}
-use Rattle.naga_form.proofs.ToldItems.{types_are_told}
+use Rattle.naga_form.proofs.DistinguishedItems.{types_are_distinguished}
 use Rattle.naga_form.proofs.is_never_stuck.Goals as goal
 
 pub returns-clause-written : goal.returns-clause-written
-returns-clause-written c = λ m info explicit accepted written.
-    never_stuck m info written accepted explicit
+returns-clause-written c = λ m info explicit accepted written have scopes.
+    never_stuck m info explicit accepted written have scopes
 
 pub returns-clause-every : goal.returns-clause-every
 returns-clause-every c = λ m info accepted writable scopes.
-    every.never_stuck m info accepted (types_are_told m) writable.constants writable.cases scopes
+    every.never_stuck m info accepted (types_are_distinguished m) writable.constants writable.cases
+    scopes

@@ -1,5 +1,5 @@
-use Rattle.naga_form.proofs.OperatorEvents.{asks_as_told}
+use Rattle.naga_form.proofs.OperatorEvents.{asks_as_distinguished}
 use Rattle.naga_form.proofs.tells_requests_apart.Goals as goal
 
 pub returns : goal.returns
-returns c = asks_as_told
+returns c = asks_as_distinguished

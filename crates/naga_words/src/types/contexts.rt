@@ -5,7 +5,7 @@ ghost use Rattle.naga_names.specs.Keys.{names_in};
 ghost use Rattle.naga_words.specs.Contexts.{arena_context, global_context, names_context};
 ghost use Rattle.naga_words.specs.Contexts.{name_or_nothing};
 ghost use Rattle.naga_words.specs.Output.{Spells};
-ghost use Rattle.naga_words.specs.Parts.{shown_between};
+ghost use Rattle.naga_words.specs.Segments.{shown_between};
 
 use crate::pieces::{write_shown, write_word};
 use crate::types::TypeContext;
@@ -21,7 +21,7 @@ const ANONYMOUS_TYPE: &str = "{anonymous type}";
 
 /// Labels are names, and what has no form is shown in braces, with overrides and structs without a
 /// handle.
-#[tactic(auto, using(crate::proofs::PartWriting::outcomes))]
+#[tactic(auto, using(crate::proofs::SegmentWriting::outcomes))]
 impl TypeContext for UniqueArena<Type_> {
     ghost context = { arena_context };
 
@@ -65,7 +65,7 @@ impl TypeContext for UniqueArena<Type_> {
 
 /// Labels are names, and what has no form is shown in braces, with overrides without a label and
 /// structs without a handle.
-#[tactic(auto, using(crate::proofs::PartWriting::outcomes))]
+#[tactic(auto, using(crate::proofs::SegmentWriting::outcomes))]
 impl TypeContext for GlobalCtx<'_> {
     ghost context = { λ c. global_context c.types.now c.overrides.now };
 
@@ -120,7 +120,7 @@ pub struct WriterTypeContext<'a> {
     pub names: &'a HashMap<NameKey, String>,
 }
 
-#[tactic(auto, using(crate::proofs::PartWriting::begun_at_once, crate::proofs::PartWriting::outcomes))]
+#[tactic(auto, using(crate::proofs::SegmentWriting::begun_at_once, crate::proofs::SegmentWriting::outcomes))]
 impl TypeContext for WriterTypeContext<'_> {
     ghost context = { λ c. names_context c.«module».now.types (names_in c.names.now) };
 

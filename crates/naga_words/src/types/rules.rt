@@ -2,11 +2,12 @@
 
 ghost use Rattle.std.specs.Prelude.{[], ◌∷◌, false};
 ghost use Rattle.naga_words.specs.Output.{Spells};
-ghost use Rattle.naga_words.specs.Parts.{Word};
+ghost use Rattle.naga_words.specs.Segments.{Word};
 ghost use Rattle.naga_words.specs.Predeclared.{predeclared_name};
-ghost use Rattle.naga_words.specs.Rules.{AllFit, FitsConclusion, conclusion_parts, rule_parts};
-ghost use Rattle.naga_words.specs.Rules.{arguments_parts, more_arguments_parts};
-ghost use Rattle.naga_words.specs.Spelling.{IsInOrder, FitsResolution, resolution_parts};
+ghost use Rattle.naga_words.specs.Rules.{AllFit, FitsConclusion, conclusion_segments};
+ghost use Rattle.naga_words.specs.Rules.{rule_segments};
+ghost use Rattle.naga_words.specs.Rules.{arguments_segments, more_arguments_segments};
+ghost use Rattle.naga_words.specs.Spelling.{IsInOrder, FitsResolution, resolution_segments};
 
 use crate::pieces::write_word;
 use crate::types::TypeContext;
@@ -26,7 +27,7 @@ pub fn write_resolution_in<C: TypeContext, W: TextSink>(
     requires order { IsInOrder (C.context context.now) }
     requires fits { FitsResolution (C.context context.now) resolution.now }
     ensures { Spells W.text W.failures (C.context context.now).refuses out.old out.new
-        (resolution_parts (C.context context.now) resolution.now) }
+        (resolution_segments (C.context context.now) resolution.now) }
 {
     match resolution {
         TypeResolution::Handle(handle) => write_type_in(context, alloc, *handle, out),
@@ -34,7 +35,7 @@ pub fn write_resolution_in<C: TypeContext, W: TextSink>(
     }
 }
 
-#[tactic(auto, using(crate::proofs::PartWriting::rows))]
+#[tactic(auto, using(crate::proofs::SegmentWriting::rows))]
 fn write_more_arguments<C: TypeContext, W: TextSink>(
     context: &C,
     alloc: Global,
@@ -44,7 +45,7 @@ fn write_more_arguments<C: TypeContext, W: TextSink>(
     requires order { IsInOrder (C.context context.now) }
     requires fits { AllFit (C.context context.now) arguments.now }
     ensures { Spells W.text W.failures (C.context context.now).refuses out.old out.new
-        (more_arguments_parts (C.context context.now) arguments.now) }
+        (more_arguments_segments (C.context context.now) arguments.now) }
 {
     match arguments.split_first() {
         None => {}
@@ -56,7 +57,7 @@ fn write_more_arguments<C: TypeContext, W: TextSink>(
     }
 }
 
-#[tactic(auto, using(crate::proofs::PartWriting::rows))]
+#[tactic(auto, using(crate::proofs::SegmentWriting::rows))]
 fn write_arguments<C: TypeContext, W: TextSink>(
     context: &C,
     alloc: Global,
@@ -66,7 +67,7 @@ fn write_arguments<C: TypeContext, W: TextSink>(
     requires order { IsInOrder (C.context context.now) }
     requires fits { AllFit (C.context context.now) arguments.now }
     ensures { Spells W.text W.failures (C.context context.now).refuses out.old out.new
-        (arguments_parts (C.context context.now) arguments.now) }
+        (arguments_segments (C.context context.now) arguments.now) }
 {
     match arguments.split_first() {
         None => {}
@@ -92,7 +93,7 @@ fn write_predeclared<W: TextSink>(
 }
 
 /// Writes what a function gives.
-#[tactic(auto, using(crate::proofs::PartWriting::rows))]
+#[tactic(auto, using(crate::proofs::SegmentWriting::rows))]
 pub(crate) fn write_conclusion_in<C: TypeContext, W: TextSink>(
     context: &C,
     alloc: Global,
@@ -102,7 +103,7 @@ pub(crate) fn write_conclusion_in<C: TypeContext, W: TextSink>(
     requires order { IsInOrder (C.context context.now) }
     requires fits { FitsConclusion (C.context context.now) conclusion.now }
     ensures { Spells W.text W.failures (C.context context.now).refuses out.old out.new
-        (conclusion_parts (C.context context.now) conclusion.now) }
+        (conclusion_segments (C.context context.now) conclusion.now) }
 {
     match conclusion {
         Conclusion::Value(inner) => write_inner_in(context, alloc, inner, out),
@@ -111,7 +112,7 @@ pub(crate) fn write_conclusion_in<C: TypeContext, W: TextSink>(
 }
 
 /// Writes a rule by its function's name.
-#[tactic(auto, using(crate::proofs::PartWriting::rows))]
+#[tactic(auto, using(crate::proofs::SegmentWriting::rows))]
 pub(crate) fn write_rule_in<C: TypeContext, W: TextSink>(
     context: &C,
     alloc: Global,
@@ -123,7 +124,7 @@ pub(crate) fn write_rule_in<C: TypeContext, W: TextSink>(
     requires fits { AllFit (C.context context.now) rule.now.arguments.items }
     requires gives { FitsConclusion (C.context context.now) rule.now.conclusion }
     ensures { Spells W.text W.failures (C.context context.now).refuses out.old out.new
-        (rule_parts (C.context context.now) name.now rule.now) }
+        (rule_segments (C.context context.now) name.now rule.now) }
 {
     out.put("fn ");
     out.put(name);

@@ -1,7 +1,7 @@
 //! Scalars and images in a context, which says what becomes of those without a form.
 
 ghost use Rattle.naga_words.specs.Output.{Spells};
-ghost use Rattle.naga_words.specs.Values.{scalar_parts, template_parts, image_parts};
+ghost use Rattle.naga_words.specs.Values.{scalar_segments, template_segments, image_segments};
 
 use crate::images::write_image;
 use crate::scalars::{write_scalar, write_template};
@@ -18,7 +18,7 @@ pub(crate) fn write_scalar_in<C: TypeContext, W: TextSink>(
     out: &mut Output<'_, W>,
 )
     ensures { Spells W.text W.failures (C.context context.now).refuses out.old out.new
-        (scalar_parts (C.context context.now).refuses scalar) }
+        (scalar_segments (C.context context.now).refuses scalar) }
 {
     write_scalar(context.refuses(), alloc, scalar, out)
 }
@@ -33,7 +33,7 @@ pub(crate) fn write_template_in<C: TypeContext, W: TextSink>(
     out: &mut Output<'_, W>,
 )
     ensures { Spells W.text W.failures (C.context context.now).refuses out.old out.new
-        (template_parts word.now (scalar_parts (C.context context.now).refuses scalar) tail.now) }
+        (template_segments word.now (scalar_segments (C.context context.now).refuses scalar) tail.now) }
 {
     write_template(context.refuses(), alloc, word, scalar, tail, out)
 }
@@ -48,7 +48,7 @@ pub(crate) fn write_image_in<C: TypeContext, W: TextSink>(
     out: &mut Output<'_, W>,
 )
     ensures { Spells W.text W.failures (C.context context.now).refuses out.old out.new
-        (image_parts (C.context context.now).refuses dim arrayed class) }
+        (image_segments (C.context context.now).refuses dim arrayed class) }
 {
     write_image(context.refuses(), alloc, dim, arrayed, class, out)
 }

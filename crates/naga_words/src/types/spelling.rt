@@ -2,13 +2,15 @@
 
 ghost use Rattle.std.specs.Prelude.{◌≡◌, ◌<◌, ◌≤◌, codes, false, length, IsTrue};
 ghost use Rattle.naga_words.specs.Output.{Spells};
-ghost use Rattle.naga_words.specs.Parts.{shown_between};
+ghost use Rattle.naga_words.specs.Segments.{shown_between};
 ghost use Rattle.naga_words.specs.Spelling.{IsInOrder, end_of_base, is_struct, knows_override};
-ghost use Rattle.naga_words.specs.Spelling.{array_parts, inner_parts, knows_size, length_parts};
-ghost use Rattle.naga_words.specs.Spelling.{length_of_override, named_parts_by, pointer_parts};
-ghost use Rattle.naga_words.specs.Spelling.{type_parts};
-ghost use Rattle.naga_words.specs.Values.{formless_parts, pointer_in, value_parts};
-ghost use Rattle.naga_words.specs.Values.{value_pointer_parts};
+ghost use Rattle.naga_words.specs.Spelling.{array_segments, inner_segments, knows_size};
+ghost use Rattle.naga_words.specs.Spelling.{length_segments};
+ghost use Rattle.naga_words.specs.Spelling.{length_of_override, named_segments_by};
+ghost use Rattle.naga_words.specs.Spelling.{pointer_segments};
+ghost use Rattle.naga_words.specs.Spelling.{type_segments};
+ghost use Rattle.naga_words.specs.Values.{formless_segments, pointer_in, value_segments};
+ghost use Rattle.naga_words.specs.Values.{value_pointer_segments};
 ghost use Rattle.wgsl_words.specs.Words.{space_word, space_access_word};
 
 use crate::pieces::{write_number_length, write_shown, write_word};
@@ -43,7 +45,7 @@ fn write_shown_inner<W: TextSink>(alloc: Global, inner: &TypeInner, out: &mut Ou
 }
 
 /// Writes a type without a form in braces, or refuses it.
-#[tactic(auto, using(crate::proofs::PartWriting::rows))]
+#[tactic(auto, using(crate::proofs::SegmentWriting::rows))]
 pub(crate) fn write_formless_inner<C: TypeContext, W: TextSink>(
     context: &C,
     alloc: Global,
@@ -51,7 +53,7 @@ pub(crate) fn write_formless_inner<C: TypeContext, W: TextSink>(
     out: &mut Output<'_, W>,
 )
     ensures { Spells W.text W.failures (C.context context.now).refuses out.old out.new
-        (formless_parts (C.context context.now).refuses) }
+        (formless_segments (C.context context.now).refuses) }
 {
     if context.refuses() {
         out.refuse();
@@ -71,8 +73,8 @@ fn write_value_pointer<C: TypeContext, W: TextSink>(
     out: &mut Output<'_, W>,
 )
     ensures { Spells W.text W.failures (C.context context.now).refuses out.old out.new
-        (value_pointer_parts (C.context context.now).refuses (space_word space)
-        (space_access_word space) (value_parts (C.context context.now).refuses size scalar)) }
+        (value_pointer_segments (C.context context.now).refuses (space_word space)
+        (space_access_word space) (value_segments (C.context context.now).refuses size scalar)) }
 {
     match space_str(space) {
         Some(word) => write_value_pointer_in(
@@ -88,7 +90,7 @@ fn write_value_pointer<C: TypeContext, W: TextSink>(
     }
 }
 
-#[tactic(auto, using(crate::proofs::PartWriting::rows))]
+#[tactic(auto, using(crate::proofs::SegmentWriting::rows))]
 fn write_pending_length<C: TypeContext, W: TextSink>(
     context: &C,
     alloc: Global,
@@ -97,7 +99,7 @@ fn write_pending_length<C: TypeContext, W: TextSink>(
 )
     requires { IsTrue ((C.context context.now).knows handle) }
     ensures { Spells W.text W.failures (C.context context.now).refuses out.old out.new
-        (length_of_override ((C.context context.now).override_parts handle)) }
+        (length_of_override ((C.context context.now).override_segments handle)) }
 {
     out.put(", ");
     write_override_in(context, alloc, handle, out);
@@ -105,7 +107,7 @@ fn write_pending_length<C: TypeContext, W: TextSink>(
 }
 
 /// Writes an override as the context does.
-#[tactic(auto, using(crate::proofs::PartWriting::lent))]
+#[tactic(auto, using(crate::proofs::SegmentWriting::lent))]
 fn write_override_in<C: TypeContext, W: TextSink>(
     context: &C,
     alloc: Global,
@@ -114,7 +116,7 @@ fn write_override_in<C: TypeContext, W: TextSink>(
 )
     requires { IsTrue ((C.context context.now).knows handle) }
     ensures { Spells W.text W.failures (C.context context.now).refuses out.old out.new
-        ((C.context context.now).override_parts handle) }
+        ((C.context context.now).override_segments handle) }
 {
     if out.is_wanting() {
         return;
@@ -125,7 +127,7 @@ fn write_override_in<C: TypeContext, W: TextSink>(
 }
 
 /// Writes a struct without a handle as the context does.
-#[tactic(auto, using(crate::proofs::PartWriting::lent))]
+#[tactic(auto, using(crate::proofs::SegmentWriting::lent))]
 fn write_unnamed_in<C: TypeContext, W: TextSink>(
     context: &C,
     alloc: Global,
@@ -134,7 +136,7 @@ fn write_unnamed_in<C: TypeContext, W: TextSink>(
 )
     requires { IsTrue (is_struct inner.now) }
     ensures { Spells W.text W.failures (C.context context.now).refuses out.old out.new
-        (C.context context.now).unnamed_parts }
+        (C.context context.now).unnamed_segments }
 {
     if out.is_wanting() {
         return;
@@ -145,7 +147,7 @@ fn write_unnamed_in<C: TypeContext, W: TextSink>(
 }
 
 /// Writes the length of an array and the bracket that closes it.
-#[tactic(auto, using(crate::proofs::PartWriting::rows))]
+#[tactic(auto, using(crate::proofs::SegmentWriting::rows))]
 fn write_length<C: TypeContext, W: TextSink>(
     context: &C,
     alloc: Global,
@@ -154,7 +156,7 @@ fn write_length<C: TypeContext, W: TextSink>(
 )
     requires { IsTrue (knows_size (C.context context.now) size) }
     ensures { Spells W.text W.failures (C.context context.now).refuses out.old out.new
-        (length_parts (C.context context.now) size) }
+        (length_segments (C.context context.now) size) }
 {
     match size {
         ArraySize::Constant(number) => write_number_length(alloc, number, out),
@@ -164,7 +166,7 @@ fn write_length<C: TypeContext, W: TextSink>(
 }
 
 #[cycle(spelling)]
-#[tactic(auto, using(crate::proofs::PartWriting::rows))]
+#[tactic(auto, using(crate::proofs::SegmentWriting::rows))]
 fn write_pointer_in<C: TypeContext, W: TextSink>(
     context: &C,
     alloc: Global,
@@ -176,7 +178,7 @@ fn write_pointer_in<C: TypeContext, W: TextSink>(
     requires order { IsInOrder (C.context context.now) }
     requires in_range { base < length (C.context context.now).types }
     ensures { Spells W.text W.failures (C.context context.now).refuses out.old out.new
-        (pointer_in word.now (space_access_word space) (type_parts (C.context context.now) base)) }
+        (pointer_in word.now (space_access_word space) (type_segments (C.context context.now) base)) }
 {
     out.put("ptr<");
     out.put(word);
@@ -197,8 +199,8 @@ fn write_pointer<C: TypeContext, W: TextSink>(
     requires order { IsInOrder (C.context context.now) }
     requires in_range { base < length (C.context context.now).types }
     ensures { Spells W.text W.failures (C.context context.now).refuses out.old out.new
-        (pointer_parts (space_word space) (space_access_word space)
-        (type_parts (C.context context.now) base)) }
+        (pointer_segments (space_word space) (space_access_word space)
+        (type_segments (C.context context.now) base)) }
 {
     match space_str(space) {
         Some(word) => write_pointer_in(context, alloc, word, base, space, out),
@@ -207,7 +209,7 @@ fn write_pointer<C: TypeContext, W: TextSink>(
 }
 
 #[cycle(spelling)]
-#[tactic(auto, using(crate::proofs::PartWriting::rows))]
+#[tactic(auto, using(crate::proofs::SegmentWriting::rows))]
 fn write_array<C: TypeContext, W: TextSink>(
     context: &C,
     alloc: Global,
@@ -220,7 +222,7 @@ fn write_array<C: TypeContext, W: TextSink>(
     requires in_range { base < length (C.context context.now).types }
     requires knows { IsTrue (knows_size (C.context context.now) size) }
     ensures { Spells W.text W.failures (C.context context.now).refuses out.old out.new
-        (array_parts (C.context context.now) word.now (type_parts (C.context context.now) base)
+        (array_segments (C.context context.now) word.now (type_segments (C.context context.now) base)
         size) }
 {
     out.put(word);
@@ -231,7 +233,7 @@ fn write_array<C: TypeContext, W: TextSink>(
 
 /// Writes a type by itself.
 #[cycle(spelling)]
-#[tactic(auto, using(crate::proofs::PartWriting::spells_any))]
+#[tactic(auto, using(crate::proofs::SegmentWriting::spells_any))]
 pub(crate) fn write_inner_in<C: TypeContext, W: TextSink>(
     context: &C,
     alloc: Global,
@@ -242,7 +244,7 @@ pub(crate) fn write_inner_in<C: TypeContext, W: TextSink>(
     requires in_range { end_of_base inner.now ≤ length (C.context context.now).types }
     requires knows { IsTrue (knows_override (C.context context.now) inner.now) }
     ensures { Spells W.text W.failures (C.context context.now).refuses out.old out.new
-        (inner_parts (C.context context.now) inner.now) }
+        (inner_segments (C.context context.now) inner.now) }
 {
     match inner {
         TypeInner::Scalar(scalar) => write_scalar_in(context, alloc, *scalar, out),
@@ -305,7 +307,7 @@ pub(crate) fn write_inner_in<C: TypeContext, W: TextSink>(
 
 /// Writes the type at a handle, which is `inner`: a struct by its name.
 #[cycle(spelling)]
-#[tactic(auto, using(crate::proofs::PartWriting::spells_any))]
+#[tactic(auto, using(crate::proofs::SegmentWriting::spells_any))]
 fn write_named<C: TypeContext, W: TextSink>(
     context: &C,
     alloc: Global,
@@ -318,7 +320,7 @@ fn write_named<C: TypeContext, W: TextSink>(
     requires before { end_of_base inner.now ≤ handle }
     requires knows { IsTrue (knows_override (C.context context.now) inner.now) }
     ensures { Spells W.text W.failures (C.context context.now).refuses out.old out.new
-        (named_parts_by (C.context context.now) (type_parts (C.context context.now)) handle
+        (named_segments_by (C.context context.now) (type_segments (C.context context.now)) handle
         inner.now) }
 {
     if is_struct_type(inner) {
@@ -330,7 +332,7 @@ fn write_named<C: TypeContext, W: TextSink>(
 
 /// Writes the type at a handle.
 #[cycle(spelling)]
-#[tactic(auto, using(crate::proofs::Levels::type_parts_is))]
+#[tactic(auto, using(crate::proofs::Levels::type_segments_is))]
 pub fn write_type_in<C: TypeContext, W: TextSink>(
     context: &C,
     alloc: Global,
@@ -340,7 +342,7 @@ pub fn write_type_in<C: TypeContext, W: TextSink>(
     requires order { IsInOrder (C.context context.now) }
     requires in_range { handle < length (C.context context.now).types }
     ensures { Spells W.text W.failures (C.context context.now).refuses out.old out.new
-        (type_parts (C.context context.now) handle) }
+        (type_segments (C.context context.now) handle) }
 {
     write_named(
         context,

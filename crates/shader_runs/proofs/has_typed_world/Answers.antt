@@ -1,4 +1,4 @@
-use Rattle.shader_runs.proofs.Starts.{has_typed_world}
+use Rattle.shader_runs.proofs.OneWorld.{has_typed_world}
 use Rattle.shader_runs.proofs.has_typed_world.Goals as goal
 
 pub returns : goal.returns

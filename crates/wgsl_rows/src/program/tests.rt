@@ -208,6 +208,144 @@ const ROWS: &[(&[&str], &str, &str, u8)] = &[
     ),
 ];
 
+/// The same of rows with branches, switches, barriers and calls.
+const BRANCH_ROWS: &[(&[&str], &str, &str, u8)] = &[
+    (
+        &["switch"],
+        "fn s(x: i32) {\n    switch x {\n        case 1, 2, default: {\n        }\n    }\n}\n\n",
+        "",
+        0,
+    ),
+    (
+        &["switch", "explicit"],
+        "fn s(x: i32) {\n    switch x {\n        case 1, 2, default: {\n        }\n    }\n}\n\n",
+        "",
+        0,
+    ),
+    (
+        &["through"],
+        "",
+        "refused: fall-through switch case block\n",
+        1,
+    ),
+    (
+        &["through", "explicit"],
+        "",
+        "refused: fall-through switch case block\n",
+        1,
+    ),
+    (
+        &["default"],
+        "fn dflt(x: i32) {\n    switch x {\n        case default, 3: {\n        }\n    }\n}\n\n",
+        "",
+        0,
+    ),
+    (
+        &["default", "explicit"],
+        "fn dflt(x: i32) {\n    switch x {\n        case default, 3: {\n        }\n    }\n}\n\n",
+        "",
+        0,
+    ),
+    (
+        &["barriers"],
+        "fn b() {\n    storageBarrier();\n    workgroupBarrier();\n    subgroupBarrier();\n    textureBarrier();\n}\n\n",
+        "",
+        0,
+    ),
+    (
+        &["barriers", "explicit"],
+        "fn b() {\n    storageBarrier();\n    workgroupBarrier();\n    subgroupBarrier();\n    textureBarrier();\n}\n\n",
+        "",
+        0,
+    ),
+    (
+        &["call"],
+        "fn inc(p: ptr<function, i32>) {\n    let _e2 = (*p);\n    (*p) = (_e2 + 1i);\n}\n\nfn run() -> i32 {\n    var a: i32;\n\n    inc((&a));\n    let _e1 = a;\n    return _e1;\n}\n\n",
+        "",
+        0,
+    ),
+    (
+        &["call", "explicit"],
+        "fn inc(p: ptr<function, i32>) {\n    let _e2: i32 = (*p);\n    (*p) = (_e2 + 1i);\n}\n\nfn run() -> i32 {\n    var a: i32;\n\n    inc((&a));\n    let _e1: i32 = a;\n    return _e1;\n}\n\n",
+        "",
+        0,
+    ),
+    (
+        &["sibling"],
+        "fn k(c: bool, x: i32) -> i32 {\n    if c {\n        let _e2 = (x + x);\n        return _e2;\n    } else {\n        let _e2 = (x + x);\n        return _e2;\n    }\n}\n\n",
+        "",
+        0,
+    ),
+    (
+        &["sibling", "explicit"],
+        "fn k(c: bool, x: i32) -> i32 {\n    if c {\n        let _e2: i32 = (x + x);\n        return _e2;\n    } else {\n        let _e2: i32 = (x + x);\n        return _e2;\n    }\n}\n\n",
+        "",
+        0,
+    ),
+    (
+        &["twice"],
+        "fn k(c: bool, x: i32) -> i32 {\n    if c {\n        let y = (x + x);\n        return y;\n    } else {\n        let y_1 = (x + x);\n        return y_1;\n    }\n}\n\n",
+        "",
+        0,
+    ),
+    (
+        &["twice", "explicit"],
+        "fn k(c: bool, x: i32) -> i32 {\n    if c {\n        let y: i32 = (x + x);\n        return y;\n    } else {\n        let y_1: i32 = (x + x);\n        return y_1;\n    }\n}\n\n",
+        "",
+        0,
+    ),
+];
+
+/// The same of rows with loops.
+const LOOP_ROWS: &[(&[&str], &str, &str, u8)] = &[
+    (
+        &["loop"],
+        "fn l(c: bool) {\n    loop {\n        continuing {\n            break if c;\n        }\n    }\n}\n\n",
+        "",
+        0,
+    ),
+    (
+        &["loop", "explicit"],
+        "fn l(c: bool) {\n    loop {\n        continuing {\n            break if c;\n        }\n    }\n}\n\n",
+        "",
+        0,
+    ),
+    (
+        &["tail"],
+        "fn lp(x: i32) {\n    var a: i32;\n\n    loop {\n        let _e2 = (x + x);\n        a = _e2;\n        continuing {\n            a = _e2;\n            break if true;\n        }\n    }\n}\n\n",
+        "",
+        0,
+    ),
+    (
+        &["tail", "explicit"],
+        "fn lp(x: i32) {\n    var a: i32;\n\n    loop {\n        let _e2: i32 = (x + x);\n        \
+a = _e2;\n        continuing {\n            a = _e2;\n            break if true;\n        }\n    }\n}\n\n",
+        "",
+        0,
+    ),
+    (
+        &["folded"],
+        "fn cf(c: bool) {\n    var a: i32;\n\n    loop {\n        if c {\n            continue;\n        }\n        let _e3 = (1i + 1i);\n        \
+a = _e3;\n        continuing {\n            a = (1i + 1i);\n            break if c;\n        }\n    }\n}\n\n",
+        "",
+        0,
+    ),
+    (
+        &["folded", "explicit"],
+        "fn cf(c: bool) {\n    var a: i32;\n\n    loop {\n        if c {\n            continue;\n        }\n        let _e3: i32 = (1i + 1i);\n        \
+a = _e3;\n        continuing {\n            a = (1i + 1i);\n            break if c;\n        }\n    }\n}\n\n",
+        "",
+        0,
+    ),
+    (&["continue"], "", "refused: operand out of scope\n", 1),
+    (
+        &["continue", "explicit"],
+        "",
+        "refused: operand out of scope\n",
+        1,
+    ),
+];
+
 /// The program's status on these words.
 fn status<O: Write, E: Write>(
     alloc: Global,
@@ -244,6 +382,59 @@ fn rows_are_answered(rt: HostRuntime) -> Result<(), Fail> {
             "{words:?}"
         );
     }
+    Ok(())
+}
+
+#[test]
+fn rows_with_branches_are_answered(rt: HostRuntime) -> Result<(), Fail> {
+    for (words, text, told, want) in BRANCH_ROWS {
+        assert!(rt;
+            gives(rt.alloc(), *words, *text, *told, *want)?,
+            "{words:?}"
+        );
+    }
+    Ok(())
+}
+
+#[test]
+fn rows_with_loops_are_answered(rt: HostRuntime) -> Result<(), Fail> {
+    for (words, text, told, want) in LOOP_ROWS {
+        assert!(rt;
+            gives(rt.alloc(), *words, *text, *told, *want)?,
+            "{words:?}"
+        );
+    }
+    Ok(())
+}
+
+/// Adds a line at a level.
+fn push_line(text: &mut String, level: usize, line: &str) -> Result<(), AllocError> {
+    for _ in 0..level {
+        text.push_str("    ")?;
+    }
+    text.push_str(line)?;
+    text.push_str("\n")
+}
+
+/// A function with so many blocks, each inside the one before.
+fn deep_text(alloc: Global, depth: usize) -> Result<String, AllocError> {
+    let mut text = String::from_str(alloc, "fn deep() {\n")?;
+    for level in 0..depth {
+        push_line(&mut text, level + 1, "{")?;
+    }
+    for level in (0..depth).rev() {
+        push_line(&mut text, level + 1, "}")?;
+    }
+    text.push_str("}\n\n")?;
+    Ok(text)
+}
+
+#[test]
+fn blocks_inside_blocks_are_written(rt: HostRuntime) -> Result<(), Fail> {
+    let text = deep_text(rt.alloc(), 32)?;
+    assert_eq!(rt; text.len(), 4_367);
+    assert!(rt; gives(rt.alloc(), &["deep"], text.as_str(), "", 0)?);
+    assert!(rt; gives(rt.alloc(), &["deep", "explicit"], text.as_str(), "", 0)?);
     Ok(())
 }
 

@@ -14,7 +14,9 @@ returns-then-number-count-clause-group c =
     in let in_infos : c.args.number < length c.as_slice-infos.result.now = omega arith
     in let here : slice_get m.entry_points.items c.args.number ≡ Some c.index-entry_points-index.result =
     ap (λ l. slice_get l c.args.number) (sym points)
-    ∙ slice_get_read c.as_slice-entry_points.result.now (length c.as_slice-entry_points.result.now) c.args.number c.index-entry_points-index.result (omega arith) in_points c.index-entry_points-index.is
+    ∙ slice_get_read c.as_slice-entry_points.result.now (length c.as_slice-entry_points.result.now)
+    c.args.number c.index-entry_points-index.result (omega arith) in_points
+    c.index-entry_points-index.is
     in let there : slice_get info.entry_points.items c.args.number ≡ Some c.index-infos-index.result =
     ap (λ l. slice_get l c.args.number) (sym infos)
     ∙ slice_get_read c.as_slice-infos.result.now (length c.as_slice-infos.result.now) c.args.number c.index-infos-index.result (omega arith) in_infos c.index-infos-index.is

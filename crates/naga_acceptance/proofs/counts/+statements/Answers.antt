@@ -9,10 +9,18 @@ use Rattle.naga_acceptance.proofs.counts.+statements.Goals as goal
 pub add_block_uses-loop-statement-preserved : goal.add_block_uses-loop-statement-preserved
 add_block_uses-loop-statement-preserved t c = record {
   left = ap (λ es. with_uses es (block_operands (block_of (drop (c.loop-statement.statement-index + 1) c.as_slice-statement-items.result.now)))) c.add_statement_uses.ensures
-      ∙ ap (λ s. with_uses (with_uses c.loop-statement.infos (statement_operands (tree_of s))) (block_operands (block_of (drop (c.loop-statement.statement-index + 1) c.as_slice-statement-items.result.now)))) c.statement-item.is
+      ∙ ap (λ s. with_uses (with_uses c.loop-statement.infos (statement_operands (tree_of s)))
+      (block_operands
+      (block_of (drop (c.loop-statement.statement-index + 1)
+      c.as_slice-statement-items.result.now)))) c.statement-item.is
       ∙ sym (block_step c.loop-statement.infos c.as_slice-statement-items.result.now c.loop-statement.statement-index c.statement-item.result c.loop-statement-test.true)
       ∙ c.loop-statement.invariant.left;
-  smaller = omega (arith, block_size-left c.as_slice-statement-items.result.now c.loop-statement.statement-index c.statement-item.result c.loop-statement-test.true, c.loop-statement.invariant.smaller);
+  smaller = omega (
+    arith,
+    block_size-left c.as_slice-statement-items.result.now c.loop-statement.statement-index
+        c.statement-item.result c.loop-statement-test.true,
+    c.loop-statement.invariant.smaller,
+  );
 }
 
 pub add_cases_uses-loop-case-preserved : goal.add_cases_uses-loop-case-preserved

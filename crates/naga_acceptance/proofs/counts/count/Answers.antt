@@ -14,7 +14,14 @@ returns-clause-accepted c =
     let points = functions_of c.args.«module».now.entry_points.items in
     let entries = c.count_entry_points.ensures ∙ (λ i. all_with_counts (functions_of (c.deref.ensures.value i)) (c.as_mut_slice-2.ensures.value i)) in
     let entry_count = ap length entries ∙ length-all_with_counts points old.entry_points.items in
-    same_acceptance c.args.«module».now old (record { functions = with_items old.functions c.count_functions.new.infos; entry_points = with_items old.entry_points c.count_entry_points.new.infos; const_expression_types = old.const_expression_types })
+    same_acceptance c.args.«module».now old
+    (record {
+      functions = with_items old.functions c.count_functions.new.infos;
+      entry_points =
+          with_items old.entry_points c.count_entry_points.new.infos;
+      const_expression_types =
+          old.const_expression_types;
+    })
     (with_items_is old.functions c.count_functions.new.infos (function_count ∙ sym old.functions.ok.0) ∙ functions)
     (with_items_is old.entry_points c.count_entry_points.new.infos (entry_count ∙ sym old.entry_points.ok.0) ∙ entries)
     refl

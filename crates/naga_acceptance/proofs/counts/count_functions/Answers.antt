@@ -16,12 +16,21 @@ loop-index-preserved c =
     elim c.if-index-len.branch [
       | then-index-len w ↦
           let here : slice_get c.args.functions.now c.loop-index.index ≡ Some w.index.result.now = rw (← w.from_index.ensures) w.index.ensures
-          in rw w.infos-is (IsWritten-more (all_with_counts c.args.functions.now c.args.infos.now) c.args.infos.now c.loop-index.infos c.loop-index.index _ c.loop-index-test.true c.loop-index.invariant
+          in rw w.infos-is
+          (IsWritten-more (all_with_counts c.args.functions.now c.args.infos.now)
+          c.args.infos.now c.loop-index.infos c.loop-index.index _ c.loop-index-test.true
+          c.loop-index.invariant
           (w.count_function.ensures
-          ∙ ap (λ es. with_counts w.index.result.now es) (IsWritten-read (all_with_counts c.args.functions.now c.args.infos.now) c.args.infos.now c.loop-index.infos c.loop-index.index c.index-infos-index.result c.loop-index.invariant)
+          ∙ ap (λ es. with_counts w.index.result.now es)
+          (IsWritten-read (all_with_counts c.args.functions.now c.args.infos.now)
+          c.args.infos.now c.loop-index.infos c.loop-index.index c.index-infos-index.result
+          c.loop-index.invariant)
           ∙ get_or-all_with_counts c.args.functions.now c.args.infos.now c.loop-index.index w.index.result.now c.index-infos-index.result _ here c.loop-index-test.true))
       | else-index-len w ↦
           let past : length c.args.functions.now ≤ c.loop-index.index = omega (arith, w.if-index-len.false, c.len.ensures)
-          in rw (w.infos-is, set-get_or) (IsWritten-kept (all_with_counts c.args.functions.now c.args.infos.now) c.args.infos.now c.loop-index.infos c.loop-index.index c.index-infos-index.result c.loop-index-test.true c.loop-index.invariant
+          in rw (w.infos-is, set-get_or)
+          (IsWritten-kept (all_with_counts c.args.functions.now c.args.infos.now)
+          c.args.infos.now c.loop-index.infos c.loop-index.index c.index-infos-index.result
+          c.loop-index-test.true c.loop-index.invariant
           (get_or-all_with_counts_past c.args.functions.now c.args.infos.now c.loop-index.index c.index-infos-index.result past))
     ]

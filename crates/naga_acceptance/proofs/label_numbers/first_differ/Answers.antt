@@ -1,7 +1,7 @@
 use Rattle.std.proofs.Common.{subst}
 use Rattle.std.specs.List.Sorted.{IsPermutation}
 use Rattle.std.proofs.lemmas.List.Sorted.{IsNonDecreasingBy-from_sort}
-use Rattle.naga_acceptance.proofs.LabelNumbers.{shares_told, twice_told}
+use Rattle.naga_acceptance.proofs.LabelNumbers.{shares_decided, twice_decided}
 use Rattle.naga_acceptance.proofs.label_numbers.first_differ.Goals as goal
 
 pub shares-requires : goal.shares-requires
@@ -13,7 +13,7 @@ returns-then-not-has_equal_neighbours c =
     let sorted = c.sort_unstable.new.self in
     let moved = subst (λ ms. IsPermutation ms sorted) c.numbers_of-table.ensures.numbers
     c.sort_unstable.ensures.permutation
-    in shares_told c.args.first.now c.args.behind.now sorted c.shares.result moved
+    in shares_decided c.args.first.now c.args.behind.now sorted c.shares.result moved
     (IsNonDecreasingBy-from_sort (λ n. n) sorted c.sort_unstable.ensures.sorted)
     c.if-not-has_equal_neighbours.ensures c.shares.ensures
 
@@ -22,5 +22,5 @@ returns-else-not-has_equal_neighbours c =
     let sorted = c.sort_unstable.new.self in
     let moved = subst (λ ms. IsPermutation ms sorted) c.numbers_of-table.ensures.numbers
     c.sort_unstable.ensures.permutation
-    in twice_told c.args.first.now c.args.behind.now sorted c.has_equal_neighbours.result moved
+    in twice_decided c.args.first.now c.args.behind.now sorted c.has_equal_neighbours.result moved
     c.if-not-has_equal_neighbours.false c.if-not-has_equal_neighbours.ensures

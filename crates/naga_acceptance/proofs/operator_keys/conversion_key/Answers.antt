@@ -4,18 +4,20 @@ use Rattle.naga_ir.specs.declared.types.TypeInner.{TypeInner}
 use Rattle.naga_info.specs.declared.info.TypeResolution.TheVariants.{Value}
 use Rattle.module_meaning.specs.AgreeingOperators.{conversion_key, formless_key, target_key}
 use Rattle.module_meaning.specs.Conversions.{conversion_target}
-use Rattle.naga_acceptance.specs.KnownTypes.{given}
+use Rattle.naga_acceptance.specs.KnownTypes.{inferred}
 use Rattle.naga_acceptance.specs.OperatorKeys.{key}
 use Rattle.naga_acceptance.proofs.operator_keys.conversion_key.Goals as goal
 
 pub returns-in-Some-conversion_target : goal.returns-in-Some-conversion_target
 returns-in-Some-conversion_target c =
     by (conversion_target c.in-Some.operand.now c.args.kind c.args.convert)
-    (ap (option_map given) (sym c.in-Some-conversion_target.is) ∙ c.conversion_target.ensures)
-    ∙ (ap (λ bits. option_map_or (target_key c.args.types.now c.args.kind c.args.convert bits) (conversion_target c.in-Some.operand.now c.args.kind c.args.convert) (formless_key c.args.kind c.args.convert)) c.keeps_bits-bits.ensures
+    (ap (option_map inferred) (sym c.in-Some-conversion_target.is) ∙ c.conversion_target.ensures)
+    ∙ (ap (λ bits. option_map_or (target_key c.args.types.now c.args.kind c.args.convert bits)
+    (conversion_target c.in-Some.operand.now c.args.kind c.args.convert)
+    (formless_key c.args.kind c.args.convert)) c.keeps_bits-bits.ensures
     ∙ ap (λ o. conversion_key c.args.types.now c.args.kind c.args.convert (option_copied o)) (sym c.in-Some.is))
   where
-    by : (o : Option TypeInner) → Some (given c.in-Some-conversion_target.target) ≡ option_map (λ it. Value it) o →
+    by : (o : Option TypeInner) → Some (inferred c.in-Some-conversion_target.target) ≡ option_map (λ it. Value it) o →
         key c.args.types.now c.target_key.result ≡ option_map_or (target_key c.args.types.now c.args.kind c.args.convert c.keeps_bits-bits.result) o (formless_key c.args.kind c.args.convert)
     by None e = absurd cc
     by (Some it) e = c.target_key.ensures it cc

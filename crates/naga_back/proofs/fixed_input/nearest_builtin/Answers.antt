@@ -42,7 +42,9 @@ pub loop-step-preserved : goal.loop-step-preserved
 loop-step-preserved c =
     c.loop-step.invariant ∙
     walk_at_member _ _ _ _ _ _ _ _ _ _ (omega arith) (c.index-in-loop-step.ensures ∙ ap (λ e. Some e) c.in-AccessIndex.is) (sym c.in_ok-binding-in-AccessIndex.ensures) ∙
-    ap (λ o. rest_of_walk c.args.arguments.now (member_binding c.args.info.now c.args.types.now) c.args.expressions.now (length c.args.expressions.now - (c.loop-step._step + 1)) c.in-AccessIndex.base o)
+    ap (λ o. rest_of_walk c.args.arguments.now (member_binding c.args.info.now c.args.types.now)
+    c.args.expressions.now (length c.args.expressions.now - (c.loop-step._step + 1))
+    c.in-AccessIndex.base o)
     (sym (c.first_of-nearest.ensures ∙ ap (λ o. option_or o c.loop-step.nearest) c.builtin_of-in-AccessIndex.ensures))
 
 pub returns : goal.returns

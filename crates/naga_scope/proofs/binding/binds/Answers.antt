@@ -1,11 +1,10 @@
-use Rattle.std.proofs.Common.{List, nat_le, ap, get_or, map, sym, ◌∙◌, ◌||◌}
-use Rattle.naga_ir.specs.declared.types.Type_.{Type_}
-use Rattle.module_meaning.specs.GivenLabels.{label_of}
+use Rattle.std.proofs.Common.{nat_le, ap, get_or, map, sym, ◌∙◌, ◌||◌}
+use Rattle.module_meaning.specs.ExpressionLabels.{label_of}
 use Rattle.std.specs.Option.{is_some}
 use Rattle.std.specs.Option.{option_map, option_map_or}
 use Rattle.naga_ir.specs.Kinds.{kind_of}
 use Rattle.naga_ir.specs.declared.kind.ExpressionKind.TheVariants.{Result}
-use Rattle.naga_scope.specs.Standings.{is_emittable_kind, uses_to_bind}
+use Rattle.naga_scope.specs.Availabilities.{is_emittable_kind, uses_to_bind}
 use Rattle.naga_scope.proofs.Shaped.{emitted_binds, others_bind}
 use Rattle.naga_scope.proofs.binding.binds.Goals as goal
 
@@ -13,10 +12,10 @@ pub returns-then-asks_an_image : goal.returns-then-asks_an_image
 returns-then-asks_an_image c m known same =
     let at = sym c.expression_at.ensures ∙ ap (option_map (λ e. e.now)) c.in-Some.is in
     let e = c.in-Some.expression.now in
-    let counted = λ (types : List Type_). is_some (label_of c.args.function.now c.args.handle)
-    || nat_le (uses_to_bind types c.args.info.now e) (get_or (map (λ k. k.ref_count) c.args.info.now) c.args.handle 0) in
+    let counted = is_some (label_of c.args.function.now c.args.handle)
+    || nat_le (uses_to_bind e) (get_or (map (λ k. k.ref_count) c.args.info.now) c.args.handle 0) in
     c.if-asks_an_image.true
-    ∙ ap (λ b. b || counted m.types) (sym (sym c.asks_an_image.ensures ∙ c.if-asks_an_image.true))
+    ∙ ap (λ b. b || counted) (sym (sym c.asks_an_image.ensures ∙ c.if-asks_an_image.true))
     ∙ emitted_binds m known c.args.function.now c.args.info.now c.args.handle
     e at (sym (c.is_emittable.ensures ∙ ap is_emittable_kind c.kind.ensures) ∙ c.if-is_emittable.true)
 
@@ -24,11 +23,10 @@ pub returns-else-asks_an_image : goal.returns-else-asks_an_image
 returns-else-asks_an_image c m known same =
     let at = sym c.expression_at.ensures ∙ ap (option_map (λ e. e.now)) c.in-Some.is in
     let e = c.in-Some.expression.now in
-    let counted = λ (types : List Type_). is_some (label_of c.args.function.now c.args.handle)
-    || nat_le (uses_to_bind types c.args.info.now e) (get_or (map (λ k. k.ref_count) c.args.info.now) c.args.handle 0) in
+    let counted = is_some (label_of c.args.function.now c.args.handle)
+    || nat_le (uses_to_bind e) (get_or (map (λ k. k.ref_count) c.args.info.now) c.args.handle 0) in
     c.is_asked_for.ensures
-    ∙ ap counted (sym same)
-    ∙ ap (λ b. b || counted m.types) (sym (sym c.asks_an_image.ensures ∙ c.if-asks_an_image.false))
+    ∙ ap (λ b. b || counted) (sym (sym c.asks_an_image.ensures ∙ c.if-asks_an_image.false))
     ∙ emitted_binds m known c.args.function.now c.args.info.now c.args.handle
     e at (sym (c.is_emittable.ensures ∙ ap is_emittable_kind c.kind.ensures) ∙ c.if-is_emittable.true)
 

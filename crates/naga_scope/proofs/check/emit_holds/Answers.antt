@@ -1,79 +1,58 @@
-use Rattle.std.proofs.Common.{◌+◌, ◌-◌, ◌<◌, ◌^◌, ℕ, List, ap, arith, length, subst, sym, ◌∙◌}
-use Rattle.module_meaning.specs.Names.{module_names}
-use Rattle.naga_scope.proofs.Offsets.{one_keeps}
-use Rattle.std.specs.Option.{option_to_list}
+use Rattle.std.proofs.Common.{◌+◌, ◌-◌, ap, arith, refl, sym, ◌∙◌, ◌&&◌}
 use Rattle.shader_runs.specs.Program.{from}
-use Rattle.shader_runs.specs.Scope.{may_emit, may_emit_all, after_one, after_emit}
-use Rattle.module_meaning.specs.FunctionShapes.{function_shape}
-use Rattle.module_meaning.specs.GivenLabels.{label_of, labels_of_each}
-use Rattle.module_meaning.specs.Names.{given_name}
-use Rattle.module_meaning.specs.Namings.{function_naming}
-use Rattle.naga_scope.specs.Standings.{KeepsStart, handles_of}
-use Rattle.naga_scope.proofs.Emitting.{range_none, range_more, range_holds, range_behind}
-use Rattle.naga_scope.proofs.Emitting.{range_given, range_refused}
-use Rattle.naga_scope.proofs.Holding.{room_first}
+use Rattle.shader_runs.specs.Scope.{after_emit, after_one, may_emit, may_emit_all, named_after, named_after_all}
+use Rattle.naga_scope.specs.KnownFunctions.{handles_at, naming_of, shape_of}
+use Rattle.naga_scope.proofs.Emitting.{range_more}
+use Rattle.naga_scope.proofs.KeptPoints.{point_kept}
+use Rattle.naga_scope.proofs.Logs.{extends_refl, extends_then}
 use Rattle.naga_scope.proofs.check.emit_holds.Goals as goal
 
-pub returns-then-not-may_emit-clause-fits : goal.returns-then-not-may_emit-clause-fits
-returns-then-not-may_emit-clause-fits c names m known given g same_types =
-    let s = handles_of given c.loop-index.scope.table in
-    let may = sym (c.may_emit.ensures given m known same_types ∙ ap (λ h. may_emit (function_shape m known c.args.function.now c.args.info.now) h s) c.from_index-handle.ensures) ∙ c.if-not-may_emit.true in
-    range_refused names m known given g c.args.function.now c.args.info.now c.loop-index.scope.given c.loop-index.index c.args.range.end s c.loop-index-test.true may
-    ∙ c.loop-index.invariant.holds names m known given g same_types
+pub loop-index-init : goal.loop-index-init
+loop-index-init c = record {
+  holds = refl;
+  behind = refl;
+  named = refl;
+  at = c.requires.at;
+  kept = extends_refl _;
+  counted = omega arith;
+  names = omega arith;
+}
 
-pub emit-requires-clause-room : goal.emit-requires-clause-room
-emit-requires-clause-room c =
-    let f = c.args.function.now in
+pub returns-then-not-one_holds-clause-fits : goal.returns-then-not-one_holds-clause-fits
+returns-then-not-one_holds-clause-fits c =
+    let n = naming_of c.args.known.now in
     let i = c.loop-index.index in
     let e = c.args.range.end in
-    let here = λ (h : ℕ). option_to_list (label_of f h) in
-    subst (λ h. c.loop-index.scope.given + length (here h) < 2 ^ 64) (sym c.from_index-handle.ensures)
-    (room_first c.loop-index.scope.given _ (here i) (labels_of_each f (from (i + 1) (e - (i + 1)))) (labels_of_each f (from i (e - i)))
-    (ap (labels_of_each f) (range_more i e c.loop-index-test.true)) c.loop-index.invariant.given c.requires.room)
+    let k = c.loop-index.scope.named in
+    let s = handles_at c.loop-index.scope in
+    let may = sym (c.one_holds.ensures.fits ∙ ap (λ h. may_emit (shape_of c.args.known.now) h s) c.from_index.ensures) ∙ c.if-not-one_holds.true in
+    sym (ap (λ hs. may_emit_all n k hs s) (range_more i e c.loop-index-test.true)
+    ∙ ap (λ b. b && may_emit_all n (named_after n.function i k) (from (i + 1) (e - (i + 1))) (after_one n k i s)) may)
+    ∙ c.loop-index.invariant.holds
+
+pub returns-then-not-one_holds-clause-kept : goal.returns-then-not-one_holds-clause-kept
+returns-then-not-one_holds-clause-kept c = extends_then c.loop-index.invariant.kept c.one_holds.ensures.kept
 
 pub loop-index-preserved : goal.loop-index-preserved
 loop-index-preserved c =
-    let f = c.args.function.now in
-    let es = c.args.info.now in
-    let k = c.loop-index.scope.given in
-    let j = c.emit.new.self.given in
+    let n = naming_of c.args.known.now in
     let i = c.loop-index.index in
     let e = c.args.range.end in
-    let more = c.emit.ensures.given ∙ ap (λ h. k + length (option_to_list (label_of f h))) c.from_index-handle.ensures in
+    let k = c.loop-index.scope.named in
+    let s = handles_at c.loop-index.scope in
+    let rest = from (i + 1) (e - (i + 1)) in
+    let more = range_more i e c.loop-index-test.true in
+    let may = sym (c.one_holds.ensures.fits ∙ ap (λ h. may_emit n.function h s) c.from_index.ensures) ∙ c.if-not-one_holds.false in
+    let behind = c.one_holds.ensures.after c.if-not-one_holds.false ∙ ap (λ h. after_one n k h s) c.from_index.ensures in
+    let named = c.one_holds.ensures.named c.if-not-one_holds.false ∙ ap (λ h. named_after n.function h k) c.from_index.ensures in
     record {
-      size = c.emit.ensures.size ∙ c.loop-index.invariant.size;
-      given = range_given f k j i e c.loop-index-test.true more ∙ c.loop-index.invariant.given;
-      holds = λ names m known given g same_types.
-          let s = handles_of given c.loop-index.scope.table in
-          let may = sym (c.may_emit.ensures given m known same_types ∙ ap (λ h. may_emit (function_shape m known f es) h s) c.from_index-handle.ensures) ∙ c.if-not-may_emit.false in
-          let next = c.emit.ensures.handles names m known given g same_types ∙ ap (λ h. after_one (function_naming names given m known g f es) k h s) c.from_index-handle.ensures in
-          range_holds names m known given g f es k j i e s (handles_of given c.emit.new.self.table) c.loop-index-test.true may next more
-          ∙ c.loop-index.invariant.holds names m known given g same_types;
-      behind = λ names m known given g same_types.
-          let s = handles_of given c.loop-index.scope.table in
-          let next = c.emit.ensures.handles names m known given g same_types ∙ ap (λ h. after_one (function_naming names given m known g f es) k h s) c.from_index-handle.ensures in
-          range_behind names m known given g f es k j i e s (handles_of given c.emit.new.self.table) c.loop-index-test.true next more
-          ∙ c.loop-index.invariant.behind names m known given g same_types;
-      held = λ m known same_types.
-          let s = handles_of (given_name m 0) c.loop-index.scope.table in
-          let shape = function_shape m known f es in
-          let own = function_naming (module_names m) (given_name m 0) m known 0 f es in
-          subst (KeepsStart shape) (sym (c.emit.ensures.handles (module_names m) m known (given_name m 0) 0 same_types))
-          (one_keeps own shape k c.from_index-handle.result s (c.loop-index.invariant.held m known same_types));
+      holds = (λ j. may_emit_all n (named j) rest (behind j))
+          ∙ sym (ap (λ hs. may_emit_all n k hs s) more ∙ ap (λ b. b && may_emit_all n (named_after n.function i k) rest (after_one n k i s)) may)
+          ∙ c.loop-index.invariant.holds;
+      behind = (λ j. after_emit n (named j) rest (behind j)) ∙ sym (ap (λ hs. after_emit n k hs s) more) ∙ c.loop-index.invariant.behind;
+      named = (λ j. named_after_all n.function rest (named j)) ∙ sym (ap (λ hs. named_after_all n.function hs k) more) ∙ c.loop-index.invariant.named;
+      at = point_kept c.loop-index.invariant.at c.one_holds.ensures.kept;
+      kept = extends_then c.loop-index.invariant.kept c.one_holds.ensures.kept;
+      counted = omega (arith, c.loop-index-test.true, c.one_holds.ensures.counted.log, c.loop-index.invariant.counted);
+      names = omega (arith, c.loop-index-test.true, c.one_holds.ensures.counted.names, c.loop-index.invariant.names);
     }
-
-pub returns-clause-fits : goal.returns-clause-fits
-returns-clause-fits c names m known given g same_types =
-    ap (λ hs. may_emit_all (function_naming names given m known g c.args.function.now c.args.info.now) c.loop-index.scope.given hs (handles_of given c.loop-index.scope.table)) (sym (range_none c.loop-index.index c.args.range.end c.loop-index-test.false))
-    ∙ c.loop-index.invariant.holds names m known given g same_types
-
-pub returns-clause-after : goal.returns-clause-after
-returns-clause-after c names m known given g same_types holds =
-    ap (λ hs. after_emit (function_naming names given m known g c.args.function.now c.args.info.now) c.loop-index.scope.given hs (handles_of given c.loop-index.scope.table)) (sym (range_none c.loop-index.index c.args.range.end c.loop-index-test.false))
-    ∙ c.loop-index.invariant.behind names m known given g same_types
-
-pub returns-clause-given : goal.returns-clause-given
-returns-clause-given c holds =
-    let none = ap (λ (hs : List ℕ). length (labels_of_each c.args.function.now hs)) (range_none c.loop-index.index c.args.range.end c.loop-index-test.false) in
-    let all = c.loop-index.invariant.given in
-    omega (arith, none, all)

@@ -4,10 +4,10 @@ use Rattle.naga_info.specs.declared.info.ModuleInfo.{ModuleInfo}
 use Rattle.naga_info.specs.declared.info.ExpressionInfo.{ExpressionInfo}
 use Rattle.shader_runs.specs.Scope.{at_start, first_values_fit}
 use Rattle.module_meaning.specs.FunctionShapes.{function_shape}
-use Rattle.naga_scope.specs.Standings.{handles_of}
+use Rattle.naga_scope.specs.Availabilities.{handles_of}
 use Rattle.naga_scope.proofs.FirstValues.{all_fit}
 use Rattle.naga_scope.proofs.check.first_values_hold.Given as goal
 
 abbrev pub invariant-loop-handle : goal.invariant-loop-handle
-invariant-loop-handle l = (given : ℕ → List ℕ) (m : Module) (known : ModuleInfo) (es : List ExpressionInfo) → handles_of given l.scope.table ≡ at_start (function_shape m known l.function es) →
+invariant-loop-handle l = (named : ℕ → List ℕ) (m : Module) (known : ModuleInfo) (es : List ExpressionInfo) → handles_of named l.scope.table ≡ at_start (function_shape m known l.function es) →
     all_fit (function_shape m known l.function es) l.handle-iterator ≡ first_values_fit (function_shape m known l.function es) 0 (function_shape m known l.function es).first_values

@@ -22,8 +22,8 @@ returns-in-Some c =
     (ap (λ xs. find p (types_of xs)) (sym c.deref.ensures.value)
     ∙ (sym c.argument_without_form.ensures ∙ c.in-Some.is)))
 
-pub returns-in-Some-result_without_form : goal.returns-in-Some-result_without_form
-returns-in-Some-result_without_form c =
+pub returns-in-Some-answer_without_form : goal.returns-in-Some-answer_without_form
+returns-in-Some-answer_without_form c =
     let f = c.args.function.now in
     let p = is_formless c.args.module.now in
     sym
@@ -31,7 +31,7 @@ returns-in-Some-result_without_form c =
     ∙ ap₂ (λ o q. option_or o (option_or q (find p (map (λ l. l.ty) f.local_variables))))
     (ap (λ xs. find p (types_of xs)) (sym c.deref.ensures.value)
     ∙ (sym c.argument_without_form.ensures ∙ c.in_default.is))
-    (sym c.result_without_form.ensures ∙ c.in-Some-result_without_form.is))
+    (sym c.answer_without_form.ensures ∙ c.in-Some-answer_without_form.is))
 
 pub returns : goal.returns
 returns c =
@@ -43,4 +43,4 @@ returns c =
     ∙ ap₂ (λ o q. option_or o (option_or q (find p (map (λ l. l.ty) f.local_variables))))
     (ap (λ xs. find p (types_of xs)) (sym c.deref.ensures.value)
     ∙ (sym c.argument_without_form.ensures ∙ c.in_default.is))
-    (sym c.result_without_form.ensures ∙ c.in_default-result_without_form.is))
+    (sym c.answer_without_form.ensures ∙ c.in_default-answer_without_form.is))

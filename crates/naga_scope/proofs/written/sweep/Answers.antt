@@ -1,7 +1,7 @@
 use Rattle.std.proofs.Common.{◌≡◌, ◌<◌, ◌≤◌, ◌-◌, suc, arith, ap, sym, subst, ◌∙◌, length}
 use Rattle.std.proofs.Common.{slice_get}
 use Rattle.std.specs.Prelude.{IsFalse, IsSomeAnd}
-use Rattle.module_meaning.specs.Part.{expression_has_form}
+use Rattle.module_meaning.specs.WrittenSoFar.{expression_has_form}
 use Rattle.naga_scope.proofs.Sweeping.{Swept, begun, ended, next, passed}
 use Rattle.naga_scope.specs.Marks.{is_marked}
 use Rattle.naga_scope.proofs.written.sweep.Goals as goal
@@ -22,13 +22,14 @@ bounds-marks-end c =
     let some : 0 < c.loop-end.end = c.loop-end-test.true in
     omega (arith, size, bound, some)
 
-pub returns-then-not-has_form : goal.returns-then-not-has_form
-returns-then-not-has_form c roots just =
+pub returns-then-not-expression_has_form : goal.returns-then-not-expression_has_form
+returns-then-not-expression_has_form c roots just =
     let swept = c.loop-end.invariant.swept roots just in
     let here = c.from_index-handle.ensures in (
       swept.sound c.from_index-handle.result (ap (is_marked c.loop-end.marks) here ∙ c.if-marks-end.true),
       subst (λ o. IsSomeAnd o (λ e. IsFalse (expression_has_form c.args.module.now c.args.info.now c.args.function.now.expressions e))) (sym c.index-expression.ensures)
-          (sym (c.if-not-has_form.ensures c.args.function.now.expressions c.requires.constants)),
+          (sym (c.if-not-expression_has_form.ensures c.args.function.now.expressions
+          c.requires.constants)),
     )
 
 pub loop-end-preserved-then-marks-end : goal.loop-end-preserved-then-marks-end
@@ -44,8 +45,11 @@ loop-end-preserved-then-marks-end c =
           next (expression_has_form c.args.module.now c.args.info.now c.args.function.now.expressions) _ roots _ c.loop-end.marks c.mark_operands.new.marks (c.loop-end.end - 1) _
           c.loop-end.invariant.size at
           (c.requires.ordered (c.loop-end.end - 1) c.index-expression.result.now at)
-          c.if-marks-end.true (sym (c.if-not-has_form.ensures c.args.function.now.expressions c.requires.constants)) c.mark_operands.ensures.marks
-          (subst (λ k. Swept (expression_has_form c.args.module.now c.args.info.now c.args.function.now.expressions) c.args.function.now.expressions roots c.args.marks.now c.loop-end.marks k) (sym last)
+          c.if-marks-end.true (sym (c.if-not-expression_has_form.ensures c.args.function.now.expressions c.requires.constants)) c.mark_operands.ensures.marks
+          (subst (λ k. Swept
+          (expression_has_form c.args.module.now c.args.info.now
+          c.args.function.now.expressions) c.args.function.now.expressions roots
+          c.args.marks.now c.loop-end.marks k) (sym last)
           (c.loop-end.invariant.swept roots just));
     }
 
@@ -59,7 +63,10 @@ loop-end-preserved c =
       bound = omega (arith, bound);
       swept = λ roots just.
           passed (expression_has_form c.args.module.now c.args.info.now c.args.function.now.expressions) _ roots _ c.loop-end.marks (c.loop-end.end - 1) c.if-marks-end.false
-          (subst (λ k. Swept (expression_has_form c.args.module.now c.args.info.now c.args.function.now.expressions) c.args.function.now.expressions roots c.args.marks.now c.loop-end.marks k) (sym last)
+          (subst (λ k. Swept
+          (expression_has_form c.args.module.now c.args.info.now
+          c.args.function.now.expressions) c.args.function.now.expressions roots
+          c.args.marks.now c.loop-end.marks k) (sym last)
           (c.loop-end.invariant.swept roots just));
     }
 

@@ -1,45 +1,54 @@
 use Rattle.std.proofs.Common.{[], ℕ, ◌≡◌, ◌<◌, ◌∙◌, List, Some, arith, ap, length, slice_get}
 use Rattle.std.proofs.Common.{string_bytes, subst, sym}
 use Rattle.std.specs.Option.{option_map_or}
-use Rattle.naga_scope.specs.Standings.{TextPoint, handles_of}
+use Rattle.naga_scope.specs.Availabilities.{TextPoint, handles_of}
+use Rattle.naga_scope.specs.Changes.{block_changes}
+use Rattle.naga_scope.specs.Log.{HasRoom}
 use Rattle.naga_form.proofs.AcceptedFunctions.{functions_counted}
-use Rattle.naga_words.proofs.Writing.{held_part_as, held_whole_as, never_formless, reason_given}
+use Rattle.naga_words.proofs.Writing.{content_begun_as, content_whole_as, never_formless}
+use Rattle.naga_words.proofs.Writing.{reason_known}
 use Rattle.naga_words.proofs.Writing.{same_sink, writes_as}
 use Rattle.naga_scope.proofs.Planned.{plan_found}
 use Rattle.naga_wgsl_fns.specs.Errors.{IsWant}
-use Rattle.naga_wgsl_fns.specs.FunctionText.{tells_types}
-use Rattle.naga_wgsl_fns.proofs.FunctionRows.{can_write, names_same, reason_told}
+use Rattle.naga_wgsl_fns.specs.FunctionText.{annotates_types}
+use Rattle.naga_wgsl_fns.proofs.FunctionRows.{can_write, names_same, reason_reported}
 use Rattle.naga_wgsl_fns.proofs.FunctionRows.{text_under_names}
 use Rattle.naga_wgsl_fns.specs.Functions.{text_under}
 use Rattle.naga_wgsl_fns.proofs.functions.write_planned.Goals as goal
 
 pub write_declaration-requires-clause-can : goal.write_declaration-requires-clause-can
 write_declaration-requires-clause-can g c =
-    let plan = plan_found (tells_types c.args.flags) c.args.module.now c.args.info.now c.args.handle c.index.result.now
+    let plan = plan_found (annotates_types c.args.flags) c.args.module.now c.args.info.now c.args.handle c.index.result.now
     c.index-2.result.now c.args.plan c.index.ensures c.index-2.ensures c.requires.planned in
     can_write _ c.requires.accepted c.requires.written c.requires.names c.index.ensures
     c.index-2.ensures plan.formed plan.room
 
 pub write_declaration-requires-clause-start : goal.write_declaration-requires-clause-start
 write_declaration-requires-clause-start g c =
-    let plan = plan_found (tells_types c.args.flags) c.args.module.now c.args.info.now c.args.handle c.index.result.now
+    let plan = plan_found (annotates_types c.args.flags) c.args.module.now c.args.info.now c.args.handle c.index.result.now
     c.index-2.result.now c.args.plan c.index.ensures c.index-2.ensures c.requires.planned in
-    let given : ℕ → List ℕ = λ number.
+    let named : ℕ → List ℕ = λ number.
     option_map_or string_bytes (slice_get c.as_slice.result.now number) [] in
-    ap (λ (p : TextPoint). handles_of given p.table) c.into_parts-scope.ensures.scope
-    ∙ plan.starts given
+    ap (λ (p : TextPoint). handles_of named p.table) c.into_parts-scope.ensures.scope
+    ∙ plan.starts named
 
-pub write_declaration-requires-clause-given : goal.write_declaration-requires-clause-given
-write_declaration-requires-clause-given g c =
-    let plan = plan_found (tells_types c.args.flags) c.args.module.now c.args.info.now c.args.handle c.index.result.now
+pub write_declaration-requires-clause-named : goal.write_declaration-requires-clause-named
+write_declaration-requires-clause-named g c =
+    let plan = plan_found (annotates_types c.args.flags) c.args.module.now c.args.info.now c.args.handle c.index.result.now
     c.index-2.result.now c.args.plan c.index.ensures c.index-2.ensures c.requires.planned in
-    ap (λ (p : TextPoint). p.given) c.into_parts-scope.ensures.scope ∙ plan.no_name
+    ap (λ (p : TextPoint). p.named) c.into_parts-scope.ensures.scope ∙ plan.no_name
 
 pub write_declaration-requires-clause-size : goal.write_declaration-requires-clause-size
 write_declaration-requires-clause-size g c =
-    let plan = plan_found (tells_types c.args.flags) c.args.module.now c.args.info.now c.args.handle c.index.result.now
+    let plan = plan_found (annotates_types c.args.flags) c.args.module.now c.args.info.now c.args.handle c.index.result.now
     c.index-2.result.now c.args.plan c.index.ensures c.index-2.ensures c.requires.planned in
     ap (λ (p : TextPoint). length p.table) c.into_parts-scope.ensures.scope ∙ plan.size
+
+pub write_declaration-requires-clause-room : goal.write_declaration-requires-clause-room
+write_declaration-requires-clause-room g c =
+    let plan = plan_found (annotates_types c.args.flags) c.args.module.now c.args.info.now c.args.handle c.index.result.now
+    c.index-2.result.now c.args.plan c.index.ensures c.index-2.ensures c.requires.planned in
+    subst (λ (p : TextPoint). HasRoom p (block_changes c.index.result.now.body)) (sym c.into_parts-scope.ensures.scope) plan.changes
 
 pub index-requires-2 : goal.index-requires-2
 index-requires-2 g c =
@@ -52,12 +61,12 @@ index-requires-2 g c =
 pub returns-in-Ok-clause-text_ok : goal.returns-in-Ok-clause-text_ok
 returns-in-Ok-clause-text_ok g c =
     let same : c.write_declaration.new.out.sink.ghost_name ≡ c.new-written.result.sink.ghost_name = same_sink _ _ _ c.write_declaration.ensures in
-    held_whole_as _ _ _ _ _ (grind arith) (grind arith)
+    content_whole_as _ _ _ _ _ (grind arith) (grind arith)
     (writes_as
     (sym
-    (ap (λ given. text_under c.args.module.now c.args.info.now c.args.flags given c.args.handle)
+    (ap (λ named. text_under c.args.module.now c.args.info.now c.args.flags named c.args.handle)
     (λ i number. sym (names_same c.as_slice.result.now c.into_parts-scope.result.1.items
-    c.args.plan.given c.as_slice.ensures.value c.into_parts-scope.ensures.given number) i)
+    c.args.plan.named c.as_slice.ensures.value c.into_parts-scope.ensures.named number) i)
     ∙ text_under_names _ c.index.ensures c.index-2.ensures))
     c.write_declaration.ensures)
     c.new-written.ensures.want c.in-Ok.ensures.whole
@@ -65,12 +74,12 @@ returns-in-Ok-clause-text_ok g c =
 pub returns-clause-text_err : goal.returns-clause-text_err
 returns-clause-text_err g c =
     let same : c.write_declaration.new.out.sink.ghost_name ≡ c.new-written.result.sink.ghost_name = same_sink _ _ _ c.write_declaration.ensures in
-    held_part_as _ _ _ _ _ _ (grind arith) (grind arith)
+    content_begun_as _ _ _ _ _ _ (grind arith) (grind arith)
     (writes_as
     (sym
-    (ap (λ given. text_under c.args.module.now c.args.info.now c.args.flags given c.args.handle)
+    (ap (λ named. text_under c.args.module.now c.args.info.now c.args.flags named c.args.handle)
     (λ i number. sym (names_same c.as_slice.result.now c.into_parts-scope.result.1.items
-    c.args.plan.given c.as_slice.ensures.value c.into_parts-scope.ensures.given number) i)
+    c.args.plan.named c.as_slice.ensures.value c.into_parts-scope.ensures.named number) i)
     ∙ text_under_names _ c.index.ensures c.index-2.ensures))
     c.write_declaration.ensures)
     c.new-written.ensures.want c.in-Err.ensures.wanting
@@ -78,11 +87,13 @@ returns-clause-text_err g c =
 pub returns-clause-reason : goal.returns-clause-reason
 returns-clause-reason g c =
     let same : c.write_declaration.new.out.sink.ghost_name ≡ c.new-written.result.sink.ghost_name = same_sink _ _ _ c.write_declaration.ensures in
-    let reason = reason_given _ _ _ c.in-Err.want c.write_declaration.ensures c.new-written.ensures.want c.in-Err.ensures.wanting in
-    let told = reason_told (g.W.TextSink.failures c.new-written.result.sink.now) (g.W.TextSink.failures c.write_declaration.new.out.sink.now) c.in-Err.want c.error_of_want.result reason c.error_of_want.ensures in
-    let before = ap (λ s. g.W.TextSink.failures s) c.new-written.ensures.held in
+    let reason = reason_known _ _ _ c.in-Err.want c.write_declaration.ensures c.new-written.ensures.want c.in-Err.ensures.wanting in
+    let reported = reason_reported (g.W.TextSink.failures c.new-written.result.sink.now)
+    (g.W.TextSink.failures c.write_declaration.new.out.sink.now) c.in-Err.want
+    c.error_of_want.result reason c.error_of_want.ensures in
+    let before = ap (λ s. g.W.TextSink.failures s) c.new-written.ensures.content in
     subst (λ n. IsWant (g.W.TextSink.failures c.args.out.now) n c.error_of_want.result) (grind arith)
-    (subst (λ n. IsWant n (g.W.TextSink.failures c.write_declaration.new.out.sink.now) c.error_of_want.result) before told)
+    (subst (λ n. IsWant n (g.W.TextSink.failures c.write_declaration.new.out.sink.now) c.error_of_want.result) before reported)
 
 pub error_of_want-requires : goal.error_of_want-requires
 error_of_want-requires g c is =

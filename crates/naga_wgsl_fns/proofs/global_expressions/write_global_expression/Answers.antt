@@ -7,10 +7,11 @@ use Rattle.naga_wgsl_fns.proofs.global_expressions.write_global_expression.Goals
 pub returns-then-not-is_written_so_far : goal.returns-then-not-is_written_so_far
 returns-then-not-is_written_so_far g c =
     let m = c.args.«module».now in
-    let held = g.W.TextSink.text c.args.out.now in
+    let content = g.W.TextSink.text c.args.out.now in
     let before = g.W.TextSink.failures c.args.out.now in
-    global_refused m c.args.handle held before _ c.not_yet_written.result refl
-    (global_for_part m c.args.handle held before c.not_yet_written.result c.not_yet_written.ensures
+    global_refused m c.args.handle content before _ c.not_yet_written.result refl
+    (global_for_part m c.args.handle content before c.not_yet_written.result
+    c.not_yet_written.ensures
     (sym c.is_written_so_far.ensures ∙ c.if-not-is_written_so_far.true))
 
 pub of-requires : goal.of-requires
@@ -30,7 +31,7 @@ write_written_global-requires g c = record {
     of_module = record {
       info = c.requires.accepted.0;
       accepted = c.requires.accepted.1;
-      of_part = sym c.is_written_so_far.ensures ∙ c.if-not-is_written_so_far.false;
+      is_supported = sym c.is_written_so_far.ensures ∙ c.if-not-is_written_so_far.false;
     };
     named = c.requires.names;
   };
@@ -63,10 +64,10 @@ global_without_form-requires g c = record {
 pub returns : goal.returns
 returns g c =
     let m = c.args.«module».now in
-    let held = g.W.TextSink.text c.args.out.now in
+    let content = g.W.TextSink.text c.args.out.now in
     let before = g.W.TextSink.failures c.args.out.now in
-    global_refused m c.args.handle held before _ c.global_without_form.result refl
-    (global_for_form m c.args.handle held before c.global_without_form.result
+    global_refused m c.args.handle content before _ c.global_without_form.result refl
+    (global_for_form m c.args.handle content before c.global_without_form.result
     (sym (c.in_ok-globals.ensures c.args.handle)
     ∙ (sym c.is_written.ensures ∙ c.if-is_written.false))
     c.global_without_form.ensures)

@@ -22,11 +22,12 @@ returns-in_err-plan-clause-function g c =
     λ earlier has.
     let m = c.args.«module».now in
     let info = c.args.info.now in
-    let held = g.W.TextSink.text c.args.out.now in
+    let content = g.W.TextSink.text c.args.out.now in
     let before = g.W.TextSink.failures c.args.out.now in
-    refused m info c.args.flags earlier c.args.handle held before c.from_residual-in_err-plan.result
+    refused m info c.args.flags earlier c.args.handle content before
+    c.from_residual-in_err-plan.result
     _ c.plan_of.new.namer c.from_residual-in_err-plan.ensures.1
-    (for_plan m info c.args.flags earlier c.args.handle held before _
+    (for_plan m info c.args.flags earlier c.args.handle content before _
     (c.in_err-plan.ensures.err earlier has))
     (c.in_err-plan.ensures.begun.some earlier has)
 

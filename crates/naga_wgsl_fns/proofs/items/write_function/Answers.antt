@@ -9,12 +9,12 @@ pub returns-then-not-is_written_so_far-clause-function :
 returns-then-not-is_written_so_far-clause-function g c =
     let m = c.args.«module».now in
     let info = c.args.info.now in
-    let held = g.W.TextSink.text c.args.out.now in
+    let content = g.W.TextSink.text c.args.out.now in
     let before = g.W.TextSink.failures c.args.out.now in
     of_each c.args.ty _
-    (λ handle earlier has. refused m info c.args.flags earlier handle held before _
+    (λ handle earlier has. refused m info c.args.flags earlier handle content before _
     c.not_yet_written.result c.args.namer.now refl
-    (for_part m info c.args.flags earlier handle held before c.not_yet_written.result
+    (for_part m info c.args.flags earlier handle content before c.not_yet_written.result
     c.not_yet_written.ensures
     (sym c.is_written_so_far.ensures ∙ c.if-not-is_written_so_far.true))
     (none_named m info c.args.flags earlier handle c.args.namer.now has))

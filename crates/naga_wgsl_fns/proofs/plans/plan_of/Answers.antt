@@ -24,7 +24,7 @@ error_of_plan-requires-clause-known c =
 
 pub error_of_plan-requires-clause-formless : goal.error_of_plan-requires-clause-formless
 error_of_plan-requires-clause-formless c =
-    is_of_plan c.tells_types.result c.args.«module».now c.args.info.now c.requires.accepted c.requires.written
+    is_of_plan c.annotates_types.result c.args.«module».now c.args.info.now c.requires.accepted c.requires.written
     c.args.handle c.index.result.now c.index.ensures c.index-in-Err.result.now c.index-in-Err.ensures
     _ c.in-Err.error c.in-Err.ensures.err
 
@@ -34,8 +34,8 @@ returns-in-Err-clause-err c =
     let info = c.args.info.now in
     λ earlier has.
     subst (λ explicit. IsPlanRefusal explicit m info earlier c.args.handle c.error_of_plan.result)
-    c.tells_types.ensures
-    (plan_refusal c.tells_types.result m info c.requires.accepted c.requires.written
+    c.annotates_types.ensures
+    (plan_refusal c.annotates_types.result m info c.requires.accepted c.requires.written
     c.args.handle c.index.result.now c.index.ensures earlier c.index-in-Err.result.now
     c.index-in-Err.ensures _ c.requires.words has c.in-Err.error c.error_of_plan.result
     c.in-Err.ensures.err c.error_of_plan.ensures)
@@ -43,7 +43,7 @@ returns-in-Err-clause-err c =
 pub returns-in-Ok-clause-ok : goal.returns-in-Ok-clause-ok
 returns-in-Ok-clause-ok c =
     subst (λ explicit. IsPlanOf explicit c.args.«module».now c.args.info.now c.args.handle c.in-Ok.plan)
-    c.tells_types.ensures c.in-Ok.ensures.ok
+    c.annotates_types.ensures c.in-Ok.ensures.ok
 
 pub error_of_plan-requires-clause-ordered : goal.error_of_plan-requires-clause-ordered
 error_of_plan-requires-clause-ordered c =

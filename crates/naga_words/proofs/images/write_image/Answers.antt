@@ -1,4 +1,4 @@
-use Rattle.naga_words.proofs.PartWriting.{spells_any}
+use Rattle.naga_words.proofs.SegmentWriting.{spells_any}
 use Rattle.naga_words.proofs.images.write_image.Goals as goal
 
 pub returns-in-Depth : goal.returns-in-Depth

@@ -6,5 +6,5 @@ use Rattle.naga_acceptance.proofs.ranges.expressions.first_expression_out_of_ran
 
 abbrev pub invariant-loop-handle : goal.invariant-loop-handle
 invariant-loop-handle l =
-    first_faulty (expression_range_fault l.module l.callees l.arguments l.locals) (l.handle-iterator)
-    ≡ first_faulty (expression_range_fault l.module l.callees l.arguments l.locals) (enumerate_from 0 l.function.expressions)
+    first_faulty (expression_range_fault l.module l.arguments l.locals) (l.handle-iterator)
+    ≡ first_faulty (expression_range_fault l.module l.arguments l.locals) (enumerate_from 0 l.function.expressions)

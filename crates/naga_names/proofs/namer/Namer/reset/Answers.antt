@@ -8,7 +8,10 @@ use Rattle.naga_names.proofs.namer.Namer.reset.Goals as goal
 
 pub returns-in-Ok-end-clause-ok : goal.returns-in-Ok-end-clause-ok
 returns-in-Ok-end-clause-ok c =
-    let same = c.new-naming.ensures.namer ∙ starts c.args.reserved_keywords c.args.builtin_identifiers c.args.keywords_case_insensitive c.new-uses.result c.in-Ok.prefixes.items c.args.reserved_prefixes.now c.new-uses.ensures c.in-Ok.ensures.items in
+    let same = c.new-naming.ensures.namer
+    ∙ starts c.args.reserved_keywords c.args.builtin_identifiers
+    c.args.keywords_case_insensitive c.new-uses.result c.in-Ok.prefixes.items
+    c.args.reserved_prefixes.now c.new-uses.ensures c.in-Ok.ensures.items in
     all_named _ _ _ _ same refl c.new-naming.ensures.refusal c.name_items.ensures _ (c.in-Ok-end.ensures.ok.0, c.drop-in-Ok-end.view_is ∙ c.in-Ok-end.ensures.ok.1)
 
 pub returns-in-Ok-end-clause-full : goal.returns-in-Ok-end-clause-full
@@ -19,12 +22,18 @@ returns-in-Ok-end-clause-key_full c = λ full. sym full ∙ (returns-in-Ok-end-c
 
 pub returns-in-Err-end-clause-beginning : goal.returns-in-Err-end-clause-beginning
 returns-in-Err-end-clause-beginning c =
-    let same = c.new-naming.ensures.namer ∙ starts c.args.reserved_keywords c.args.builtin_identifiers c.args.keywords_case_insensitive c.new-uses.result c.in-Ok.prefixes.items c.args.reserved_prefixes.now c.new-uses.ensures c.in-Ok.ensures.items in
+    let same = c.new-naming.ensures.namer
+    ∙ starts c.args.reserved_keywords c.args.builtin_identifiers
+    c.args.keywords_case_insensitive c.new-uses.result c.in-Ok.prefixes.items
+    c.args.reserved_prefixes.now c.new-uses.ensures c.in-Ok.ensures.items in
     (some_named _ _ _ _ same refl c.new-naming.ensures.refusal c.name_items.ensures _ c.in-Err-end.ensures.err).0
 
 pub returns-in-Err-end-clause-reason : goal.returns-in-Err-end-clause-reason
 returns-in-Err-end-clause-reason c =
-    let same = c.new-naming.ensures.namer ∙ starts c.args.reserved_keywords c.args.builtin_identifiers c.args.keywords_case_insensitive c.new-uses.result c.in-Ok.prefixes.items c.args.reserved_prefixes.now c.new-uses.ensures c.in-Ok.ensures.items in
+    let same = c.new-naming.ensures.namer
+    ∙ starts c.args.reserved_keywords c.args.builtin_identifiers
+    c.args.keywords_case_insensitive c.new-uses.result c.in-Ok.prefixes.items
+    c.args.reserved_prefixes.now c.new-uses.ensures c.in-Ok.ensures.items in
     (some_named _ _ _ _ same refl c.new-naming.ensures.refusal c.name_items.ensures _ c.in-Err-end.ensures.err).1
 
 pub returns-in-Ok-end-clause-keys_run_out : goal.returns-in-Ok-end-clause-keys_run_out

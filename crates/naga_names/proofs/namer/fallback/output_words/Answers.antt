@@ -17,8 +17,16 @@ loop-entry_point-preserved c = λ t.
     let i = c.loop-entry_point.entry_point-index in
     elim c.match-output_word.branch [
       | in-Some-output_word+in_ok-insert w ↦ ap (λ words. words_in words t) w.words-is
-          ∙ has_word t c.args.entry_points.now i c.entry_point-item.result c.loop-entry_point-test.true c.entry_point-item.is c.loop-entry_point.words w.insert.new.self c.in-Some.result w.in-Some-output_word.word c.in-Some.is
-          (sym c.output_word.ensures ∙ ap (option_map (λ word. word.now)) w.in-Some-output_word.is) (subst (λ k. hash.Updates nat_eq c.loop-entry_point.words w.insert.new.self k (Some w.in-Some-output_word.word)) w.index.ensures w.in_ok-insert.ensures.updates) (c.loop-entry_point.invariant t)
+          ∙ has_word t c.args.entry_points.now i c.entry_point-item.result
+          c.loop-entry_point-test.true c.entry_point-item.is c.loop-entry_point.words
+          w.insert.new.self c.in-Some.result w.in-Some-output_word.word c.in-Some.is
+          (sym c.output_word.ensures ∙ ap (option_map (λ word. word.now)) w.in-Some-output_word.is)
+          (subst (λ k. hash.Updates nat_eq c.loop-entry_point.words w.insert.new.self k
+          (Some w.in-Some-output_word.word)) w.index.ensures w.in_ok-insert.ensures.updates)
+          (c.loop-entry_point.invariant t)
       | in_default-output_word w ↦ ap (λ words. words_in words t) w.words-is ∙ c.loop-entry_point.invariant t
-          ∙ sym (has_no_word t c.args.entry_points.now i c.entry_point-item.result c.loop-entry_point-test.true c.entry_point-item.is c.in-Some.result c.in-Some.is (sym c.output_word.ensures ∙ ap (option_map (λ word. word.now)) w.in_default-output_word.is))
+          ∙ sym (has_no_word t c.args.entry_points.now i c.entry_point-item.result
+          c.loop-entry_point-test.true c.entry_point-item.is c.in-Some.result c.in-Some.is
+          (sym c.output_word.ensures
+          ∙ ap (option_map (λ word. word.now)) w.in_default-output_word.is))
     ]

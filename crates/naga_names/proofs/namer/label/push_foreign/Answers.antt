@@ -14,4 +14,6 @@ returns-then-is_empty c = on_ok_then c.push_number.result c.push_number.ensures 
 pub returns : goal.returns
 returns c = on_ok_then c.push_number-2.result c.push_number-2.ensures (λ done before is.
     done ∙ ap (λ t. t ++ by_number c.args.c) (c.in_ok-push_separator.ensures ∙ ap with_separator is)
-    ∙ sym (spelling-later_foreign before c.args.c c.requires (λ none. eqb-false (length c.as_str.result.now) 0 (sym c.is_empty.ensures ∙ c.if-is_empty.false) (ap length c.as_str.ensures.value ∙ ap length is ∙ none))))
+    ∙ sym (spelling-later_foreign before c.args.c c.requires
+    (λ none. eqb-false (length c.as_str.result.now) 0 (sym c.is_empty.ensures
+    ∙ c.if-is_empty.false) (ap length c.as_str.ensures.value ∙ ap length is ∙ none))))

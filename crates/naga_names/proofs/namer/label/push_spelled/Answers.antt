@@ -13,6 +13,8 @@ pub returns-then-is_ascii_alphanumeric : goal.returns-then-is_ascii_alphanumeric
 returns-then-is_ascii_alphanumeric c =
     let plain = sym c.is_ascii_alphanumeric.ensures.value ∙ c.if-is_ascii_alphanumeric.true in
     on_ok c.push.result (λ ok before is.
-    pushed_char c.push.result (string_bytes c.args.text.now) (string_bytes c.push.new.self) (encode_utf8 c.args.c) c.args.c (c.push.ensures.ascii (alphanumeric_is_ascii c.args.c plain)) c.push.ensures.bytes ok
+    pushed_char c.push.result (string_bytes c.args.text.now) (string_bytes c.push.new.self)
+    (encode_utf8 c.args.c) c.args.c
+    (c.push.ensures.ascii (alphanumeric_is_ascii c.args.c plain)) c.push.ensures.bytes ok
     ∙ ap (λ t. t ++ c.args.c ∷ []) is
     ∙ sym (spelling-alphanumeric before c.args.c (sym c.is_separating.ensures ∙ c.if-is_separating.false) plain))

@@ -1,15 +1,13 @@
 use Rattle.std.proofs.Common.{[], ◌≡◌, ◌<◌, ◌∙◌, ap, length, subst, sym}
 use Rattle.std.specs.Option.{option_map_or}
-use Rattle.module_meaning.specs.GivenLabels.{given_labels}
-use Rattle.module_meaning.specs.Names.{labels_given}
-use Rattle.module_meaning.specs.Part.{function_is_written}
-use Rattle.module_meaning.proofs.Lists.{list_all_at}
-use Rattle.module_meaning.proofs.Part.{functions_are_written}
+use Rattle.module_meaning.specs.ExpressionLabels.{expression_labels}
+use Rattle.module_meaning.specs.Names.{labels_named_in}
+use Rattle.naga_scope.proofs.Results.{results_fit}
 use Rattle.naga_form.proofs.AcceptedGroups.{fits_in_range, known_is_fit}
-use Rattle.naga_form.proofs.AcceptedFunctions.{accepted_at, function_there, functions_counted}
+use Rattle.naga_form.proofs.AcceptedFunctions.{accepted_at, function_there, functions_counted, ranges_are}
 use Rattle.naga_form.proofs.Ordered.{operands_stand_before}
 use Rattle.std.specs.Prelude.{IfOk, OnErr}
-use Rattle.naga_scope.specs.GivenNames.{HasBegunLabels, NamesLabels}
+use Rattle.naga_scope.specs.ExpressionNames.{HasBegunLabels, NamesLabels}
 use Rattle.naga_scope.specs.Plans.{IsPlan, IsRefusalToPlan}
 use Rattle.naga_scope.proofs.Planned.{of_the_err, of_the_ok}
 use Rattle.naga_scope.proofs.plan.Plan.of.Goals as goal
@@ -31,11 +29,10 @@ of_function-requires c =
     let is = accepted_at m info c.requires.accepted g f known.0 known.1 in
     record {
       ordered = operands_stand_before m is.callees f is.ranges;
-      written = list_all_at function_is_written m.functions g f
-          (functions_are_written m c.requires.written) c.index.ensures;
+      results = results_fit is.callees (length f.expressions) f.body (ranges_are m is.callees f is.ranges).1;
       globals = c.requires.globals;
       names = c.requires.names;
-      known = λ h k at. fits_in_range (length m.overrides) m.types k.ty
+      types = λ h k at. fits_in_range (length m.overrides) m.types k.ty
           (known_is_fit m info c.requires.accepted g c.index-2.result.now c.index-2.ensures h k at);
     }
 
@@ -46,13 +43,13 @@ returns c =
     let g = c.args.handle in
     let f = c.index.result.now in
     let es = c.index-2.result.now in
-    let labels : given_labels f ≡ labels_given m g = sym (ap (λ o. option_map_or given_labels o []) c.index.ensures) in
+    let labels : expression_labels f ≡ labels_named_in m g = sym (ap (λ o. option_map_or expression_labels o []) c.index.ensures) in
     record {
       ok = of_the_ok (IsPlan c.args.explicit m info) m info g f es c.index.ensures c.index-2.ensures
-          c.of_function.result (c.of_function.ensures.ok info);
-      named = subst (λ ls. IfOk c.of_function.result (λ p. NamesLabels c.args.namer.now [] ls c.of_function.new.namer p.given)) labels c.of_function.ensures.named;
+          c.of_function.result c.of_function.ensures.ok;
+      named = subst (λ ls. IfOk c.of_function.result (λ p. NamesLabels c.args.namer.now [] ls c.of_function.new.namer p.named)) labels c.of_function.ensures.named;
       err = of_the_err (λ f es. IsRefusalToPlan c.args.explicit m info f es c.args.namer.now) m info g f es
           c.index.ensures c.index-2.ensures c.of_function.result
-          (c.of_function.ensures.err info);
+          c.of_function.ensures.err;
       begun = subst (λ ls. OnErr c.of_function.result (HasBegunLabels c.args.namer.now ls c.of_function.new.namer)) labels c.of_function.ensures.begun;
     }

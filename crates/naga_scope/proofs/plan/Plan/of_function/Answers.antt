@@ -1,77 +1,89 @@
-use Rattle.std.proofs.Common.{◌+◌, ◌<◌, ◌^◌, ◌≡◌, ◌∙◌, List, ℕ, None, arith, length, map, string_bytes}
-use Rattle.std.proofs.Common.{[], refl, subst, sym, true≢false}
+use Rattle.std.proofs.Common.{◌+◌, ◌<◌, ◌^◌, ◌≡◌, ◌∙◌, List, ℕ, arith, length, map, string_bytes, ap}
+use Rattle.std.proofs.Common.{[], subst, sym, true≢false}
 use Rattle.std.specs.declared.string.String.{String}
-use Rattle.module_meaning.specs.GivenLabels.{given_labels}
+use Rattle.module_meaning.specs.ExpressionLabels.{expression_labels}
 use Rattle.naga_form.proofs.Fits.{mapped_length}
-use Rattle.module_meaning.specs.FunctionShapes.{function_shape}
-use Rattle.module_meaning.specs.Part.{expression_has_form}
 use Rattle.module_meaning.specs.Written.{function_roots}
+use Rattle.naga_scope.specs.Availabilities.{KeepsStart}
+use Rattle.naga_scope.specs.KnownFunctions.{bound_in, expressions_of, has_form_in, shape_of}
 use Rattle.naga_scope.specs.Marks.{Sweeps}
+use Rattle.naga_scope.proofs.FormedStatements.{none_formless}
 use Rattle.naga_scope.proofs.SpelledTypes.{declared_lacks, let_lacks, spelled_formed}
-use Rattle.shader_runs.specs.Program.{binds}
 use Rattle.naga_scope.proofs.Planned.{check_is_the_rules}
 use Rattle.naga_scope.proofs.plan.Plan.of_function.Goals as goal
 
-pub function_holds-requires-clause-start : goal.function_holds-requires-clause-start
-function_holds-requires-clause-start c given m known = c.in_ok-scope.ensures.start given m known c.args.info.now
+pub function_holds-requires : goal.function_holds-requires
+function_holds-requires c =
+    let k = c.args.known.now in
+    let start = c.in_ok-scope.ensures.start (λ number. []) k.shader.now k.module_info.now k.info.now in
+    record {
+      at = record {
+        ordered = c.requires.ordered;
+        size = c.in_ok-scope.ensures.size;
+        held = subst (KeepsStart (shape_of k)) (sym start) (λ h first. first);
+      };
+      start = start;
+      named = c.in_ok-scope.ensures.named;
+      results = c.requires.results;
+      room = c.in_ok-scope.ensures.room;
+    }
 
 pub returns-then-not-function_holds-clause-err : goal.returns-then-not-function_holds-clause-err
-returns-then-not-function_holds-clause-err c known rules =
-    let m = c.args.module.now in
-    let f = c.args.function.now in
-    let es = c.args.info.now in
-    let holds = (check_is_the_rules m known f es c.requires.ordered).1 rules in
-    let fails = sym (c.function_holds.ensures.scope (λ key. None) m known (λ number. []) 0 refl)
-    ∙ c.if-not-function_holds.true in
-    true≢false (sym holds ∙ fails)
+returns-then-not-function_holds-clause-err c rules =
+    let k = c.args.known.now in
+    let holds = (check_is_the_rules k.shader.now k.module_info.now k.function.now k.info.now c.requires.ordered).1 rules in
+    true≢false (sym holds ∙ (sym c.function_holds.ensures.scope ∙ c.if-not-function_holds.true))
 
 -- there are as many names as labels
 few : {X : Type 0} (labels : List (List ℕ)) (names : List (String X)) → length (map string_bytes names) ≡ 0 + length labels → length names < 2 ^ 64 → length labels < 2 ^ 64
 few labels names count small = let same = mapped_length string_bytes names in omega (arith, count, small, same)
 
 pub returns-clause-ok : goal.returns-clause-ok
-returns-clause-ok c known =
-    let m = c.args.module.now in
-    let f = c.args.function.now in
-    let es = c.args.info.now in
-    let shape = function_shape m known f es in
-    let holds = sym (c.function_holds.ensures.scope (λ key. None) m known (λ number. []) 0 refl)
-    ∙ c.if-not-function_holds.false in
-    let roots = function_roots (binds shape) f in
+returns-clause-ok c =
+    let k = c.args.known.now in
+    let m = k.shader.now in
+    let f = k.function.now in
+    let holds = sym c.function_holds.ensures.scope ∙ c.if-not-function_holds.false in
+    let no_formless = sym c.formless_statement.ensures ∙ c.in_default.is in
     let none_declared = sym c.declared_without_form.ensures ∙ c.in_default-declared_without_form.is in
-    let none_told = sym (c.told_without_form.ensures known) ∙ c.in_default-told_without_form.is in
+    let none_annotated = sym c.annotated_without_form.ensures ∙ c.in_default-annotated_without_form.is in
+    let kept = c.function_holds.ensures.kept in
+    let at_first = c.in_ok-scope.ensures.room in
     record {
-      in_scope = (check_is_the_rules m known f es c.requires.ordered).0 holds;
-      starts = λ given. c.restart.ensures.start given m known es;
-      no_name = c.restart.ensures.given;
-      size = c.restart.ensures.size
-          ∙ (c.function_holds.ensures.size ∙ c.in_ok-scope.ensures.size);
+      in_scope = (check_is_the_rules m k.module_info.now f k.info.now c.requires.ordered).0 holds;
+      starts = λ named. c.restart.ensures.start named m k.module_info.now k.info.now;
+      no_name = c.restart.ensures.named;
+      size = c.restart.ensures.size ∙ (kept.size ∙ c.in_ok-scope.ensures.size);
       counted = c.in_ok-scope.ensures.counted;
-      room = few (given_labels f) c.in_ok-given.given.items c.in_ok-given.ensures.ok.count
-          (omega (arith, c.in_ok-given.given.ok.0, c.in_ok-given.given.small));
+      room = few (expression_labels f) c.in_ok-named.named.items c.in_ok-named.ensures.ok.count
+          (omega (arith, c.in_ok-named.named.ok.0, c.in_ok-named.named.small));
+      changes = record {
+        log = omega (arith, at_first.log, c.restart.ensures.room, kept.room, ap length c.restart.ensures.log);
+        names = omega (arith, at_first.names, c.restart.ensures.named, c.in_ok-scope.ensures.named);
+      };
       formed = record {
-        expressions = subst (Sweeps (expression_has_form m es f.expressions) f.expressions roots) c.in_default.is
-            (c.in_ok-handle.ensures known);
-        types = spelled_formed c.args.explicit m known f es none_declared none_told;
+        expressions = subst (Sweeps (has_form_in k) (expressions_of k) (function_roots (bound_in k) f)) c.in_default-2.is c.in_ok-handle.ensures;
+        statements = none_formless f.body no_formless;
+        types = spelled_formed c.args.explicit m k.module_info.now f k.info.now none_declared none_annotated;
       };
     }
 
 pub returns-in-Some-clause-err : goal.returns-in-Some-clause-err
-returns-in-Some-clause-err c known =
-    let m = c.args.module.now in
-    let f = c.args.function.now in
-    let es = c.args.info.now in
-    let roots = function_roots (binds (function_shape m known f es)) f in
-    subst (Sweeps (expression_has_form m es f.expressions) f.expressions roots) c.in-Some.is
-    (c.in_ok-handle.ensures known)
+returns-in-Some-clause-err c = sym c.formless_statement.ensures ∙ c.in-Some.is
+
+pub returns-in-Some-2-clause-err : goal.returns-in-Some-2-clause-err
+returns-in-Some-2-clause-err c =
+    let k = c.args.known.now in
+    subst (Sweeps (has_form_in k) (expressions_of k) (function_roots (bound_in k) k.function.now)) c.in-Some-2.is c.in_ok-handle.ensures
 
 pub returns-in-Some-declared_without_form-clause-err : goal.returns-in-Some-declared_without_form-clause-err
-returns-in-Some-declared_without_form-clause-err c known =
-    declared_lacks c.args.explicit c.args.module.now known c.args.function.now c.args.info.now
-    c.in-Some-declared_without_form.ty (sym c.declared_without_form.ensures ∙ c.in-Some-declared_without_form.is)
+returns-in-Some-declared_without_form-clause-err c =
+    let k = c.args.known.now in
+    declared_lacks c.args.explicit k.shader.now k.module_info.now k.function.now k.info.now c.in-Some-declared_without_form.ty
+    (sym c.declared_without_form.ensures ∙ c.in-Some-declared_without_form.is)
 
-pub returns-in-Some-told_without_form-clause-err : goal.returns-in-Some-told_without_form-clause-err
-returns-in-Some-told_without_form-clause-err c known =
-    let m = c.args.module.now in
-    let_lacks c.args.explicit m known c.args.function.now c.args.info.now c.in-Some-told_without_form.handle
-    (sym (c.told_without_form.ensures known) ∙ c.in-Some-told_without_form.is)
+pub returns-in-Some-annotated_without_form-clause-err : goal.returns-in-Some-annotated_without_form-clause-err
+returns-in-Some-annotated_without_form-clause-err c =
+    let k = c.args.known.now in
+    let_lacks c.args.explicit k.shader.now k.module_info.now k.function.now k.info.now c.in-Some-annotated_without_form.handle
+    (sym c.annotated_without_form.ensures ∙ c.in-Some-annotated_without_form.is)

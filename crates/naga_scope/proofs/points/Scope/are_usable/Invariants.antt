@@ -5,12 +5,12 @@ use Rattle.naga_info.specs.declared.info.ModuleInfo.{ModuleInfo}
 use Rattle.naga_info.specs.declared.info.ExpressionInfo.{ExpressionInfo}
 use Rattle.shader_runs.specs.Scope.{usable_all}
 use Rattle.module_meaning.specs.FunctionShapes.{function_shape}
-use Rattle.naga_scope.specs.Standings.{handles_of}
+use Rattle.naga_scope.specs.Availabilities.{handles_of}
 use Rattle.naga_scope.proofs.points.Scope.are_usable.Given as goal
 
 abbrev pub invariant-loop-operand : goal.invariant-loop-operand
 invariant-loop-operand l =
-    (given : ℕ → List ℕ) (m : Module) (known : ModuleInfo) (es : List ExpressionInfo) →
+    (named : ℕ → List ℕ) (m : Module) (known : ModuleInfo) (es : List ExpressionInfo) →
     let shape = function_shape m known l.function es in
-    usable_all shape (handles_of given l.self.table) l.operand-iterator ≡
-    usable_all shape (handles_of given l.self.table) (expression_operands l.expression)
+    usable_all shape (handles_of named l.self.table) l.operand-iterator ≡
+    usable_all shape (handles_of named l.self.table) (expression_operands l.expression)

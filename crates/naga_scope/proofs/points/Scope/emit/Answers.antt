@@ -1,13 +1,31 @@
-use Rattle.std.proofs.Common.{ap, slice_set, ◌∙◌}
-use Rattle.naga_scope.specs.Standings.{TextPoint, handles_of}
+use Rattle.std.proofs.Common.{ap, length, slice_set, subst, sym, take, ◌∙◌}
+use Rattle.std.specs.Prelude.{IsTrue, get_or}
+use Rattle.naga_scope.specs.Availabilities.{TextPoint, handles_of}
+use Rattle.naga_scope.specs.Log.{Extends, grows}
+use Rattle.naga_scope.specs.declared.points.Availability.TheVariants.{Absent}
 use Rattle.naga_scope.proofs.Emitting.{any_emitted}
+use Rattle.naga_scope.proofs.Logs.{extends_named}
 use Rattle.naga_scope.proofs.points.Scope.emit.Goals as goal
 
+pub stand-requires-clause-grows : goal.stand-requires-clause-grows
+stand-requires-clause-grows c =
+    subst (λ (p : TextPoint). IsTrue (grows (get_or p.table c.args.handle Absent) c.emitted-availability.result)) (sym c.self.view_is) c.emitted-availability.ensures.grows
+
+pub returns-clause-kept : goal.returns-clause-kept
+returns-clause-kept c =
+    let point : TextPoint = record {
+      table = c.self.inside.availabilities.items;
+      named = c.self.inside.named;
+      log = take c.self.inside.used c.self.inside.log.items;
+      room = length c.self.inside.log.items;
+    } in
+    subst (λ (p : TextPoint). Extends p c.stand.new.self) c.self.view_is (extends_named point c.named_behind-self-inside.result c.stand.new.self c.stand.ensures.kept)
+
 pub returns-clause-handles : goal.returns-clause-handles
-returns-clause-handles c names m known given g same_types =
-    ap (handles_of given) c.stand.ensures.table
-    ∙ ap (λ (p : TextPoint). handles_of given
-    (slice_set p.table c.args.handle c.emitted-standing.result)) c.self.view_is
-    ∙ any_emitted names m known given g c.args.function.now c.args.info.now c.args.handle c.args.self.now.given
-    c.args.self.now.table c.emitted-standing.result c.requires.size
-    (c.emitted-standing.ensures given m known same_types)
+returns-clause-handles c names m known named g same_types =
+    ap (handles_of named) c.stand.ensures.table
+    ∙ ap (λ (p : TextPoint). handles_of named
+    (slice_set p.table c.args.handle c.emitted-availability.result)) c.self.view_is
+    ∙ any_emitted names m known named g c.args.function.now c.args.info.now c.args.handle c.args.self.now.named
+    c.args.self.now.table c.emitted-availability.result c.requires.size
+    (c.emitted-availability.ensures.emitted named m known same_types)

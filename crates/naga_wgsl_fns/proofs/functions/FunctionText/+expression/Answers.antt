@@ -5,16 +5,15 @@ use Rattle.naga_ir.specs.Operands.{expression_operands}
 use Rattle.std.specs.List.{AllByRecursion}
 use Rattle.naga_words.proofs.Writing.{leaves_as, leaves_last, leaves_more, leaves_start}
 use Rattle.naga_words.proofs.Writing.{writes_as, writes_nothing, writes_then}
-use Rattle.module_meaning.specs.Part.{expression_is_written}
 use Rattle.module_meaning.specs.Sampling.{offset_is_written, own_offset_is_written}
 use Rattle.module_meaning.specs.Sampling.{sampling_is_written}
 use Rattle.naga_ir.specs.Operands.{level_operands}
 use Rattle.naga_wgsl_fns.proofs.ImageRows.{furthers_none, furthers_one, furthers_two, no_offset}
 use Rattle.naga_wgsl_fns.proofs.ImageRows.{offset_row, sampling_whole}
-use Rattle.naga_wgsl_fns.proofs.Wanted.{all_in_text, are_sampled, expression_formed, highest_below}
+use Rattle.naga_wgsl_fns.proofs.Wanted.{all_in_text, are_sampled, highest_below}
 use Rattle.naga_wgsl_fns.proofs.ModuleTexts.{can_in}
-use Rattle.naga_wgsl_fns.proofs.VariableRows.{held_reference, kept_reference}
-use Rattle.naga_wgsl_fns.proofs.Wanted.{constant_passes, global_within, offset_has_form}
+use Rattle.naga_wgsl_fns.proofs.VariableRows.{handle_variable_reference, kept_reference}
+use Rattle.naga_wgsl_fns.proofs.Wanted.{global_within, offset_has_form}
 use Rattle.naga_wgsl_fns.proofs.Wanted.{override_within}
 use Rattle.naga_wgsl_fns.specs.Names.{name_of_override}
 use Rattle.naga_wgsl_fns.specs.Expressions.{next_operand_text}
@@ -28,23 +27,22 @@ use Rattle.naga_wgsl_fns.proofs.PartRows.{value_unpointed}
 use Rattle.naga_wgsl_fns.proofs.Wanted.{base_in, known_within_infos, no_other_part, part_is_written}
 use Rattle.naga_wgsl_fns.specs.Expressions.{operands_left, operands_text}
 use Rattle.naga_wgsl_fns.proofs.ExpressionRows.{operands_more, operands_none, operands_start}
-use Rattle.naga_wgsl_fns.proofs.ExpressionRows.{own_at, own_called, own_made, own_row}
+use Rattle.naga_wgsl_fns.proofs.ExpressionRows.{no_value_row, own_at, own_called, own_made, own_row}
 use Rattle.naga_wgsl_fns.proofs.ConversionRows.{conversion_row, own_conversion}
-use Rattle.naga_wgsl_fns.proofs.Wanted.{conversion_formed}
 use Rattle.naga_wgsl_fns.proofs.ImageRows.{query_called, texel_word}
-use Rattle.naga_wgsl_fns.proofs.Wanted.{IsOperand, argument_within, literal_is_written, local_within}
-use Rattle.naga_wgsl_fns.proofs.Wanted.{made_value, math_is_written, no_other_expression, operands_in}
-use Rattle.naga_wgsl_fns.proofs.Wanted.{matrix_load_formed, relation_is_written}
+use Rattle.naga_wgsl_fns.proofs.Wanted.{IsOperand, argument_within, local_within}
+use Rattle.naga_wgsl_fns.proofs.Wanted.{made_value, operands_in}
 use Rattle.naga_wgsl_fns.proofs.LoadRows.{atomic_loaded, matrix_row, other_loaded, own_matrix_load}
+use Rattle.naga_wgsl_fns.proofs.Wanted.{written_as}
 use Rattle.naga_wgsl_fns.proofs.functions.FunctionText.+expression.Goals as goal
 
 pub write_own-write_literal-requires : goal.write_own-write_literal-requires
 write_own-write_literal-requires g t c =
-    literal_is_written c.args.self.now c.requires.can c.args.handle c.index.result.now c.in-Literal.literal c.index.ensures c.requires.handle c.in-Literal.is
+    written_as c.args.self.now c.requires.can c.index.ensures c.requires.handle c.in-Literal.is
 
 pub write_own-write_constant-requires-clause-written : goal.write_own-write_constant-requires-clause-written
 write_own-write_constant-requires-clause-written g t c =
-    constant_passes c.args.self.now c.requires.can c.args.handle c.index.result.now c.in-Constant.constant c.index.ensures c.requires.handle c.in-Constant.is
+    written_as c.args.self.now c.requires.can c.index.ensures c.requires.handle c.in-Constant.is
 
 pub write_own-write_override_name-requires-clause-can : goal.write_own-write_override_name-requires-clause-can
 write_own-write_override_name-requires-clause-can g t c =
@@ -54,7 +52,7 @@ write_own-write_override_name-requires-clause-can g t c =
 pub write_own-write_override_name-requires-clause-there : goal.write_own-write_override_name-requires-clause-there
 write_own-write_override_name-requires-clause-there g t c =
     subst (λ m. c.in-Override.item < length m.overrides) (sym c.of_module.ensures.shader)
-    (override_within c.args.self.now c.requires.can c.args.handle c.index.result.now c.in-Override.item c.index.ensures c.in-Override.is)
+    (override_within c.args.self.now c.requires.can _ c.index.ensures c.in-Override.is)
 
 pub write_own-returns-in-Override : goal.write_own-returns-in-Override
 write_own-returns-in-Override g t c =
@@ -67,77 +65,79 @@ write_own-returns-in-Override g t c =
 
 pub write_own-write_global_value-requires-clause-variable : goal.write_own-write_global_value-requires-clause-variable
 write_own-write_global_value-requires-clause-variable g t c =
-    global_within c.args.self.now c.requires.can c.args.handle c.index.result.now c.in-GlobalVariable.variable c.index.ensures c.in-GlobalVariable.is
+    global_within c.args.self.now c.requires.can _ c.index.ensures c.in-GlobalVariable.is
 
 pub write_reference-write_global_reference-requires : goal.write_reference-write_global_reference-requires
 write_reference-write_global_reference-requires g t c κs within =
-    let there = global_within c.args.self.now c.requires.can c.args.handle c.index.result.now c.in-GlobalVariable.variable c.index.ensures c.in-GlobalVariable.is in
+    let there = global_within c.args.self.now c.requires.can _ c.index.ensures c.in-GlobalVariable.is in
     (omega (arith, c.decreases), (within, (c.requires.can, (c.requires.handle, there))))
 
 pub write_global_reference-write_dereference-requires : goal.write_global_reference-write_dereference-requires
 write_global_reference-write_dereference-requires g t c κs within =
     (omega (arith, c.decreases), (within, (c.requires.can, c.requires.handle)))
 
-pub write_global_reference-returns-then-is_held : goal.write_global_reference-returns-then-is_held
-write_global_reference-returns-then-is_held g t c =
+pub write_global_reference-returns-then-is_handle_variable :
+    goal.write_global_reference-returns-then-is_handle_variable
+write_global_reference-returns-then-is_handle_variable g t c =
     writes_as
-    (held_reference c.args.self.now c.args.scope.now.table c.args.handle c.args.variable
-    (sym c.is_held.ensures ∙ c.if-is_held.true))
+    (handle_variable_reference c.args.self.now c.args.scope.now.table c.args.handle c.args.variable
+    (sym c.is_handle_variable.ensures ∙ c.if-is_handle_variable.true))
     c.write_dereference.ensures
 
-pub write_global_reference-returns-else-is_held : goal.write_global_reference-returns-else-is_held
-write_global_reference-returns-else-is_held g t c =
+pub write_global_reference-returns-else-is_handle_variable :
+    goal.write_global_reference-returns-else-is_handle_variable
+write_global_reference-returns-else-is_handle_variable g t c =
     writes_as
     (kept_reference c.args.self.now c.args.scope.now.table c.args.handle c.args.variable
-    (sym c.is_held.ensures ∙ c.if-is_held.false))
+    (sym c.is_handle_variable.ensures ∙ c.if-is_handle_variable.false))
     c.write_global_name.ensures
 
 pub write_own-write_argument_name-requires-clause-argument : goal.write_own-write_argument_name-requires-clause-argument
 write_own-write_argument_name-requires-clause-argument g t c =
-    argument_within c.args.self.now c.requires.can c.args.handle c.index.result.now c.in-FunctionArgument.number c.index.ensures c.in-FunctionArgument.is
+    argument_within c.args.self.now c.requires.can _ c.index.ensures c.in-FunctionArgument.is
 
 pub write_own-write_address-requires-clause-local : goal.write_own-write_address-requires-clause-local
 write_own-write_address-requires-clause-local g t c =
-    local_within c.args.self.now c.requires.can c.args.handle c.index.result.now c.in-LocalVariable.local c.index.ensures c.in-LocalVariable.is
+    local_within c.args.self.now c.requires.can _ c.index.ensures c.in-LocalVariable.is
 
 pub write_own-write_load-requires : goal.write_own-write_load-requires
 write_own-write_load-requires g t c κs within =
     let at = c.index.ensures ∙ ap Some c.in-Load.is in
     (omega (arith, c.decreases), (within, (c.requires.can, (c.requires.handle, at))))
 
-pub write_load-points_to_atomic-requires-clause-handle : goal.write_load-points_to_atomic-requires-clause-handle
-write_load-points_to_atomic-requires-clause-handle g t c =
+pub write_load-is_atomic_pointer-requires-clause-handle : goal.write_load-is_atomic_pointer-requires-clause-handle
+write_load-is_atomic_pointer-requires-clause-handle g t c =
     let operand =
-    (operands_in c.args.self.now c.requires.can c.args.handle _ _ c.requires.load refl
+    (operands_in c.args.self.now c.requires.can c.requires.load refl
     c.requires.handle).0 in
     known_within_infos c.args.self.now c.requires.can c.args.pointer operand.1.there
 
 pub write_load-write_reference-requires : goal.write_load-write_reference-requires
 write_load-write_reference-requires g t c κs within =
     let operand =
-    (operands_in c.args.self.now c.requires.can c.args.handle _ _ c.requires.load refl
+    (operands_in c.args.self.now c.requires.can c.requires.load refl
     c.requires.handle).0 in
     let before = operand.0 in
     (omega (arith, before, c.decreases), (within, (c.requires.can, operand.1)))
 
-pub write_load-returns-then-points_to_atomic : goal.write_load-returns-then-points_to_atomic
-write_load-returns-then-points_to_atomic g t c =
+pub write_load-returns-then-is_atomic_pointer : goal.write_load-returns-then-is_atomic_pointer
+write_load-returns-then-is_atomic_pointer g t c =
     writes_as
     (atomic_loaded c.args.self.now c.args.scope.now.table c.args.handle c.args.pointer c.requires.load
-    (sym c.points_to_atomic.ensures ∙ c.if-points_to_atomic.true))
+    (sym c.is_atomic_pointer.ensures ∙ c.if-is_atomic_pointer.true))
     c.write_called.ensures
 
-pub write_load-returns-else-points_to_atomic : goal.write_load-returns-else-points_to_atomic
-write_load-returns-else-points_to_atomic g t c =
+pub write_load-returns-else-is_atomic_pointer : goal.write_load-returns-else-is_atomic_pointer
+write_load-returns-else-is_atomic_pointer g t c =
     writes_as
     (other_loaded c.args.self.now c.args.scope.now.table c.args.pointer
-    (sym c.points_to_atomic.ensures ∙ c.if-points_to_atomic.false))
+    (sym c.is_atomic_pointer.ensures ∙ c.if-is_atomic_pointer.false))
     c.write_reference.ensures
 
 pub write_own-write_matrix_load-requires : goal.write_own-write_matrix_load-requires
 write_own-write_matrix_load-requires g t c κs within =
     let formed =
-    matrix_load_formed c.args.self.now c.requires.can c.args.handle c.index.result.now _ _ _ _
+    written_as c.args.self.now c.requires.can
     c.index.ensures c.requires.handle c.in-CooperativeLoad.is in
     (omega (arith, c.decreases), (within, (c.requires.can, (c.requires.handle, formed))))
 
@@ -152,17 +152,16 @@ write_matrix_load-returns g t c =
 pub write_own-returns-in-CooperativeLoad : goal.write_own-returns-in-CooperativeLoad
 write_own-returns-in-CooperativeLoad g t c =
     let formed =
-    matrix_load_formed c.args.self.now c.requires.can c.args.handle c.index.result.now _ _ _ _
+    written_as c.args.self.now c.requires.can
     c.index.ensures c.requires.handle c.in-CooperativeLoad.is in
     writes_as
-    (own_matrix_load c.args.self.now c.args.scope.now.table c.args.handle c.index.result.now _ _ _ _
-    c.requires.can c.requires.handle formed c.index.ensures c.in-CooperativeLoad.is)
+    (own_matrix_load c.args.self.now c.args.scope.now.table c.requires.can c.requires.handle formed c.index.ensures c.in-CooperativeLoad.is)
     c.write_matrix_load.ensures
 
 pub write_own-write_swizzle-requires : goal.write_own-write_swizzle-requires
 write_own-write_swizzle-requires g t c κs within =
     let operand =
-    (operands_in c.args.self.now c.requires.can c.args.handle c.index.result.now _
+    (operands_in c.args.self.now c.requires.can
     c.index.ensures c.in-Swizzle.is c.requires.handle).0 in
     let before = operand.0 in
     (omega (arith, before, c.decreases), (within, (c.requires.can, operand.1)))
@@ -170,7 +169,7 @@ write_own-write_swizzle-requires g t c κs within =
 pub write_own-write_prefix-requires : goal.write_own-write_prefix-requires
 write_own-write_prefix-requires g t c κs within =
     let operand =
-    (operands_in c.args.self.now c.requires.can c.args.handle c.index.result.now _
+    (operands_in c.args.self.now c.requires.can
     c.index.ensures c.in-Unary.is c.requires.handle).0 in
     let before = operand.0 in
     (omega (arith, before, c.decreases), (within, (c.requires.can, operand.1)))
@@ -178,7 +177,7 @@ write_own-write_prefix-requires g t c κs within =
 pub write_own-write_infix-requires : goal.write_own-write_infix-requires
 write_own-write_infix-requires g t c κs within =
     let operands =
-    operands_in c.args.self.now c.requires.can c.args.handle c.index.result.now _
+    operands_in c.args.self.now c.requires.can
     c.index.ensures c.in-Binary.is c.requires.handle in
     let left = operands.0.0 in
     let right = operands.1.0.0 in (
@@ -186,10 +185,11 @@ write_own-write_infix-requires g t c κs within =
       (within, (c.requires.can, (operands.0.1, operands.1.0.1))),
     )
 
-pub write_own-unreachable-requires : goal.write_own-unreachable-requires
-write_own-unreachable-requires g t c =
-    no_other_expression c.args.self.now c.requires.can c.args.handle c.index.result.now c.index.ensures
-    c.requires.handle
+pub write_own-returns-in_default : goal.write_own-returns-in_default
+write_own-returns-in_default g t c =
+    writes_as
+    (no_value_row c.args.self.now c.args.scope.now.table c.args.handle c.requires.can c.requires.handle c.index.result.now
+    c.index.ensures
     (record {
       literal = c.in_default.not-Literal;
       constant = c.in_default.not-Constant;
@@ -217,89 +217,83 @@ write_own-unreachable-requires g t c =
       counted = c.in_default.not-ArrayLength;
       matrix_load = c.in_default.not-CooperativeLoad;
       product = c.in_default.not-CooperativeMultiplyAdd;
-    })
+    }))
+    c.put.ensures
 
 pub write_reference-write_local_name-requires-clause-local : goal.write_reference-write_local_name-requires-clause-local
 write_reference-write_local_name-requires-clause-local g t c =
-    local_within c.args.self.now c.requires.can c.args.handle c.index.result.now c.in-LocalVariable.local c.index.ensures c.in-LocalVariable.is
+    local_within c.args.self.now c.requires.can _ c.index.ensures c.in-LocalVariable.is
 
 pub write_own-write_made-requires : goal.write_own-write_made-requires
 write_own-write_made-requires g t c κs within =
     let value =
-    made_value c.args.self.now c.requires.can c.args.handle c.index.result.now _ _ c.index.ensures
+    made_value c.args.self.now c.requires.can _ c.index.ensures
     c.requires.handle c.in-ZeroValue.is refl in
     (omega (arith, c.decreases), (within, (c.requires.can, (c.requires.handle, value))))
 
 pub write_own-write_made-requires-in-Compose : goal.write_own-write_made-requires-in-Compose
 write_own-write_made-requires-in-Compose g t c κs within =
     let value =
-    made_value c.args.self.now c.requires.can c.args.handle c.index.result.now _ _ c.index.ensures
+    made_value c.args.self.now c.requires.can _ c.index.ensures
     c.requires.handle c.in-Compose.is refl in
     (omega (arith, c.decreases), (within, (c.requires.can, (c.requires.handle, value))))
 
 pub write_own-returns-in-ZeroValue : goal.write_own-returns-in-ZeroValue
 write_own-returns-in-ZeroValue g t c =
     let value =
-    made_value c.args.self.now c.requires.can c.args.handle c.index.result.now _ _ c.index.ensures
+    made_value c.args.self.now c.requires.can _ c.index.ensures
     c.requires.handle c.in-ZeroValue.is refl in
     writes_as
-    (own_made c.args.self.now c.args.scope.now.table c.args.handle _ _ c.index.result.now _
-    c.requires.can c.requires.handle value c.index.ensures c.in-ZeroValue.is refl)
+    (own_made c.args.self.now c.args.scope.now.table _ _ c.requires.can c.requires.handle value c.index.ensures c.in-ZeroValue.is refl)
     c.write_made.ensures
 
 pub write_own-returns-in-Compose : goal.write_own-returns-in-Compose
 write_own-returns-in-Compose g t c =
     let value =
-    made_value c.args.self.now c.requires.can c.args.handle c.index.result.now _ _ c.index.ensures
+    made_value c.args.self.now c.requires.can _ c.index.ensures
     c.requires.handle c.in-Compose.is refl in
     writes_as
-    (own_made c.args.self.now c.args.scope.now.table c.args.handle _ _ c.index.result.now _
-    c.requires.can c.requires.handle value c.index.ensures c.in-Compose.is refl)
+    (own_made c.args.self.now c.args.scope.now.table _ _ c.requires.can c.requires.handle value c.index.ensures c.in-Compose.is refl)
     c.write_made-in-Compose.ensures
 
 pub write_own-returns-in-Select : goal.write_own-returns-in-Select
 write_own-returns-in-Select g t c =
     writes_as
-    (own_called c.args.self.now c.args.scope.now.table c.args.handle c.index.result.now _ _ _
-    c.requires.can c.requires.handle c.index.ensures c.in-Select.is refl refl)
+    (own_called c.args.self.now c.args.scope.now.table c.requires.can c.requires.handle c.index.ensures c.in-Select.is refl refl)
     c.write_called.ensures
 
 pub write_own-returns-in-Splat : goal.write_own-returns-in-Splat
 write_own-returns-in-Splat g t c =
     writes_as
-    (own_called c.args.self.now c.args.scope.now.table c.args.handle c.index.result.now _ _ _
-    c.requires.can c.requires.handle c.index.ensures c.in-Splat.is c.vector_str.ensures refl)
+    (own_called c.args.self.now c.args.scope.now.table c.requires.can c.requires.handle c.index.ensures c.in-Splat.is c.vector_str.ensures refl)
     c.write_called-in-Splat.ensures
 
 pub write_own-math_function_str-requires : goal.write_own-math_function_str-requires
 write_own-math_function_str-requires g t c =
-    math_is_written c.args.self.now c.requires.can c.args.handle c.index.result.now _ _ _ _ _
+    written_as c.args.self.now c.requires.can
     c.index.ensures c.requires.handle c.in-Math.is
 
 pub write_own-returns-in-Derivative : goal.write_own-returns-in-Derivative
 write_own-returns-in-Derivative g t c =
     writes_as
-    (own_called c.args.self.now c.args.scope.now.table c.args.handle c.index.result.now _ _ _
-    c.requires.can c.requires.handle c.index.ensures c.in-Derivative.is c.derivative_str.ensures refl)
+    (own_called c.args.self.now c.args.scope.now.table c.requires.can c.requires.handle c.index.ensures c.in-Derivative.is c.derivative_str.ensures refl)
     c.write_called-in-Derivative.ensures
 
 pub write_own-returns-in-Math : goal.write_own-returns-in-Math
 write_own-returns-in-Math g t c =
     writes_as
-    (own_called c.args.self.now c.args.scope.now.table c.args.handle c.index.result.now _ _ _
-    c.requires.can c.requires.handle c.index.ensures c.in-Math.is c.math_function_str.ensures refl)
+    (own_called c.args.self.now c.args.scope.now.table c.requires.can c.requires.handle c.index.ensures c.in-Math.is c.math_function_str.ensures refl)
     c.write_called-in-Math.ensures
 
 pub write_own-relational_function_str-requires : goal.write_own-relational_function_str-requires
 write_own-relational_function_str-requires g t c =
-    relation_is_written c.args.self.now c.requires.can c.args.handle c.index.result.now _ _
+    written_as c.args.self.now c.requires.can
     c.index.ensures c.requires.handle c.in-Relational.is
 
 pub write_own-returns-in-Relational : goal.write_own-returns-in-Relational
 write_own-returns-in-Relational g t c =
     writes_as
-    (own_called c.args.self.now c.args.scope.now.table c.args.handle c.index.result.now _ _ _
-    c.requires.can c.requires.handle c.index.ensures c.in-Relational.is c.relational_function_str.ensures refl)
+    (own_called c.args.self.now c.args.scope.now.table c.requires.can c.requires.handle c.index.ensures c.in-Relational.is c.relational_function_str.ensures refl)
     c.write_called-in-Relational.ensures
 
 pub write_operands-loop-operand-init : goal.write_operands-loop-operand-init
@@ -314,7 +308,7 @@ write_operands-loop-operand-init g t c =
           (operands_start self scope h ∙ ap (operands_left self scope true) (there ∙ sym items))
           (leaves_start _ (operands_text self scope h));
       before = subst (AllByRecursion (IsOperand self h)) (sym items)
-          (operands_in self c.requires.can h c.index.result.now _ c.index.ensures refl c.requires.handle);
+          (operands_in self c.requires.can c.index.ensures refl c.requires.handle);
     }
 
 pub write_operands-write_next_operand-requires : goal.write_operands-write_next_operand-requires
@@ -436,7 +430,7 @@ write_part_base-returns-else-points g t c =
 pub write_part_end-write_index-requires : goal.write_part_end-write_index-requires
 write_part_end-write_index-requires g t c κs within =
     let index =
-    (operands_in c.args.self.now c.requires.can c.args.handle c.index.result.now _
+    (operands_in c.args.self.now c.requires.can
     c.index.ensures c.in-Access.is c.requires.handle).1.0 in
     let before = index.0 in
     (omega (arith, before, c.decreases), (within, (c.requires.can, index.1)))
@@ -468,7 +462,7 @@ write_part_end-unreachable-requires g t c =
 pub write_own-write_conversion-requires : goal.write_own-write_conversion-requires
 write_own-write_conversion-requires g t c κs within =
     let allowed =
-    conversion_formed c.args.self.now c.requires.can c.args.handle c.index.result.now _ _ _
+    written_as c.args.self.now c.requires.can
     c.index.ensures c.requires.handle c.in-As.is in
     (omega (arith, c.decreases), (within, (c.requires.can, (c.requires.handle, allowed))))
 
@@ -483,19 +477,17 @@ write_conversion-returns g t c =
 pub write_own-returns-in-As : goal.write_own-returns-in-As
 write_own-returns-in-As g t c =
     let allowed =
-    conversion_formed c.args.self.now c.requires.can c.args.handle c.index.result.now _ _ _
+    written_as c.args.self.now c.requires.can
     c.index.ensures c.requires.handle c.in-As.is in
     writes_as
-    (own_conversion c.args.self.now c.args.scope.now.table c.args.handle c.index.result.now _ _ _
-    c.requires.can c.requires.handle allowed c.index.ensures c.in-As.is)
+    (own_conversion c.args.self.now c.args.scope.now.table c.requires.can c.requires.handle allowed c.index.ensures c.in-As.is)
     c.write_conversion.ensures
 
 pub write_own-returns-in-ImageLoad : goal.write_own-returns-in-ImageLoad
 write_own-returns-in-ImageLoad g t c =
     writes_as
-    (own_called c.args.self.now c.args.scope.now.table c.args.handle c.index.result.now _ _ _
-    c.requires.can c.requires.handle c.index.ensures c.in-ImageLoad.is
-    (texel_word c.args.self.now c.requires.can c.args.handle c.index.result.now _ _ _ _ _
+    (own_called c.args.self.now c.args.scope.now.table c.requires.can c.requires.handle c.index.ensures c.in-ImageLoad.is
+    (texel_word c.args.self.now c.requires.can
     c.index.ensures c.requires.handle c.in-ImageLoad.is)
     refl)
     c.write_called-in-ImageLoad.ensures
@@ -503,23 +495,20 @@ write_own-returns-in-ImageLoad g t c =
 pub write_own-returns-in-ImageQuery : goal.write_own-returns-in-ImageQuery
 write_own-returns-in-ImageQuery g t c =
     writes_as
-    (own_called c.args.self.now c.args.scope.now.table c.args.handle c.index.result.now _ _ _
-    c.requires.can c.requires.handle c.index.ensures c.in-ImageQuery.is c.image_query_str.ensures
+    (own_called c.args.self.now c.args.scope.now.table c.requires.can c.requires.handle c.index.ensures c.in-ImageQuery.is c.image_query_str.ensures
     (query_called c.args.self.now c.args.scope.now.table _ _))
     c.write_called-in-ImageQuery.ensures
 
 pub write_own-returns-in-ArrayLength : goal.write_own-returns-in-ArrayLength
 write_own-returns-in-ArrayLength g t c =
     writes_as
-    (own_called c.args.self.now c.args.scope.now.table c.args.handle c.index.result.now _ _ _
-    c.requires.can c.requires.handle c.index.ensures c.in-ArrayLength.is refl refl)
+    (own_called c.args.self.now c.args.scope.now.table c.requires.can c.requires.handle c.index.ensures c.in-ArrayLength.is refl refl)
     c.write_called-in-ArrayLength.ensures
 
 pub write_own-returns-in-CooperativeMultiplyAdd : goal.write_own-returns-in-CooperativeMultiplyAdd
 write_own-returns-in-CooperativeMultiplyAdd g t c =
     writes_as
-    (own_called c.args.self.now c.args.scope.now.table c.args.handle c.index.result.now _ _ _
-    c.requires.can c.requires.handle c.index.ensures c.in-CooperativeMultiplyAdd.is refl refl)
+    (own_called c.args.self.now c.args.scope.now.table c.requires.can c.requires.handle c.index.ensures c.in-CooperativeMultiplyAdd.is refl refl)
     c.write_called-in-CooperativeMultiplyAdd.ensures
 
 pub write_further-returns-in-Some : goal.write_further-returns-in-Some
@@ -605,21 +594,19 @@ write_offset-returns-in_default g t c =
 
 pub write_sampling-write_sampling_head-requires-clause-image : goal.write_sampling-write_sampling_head-requires-clause-image
 write_sampling-write_sampling_head-requires-clause-image g t c =
-    (operands_in c.args.self.now c.requires.can c.args.handle c.index.result.now _
+    (operands_in c.args.self.now c.requires.can
     c.index.ensures c.in-ImageSample.is c.requires.handle).0.1
 
 pub write_sampling-write_sampling_head-requires-clause-written : goal.write_sampling-write_sampling_head-requires-clause-written
 write_sampling-write_sampling_head-requires-clause-written g t c =
     let s = c.in-ImageSample in
     ap (λ b. sampling_is_written s.gather s.level b s.clamp_to_edge) c.is_some-compares.ensures
-    ∙ (ap (expression_is_written c.args.self.now.shader.now c.args.self.now.info.now) (sym s.is)
-    ∙ expression_formed c.args.self.now c.requires.can c.args.handle c.index.result.now c.index.ensures
-    c.requires.handle)
+    ∙ written_as c.args.self.now c.requires.can c.index.ensures c.requires.handle s.is
 
 pub write_sampling-write_value-requires : goal.write_sampling-write_value-requires
 write_sampling-write_value-requires g t c κs within =
     let all =
-    operands_in c.args.self.now c.requires.can c.args.handle c.index.result.now _
+    operands_in c.args.self.now c.requires.can
     c.index.ensures c.in-ImageSample.is c.requires.handle in
     let before = all.0.0 in
     (omega (arith, before, c.decreases), (within, (c.requires.can, all.0.1)))
@@ -627,7 +614,7 @@ write_sampling-write_value-requires g t c κs within =
 pub write_sampling-write_next_operand-requires : goal.write_sampling-write_next_operand-requires
 write_sampling-write_next_operand-requires g t c κs within =
     let all =
-    operands_in c.args.self.now c.requires.can c.args.handle c.index.result.now _
+    operands_in c.args.self.now c.requires.can
     c.index.ensures c.in-ImageSample.is c.requires.handle in
     let before = all.1.0.0 in
     (omega (arith, before, c.decreases), (within, (c.requires.can, all.1.0.1)))
@@ -635,7 +622,7 @@ write_sampling-write_next_operand-requires g t c κs within =
 pub write_sampling-write_next_operand-requires-in-ImageSample : goal.write_sampling-write_next_operand-requires-in-ImageSample
 write_sampling-write_next_operand-requires-in-ImageSample g t c κs within =
     let all =
-    operands_in c.args.self.now c.requires.can c.args.handle c.index.result.now _
+    operands_in c.args.self.now c.requires.can
     c.index.ensures c.in-ImageSample.is c.requires.handle in
     let before = all.1.1.0.0 in
     (omega (arith, before, c.decreases), (within, (c.requires.can, all.1.1.0.1)))
@@ -647,7 +634,7 @@ write_sampling-write_further-requires g t c κs within =
     let e = c.in-ImageSample in
     let s = are_sampled self h e.image e.sampler e.coordinate (option_to_list e.array_index)
     (option_to_list e.depth_ref) (level_operands e.level) (option_to_list e.offset)
-    (operands_in self c.requires.can h c.index.result.now _ c.index.ensures c.in-ImageSample.is
+    (operands_in self c.requires.can c.index.ensures c.in-ImageSample.is
     c.requires.handle) in
     let image = s.image.0 in
     let before = highest_below self h (option_to_list e.array_index) (omega (arith, image)) s.array in
@@ -660,7 +647,7 @@ write_sampling-write_further-requires-in-ImageSample g t c κs within =
     let e = c.in-ImageSample in
     let s = are_sampled self h e.image e.sampler e.coordinate (option_to_list e.array_index)
     (option_to_list e.depth_ref) (level_operands e.level) (option_to_list e.offset)
-    (operands_in self c.requires.can h c.index.result.now _ c.index.ensures c.in-ImageSample.is
+    (operands_in self c.requires.can c.index.ensures c.in-ImageSample.is
     c.requires.handle) in
     let image = s.image.0 in
     let before = highest_below self h (option_to_list e.depth_ref) (omega (arith, image)) s.depth in
@@ -673,7 +660,7 @@ write_sampling-write_level-requires g t c κs within =
     let e = c.in-ImageSample in
     let s = are_sampled self h e.image e.sampler e.coordinate (option_to_list e.array_index)
     (option_to_list e.depth_ref) (level_operands e.level) (option_to_list e.offset)
-    (operands_in self c.requires.can h c.index.result.now _ c.index.ensures c.in-ImageSample.is
+    (operands_in self c.requires.can c.index.ensures c.in-ImageSample.is
     c.requires.handle) in
     let image = s.image.0 in
     let before = highest_below self h (level_operands e.level) (omega (arith, image)) s.level in
@@ -686,7 +673,7 @@ write_sampling-write_offset-requires g t c κs within =
     let e = c.in-ImageSample in
     let s = are_sampled self h e.image e.sampler e.coordinate (option_to_list e.array_index)
     (option_to_list e.depth_ref) (level_operands e.level) (option_to_list e.offset)
-    (operands_in self c.requires.can h c.index.result.now _ c.index.ensures c.in-ImageSample.is
+    (operands_in self c.requires.can c.index.ensures c.in-ImageSample.is
     c.requires.handle) in
     let image = s.image.0 in
     let before = highest_below self h (option_to_list e.offset) (omega (arith, image)) s.offset in
@@ -705,7 +692,7 @@ write_sampling-returns g t c =
     s.coordinate s.array_index s.offset s.level s.depth_ref s.clamp_to_edge
     (c.index.ensures ∙ ap Some s.is) c.is_some-compares.result c.is_some-compares.ensures
     c.level_str.result.now
-    (c.level_str.ensures ∙ ap (level_text s.level) c.is_level_told-is_told.ensures))
+    (c.level_str.ensures ∙ ap (level_text s.level) c.is_level_in_word-is_in_word.ensures))
     (writes_then c.write_sampling_head.ensures
     (writes_then c.write_value.ensures
     (writes_then c.write_next_operand.ensures

@@ -6,7 +6,7 @@ use Rattle.std.specs.Option.{option_to_list}
 use Rattle.naga_wgsl_fns.proofs.Wanted.{highest}
 use Rattle.naga_ir.specs.Operands.{level_operands}
 use Rattle.naga_wgsl_fns.proofs.Wanted.{IsOperand}
-use Rattle.naga_scope.specs.declared.points.Standing.{Standing}
+use Rattle.naga_scope.specs.declared.points.Availability.{Availability}
 use Rattle.naga_wgsl_fns.specs.Expressions.{operands_left, operands_text}
 use Rattle.naga_wgsl_fns.specs.declared.functions.FunctionText.{FunctionText}
 use Rattle.naga_wgsl_fns.proofs.functions.FunctionText.+expression.Given as goal
@@ -98,7 +98,7 @@ abbrev pub decreases-write_offset : goal.decreases-write_offset
 decreases-write_offset g l = 16 * highest (option_to_list l.offset) + 7
 
 -- what is left to be written of the operands, which stand before the expression and are written
-pub record OperandsLeft (start now : OutputView) (f : FunctionText) (table : List Standing)
+pub record OperandsLeft (start now : OutputView) (f : FunctionText) (table : List Availability)
     (handle : ℕ) (first : Bool) (left : List ℕ) : Type 0 where
   pub writes : Leaves start now (operands_text f table handle) (operands_left f table first left)
   pub before : AllByRecursion (IsOperand f handle) left

@@ -1,80 +1,122 @@
-use Rattle.std.proofs.Common.{◌≡◌, ◌+◌, ◌-◌, ◌<◌, ◌^◌, ◌++◌, ℕ, List, IsTrue, refl, subst, sym, ap, ◌∙◌}
-use Rattle.std.proofs.Common.{arith, length, length-append}
-use Rattle.std.specs.Option.{option_to_list}
-use Rattle.module_meaning.specs.GivenLabels.{label_of, labels_of_each}
+use Rattle.std.proofs.Common.{◌≡◌, ◌+◌, ◌-◌, ℕ, List, IsTrue, refl, subst, sym, ap, ◌∙◌, arith, length}
 use Rattle.std.specs.List.{filter}
 use Rattle.shader_runs.specs.Program.{from}
+use Rattle.shader_runs.specs.Scope.{after_emit, after_one, named_after, named_after_all}
 use Rattle.module_meaning.specs.Names.{module_names}
 use Rattle.naga_scope.proofs.Emitting.{range_more, range_none}
-use Rattle.shader_runs.specs.Scope.{after_emit, after_one}
-use Rattle.naga_words.proofs.Writing.{leaves_more, leaves_none, leaves_start}
-use Rattle.naga_wgsl_fns.specs.FunctionText.{given_in, AreEmitted, AreInText, IsEmitted, IsInText, bound, handles_in, naming}
-use Rattle.naga_wgsl_fns.proofs.TextHandles.{first_in_text, others_in_text}
-use Rattle.naga_wgsl_fns.proofs.StatementRows.{after_step, given_step, lets_none, lets_step}
+use Rattle.naga_scope.proofs.Logs.{extends_refl, extends_then}
+use Rattle.naga_words.proofs.Writing.{leaves_more, leaves_none, leaves_start, writes_as}
+use Rattle.naga_wgsl_fns.specs.FunctionText.{named_in, AreInText, AreLets, IsInText, IsLet, bound, handles_in, naming}
+use Rattle.naga_wgsl_fns.proofs.TextHandles.{first_of, others_of}
+use Rattle.naga_wgsl_fns.proofs.StatementRows.{emit_row, emit_within, emitted_after, emitted_named, lets_more, lets_none}
+use Rattle.naga_wgsl_fns.proofs.Wanted.{named_after_one}
 use Rattle.naga_wgsl_fns.proofs.functions.FunctionText.write_emit.Goals as goal
 
 pub loop-index-init : goal.loop-index-init
-loop-index-init g c = record { leaves = leaves_start _ _; after = refl; given = refl; size = refl; roots = c.requires.roots; emits = c.requires.emits }
+loop-index-init g c = record {
+  leaves = leaves_start _ _;
+  after = refl;
+  named = refl;
+  kept = extends_refl c.args.scope.now;
+  counted = omega arith;
+  names = omega arith;
+  roots = c.requires.statement.roots;
+  lets = c.requires.statement.lets;
+}
 
-pub emit-requires-clause-size : goal.emit-requires-clause-size
-emit-requires-clause-size g c = c.loop-index.invariant.size ∙ c.requires.size
+pub write_emitted-requires-clause-handle : goal.write_emitted-requires-clause-handle
+write_emitted-requires-clause-handle g c =
+    let self = c.args.self.now in
+    let within = emit_within self.handle (length self.function.now.expressions) c.args.range.first c.args.range.end c.requires.statement.in_range in
+    let here = c.from_index-handle.ensures in
+    let more = c.loop-index-test.true in
+    omega (arith, within, here, more)
 
 pub write_emitted-requires-clause-root : goal.write_emitted-requires-clause-root
 write_emitted-requires-clause-root g c =
     let self = c.args.self.now in
     subst (λ h. IsTrue (bound self h) → IsInText self h) (sym c.from_index-handle.ensures)
-    (first_in_text self (bound self c.loop-index.index) c.loop-index.index (filter (bound self) (from (c.loop-index.index + 1) (c.args.range.end - (c.loop-index.index + 1))))
+    (first_of (IsInText self) (bound self c.loop-index.index) c.loop-index.index (filter (bound self) (from (c.loop-index.index + 1) (c.args.range.end - (c.loop-index.index + 1))))
     (subst (λ hs. AreInText self (filter (bound self) hs)) (range_more c.loop-index.index c.args.range.end c.loop-index-test.true) c.loop-index.invariant.roots))
 
-pub write_emitted-requires-clause-emitted : goal.write_emitted-requires-clause-emitted
-write_emitted-requires-clause-emitted g c =
+pub write_emitted-requires-clause-named : goal.write_emitted-requires-clause-named
+write_emitted-requires-clause-named g c =
     let self = c.args.self.now in
-    subst (IsEmitted self) (sym c.from_index-handle.ensures)
-    (subst (AreEmitted self) (range_more c.loop-index.index c.args.range.end c.loop-index-test.true) c.loop-index.invariant.emits).0
+    subst (λ h. IsTrue (bound self h) → IsLet self h) (sym c.from_index-handle.ensures)
+    (first_of (IsLet self) (bound self c.loop-index.index) c.loop-index.index (filter (bound self) (from (c.loop-index.index + 1) (c.args.range.end - (c.loop-index.index + 1))))
+    (subst (λ hs. AreLets self (filter (bound self) hs)) (range_more c.loop-index.index c.args.range.end c.loop-index-test.true) c.loop-index.invariant.lets))
 
--- the labels that are left fit, and so do those of this handle
-fewer : (k total : ℕ) (here rest all : List (List ℕ)) → all ≡ here ++ rest → k + length all ≡ total → total < 2 ^ 64 → k + length here < 2 ^ 64
-fewer k total here rest all is same few = let counts = ap length is ∙ length-append here rest in omega (arith, counts, same, few)
+pub emit-requires-clause-size : goal.emit-requires-clause-size
+emit-requires-clause-size g c = c.loop-index.invariant.kept.size ∙ c.requires.size
 
 pub emit-requires-clause-room : goal.emit-requires-clause-room
 emit-requires-clause-room g c =
-    let f = c.args.self.now.function.now in
-    let i = c.loop-index.index in
-    let e = c.args.range.end in
-    let here = λ (h : ℕ). option_to_list (label_of f h) in
-    subst (λ h. c.loop-index.scope.given + length (here h) < 2 ^ 64) (sym c.from_index-handle.ensures)
-    (fewer c.loop-index.scope.given _ (here i) (labels_of_each f (from (i + 1) (e - (i + 1)))) (labels_of_each f (from i (e - i)))
-    (ap (labels_of_each f) (range_more i e c.loop-index-test.true)) c.loop-index.invariant.given c.requires.room)
+    let i = c.loop-index.invariant in
+    let log = i.counted in
+    let names = i.names in
+    let room = i.kept.room in
+    let has = c.requires.room.log in
+    let few = c.requires.room.names in
+    let more = c.loop-index-test.true in
+    record { log = omega (arith, log, room, has, more); names = omega (arith, names, few, more) }
 
 pub loop-index-preserved : goal.loop-index-preserved
 loop-index-preserved g c =
     let self = c.args.self.now in
     let h = c.from_index-handle.result in
-    let one : handles_in self c.emit.new.self.table ≡ after_one (naming self) c.loop-index.scope.given h (handles_in self c.loop-index.scope.table) = c.emit.ensures.handles (module_names self.shader.now) self.shader.now self.module_info.now (given_in self) self.handle refl in
+    let i = c.loop-index.invariant in
+    let lt = c.loop-index-test.true in
+    let here = c.from_index-handle.ensures in
+    let k = c.loop-index.scope.named in
+    let one : handles_in self c.emit.new.self.table ≡ after_one (naming self) k h (handles_in self c.loop-index.scope.table) =
+    c.emit.ensures.handles (module_names self.shader.now) self.shader.now self.module_info.now (named_in self) self.handle refl in
+    let given : c.emit.new.self.named ≡ named_after (naming self).function h k = c.emit.ensures.named ∙ sym (named_after_one self c.requires.can h k) in
+    let log = i.counted in
+    let names = i.names in
+    let more = c.emit.ensures.counted.log in
+    let named = c.emit.ensures.counted.names in
     record {
-      leaves = leaves_more _ _ _ _ _ _ _ c.loop-index.invariant.leaves
-          (lets_step self c.requires.can c.loop-index.scope c.emit.new.self c.args.level.0 c.loop-index.index c.args.range.end h c.loop-index-test.true c.from_index-handle.ensures one c.emit.ensures.given)
+      leaves = leaves_more _ _ _ _ _ _ _ i.leaves
+          (lets_more self k c.emit.new.self.named (handles_in self c.loop-index.scope.table) (handles_in self c.emit.new.self.table) c.args.indent.now
+          c.loop-index.index c.args.range.end h lt here given one)
           c.write_emitted.ensures;
-      after = sym (after_step self c.requires.can c.loop-index.scope c.emit.new.self c.loop-index.index c.args.range.end h c.loop-index-test.true c.from_index-handle.ensures one c.emit.ensures.given) ∙ c.loop-index.invariant.after;
-      given = given_step self c.requires.can c.loop-index.scope c.emit.new.self c.loop-index.index c.args.range.end h c.loop-index-test.true c.from_index-handle.ensures c.emit.ensures.given ∙ c.loop-index.invariant.given;
-      size = c.emit.ensures.size ∙ c.loop-index.invariant.size;
-      roots = others_in_text self (bound self c.loop-index.index) c.loop-index.index (filter (bound self) (from (c.loop-index.index + 1) (c.args.range.end - (c.loop-index.index + 1))))
-          (subst (λ hs. AreInText self (filter (bound self) hs)) (range_more c.loop-index.index c.args.range.end c.loop-index-test.true) c.loop-index.invariant.roots);
-      emits = (subst (AreEmitted self) (range_more c.loop-index.index c.args.range.end c.loop-index-test.true) c.loop-index.invariant.emits).1;
+      after = sym (emitted_after self k c.emit.new.self.named (handles_in self c.loop-index.scope.table) (handles_in self c.emit.new.self.table)
+          c.loop-index.index c.args.range.end h lt here given one) ∙ i.after;
+      named = sym (emitted_named self k c.emit.new.self.named c.loop-index.index c.args.range.end h lt here given) ∙ i.named;
+      kept = extends_then i.kept c.emit.ensures.kept;
+      counted = omega (arith, log, more, lt);
+      names = omega (arith, names, named, lt);
+      roots = others_of (IsInText self) (bound self c.loop-index.index) c.loop-index.index (filter (bound self) (from (c.loop-index.index + 1) (c.args.range.end - (c.loop-index.index + 1))))
+          (subst (λ hs. AreInText self (filter (bound self) hs)) (range_more c.loop-index.index c.args.range.end lt) i.roots);
+      lets = others_of (IsLet self) (bound self c.loop-index.index) c.loop-index.index (filter (bound self) (from (c.loop-index.index + 1) (c.args.range.end - (c.loop-index.index + 1))))
+          (subst (λ hs. AreLets self (filter (bound self) hs)) (range_more c.loop-index.index c.args.range.end lt) i.lets);
     }
 
-pub returns-clause-lets : goal.returns-clause-lets
-returns-clause-lets g c = leaves_none _ _ _ _ c.loop-index.invariant.leaves (lets_none c.args.self.now c.loop-index.scope c.args.level.0 c.loop-index.index c.args.range.end c.loop-index-test.false)
+pub returns-clause-text : goal.returns-clause-text
+returns-clause-text g c =
+    let self = c.args.self.now in
+    writes_as (emit_row self c.args.scope.now.named (handles_in self c.args.scope.now.table) c.args.indent.now c.args.range.first c.args.range.end)
+    (leaves_none _ _ _ _ c.loop-index.invariant.leaves
+    (lets_none self c.loop-index.scope.named (handles_in self c.loop-index.scope.table) c.args.indent.now c.loop-index.index c.args.range.end c.loop-index-test.false))
 
 pub returns-clause-after : goal.returns-clause-after
 returns-clause-after g c =
-    ap (λ (hs : List ℕ). after_emit (naming c.args.self.now) c.loop-index.scope.given hs (handles_in c.args.self.now c.loop-index.scope.table)) (sym (range_none c.loop-index.index c.args.range.end c.loop-index-test.false)) ∙ c.loop-index.invariant.after
+    let self = c.args.self.now in
+    ap (λ (hs : List ℕ). after_emit (naming self) c.loop-index.scope.named hs (handles_in self c.loop-index.scope.table))
+    (sym (range_none c.loop-index.index c.args.range.end c.loop-index-test.false))
+    ∙ c.loop-index.invariant.after
 
-pub returns-clause-size : goal.returns-clause-size
-returns-clause-size g c = c.loop-index.invariant.size
+pub returns-clause-named : goal.returns-clause-named
+returns-clause-named g c =
+    ap (λ (hs : List ℕ). named_after_all (naming c.args.self.now).function hs c.loop-index.scope.named)
+    (sym (range_none c.loop-index.index c.args.range.end c.loop-index-test.false))
+    ∙ c.loop-index.invariant.named
 
-pub returns-clause-given : goal.returns-clause-given
-returns-clause-given g c =
-    let none = ap (λ (hs : List ℕ). length (labels_of_each c.args.self.now.function.now hs)) (range_none c.loop-index.index c.args.range.end c.loop-index-test.false) in
-    let all = c.loop-index.invariant.given in
-    omega (arith, none, all)
+pub returns-clause-kept : goal.returns-clause-kept
+returns-clause-kept g c = c.loop-index.invariant.kept
+
+pub returns-clause-counted : goal.returns-clause-counted
+returns-clause-counted g c =
+    let log = c.loop-index.invariant.counted in
+    let names = c.loop-index.invariant.names in
+    record { log = omega (arith, log); names = omega (arith, names) }

@@ -7,5 +7,5 @@ use Rattle.naga_wgsl_fns.proofs.functions.FunctionText.write_next_name.Goals as 
 pub returns : goal.returns
 returns g c =
     writes_as (ap (bound_text c.args.self.now c.args.handle) c.next_name-name.ensures
-    ∙ next_row c.args.self.now c.requires c.args.scope.now.given c.args.handle)
+    ∙ next_row c.args.self.now c.requires c.args.scope.now.named c.args.handle)
     c.write_bound_name.ensures

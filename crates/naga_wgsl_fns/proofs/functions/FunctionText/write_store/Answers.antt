@@ -1,23 +1,55 @@
-use Rattle.std.proofs.Common.{sym, ◌∙◌}
+use Rattle.std.proofs.Common.{ap, ◌∙◌, subst, sym}
+use Rattle.naga_ir.specs.Operands.{own_operands, own_result}
 use Rattle.naga_words.proofs.Writing.{writes_as}
+use Rattle.naga_wgsl_fns.specs.FunctionText.{AreInText, CanWriteStatement, handles_in}
+use Rattle.naga_wgsl_fns.specs.Statements.{act_text, statement_text}
+use Rattle.std.proofs.Common.{codes}
+use Rattle.naga_wgsl_fns.proofs.StatementParts.{stored_operands, stored_pointer, stored_value}
 use Rattle.naga_wgsl_fns.proofs.StatementRows.{store_to_atomic, store_to_other}
 use Rattle.naga_wgsl_fns.proofs.Wanted.{known_within_infos}
 use Rattle.naga_wgsl_fns.proofs.functions.FunctionText.write_store.Goals as goal
 
-pub points_to_atomic-requires-clause-handle : goal.points_to_atomic-requires-clause-handle
-points_to_atomic-requires-clause-handle g c =
-    known_within_infos c.args.self.now c.requires.can c.args.pointer c.requires.pointer.there
+pub is_atomic_pointer-requires-clause-handle : goal.is_atomic_pointer-requires-clause-handle
+is_atomic_pointer-requires-clause-handle g c =
+    let self = c.args.self.now in
+    let inside = subst (CanWriteStatement self) c.requires.stored c.requires.statement in
+    known_within_infos self c.requires.can c.args.pointer (stored_pointer self c.args.pointer c.args.value inside).there
 
-pub returns-then-points_to_atomic : goal.returns-then-points_to_atomic
-returns-then-points_to_atomic g c =
-    writes_as
-    (store_to_atomic c.args.self.now c.args.scope.now.table c.args.level.0 c.args.pointer c.args.value
-    (sym c.points_to_atomic.ensures ∙ c.if-points_to_atomic.true))
-    c.write_atomic_store.ensures
+pub write_act_line-requires-clause-operands : goal.write_act_line-requires-clause-operands
+write_act_line-requires-clause-operands g c =
+    let self = c.args.self.now in
+    subst (λ st. AreInText self (own_operands st)) (sym c.requires.stored)
+    (stored_operands self c.args.pointer c.args.value (subst (CanWriteStatement self) c.requires.stored c.requires.statement))
 
-pub returns-else-points_to_atomic : goal.returns-else-points_to_atomic
-returns-else-points_to_atomic g c =
+pub write_assignment-requires-clause-pointer : goal.write_assignment-requires-clause-pointer
+write_assignment-requires-clause-pointer g c =
+    let self = c.args.self.now in
+    stored_pointer self c.args.pointer c.args.value (subst (CanWriteStatement self) c.requires.stored c.requires.statement)
+
+pub write_assignment-requires-clause-value : goal.write_assignment-requires-clause-value
+write_assignment-requires-clause-value g c =
+    let self = c.args.self.now in
+    stored_value self c.args.pointer c.args.value (subst (CanWriteStatement self) c.requires.stored c.requires.statement)
+
+pub returns-then-is_atomic_pointer : goal.returns-then-is_atomic_pointer
+returns-then-is_atomic_pointer g c =
+    let self = c.args.self.now in
+    let k = c.args.scope.now.named in
+    let s = handles_in self c.args.scope.now.table in
+    let i = c.args.indent.now in
     writes_as
-    (store_to_other c.args.self.now c.args.scope.now.table c.args.level.0 c.args.pointer c.args.value
-    (sym c.points_to_atomic.ensures ∙ c.if-points_to_atomic.false))
+    (ap (λ st. act_text self s i (codes "atomicStore") (own_operands st) (own_result st)) c.requires.stored
+    ∙ (store_to_atomic self k s i c.args.pointer c.args.value (sym c.is_atomic_pointer.ensures ∙ c.if-is_atomic_pointer.true)
+    ∙ ap (statement_text self k s i) (sym c.requires.stored)))
+    c.write_act_line.ensures
+
+pub returns-else-is_atomic_pointer : goal.returns-else-is_atomic_pointer
+returns-else-is_atomic_pointer g c =
+    let self = c.args.self.now in
+    let k = c.args.scope.now.named in
+    let s = handles_in self c.args.scope.now.table in
+    let i = c.args.indent.now in
+    writes_as
+    (store_to_other self k s i c.args.pointer c.args.value (sym c.is_atomic_pointer.ensures ∙ c.if-is_atomic_pointer.false)
+    ∙ ap (statement_text self k s i) (sym c.requires.stored))
     c.write_assignment.ensures

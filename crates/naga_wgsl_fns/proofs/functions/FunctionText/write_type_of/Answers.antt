@@ -1,6 +1,6 @@
 use Rattle.naga_names.specs.Keys.{names_in}
 use Rattle.naga_words.specs.Contexts.{names_context}
-use Rattle.naga_words.specs.Spelling.{resolution_parts}
+use Rattle.naga_words.specs.Spelling.{resolution_segments}
 use Rattle.naga_wgsl_fns.specs.Types.{resolution_text}
 use Rattle.naga_wgsl_fns.proofs.ModuleTexts.{can_of}
 use Rattle.naga_wgsl_fns.proofs.TypeRows.{in_order, known_wrote, resolution_known}
@@ -20,6 +20,6 @@ pub returns : goal.returns
 returns g c =
     let self = c.args.self.now in
     let context = names_context self.shader.now.types (names_in self.names.now) in
-    known_wrote (resolution_parts context c.args.ty.now) (resolution_text self c.args.ty.now)
+    known_wrote (resolution_segments context c.args.ty.now) (resolution_text self c.args.ty.now)
     (resolution_known self c.requires.can c.args.ty.now c.requires.formed c.requires.fits)
     c.write_resolution_in.ensures

@@ -1,6 +1,6 @@
 use Rattle.naga_names.specs.Keys.{names_in}
 use Rattle.naga_words.specs.Contexts.{names_context}
-use Rattle.naga_words.specs.Spelling.{type_parts}
+use Rattle.naga_words.specs.Spelling.{type_segments}
 use Rattle.naga_wgsl_fns.specs.Types.{spelled_text}
 use Rattle.naga_wgsl_fns.proofs.TypeRows.{formed_within, in_order, known_wrote, type_known}
 use Rattle.naga_wgsl_fns.proofs.module_text.ModuleText.write_type.Goals as goal
@@ -17,7 +17,7 @@ pub returns : goal.returns
 returns g c =
     let self = c.args.self.now in
     let context = names_context self.shader.now.types (names_in self.names.now) in
-    known_wrote (type_parts context c.args.ty) (spelled_text self.shader.now c.args.ty)
+    known_wrote (type_segments context c.args.ty) (spelled_text self.shader.now c.args.ty)
     (type_known self.shader.now c.requires.can.of_module (names_in self.names.now)
     c.requires.can.named c.args.ty c.requires.formed)
     c.write_type_in.ensures

@@ -1,8 +1,8 @@
 use Rattle.std.proofs.Common.{◌≡◌, ◌∙◌, ap, subst, sym, true}
-use Rattle.module_meaning.specs.Part.{is_written_so_far}
+use Rattle.module_meaning.specs.WrittenSoFar.{is_written_so_far}
 use Rattle.naga_scope.proofs.WrittenConstants.{globals_in_order}
 use Rattle.naga_wgsl_out.proofs.Faithful.{Concludes, concludes}
-use Rattle.naga_wgsl_out.proofs.ToldNames.{names_tell_of_none, not_written_tells_of_none}
+use Rattle.naga_wgsl_out.proofs.ReportedNames.{names_tell_of_none, not_written_tells_of_none}
 use Rattle.naga_wgsl_out.proofs.writer.Writer.write.Goals as goal
 
 pub returns : goal.returns

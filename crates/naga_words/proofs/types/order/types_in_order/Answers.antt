@@ -9,12 +9,18 @@ loop-index-preserved c = one_more c.args.types.now c.loop-index.index c.args.ove
 
 pub returns-clause-arena : goal.returns-clause-arena
 returns-clause-arena c whole =
-    all_known (arena_context c.args.types.now) (λ h. refl) c.args.overrides (λ handle t lt is. c.loop-index.invariant handle (omega arith) t is) (λ handle t is. slice_get_within c.args.types.now handle t is)
+    all_known (arena_context c.args.types.now) (λ h. refl) c.args.overrides
+    (λ handle t lt is. c.loop-index.invariant handle (omega arith) t is)
+    (λ handle t is. slice_get_within c.args.types.now handle t is)
 
 pub returns-clause-global : goal.returns-clause-global
 returns-clause-global c whole os count =
-    so_many_known (global_context c.args.types.now os) c.args.overrides (λ h. rw count refl) (λ handle t lt is. c.loop-index.invariant handle (omega arith) t is) (λ handle t is. slice_get_within c.args.types.now handle t is)
+    so_many_known (global_context c.args.types.now os) c.args.overrides (λ h. rw count refl)
+    (λ handle t lt is. c.loop-index.invariant handle (omega arith) t is)
+    (λ handle t is. slice_get_within c.args.types.now handle t is)
 
 pub returns-clause-names : goal.returns-clause-names
 returns-clause-names c whole names =
-    all_known (names_context c.args.types.now names) (λ h. refl) c.args.overrides (λ handle t lt is. c.loop-index.invariant handle (omega arith) t is) (λ handle t is. slice_get_within c.args.types.now handle t is)
+    all_known (names_context c.args.types.now names) (λ h. refl) c.args.overrides
+    (λ handle t lt is. c.loop-index.invariant handle (omega arith) t is)
+    (λ handle t is. slice_get_within c.args.types.now handle t is)

@@ -1,5 +1,5 @@
 use Rattle.naga_words.proofs.Empties.{no_items}
-use Rattle.naga_words.proofs.PartWriting.{spells_nothing}
+use Rattle.naga_words.proofs.SegmentWriting.{spells_nothing}
 use Rattle.naga_words.proofs.types.rules.+write_more_arguments.Goals as goal
 
 pub returns-in-None : goal.returns-in-None

@@ -9,7 +9,9 @@ use Rattle.naga_names.proofs.namer.items.Naming.name_arguments.Goals as goal
 pub returns-in_default : goal.returns-in_default
 returns-in_default c =
     c.loop-index.invariant.rest _
-    (gives_same (sym (ap (flat_map (λ p. argument_items c.args.owner.now c.args.types.now p.0 p.1)) (at_place c.args.arguments.now c.loop-index.index c.index-arguments-index.result c.loop-index-test.true c.index-arguments-index.is)))
+    (gives_same (sym (ap (flat_map (λ p. argument_items c.args.owner.now c.args.types.now p.0 p.1))
+    (at_place c.args.arguments.now c.loop-index.index c.index-arguments-index.result
+    c.loop-index-test.true c.index-arguments-index.is)))
     (gives_up_key _ _ _ _ refl c.refuse.ensures.refusal (argument_unfit c.args.owner.now c.loop-index.index c.in_default.ensures)))
 
 pub loop-index-preserved : goal.loop-index-preserved

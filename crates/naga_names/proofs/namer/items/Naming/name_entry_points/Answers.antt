@@ -12,7 +12,10 @@ use Rattle.naga_names.proofs.namer.items.Naming.name_entry_points.Goals as goal
 pub returns-in_default : goal.returns-in_default
 returns-in_default c =
     c.loop-index.invariant.rest _
-    (gives_same (sym (ap (flat_map (λ p. labelled_entry_point p.0 p.1)) (at_place c.args.entry_points.now c.loop-index.index c.index-entry_points-index.result c.loop-index-test.true c.index-entry_points-index.is)))
+    (gives_same (sym
+    (ap (flat_map (λ p. labelled_entry_point p.0 p.1))
+    (at_place c.args.entry_points.now c.loop-index.index c.index-entry_points-index.result
+    c.loop-index-test.true c.index-entry_points-index.is)))
     (gives_up_key _ _ _ _ refl c.refuse.ensures.refusal (not_below c.loop-index.index (2 ^ 16) c.in_default.ensures)))
 
 pub loop-index-preserved : goal.loop-index-preserved

@@ -12,5 +12,7 @@ pub loop-handle-preserved : goal.loop-handle-preserved
 loop-handle-preserved c =
     let function = c.in-Some.function.now in
     leaves_turn (λ p. labelled_function c.args.types.now p.0 p.1) c.in-Some.ensures.steps c.loop-handle.invariant
-    (gives_same (λ i. (key.Function c.in-Some.handle, c.label_or-label.ensures i) ∷ (labelled_arguments c.args.types.now c.in-Some.handle (c.deref.ensures.value i) ++ labelled_locals c.in-Some.handle function.local_variables))
+    (gives_same (λ i. (key.Function c.in-Some.handle, c.label_or-label.ensures i) ∷
+    (labelled_arguments c.args.types.now c.in-Some.handle (c.deref.ensures.value i) ++
+    labelled_locals c.in-Some.handle function.local_variables))
     (gives_then c.name.ensures.named (gives_then c.name_arguments.ensures c.name_locals.ensures)))

@@ -11,4 +11,8 @@ loop-handle-init c = leaves_all _ (ap (flat_map (λ p. labelled_global c.args.ty
 pub loop-handle-preserved : goal.loop-handle-preserved
 loop-handle-preserved c =
     leaves_turn (λ p. labelled_global c.args.types.now p.0 p.1) c.in-Some.ensures.steps c.loop-handle.invariant
-    (gives_same (λ i. with_parts (c.is_external-has_parts.ensures i) (key.ExternalTextureGlobalVariable c.in-Some.handle) (key.GlobalVariable c.in-Some.handle, c.label_or-label.ensures i)) c.name_with_parts.ensures)
+    (gives_same (λ i. with_parts (c.is_external-has_parts.ensures i)
+    (key.ExternalTextureGlobalVariable c.in-Some.handle) (
+      key.GlobalVariable c.in-Some.handle,
+      c.label_or-label.ensures i,
+    )) c.name_with_parts.ensures)

@@ -17,7 +17,13 @@ loop-handle-init c = record {
 pub loop-handle-preserved : goal.loop-handle-preserved
 loop-handle-preserved c = record {
   named =
-      leaves_turn_one (λ p. (key.Override p.0, value_label (type_names_in (names_in c.args.output.now) (length c.args.types.now)) (codes "override_") p.1.name p.1.ty)) c.in-Some.ensures.steps c.loop-handle.invariant.named
+      leaves_turn_one
+      (λ p. (
+        key.Override p.0,
+        value_label (type_names_in (names_in c.args.output.now) (length c.args.types.now))
+            (codes "override_") p.1.name p.1.ty,
+      )) c.in-Some.ensures.steps
+      c.loop-handle.invariant.named
       (gives_same
       (ap (λ (names : ℕ → List ℕ). (key.Override c.in-Some.handle, value_label names (codes "override_") c.in-Some.value.now.name c.in-Some.value.now.ty) ∷ [])
       (same_type_names (names_in c.args.output.now) (names_in c.loop-handle.output) (length c.args.types.now) c.loop-handle.invariant.kept))

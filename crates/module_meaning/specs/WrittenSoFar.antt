@@ -1,0 +1,236 @@
+-- What is written so far of the modules. Others are refused as not yet written.
+--
+-- Throughout, m is a module, f a function, es are its expressions, e is one, k is what is known of
+-- one, h is a handle, a an argument, r a result, s are scalars, and t is a type.
+use Rattle.std.specs.Prelude.{ℕ, zero, suc, Bool, true, false, ◌&&◌, ◌||◌, not, List, length, ◌==◌}
+use Rattle.std.specs.Prelude.{Option, nat_lt, slice_get}
+use Rattle.std.specs.List.{list_all}
+use Rattle.std.specs.Option.{option_map_or, is_none, is_some}
+use Rattle.naga_ir.specs.declared.expression.Expression.{Expression}
+use Rattle.naga_ir.specs.declared.expression.Expression.TheVariants.{Literal, Constant, Override}
+use Rattle.naga_ir.specs.declared.expression.Expression.TheVariants.{FunctionArgument}
+use Rattle.naga_ir.specs.declared.expression.Expression.TheVariants.{GlobalVariable}
+use Rattle.naga_ir.specs.declared.expression.Expression.TheVariants.{ZeroValue, Compose}
+use Rattle.naga_ir.specs.declared.expression.Expression.TheVariants.{LocalVariable, Load, Unary}
+use Rattle.naga_ir.specs.declared.expression.Expression.TheVariants.{Binary, Select, Math}
+use Rattle.naga_ir.specs.declared.expression.Expression.TheVariants.{Relational, Splat, Swizzle}
+use Rattle.naga_ir.specs.declared.expression.Expression.TheVariants.{Access, AccessIndex, As}
+use Rattle.naga_ir.specs.declared.expression.Expression.TheVariants.{Derivative, ArrayLength}
+use Rattle.naga_ir.specs.declared.expression.Expression.TheVariants.{CooperativeMultiplyAdd}
+use Rattle.naga_ir.specs.declared.expression.Expression.TheVariants.{CooperativeLoad}
+use Rattle.naga_ir.specs.declared.expression.Expression.TheVariants.{ImageSample, ImageLoad}
+use Rattle.naga_ir.specs.declared.expression.Expression.TheVariants.{ImageQuery, CallResult}
+use Rattle.naga_ir.specs.declared.expression.Expression.TheVariants.{AtomicResult}
+use Rattle.naga_ir.specs.declared.expression.Expression.TheVariants.{WorkGroupUniformLoadResult}
+use Rattle.naga_ir.specs.declared.expression.Expression.TheVariants.{SubgroupBallotResult}
+use Rattle.naga_ir.specs.declared.expression.Expression.TheVariants.{SubgroupOperationResult}
+use Rattle.naga_ir.specs.declared.expression.Literal.{Literal as LiteralValue}
+use Rattle.naga_ir.specs.declared.expression.Literal.TheVariants as literal
+use Rattle.naga_ir.specs.declared.module.Function.{Function}
+use Rattle.naga_ir.specs.declared.module.Module.{Module}
+use Rattle.naga_ir.specs.declared.types.CooperativeRole.{CooperativeRole}
+use Rattle.naga_ir.specs.declared.types.CooperativeSize.{CooperativeSize}
+use Rattle.naga_ir.specs.declared.types.Scalar.{Scalar}
+use Rattle.naga_ir.specs.declared.types.ScalarKind.{ScalarKind}
+use Rattle.naga_ir.specs.declared.types.ScalarKind.TheVariants as kind
+use Rattle.naga_ir.specs.declared.types.Type_.{Type_}
+use Rattle.naga_ir.specs.declared.types.TypeInner.{TypeInner}
+use Rattle.naga_ir.specs.declared.types.TypeInner.TheVariants as inner
+use Rattle.naga_info.specs.Resolution.{inner_of}
+use Rattle.naga_info.specs.declared.info.ExpressionInfo.{ExpressionInfo}
+use Rattle.naga_info.specs.declared.info.TypeResolution.TheVariants.{Handle, Value}
+use Rattle.module_meaning.specs.AlikeTypes.{is_spelled}
+use Rattle.module_meaning.specs.BindingExtensions.{members_are_extended}
+use Rattle.module_meaning.specs.Conversions.{conversion_target}
+use Rattle.module_meaning.specs.ExpressionOperators.{has_parts, scalar_behind}
+use Rattle.module_meaning.specs.OperatorTable.{relational_word}
+use Rattle.module_meaning.specs.Ranges.{all_placed}
+use Rattle.module_meaning.specs.Sampling.{own_offset_is_written, sampling_is_written}
+use Rattle.module_meaning.specs.Undeclared.{is_spellable, is_undeclared, part_is_written_at}
+use Rattle.module_meaning.specs.Undeclared.{whole_known}
+use Rattle.naga_words.specs.Spelling.{is_struct}
+use Rattle.wgsl_words.specs.Words.{math_word}
+
+-- nothing is declared but types and functions: no constant has a name
+abbrev pub declares_functions : Module → Bool
+declares_functions m =
+    list_all (λ c. is_none c.name) m.constants && (length m.overrides == 0 &&
+    (length m.global_variables == 0 && length m.entry_points.items == 0))
+
+-- ---- types
+-- for an integer or a float of 16 bits a module enables an extension
+abbrev pub width_is_extended : ScalarKind → (width : ℕ) → Bool
+width_is_extended kind.Sint width = width == 2
+width_is_extended kind.Uint width = width == 2
+width_is_extended kind.Float width = width == 2
+width_is_extended _ width = false
+
+abbrev pub is_extended : Scalar → Bool
+is_extended s = width_is_extended s.kind s.width
+
+-- a module declares nothing for a type that is no struct, and enables nothing for it
+abbrev pub needs_nothing : TypeInner → Bool
+needs_nothing (inner.Scalar s) = not (is_extended s)
+needs_nothing (inner.Vector size s) = not (is_extended s)
+needs_nothing (inner.Matrix columns rows s) = not (is_extended s)
+needs_nothing (inner.CooperativeMatrix columns rows s role) = false
+needs_nothing (inner.Struct members span) = false
+needs_nothing (inner.AccelerationStructure vertex_return) = false
+needs_nothing (inner.BindingArray base size) = false
+needs_nothing _ = true
+
+-- some member of a struct has a binding for which a module enables an extension
+abbrev pub is_extended_struct : TypeInner → Bool
+is_extended_struct (inner.Struct members span) = members_are_extended members.items
+is_extended_struct _ = false
+
+-- nor for a struct that no text declares; such a struct is refused by name where it would be spelled
+abbrev pub type_is_written_so_far : Module → (h : ℕ) → Type_ → Bool
+type_is_written_so_far m h t =
+    needs_nothing t.inner || (is_struct t.inner &&
+    (is_undeclared m.special_types h && not (is_extended_struct t.inner)))
+
+abbrev pub types_are_written_so_far : Module → Bool
+types_are_written_so_far m = all_placed (type_is_written_so_far m) m.types
+
+-- ---- functions
+-- the literal is of `bool` or of one of these integer types
+abbrev pub is_written_literal : LiteralValue → Bool
+is_written_literal (literal.Bool value) = true
+is_written_literal (literal.I16 value) = true
+is_written_literal (literal.U16 value) = true
+is_written_literal (literal.I32 value) = true
+is_written_literal (literal.U32 value) = true
+is_written_literal (literal.I64 value) = true
+is_written_literal (literal.U64 value) = true
+is_written_literal _ = false
+
+-- the type that is known of the expression with this handle passes a test
+abbrev pub known_passes : List Type_ → List ExpressionInfo → (test : TypeInner → Bool) →
+    (handle : ℕ) → Bool
+known_passes types es test h =
+    option_map_or (λ k. option_map_or test (inner_of k.ty types) false) (slice_get es h) false
+
+-- a value of this type is converted to one of a type that has a form
+abbrev pub converts : List Type_ → ScalarKind → (convert : Option ℕ) → TypeInner → Bool
+converts types kind convert it =
+    option_map_or (λ new. is_spelled types (Value new)) (conversion_target it kind convert) false
+
+-- a cooperative matrix of the scalars that a pointer of this type points to has a form
+abbrev pub loads_matrix : List Type_ → (columns rows : CooperativeSize) → CooperativeRole →
+    TypeInner → Bool
+loads_matrix types columns rows role it =
+    option_map_or (λ s. is_spelled types (Value (inner.CooperativeMatrix columns rows s role)))
+    (scalar_behind types it) false
+
+-- ---- constants
+-- A constant is written by its name, and one without a name where its initialiser is, by what is said
+-- of the module's own expressions.
+abbrev pub constant_is_written_over : Module → (own : ℕ → Bool) → (handle : ℕ) → Bool
+constant_is_written_over m own h =
+    option_map_or (λ c. is_some c.name || own c.init) (slice_get m.constants h) false
+
+-- One of the module's own expressions is written, over which of those in front of it are: a literal,
+-- a constant, an override, a zero value, a value of a type from its parts, or a vector of one value.
+abbrev pub global_is_written_over : Module → (own : ℕ → Bool) → Expression → Bool
+global_is_written_over m own (Literal value) = is_written_literal value
+global_is_written_over m own (Constant handle) = constant_is_written_over m own handle
+global_is_written_over m own (Override handle) = true
+global_is_written_over m own (ZeroValue ty) = is_spellable m (Handle ty)
+global_is_written_over m own (Compose ty components) =
+    is_spellable m (Handle ty) && list_all own components.items
+global_is_written_over m own (Splat size value) = own value
+global_is_written_over m own _ = false
+
+-- the same of a handle, at most so many levels deep
+abbrev pub global_is_written_within : (levels : ℕ) → Module → ℕ → Bool
+global_is_written_within zero m h = false
+global_is_written_within (suc levels) m h =
+    option_map_or (global_is_written_over m (global_is_written_within levels m))
+    (slice_get m.global_expressions h) false
+
+-- its operands, and the initialisers of the constants that it names, stand before it
+abbrev pub global_is_written : Module → ℕ → Bool
+global_is_written m h = global_is_written_within (suc h) m h
+
+abbrev pub constant_is_written : Module → ℕ → Bool
+constant_is_written m h = constant_is_written_over m (global_is_written m) h
+
+-- ---- expressions
+-- the expression with this handle has parts, and the one with this number is written
+abbrev pub part_is_written : Module → List ExpressionInfo → (base index : ℕ) → Bool
+part_is_written m es base index =
+    known_passes m.types es (has_parts m.types) base &&
+    option_map_or (part_is_written_at m index) (whole_known m.types es base) true
+
+-- A literal of `bool` or of an integer type, a constant, an override, the zero value of a type, a
+-- value of a type from its parts, a part at an index, an argument, a local, a variable of the
+-- module, a load, an operator with a sign, the choice of one of two values, a vector of one value,
+-- components of a vector, a conversion, a derivative, an operation on an image that has a form, the
+-- length of an array, a load or a product of cooperative matrices, a function of mathematics or a
+-- relation that has a word, or the result of a statement but of a step of a ray query. A type that
+-- it spells has a form and names no struct that no text declares, and a known index is that of what
+-- has parts, of such a struct that of a member that a text can name. A constant without a name is
+-- written as its initialiser is, and a result by its name alone. Any other has no form: it is
+-- refused by name where it is written, and let be where it is not.
+abbrev pub expression_is_written : Module → List ExpressionInfo → Expression → Bool
+expression_is_written m es (Literal value) = is_written_literal value
+expression_is_written m es (Constant handle) = constant_is_written m handle
+expression_is_written m es (Override handle) = true
+expression_is_written m es (ZeroValue ty) = is_spellable m (Handle ty)
+expression_is_written m es (Compose ty components) = is_spellable m (Handle ty)
+expression_is_written m es (Access base index) = true
+expression_is_written m es (AccessIndex base index) = part_is_written m es base index
+expression_is_written m es (FunctionArgument number) = true
+expression_is_written m es (GlobalVariable handle) = nat_lt handle (length m.global_variables)
+expression_is_written m es (LocalVariable handle) = true
+expression_is_written m es (Load pointer) = true
+expression_is_written m es (Unary op expr) = true
+expression_is_written m es (Binary op left right) = true
+expression_is_written m es (Select condition accept reject) = true
+expression_is_written m es (Splat size value) = true
+expression_is_written m es (Swizzle size vector pattern) = true
+expression_is_written m es (As expr kind convert) =
+    known_passes m.types es (converts m.types kind convert) expr
+expression_is_written m es (Derivative axis ctrl expr) = true
+expression_is_written m es
+    (ImageSample image sampler gather coordinate array_index offset level depth_ref clamp) =
+    sampling_is_written gather level (is_some depth_ref) clamp
+expression_is_written m es (ImageLoad image coordinate array_index sample level) =
+    is_none sample || is_none level
+expression_is_written m es (ImageQuery image query) = true
+expression_is_written m es (ArrayLength array) = true
+expression_is_written m es (CooperativeLoad columns rows role place) =
+    known_passes m.types es (loads_matrix m.types columns rows role) place.pointer
+expression_is_written m es (CooperativeMultiplyAdd a b c) = true
+expression_is_written m es (Math fun arg arg1 arg2 arg3) = is_some (math_word fun)
+expression_is_written m es (Relational fun argument) = is_some (relational_word fun)
+expression_is_written m es (CallResult function) = true
+expression_is_written m es (AtomicResult ty comparison) = true
+expression_is_written m es (WorkGroupUniformLoadResult ty) = true
+expression_is_written m es SubgroupBallotResult = true
+expression_is_written m es (SubgroupOperationResult ty) = true
+expression_is_written m es _ = false
+
+-- it is written, and so is the offset of a sampling, as a constant of these expressions
+abbrev pub expression_has_form : Module → List ExpressionInfo → List Expression → Expression → Bool
+expression_has_form m known es e =
+    expression_is_written m known e && own_offset_is_written es e
+
+-- neither the arguments nor the result are bound to a location or a builtin value
+abbrev pub is_unbound : Function → Bool
+is_unbound f =
+    list_all (λ a. is_none a.binding) f.arguments.items &&
+    option_map_or (λ r. is_none r.binding) f.result true
+
+-- such a function, whatever its statements and expressions are
+abbrev pub function_is_written : Function → Bool
+function_is_written f = is_unbound f
+
+-- ---- modules
+-- Such types and such functions. A type without a form is refused by name where it is written, and
+-- let be where it is not, and so is a struct that no text declares.
+unfoldable pub is_written_so_far : Module → Bool
+is_written_so_far m =
+    declares_functions m &&
+    (types_are_written_so_far m && list_all function_is_written m.functions)

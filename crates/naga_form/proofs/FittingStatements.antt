@@ -1,0 +1,170 @@
+-- What makes a statement one of the grammar, beside its operands: its words may be called, its result is
+-- bound to an identifier, and its cases have labels and lines. So it is with the accepted ones that have
+-- a form.
+use Rattle.std.proofs.Common.{◌≡◌, ℕ, ◌<◌, Bool, true, false, not, ◌&&◌, ◌||◌, List, nat_lt}
+use Rattle.std.proofs.Common.{Option, Some, None}
+use Rattle.std.specs.Prelude.{IsTrue}
+use Rattle.std.specs.Option.{is_some, option_map_or}
+use Rattle.std.proofs.lemmas.Bool.{and_parts, ltb-true}
+use Rattle.naga_ir.specs.StatementTree.{SimpleStatement, store, image_store, atomic, image_atomic}
+use Rattle.naga_ir.specs.StatementTree.{work_group_uniform_load, call, ray_query, subgroup_ballot}
+use Rattle.naga_ir.specs.StatementTree.{subgroup_gather, subgroup_collective_operation}
+use Rattle.naga_ir.specs.StatementTree.{cooperative_store, ray_pipeline_function, StatementTree}
+use Rattle.naga_ir.specs.StatementTree.{simple, block, branch, switch, loop, BlockTree}
+use Rattle.naga_ir.specs.StatementTree.{no_statements, statement, has_no_statements, CaseTrees}
+use Rattle.naga_ir.specs.StatementTree.{no_cases, case}
+use Rattle.naga_ir.specs.declared.module.Function.{Function}
+use Rattle.naga_ir.specs.declared.module.Module.{Module}
+use Rattle.naga_info.specs.declared.info.TypeResolution.{TypeResolution}
+use Rattle.module_meaning.specs.ExpressionOperators.{ExpressionContext, is_atomic_pointer}
+use Rattle.module_meaning.specs.Numbers.{label_fits_32_bits}
+use Rattle.module_meaning.specs.Ranges.{all_below, atomic_in_range, block_in_range, cases_in_range}
+use Rattle.module_meaning.specs.Ranges.{gather_in_range, is_below, simple_in_range}
+use Rattle.module_meaning.specs.Ranges.{statement_in_range}
+use Rattle.module_meaning.specs.StatementForms.{block_has_forms, cases_have_forms, simple_has_form}
+use Rattle.module_meaning.specs.StatementForms.{statement_has_form}
+use Rattle.module_meaning.specs.StatementShapes.{change_of, simple_shape, source_of, store_shape}
+use Rattle.module_meaning.specs.StatementsFit.{block_is_sound, body_is_sound, cases_are_sound}
+use Rattle.module_meaning.specs.StatementsFit.{is_condition, is_selection, statement_is_sound}
+use Rattle.shader_runs.specs.Form.{word_of}
+use Rattle.shader_runs.specs.Program as shapes
+use Rattle.shader_runs.specs.Program.{Act}
+use Rattle.shader_runs.specs.Scope.{Naming}
+use Rattle.wgsl_text.specs.Expressions.{IsCallee}
+use Rattle.wgsl_text.specs.Types.{Named}
+use Rattle.wgsl_text.specs.Words.{IsIdentifier}
+use Rattle.naga_form.proofs.ActWords.{ballot_called, change_called, collective_called}
+use Rattle.naga_form.proofs.ActWords.{cooperative_store_called, source_called, texel_change_called}
+use Rattle.naga_form.proofs.ActWords.{texel_store_called, trace_called, uniform_load_called}
+use Rattle.naga_form.proofs.Operators.{atomic_store_called}
+use Rattle.naga_form.proofs.Switches.{one_case_stays, some_case_stays}
+
+-- ---- statements without blocks
+-- the name to which a result is bound is an identifier
+abbrev pub ResultIs : Naming → Option ℕ → Type 0
+ResultIs n None = Unit {0}
+ResultIs n (Some h) = IsIdentifier (n.names.numbered h)
+
+-- what asks for an event or calls a function does so by a word that may be called
+abbrev pub ShapeFits : Naming → shapes.Statement → Type 0
+ShapeFits n (Act action xs outcome) = IsCallee (Named (word_of n.names action)) × ResultIs n outcome
+ShapeFits n s = Unit {0}
+
+-- so it is with each statement, labels are integers of their types, and a switch has a case with lines
+abbrev mutual
+  pub StatementFits : Naming → ExpressionContext → StatementTree → Type 0
+  StatementFits n a (simple s) = ShapeFits n (simple_shape a s)
+  StatementFits n a (block b) = AllFit n a b
+  StatementFits n a (branch condition accept reject) = AllFit n a accept × AllFit n a reject
+  StatementFits n a (switch selector cs) = IsTrue (some_case_stays cs) × CasesFit n a cs
+  StatementFits n a (loop body continuing break_if) = AllFit n a body × AllFit n a continuing
+
+  pub AllFit : Naming → ExpressionContext → BlockTree → Type 0
+  AllFit n a no_statements = Unit {0}
+  AllFit n a (statement s b) = StatementFits n a s × AllFit n a b
+
+  pub CasesFit : Naming → ExpressionContext → CaseTrees → Type 0
+  CasesFit n a no_cases = Unit {0}
+  CasesFit n a (case value body falls cs) = IsTrue (label_fits_32_bits value) × AllFit n a body × CasesFit n a cs
+
+-- ---- accepted statements that have forms
+module _ (n : Naming) (a : ExpressionContext) (callees expressions : ℕ)
+    (functions : (g : ℕ) → g < callees → IsIdentifier (n.names.outer.function g))
+    (numbered : (h : ℕ) → h < expressions → IsIdentifier (n.names.numbered h)) where
+  result_is : (h : ℕ) → nat_lt h expressions ≡ true → ResultIs n (Some h)
+  result_is h within = numbered h (ltb-true h expressions within)
+
+  result_if : (outcome : Option ℕ) → is_below expressions outcome ≡ true → ResultIs n outcome
+  result_if None within = tt
+  result_if (Some h) within = result_is h within
+
+  line_fits : (s : SimpleStatement) → simple_in_range callees expressions s ≡ true →
+      simple_has_form s ≡ true → ShapeFits n (simple_shape a s)
+  line_fits (store pointer value) within has = by (is_atomic_pointer a pointer)
+    where
+      by : (to_atomic : Bool) → ShapeFits n (store_shape to_atomic pointer value)
+      by true = (atomic_store_called, tt)
+      by false = tt
+  line_fits (image_store image coordinate array_index value) within has = (texel_store_called (is_some array_index), tt)
+  line_fits (atomic pointer fun value outcome) within has =
+      let one = and_parts (nat_lt pointer expressions) _ within in
+      let two = and_parts (atomic_in_range expressions fun) _ one.1 in
+      let three = and_parts (nat_lt value expressions) (is_below expressions outcome) two.1 in
+      (change_called (change_of fun), result_if outcome three.1)
+  line_fits (image_atomic image coordinate array_index fun value) within has =
+      (texel_change_called (change_of fun) (is_some array_index) has, tt)
+  line_fits (work_group_uniform_load pointer outcome) within has =
+      (uniform_load_called, result_is outcome (and_parts (nat_lt pointer expressions) (nat_lt outcome expressions) within).1)
+  line_fits (call function arguments outcome) within has =
+      let one = and_parts (nat_lt function callees) _ within in
+      let two = and_parts (all_below expressions arguments) (is_below expressions outcome) one.1 in
+      ((functions function (ltb-true function callees one.0)).word, result_if outcome two.1)
+  line_fits (ray_query query) within has = absurd cc
+  line_fits (subgroup_ballot outcome predicate) within has =
+      (ballot_called (is_some predicate), result_is outcome (and_parts (nat_lt outcome expressions) (is_below expressions predicate) within).0)
+  line_fits (subgroup_gather mode argument outcome) within has =
+      let one = and_parts (gather_in_range expressions mode) _ within in
+      let two = and_parts (nat_lt argument expressions) (nat_lt outcome expressions) one.1 in
+      (source_called (source_of mode), result_is outcome two.1)
+  line_fits (subgroup_collective_operation op how argument outcome) within has =
+      (collective_called op how has, result_is outcome (and_parts (nat_lt argument expressions) (nat_lt outcome expressions) within).1)
+  line_fits (cooperative_store target place) within has = (cooperative_store_called place.row_major, tt)
+  line_fits (ray_pipeline_function fun) within has = (trace_called, tt)
+  line_fits _ within has = tt
+
+  module _ (m : Module) (f : Function) (known : List TypeResolution) where
+    mutual
+      statement_fits : (breaks continues : Bool) (s : StatementTree) →
+          statement_in_range callees expressions s ≡ true →
+          statement_is_sound m f known breaks continues s ≡ true → statement_has_form s ≡ true →
+          StatementFits n a s
+      statement_fits breaks continues (simple s) within sound has = line_fits s within has
+      statement_fits breaks continues (block b) within sound has = all_fit breaks continues b within sound has
+      statement_fits breaks continues (branch condition accept reject) within sound has =
+          let ranges = and_parts (nat_lt condition expressions) _ within in
+          let both = and_parts (block_in_range callees expressions accept) (block_in_range callees expressions reject) ranges.1 in
+          let one = and_parts (is_condition m.types known condition) _ sound in
+          let two =
+          and_parts (block_is_sound m f known breaks continues accept)
+          (block_is_sound m f known breaks continues reject) one.1 in
+          let forms = and_parts (block_has_forms accept) (block_has_forms reject) has in
+          (all_fit breaks continues accept both.0 two.0 forms.0, all_fit breaks continues reject both.1 two.1 forms.1)
+      statement_fits breaks continues (switch selector cs) within sound has =
+          let ranges = and_parts (nat_lt selector expressions) (cases_in_range callees expressions cs) within in
+          let one = and_parts (is_selection m.types known selector cs) (cases_are_sound m f known true continues cs) sound in
+          (one_case_stays m.types known selector cs one.0, cases_fit continues cs ranges.1 one.1 has)
+      statement_fits breaks continues (loop body continuing break_if) within sound has =
+          let ranges = and_parts (block_in_range callees expressions body) _ within in
+          let both = and_parts (block_in_range callees expressions continuing) (is_below expressions break_if) ranges.1 in
+          let one = and_parts (block_is_sound m f known true true body) _ sound in
+          let two =
+          and_parts (block_is_sound m f known false false continuing)
+          (option_map_or (is_condition m.types known) break_if true) one.1 in
+          let forms = and_parts (block_has_forms body) (block_has_forms continuing) has in
+          (all_fit true true body ranges.0 one.0 forms.0, all_fit false false continuing both.0 two.0 forms.1)
+
+      all_fit : (breaks continues : Bool) (b : BlockTree) →
+          block_in_range callees expressions b ≡ true →
+          block_is_sound m f known breaks continues b ≡ true → block_has_forms b ≡ true → AllFit n a b
+      all_fit breaks continues no_statements within sound has = tt
+      all_fit breaks continues (statement s b) within sound has =
+          let ranges = and_parts (statement_in_range callees expressions s) (block_in_range callees expressions b) within in
+          let one = and_parts (statement_is_sound m f known breaks continues s) (block_is_sound m f known breaks continues b) sound in
+          let forms = and_parts (statement_has_form s) (block_has_forms b) has in
+          (statement_fits breaks continues s ranges.0 one.0 forms.0, all_fit breaks continues b ranges.1 one.1 forms.1)
+
+      cases_fit : (continues : Bool) (cs : CaseTrees) → cases_in_range callees expressions cs ≡ true →
+          cases_are_sound m f known true continues cs ≡ true → cases_have_forms cs ≡ true → CasesFit n a cs
+      cases_fit continues no_cases within sound has = tt
+      cases_fit continues (case value body falls cs) within sound has =
+          let labels = and_parts (label_fits_32_bits value) _ within in
+          let ranges = and_parts (block_in_range callees expressions body) (cases_in_range callees expressions cs) labels.1 in
+          let one = and_parts (block_is_sound m f known true continues body) (cases_are_sound m f known true continues cs) sound in
+          let empty = and_parts (not falls || has_no_statements body) (block_has_forms body && cases_have_forms cs) has in
+          let forms = and_parts (block_has_forms body) (cases_have_forms cs) empty.1 in
+          (labels.0, all_fit true continues body ranges.0 one.0 forms.0, cases_fit continues cs ranges.1 one.1 forms.1)
+
+    -- all statements of the function
+    pub body_fits : block_in_range callees expressions f.body ≡ true → body_is_sound m f known ≡ true →
+        block_has_forms f.body ≡ true → AllFit n a f.body
+    body_fits within sound has = all_fit false false f.body within sound has

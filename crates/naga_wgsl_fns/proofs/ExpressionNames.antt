@@ -1,0 +1,67 @@
+-- The names that front ends gave in a function, behind labels that were named before.
+use Rattle.std.proofs.Common.{◌≡◌, ◌≤◌, ◌^◌, ◌∙◌, ◌++◌, ℕ, zero, suc, List, [], ◌∷◌, append-nil}
+use Rattle.std.proofs.Common.{append_assoc, ap, arith, get_or, refl, slice_get, subst, sym, take}
+use Rattle.std.specs.Option.{option_map_or}
+use Rattle.naga_ir.specs.declared.module.Module.{Module}
+use Rattle.naga_names.specs.Naming.{HasNamed, Names, label_base, labels_with_base, name_after}
+use Rattle.naga_names.proofs.NameShapes.{counted_more}
+use Rattle.module_meaning.specs.ExpressionLabels.{SomeLabelIsFull, name_of_label}
+use Rattle.module_meaning.specs.Names.{labels_named_in, wgsl_names}
+use Rattle.naga_scope.specs.ExpressionNames.{HasOtherUses, names_behind}
+use Rattle.naga_wgsl_fns.specs.Refusals.{ExpressionNamesAreFullIn}
+
+-- ---- names in a list
+-- the name with a number
+name_at : (start : Names) (earlier labels : List (List ℕ)) (k : ℕ) →
+    get_or (names_behind start earlier labels) k [] ≡ name_of_label start earlier labels k
+name_at start earlier [] k = refl
+name_at start earlier (label ∷ labels) zero =
+    ap (λ e. name_after start e label) (sym (append-nil earlier))
+name_at start earlier (label ∷ labels) (suc k) =
+    name_at start (earlier ++ label ∷ []) labels k
+    ∙ ap (λ e. option_map_or (name_after start e) (slice_get labels k) [])
+    (append_assoc earlier (label ∷ []) (take k labels))
+
+-- uses are nothing to names
+same_names : (new : Names) (earlier labels : List (List ℕ)) → HasOtherUses wgsl_names new →
+    (k : ℕ) → name_of_label new earlier labels k ≡ name_of_label wgsl_names earlier labels k
+same_names new earlier labels words k = ap (λ n. name_of_label n earlier labels k) words
+
+-- ---- counts
+-- where labels are counted, none of them is full
+none_is_full : (earlier labels : List (List ℕ)) →
+    ((base : List ℕ) → labels_with_base wgsl_names (earlier ++ labels) base ≤ 2 ^ 32) →
+    SomeLabelIsFull wgsl_names earlier labels → ⊥
+none_is_full earlier labels few s =
+    let base : List ℕ = label_base wgsl_names s.label in
+    let split = ap (λ ls. earlier ++ ls) s.all ∙ sym (append_assoc earlier s.named (s.label ∷ s.left)) in
+    let more = ap (λ ls. labels_with_base wgsl_names ls base) split
+    ∙ counted_more wgsl_names (earlier ++ s.named) s.label s.left base refl in
+    let full = s.full in
+    omega (arith, few base, more, full)
+
+-- a namer with the words of WGSL counts its labels
+pub few_named : (labels : List (List ℕ)) (namer : Names) → HasOtherUses wgsl_names namer →
+    HasNamed namer labels →
+    (base : List ℕ) → labels_with_base wgsl_names labels base ≤ 2 ^ 32
+few_named labels namer words has base =
+    subst (λ n. n ≤ 2 ^ 32) (ap (λ n. labels_with_base n labels base) words) (has.few base)
+
+-- ---- the names of a function
+module _ (m : Module) (handle : ℕ) (earlier : List (List ℕ)) where
+  -- those that a namer gave behind these labels
+  pub named_are : (old : Names) → HasOtherUses wgsl_names old → (names : List (List ℕ)) →
+      names ≡ names_behind old earlier (labels_named_in m handle) → (k : ℕ) →
+      get_or names k [] ≡ name_of_label wgsl_names earlier (labels_named_in m handle) k
+  named_are old words names is k =
+      ap (λ ls. get_or ls k []) is
+      ∙ (name_at old earlier (labels_named_in m handle) k
+      ∙ same_names old earlier (labels_named_in m handle) words k)
+
+  -- where it has named them all, none of them is full
+  pub none_full : (namer : Names) → HasOtherUses wgsl_names namer →
+      HasNamed namer (earlier ++ labels_named_in m handle) →
+      ExpressionNamesAreFullIn m earlier handle → ⊥
+  none_full namer words has full =
+      none_is_full earlier (labels_named_in m handle)
+      (few_named (earlier ++ labels_named_in m handle) namer words has) full

@@ -1,0 +1,189 @@
+-- The texts of switches, from what is written of them in turn.
+use Rattle.std.proofs.Common.{◌==◌, ne_eqb}
+use Rattle.naga_wgsl_fns.specs.Statements.{stands_alone}
+use Rattle.std.specs.Prelude.{if◌then◌else◌}
+use Rattle.std.proofs.Common.{◌-◌, zero, arith}
+use Rattle.naga_scope.proofs.Listed.{first_case}
+use Rattle.std.proofs.Common.{◌≡◌, ℕ, ℤ, pos, negsuc, ◌*◌, ◌+◌, ◌<◌, ◌≤◌, suc, Bool, true, false, List, [], ◌∷◌, ◌++◌, codes, decimal}
+use Rattle.std.proofs.Common.{replicate, refl, sym, ap, ◌∙◌, append_assoc, drop, take, length, map, slice_index_or}
+use Rattle.std.specs.Fmt.{signed_decimal}
+use Rattle.std.proofs.lemmas.List.{append-nil, drop_all}
+use Rattle.naga_back.specs.Indentation.{indentation}
+use Rattle.naga_form.specs.Expressions.{value_form}
+use Rattle.naga_form.specs.Statements.{cases_form, label_form, labels_form, lines_form}
+use Rattle.naga_ir.specs.StatementTree.{switch, BlockTree, no_statements, CaseTrees, case, no_cases}
+use Rattle.naga_ir.specs.StatementViews.{cases_of}
+use Rattle.naga_ir.specs.declared.statement.SwitchCase.{SwitchCase}
+use Rattle.naga_ir.specs.declared.statement.SwitchValue.{SwitchValue}
+use Rattle.naga_ir.specs.declared.statement.SwitchValue.TheVariants as label
+use Rattle.naga_words.specs.Output.{joined_texts}
+use Rattle.shader_runs.specs.Scope.{Handles}
+use Rattle.wgsl_text.proofs.Statements.{case_text as case_row_text, switch_text}
+use Rattle.wgsl_text.proofs.Text.{text-append}
+use Rattle.wgsl_text.specs.Reading.{expression_layout}
+use Rattle.wgsl_text.specs.Statements.{Cases, DefaultLabel, Label, LastLabel, MoreLabels, SignedLabel, UnsignedLabel}
+use Rattle.wgsl_text.specs.Statements.{NoStatements, Statements, case_pieces, cases_pieces, label_pieces, labels_pieces, statements_pieces}
+use Rattle.wgsl_text.specs.Statements as tree
+use Rattle.wgsl_text.specs.Text.{text}
+use Rattle.wgsl_text.specs.Token.{Colon, mark}
+use Rattle.naga_wgsl_fns.specs.FunctionText.{let_annotation, naming, source}
+use Rattle.naga_wgsl_fns.specs.Statements.{around_text, block_text, case_text, cases_text, group_start, group_text, label_text, labels_of}
+use Rattle.naga_wgsl_fns.specs.Statements.{line_start, named_behind, statement_text, waiting_text}
+use Rattle.naga_wgsl_fns.specs.declared.functions.FunctionText.{FunctionText}
+use Rattle.naga_wgsl_fns.proofs.StatementRows.{drop_first, indentation_row, one_line}
+
+-- ---- labels
+pub signed_row : (z : ℤ) → label_text (label_form (label.I32 z)) ≡ signed_decimal z ++ codes ""
+unfolding label_text
+signed_row (pos n) = append-nil (decimal n ++ [])
+signed_row (negsuc n) = append-nil (codes "-" ++ (decimal (suc n) ++ []))
+
+pub unsigned_row : (n : ℕ) → label_text (label_form (label.U32 n)) ≡ decimal n ++ codes "u"
+unfolding label_text
+unsigned_row n = append-nil (decimal n ++ codes "u")
+
+pub default_label_row : label_text (label_form label.Default) ≡ codes "default"
+unfolding label_text
+default_label_row = refl
+
+-- the labels up to the colon
+group_labels : (labels : List Label) (own : Label) → text (labels_pieces (labels_form labels own)) ≡ waiting_text labels ++ (label_text own ++ codes ":")
+unfolding waiting_text label_text
+group_labels [] own = text-append (label_pieces own) (mark Colon ∷ [])
+group_labels (l ∷ ls) own =
+    text-append (label_pieces l) _
+    ∙ (ap (λ t. text (label_pieces l) ++ (codes ", " ++ t)) (group_labels ls own)
+    ∙ sym (append_assoc (text (label_pieces l)) (codes ", " ++ waiting_text ls) (label_text own ++ codes ":")))
+
+pub default_row : (labels : List Label) (own : Label) → stands_alone labels own ≡ true → group_start labels own ≡ codes "default:"
+unfolding group_start
+default_row [] DefaultLabel alone = refl
+default_row _ _ alone = absurd cc
+
+pub labels_row : (labels : List Label) (own : Label) → stands_alone labels own ≡ false
+    → group_start labels own ≡ joined_texts (codes "case ") (joined_texts (waiting_text labels) (joined_texts (label_text own) (codes ":")))
+unfolding group_start joined_texts
+labels_row [] DefaultLabel other = absurd cc
+labels_row [] (SignedLabel negative n) other = ap (λ t. codes "case " ++ t) (group_labels [] (SignedLabel negative n))
+labels_row [] (UnsignedLabel n) other = ap (λ t. codes "case " ++ t) (group_labels [] (UnsignedLabel n))
+labels_row (l ∷ ls) own other = ap (λ t. codes "case " ++ t) (group_labels (l ∷ ls) own)
+
+-- whether the default stands alone
+pub alone_row : (waiting : List SwitchCase) → (length waiting == 0) ≡ stands_alone (labels_of waiting) (label_form label.Default)
+alone_row [] = refl
+alone_row (c ∷ cs) = ne_eqb (suc (length cs)) 0 (λ same. absurd (omega arith))
+
+pub signed_other : (labels : List Label) (z : ℤ) → stands_alone labels (label_form (label.I32 z)) ≡ false
+signed_other [] (pos n) = refl
+signed_other [] (negsuc n) = refl
+signed_other (l ∷ ls) z = refl
+
+pub unsigned_other : (labels : List Label) (n : ℕ) → stands_alone labels (label_form (label.U32 n)) ≡ false
+unsigned_other [] n = refl
+unsigned_other (l ∷ ls) n = refl
+
+-- a loop over cases whose labels wait: one more, and none
+pub waiting_more : (items : List SwitchCase) (i : ℕ) (item : SwitchCase) → i < length items → item ≡ slice_index_or items i item
+    → waiting_text (labels_of (drop i items)) ≡ joined_texts (label_text (label_form item.value)) (joined_texts (codes ", ") (waiting_text (labels_of (drop (i + 1) items))))
+unfolding waiting_text joined_texts
+waiting_more items i item lt is = ap (λ (cs : List SwitchCase). waiting_text (labels_of cs)) (drop_first i items item lt is)
+
+pub waiting_none : (items : List SwitchCase) (i : ℕ) → length items ≤ i → waiting_text (labels_of (drop i items)) ≡ []
+unfolding waiting_text
+waiting_none items i past = ap (λ (cs : List SwitchCase). waiting_text (labels_of cs)) (drop_all i items past)
+
+-- ---- groups
+pub group_row : (f : FunctionText) (k : ℕ) (s : Handles) (i : ℕ) (labels : List Label) (own : Label) (b : BlockTree)
+    → group_text f k s i labels own b ≡ joined_texts (indentation i) (joined_texts (group_start labels own)
+    (joined_texts (codes " {\n") (joined_texts (block_text f k s (suc i) b) (line_start i (codes "}\n")))))
+unfolding group_text joined_texts
+group_row f k s i labels own b = refl
+
+group_lines : (i : ℕ) (start b more : List ℕ)
+    → replicate (4 * i) 32 ++ (start ++ (codes " {\n" ++ (b ++ (replicate (4 * i) 32 ++ (codes "}\n" ++ more)))))
+    ≡ (indentation i ++ (start ++ (codes " {\n" ++ (b ++ line_start i (codes "}\n"))))) ++ more
+unfolding line_start
+group_lines i start b more = simp (append_assoc, indentation_row)
+
+-- a case that falls through gives its label to the next one
+abbrev waiting_behind : (falls : Bool) → List Label → SwitchValue → List Label
+waiting_behind true labels v = labels ++ label_form v ∷ []
+waiting_behind false labels v = []
+
+case_row : (f : FunctionText) (k : ℕ) (s : Handles) (i : ℕ) (labels : List Label) (v : SwitchValue) (b : BlockTree) (falls : Bool) (cs : CaseTrees)
+    → cases_text f k s i labels (case v b falls cs) ≡ joined_texts (case_text f k s i labels (label_form v) falls b) (cases_text f (named_behind f b k) s i (waiting_behind falls labels v) cs)
+unfolding cases_text case_text group_text group_start block_text joined_texts
+case_row f k s i labels v b true cs = refl
+case_row f k s i labels v b false cs =
+    let lines = lines_form (naming f) (let_annotation f) (source f) k b s in
+    let more = cases_form (naming f) (let_annotation f) (source f) (named_behind f b k) [] cs s in
+    case_row_text (labels_form labels (label_form v)) lines more i
+    ∙ group_lines i (text (case_pieces (labels_form labels (label_form v)))) (text (statements_pieces lines (suc i))) (text (cases_pieces more i))
+
+-- the labels of the cases from the first on
+abbrev pub labels_between : (first index : ℕ) → List SwitchCase → List Label
+labels_between first index cases = labels_of (take (index - first) (drop first cases))
+
+taken_first : (n : ℕ) (cs : List SwitchCase) (c : SwitchCase) → n < length cs → c ≡ slice_index_or cs n c → labels_of (take (suc n) cs) ≡ labels_of (take n cs) ++ label_form c.value ∷ []
+taken_first n [] c lt is = absurd (omega (arith, lt))
+taken_first zero (x ∷ cs) c lt is = ap (λ (y : SwitchCase). label_form y.value ∷ []) (sym is)
+taken_first (suc n) (x ∷ cs) c lt is = ap (λ ls. label_form x.value ∷ ls) (taken_first n cs c (omega (arith, lt)) is)
+
+taken_from : (first n index : ℕ) (cs : List SwitchCase) (c : SwitchCase) → index ≡ first + n → index < length cs → c ≡ slice_index_or cs index c
+    → labels_of (take (suc n) (drop first cs)) ≡ labels_of (take n (drop first cs)) ++ label_form c.value ∷ []
+taken_from zero n index cs c at lt is =
+    let same : index ≡ n = omega (arith, at) in
+    taken_first n cs c (omega (arith, same, lt)) (is ∙ ap (λ i. slice_index_or cs i c) same)
+taken_from (suc first) n index [] c at lt is = absurd (omega (arith, lt))
+taken_from (suc first) n zero (x ∷ cs) c at lt is = absurd (omega (arith, at))
+taken_from (suc first) n (suc index) (x ∷ cs) c at lt is = taken_from first n index cs c (omega (arith, at)) (omega (arith, lt)) is
+
+behind_falling : (first index : ℕ) (cs : List SwitchCase) (c : SwitchCase) → first ≤ index → index < length cs → c ≡ slice_index_or cs index c
+    → labels_between first (index + 1) cs ≡ labels_between first index cs ++ label_form c.value ∷ []
+behind_falling first index cs c le lt is =
+    let one : index + 1 - first ≡ suc (index - first) = omega (arith, le) in
+    let at : index ≡ first + (index - first) = omega (arith, le) in
+    ap (λ n. labels_of (take n (drop first cs))) one ∙ taken_from first (index - first) index cs c at lt is
+
+labels_behind : (falls : Bool) (first first1 index : ℕ) (cs : List SwitchCase) (c : SwitchCase) → first ≤ index → index < length cs → c ≡ slice_index_or cs index c
+    → first1 ≡ (if falls then first else index + 1) → waiting_behind falls (labels_between first index cs) c.value ≡ labels_between first1 (index + 1) cs
+labels_behind true first first1 index cs c le lt is next = sym (ap (λ n. labels_between n (index + 1) cs) next ∙ behind_falling first index cs c le lt is)
+labels_behind false first first1 index cs c le lt is next =
+    let none : index + 1 - first1 ≡ 0 = omega (arith, next) in sym (ap (λ n. labels_of (take n (drop first1 cs))) none)
+
+-- a loop over cases: one more
+pub cases_more : (f : FunctionText) (k k1 : ℕ) (s : Handles) (i first first1 index : ℕ) (cs : List SwitchCase) (c : SwitchCase) → first ≤ index → index < length cs → c ≡ slice_index_or cs index c
+    → first1 ≡ (if c.fall_through then first else index + 1) → k1 ≡ named_behind f c.body k
+    → cases_text f k s i (labels_between first index cs) (cases_of (drop index cs)) ≡
+    joined_texts (case_text f k s i (labels_between first index cs) (label_form c.value) c.fall_through c.body)
+    (cases_text f k1 s i (labels_between first1 (index + 1) cs) (cases_of (drop (index + 1) cs)))
+cases_more f k k1 s i first first1 index cs c le lt is next given =
+    let labels = labels_between first index cs in
+    let more = cases_of (drop (index + 1) cs) in
+    ap (cases_text f k s i labels) (first_case cs index c lt is)
+    ∙ (case_row f k s i labels c.value c.body c.fall_through more
+    ∙ (λ j. joined_texts (case_text f k s i labels (label_form c.value) c.fall_through c.body)
+    (cases_text f (sym given j) s i (labels_behind c.fall_through first first1 index cs c le lt is next j) more)))
+
+pub first_within : (falls : Bool) (first first1 index : ℕ) → first ≤ index → first1 ≡ (if falls then first else index + 1) → first1 ≤ index + 1
+first_within true first first1 index le next = omega (arith, le, next)
+first_within false first first1 index le next = omega (arith, next)
+
+pub cases_none : (f : FunctionText) (k : ℕ) (s : Handles) (i : ℕ) (labels : List Label) → cases_text f k s i labels no_cases ≡ []
+unfolding cases_text
+cases_none f k s i labels = refl
+
+-- ---- switches
+switch_lines : (i : ℕ) (e cs : List ℕ)
+    → replicate (4 * i) 32 ++ (codes "switch " ++ (e ++ (codes " {\n" ++ (cs ++ (replicate (4 * i) 32 ++ codes "}\n")))))
+    ≡ (line_start i (codes "switch ") ++ (e ++ codes " {\n")) ++ (cs ++ line_start i (codes "}\n"))
+unfolding line_start
+switch_lines i e cs = simp (append_assoc, indentation_row)
+
+pub switch_row : (f : FunctionText) (k : ℕ) (s : Handles) (i h : ℕ) (cs : CaseTrees)
+    → statement_text f k s i (switch h cs) ≡ joined_texts (around_text f s i (codes "switch ") h (codes " {\n")) (joined_texts (cases_text f k s (suc i) [] cs) (line_start i (codes "}\n")))
+unfolding statement_text around_text cases_text joined_texts
+switch_row f k s i h cs =
+    let e = value_form (naming f) (source f) s h in
+    let groups = cases_form (naming f) (let_annotation f) (source f) k [] cs s in
+    one_line (tree.Switch e groups) i ∙ (switch_text e groups i ∙ switch_lines i (expression_layout e) (text (cases_pieces groups (suc i))))

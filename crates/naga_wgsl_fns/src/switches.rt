@@ -1,0 +1,247 @@
+//! Switches.
+
+ghost use Rattle.std.specs.Prelude.{◌≡◌, ◌<◌, ◌+◌, ◌++◌, [], IsTrue, if◌then◌else◌, length, suc};
+ghost use Rattle.naga_form.specs.Statements.{label_form};
+ghost use Rattle.naga_ir.specs.StatementTree.{no_statements, switch};
+ghost use Rattle.naga_ir.specs.StatementViews.{cases_of};
+ghost use Rattle.naga_scope.specs.Changes.{block_changes, cases_changes, statement_changes};
+ghost use Rattle.naga_scope.specs.Log.{Counted, HasRoom, Same};
+ghost use Rattle.naga_words.specs.Output.{Writes};
+ghost use Rattle.naga_wgsl_fns.specs.FunctionText.{CanWrite, CanWriteBlock, CanWriteCases};
+ghost use Rattle.naga_wgsl_fns.specs.FunctionText.{CanWriteStatement, handles_in};
+ghost use Rattle.naga_wgsl_fns.specs.Statements.{case_text, cases_text, group_start, group_text};
+ghost use Rattle.naga_wgsl_fns.specs.Statements.{label_text};
+ghost use Rattle.naga_wgsl_fns.specs.Statements.{labels_of, named_behind, named_behind_cases};
+ghost use Rattle.naga_wgsl_fns.specs.Statements.{named_behind_statement, statement_text};
+ghost use Rattle.naga_wgsl_fns.specs.Statements.{stands_alone, waiting_text};
+
+use crate::functions::FunctionText;
+use crate::indent::Indent;
+use crate::lines::write_line_start;
+use crate::literal::write_number;
+use naga_ir::{Block, Expression, Handle, SwitchCase, SwitchValue};
+use naga_scope::Scope;
+use naga_words::{Output, TextSink};
+use std::alloc::Global;
+
+impl FunctionText<'_> {
+    /// A switch. The scope stays.
+    #[cycle(statement)]
+    #[tactic(auto, using(naga_words::proofs::Writing::writes_then, crate::proofs::SwitchRows::switch_row, crate::proofs::StatementParts::selector_inside, crate::proofs::StatementParts::cases_inside))]
+    pub(crate) fn write_switch<W: TextSink>(
+        &self,
+        alloc: Global,
+        selector: Handle<Expression>,
+        cases: &[SwitchCase],
+        scope: &mut Scope,
+        indent: &mut Indent,
+        out: &mut Output<'_, W>,
+    )
+        requires can { CanWrite self.now }
+        requires size { length scope.old.table ≡ length self.now.function.now.expressions }
+        requires statement { CanWriteStatement self.now (switch selector (cases_of cases.now)) }
+        requires room { HasRoom scope.old
+            (statement_changes (switch selector (cases_of cases.now))) }
+        ensures text { Writes W.text W.failures out.old out.new
+            (statement_text self.now scope.old.named (handles_in self.now scope.old.table)
+            indent.old (switch selector (cases_of cases.now))) }
+        ensures same { Same scope.old scope.new }
+        ensures named { scope.new.named ≡ named_behind_statement self.now
+            (switch selector (cases_of cases.now)) scope.old.named }
+        ensures counted { Counted scope.old scope.new
+            (statement_changes (switch selector (cases_of cases.now))) }
+        ensures indent { indent.new ≡ indent.old }
+    {
+        self.write_around(alloc, "switch ", selector, " {\n", scope, indent, out);
+        self.write_cases_deeper(alloc, cases, scope, indent, out);
+        write_line_start(indent, "}\n", out);
+    }
+
+    /// The cases of a switch, one level deeper.
+    #[cycle(statement)]
+    fn write_cases_deeper<W: TextSink>(
+        &self,
+        alloc: Global,
+        cases: &[SwitchCase],
+        scope: &mut Scope,
+        indent: &mut Indent,
+        out: &mut Output<'_, W>,
+    )
+        requires can { CanWrite self.now }
+        requires size { length scope.old.table ≡ length self.now.function.now.expressions }
+        requires cases { CanWriteCases self.now (cases_of cases.now) }
+        requires room { HasRoom scope.old (cases_changes (cases_of cases.now)) }
+        ensures text { Writes W.text W.failures out.old out.new
+            (cases_text self.now scope.old.named (handles_in self.now scope.old.table)
+            (suc indent.old) [] (cases_of cases.now)) }
+        ensures same { Same scope.old scope.new }
+        ensures named { scope.new.named
+            ≡ named_behind_cases self.now (cases_of cases.now) scope.old.named }
+        ensures counted { Counted scope.old scope.new (cases_changes (cases_of cases.now)) }
+        ensures indent { indent.new ≡ indent.old }
+    {
+        let level = indent.level();
+        indent.deepen(out);
+        self.write_cases(alloc, cases, scope, indent, out);
+        indent.back_to(level);
+    }
+
+    /// The cases of a switch. One that falls through has no statements, and gives its label to the
+    /// next one.
+    #[cycle(statement)]
+    #[tactic(auto, using(naga_words::proofs::Writing::loop_writes))]
+    fn write_cases<W: TextSink>(
+        &self,
+        alloc: Global,
+        cases: &[SwitchCase],
+        scope: &mut Scope,
+        indent: &mut Indent,
+        out: &mut Output<'_, W>,
+    )
+        requires can { CanWrite self.now }
+        requires size { length scope.old.table ≡ length self.now.function.now.expressions }
+        requires cases { CanWriteCases self.now (cases_of cases.now) }
+        requires room { HasRoom scope.old (cases_changes (cases_of cases.now)) }
+        ensures text { Writes W.text W.failures out.old out.new
+            (cases_text self.now scope.old.named (handles_in self.now scope.old.table)
+            indent.old [] (cases_of cases.now)) }
+        ensures same { Same scope.old scope.new }
+        ensures named { scope.new.named
+            ≡ named_behind_cases self.now (cases_of cases.now) scope.old.named }
+        ensures counted { Counted scope.old scope.new (cases_changes (cases_of cases.now)) }
+        ensures indent { indent.new ≡ indent.old }
+    {
+        let mut first = 0;
+        for index in 0..cases.len() {
+            let case = &cases[index];
+            self.write_case(alloc, &cases[first..index], case, scope, indent, out);
+            first = first_waiting(case, first, index);
+        }
+    }
+
+    /// A case that doesn't fall through, with the labels of those that wait for it.
+    #[cycle(statement)]
+    #[tactic(auto, using(naga_words::proofs::Writing::writes_nothing), unfolding(crate::specs::Statements::case_text))]
+    fn write_case<W: TextSink>(
+        &self,
+        alloc: Global,
+        waiting: &[SwitchCase],
+        case: &SwitchCase,
+        scope: &mut Scope,
+        indent: &mut Indent,
+        out: &mut Output<'_, W>,
+    )
+        requires can { CanWrite self.now }
+        requires size { length scope.old.table ≡ length self.now.function.now.expressions }
+        requires body { CanWriteBlock self.now case.now.body }
+        requires empty { IsTrue case.now.fall_through → case.now.body ≡ no_statements }
+        requires room { HasRoom scope.old (block_changes case.now.body) }
+        ensures text { Writes W.text W.failures out.old out.new
+            (case_text self.now scope.old.named (handles_in self.now scope.old.table) indent.old
+            (labels_of waiting.now) (label_form case.now.value) case.now.fall_through
+            case.now.body) }
+        ensures same { Same scope.old scope.new }
+        ensures named { scope.new.named ≡ named_behind self.now case.now.body scope.old.named }
+        ensures counted { Counted scope.old scope.new (block_changes case.now.body) }
+        ensures indent { indent.new ≡ indent.old }
+    {
+        if !case.fall_through {
+            self.write_group(alloc, waiting, case.value, &case.body, scope, indent, out);
+        }
+    }
+
+    /// The labels of these cases and the last one, and the block that they are for.
+    #[cycle(statement)]
+    #[tactic(auto, using(naga_words::proofs::Writing::writes_then, crate::proofs::SwitchRows::group_row))]
+    fn write_group<W: TextSink>(
+        &self,
+        alloc: Global,
+        waiting: &[SwitchCase],
+        value: SwitchValue,
+        body: &Block,
+        scope: &mut Scope,
+        indent: &mut Indent,
+        out: &mut Output<'_, W>,
+    )
+        requires can { CanWrite self.now }
+        requires size { length scope.old.table ≡ length self.now.function.now.expressions }
+        requires body { CanWriteBlock self.now body.now }
+        requires room { HasRoom scope.old (block_changes body.now) }
+        ensures text { Writes W.text W.failures out.old out.new
+            (group_text self.now scope.old.named (handles_in self.now scope.old.table)
+            indent.old (labels_of waiting.now) (label_form value) body.now) }
+        ensures same { Same scope.old scope.new }
+        ensures named { scope.new.named ≡ named_behind self.now body.now scope.old.named }
+        ensures counted { Counted scope.old scope.new (block_changes body.now) }
+        ensures indent { indent.new ≡ indent.old }
+    {
+        out.put(indent.as_str());
+        write_group_start(waiting, value, out);
+        out.put(" {\n");
+        self.write_inner(alloc, body, scope, indent, out);
+        write_line_start(indent, "}\n", out);
+    }
+}
+
+/// From which case on labels wait behind the case with this number, in front of which those from
+/// the first one on wait.
+fn first_waiting(case: &SwitchCase, first: usize, index: usize) -> usize
+    requires { index < usize.MAX }
+    ensures { result ≡ (if case.now.fall_through then first else index + 1) }
+{
+    if case.fall_through { first } else { index + 1 }
+}
+
+/// Whether it is the default, and no other label stands with it.
+#[tactic(auto, using(crate::proofs::SwitchRows::alone_row, crate::proofs::SwitchRows::signed_other, crate::proofs::SwitchRows::unsigned_other))]
+fn is_default_alone(waiting: &[SwitchCase], value: SwitchValue) -> bool
+    ensures { result ≡ stands_alone (labels_of waiting.now) (label_form value) }
+{
+    match value {
+        SwitchValue::Default => waiting.is_empty(),
+        SwitchValue::I32(_) => false,
+        SwitchValue::U32(_) => false,
+    }
+}
+
+/// The labels of a group up to the colon. A default that stands alone has no `case`.
+fn write_group_start<W: TextSink>(
+    waiting: &[SwitchCase],
+    value: SwitchValue,
+    out: &mut Output<'_, W>,
+)
+    ensures { Writes W.text W.failures out.old out.new
+        (group_start (labels_of waiting.now) (label_form value)) }
+{
+    if is_default_alone(waiting, value) {
+        out.put("default:");
+        return;
+    }
+    out.put("case ");
+    write_waiting(waiting, out);
+    write_label(value, out);
+    out.put(":");
+}
+
+/// The labels of these cases, each with what stands between it and the next one.
+#[tactic(auto, using(naga_words::proofs::Writing::loop_writes, crate::proofs::SwitchRows::waiting_more, crate::proofs::SwitchRows::waiting_none))]
+fn write_waiting<W: TextSink>(waiting: &[SwitchCase], out: &mut Output<'_, W>)
+    ensures { Writes W.text W.failures out.old out.new (waiting_text (labels_of waiting.now)) }
+{
+    for case in waiting {
+        write_label(case.value, out);
+        out.put(", ");
+    }
+}
+
+/// A label. A signed number has no suffix.
+#[tactic(auto, using(crate::proofs::SwitchRows::signed_row, crate::proofs::SwitchRows::unsigned_row, crate::proofs::SwitchRows::default_label_row))]
+fn write_label<W: TextSink>(value: SwitchValue, out: &mut Output<'_, W>)
+    ensures { Writes W.text W.failures out.old out.new (label_text (label_form value)) }
+{
+    match value {
+        SwitchValue::I32(number) => write_number(number, "", out),
+        SwitchValue::U32(number) => write_number(number, "u", out),
+        SwitchValue::Default => out.put("default"),
+    }
+}

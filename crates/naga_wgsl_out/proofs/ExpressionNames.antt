@@ -1,0 +1,83 @@
+-- What a namer that goes on with the labels of a function knows of them.
+use Rattle.std.proofs.Common.{◌≡◌, ◌+◌, ◌<◌, ◌∙◌, ◌++◌, ℕ, List, [], ◌∷◌, Some}
+use Rattle.std.proofs.Common.{None, Option, append-nil, append_assoc, ap, length, refl}
+use Rattle.std.proofs.Common.{Bool, slice_get, subst, sym, take}
+use Rattle.std.specs.Option.{option_map_or}
+use Rattle.std.proofs.lemmas.List.Concat.{flat_map-append}
+use Rattle.std.proofs.lemmas.List.{take_more}
+use Rattle.std.proofs.lemmas.Option.{get_or_from_slice_get, none-some}
+use Rattle.naga_names.proofs.Refusal.{element}
+use Rattle.naga_ir.specs.declared.module.Function.{Function}
+use Rattle.naga_ir.specs.declared.module.Module.{Module}
+use Rattle.naga_names.specs.Naming.{HasNamed, Names}
+use Rattle.module_meaning.specs.ExpressionLabels.{expression_labels}
+use Rattle.module_meaning.specs.ExpressionLabels.{all_expression_labels}
+use Rattle.module_meaning.specs.Names.{expression_name, item_labels, labels_before}
+use Rattle.module_meaning.specs.Names.{labels_named_in}
+use Rattle.naga_scope.specs.ExpressionNames.{NamesLabels}
+use Rattle.naga_scope.specs.Plans.{AreExpressionNames, IsPlanOf, Planned}
+use Rattle.naga_info.specs.declared.info.ModuleInfo.{ModuleInfo}
+use Rattle.naga_wgsl_fns.specs.Refusals.{ExpressionNamesAreFullIn}
+use Rattle.naga_wgsl_fns.proofs.ExpressionNames.{named_are, none_full as none_full_behind}
+use Rattle.naga_wgsl_out.specs.ModuleRefusals.{HasNamedBefore}
+use Rattle.naga_wgsl_out.specs.Writing.{IsNamedPlan}
+
+module _ (m : Module) where
+  -- the labels in front of the next function
+  next_before : (g : ℕ) → g < length m.functions →
+      labels_before m g ++ labels_named_in m g ≡ labels_before m (g + 1)
+  next_before g lt =
+      let items = item_labels m in
+      let front = all_expression_labels (take g m.functions) in
+      let one = one_function in
+      append_assoc items front (labels_named_in m g) ∙ ap (λ ls. items ++ ls) one
+    where
+      one_function : all_expression_labels (take g m.functions) ++ labels_named_in m g ≡ all_expression_labels (take (g + 1) m.functions)
+      one_function = by (slice_get m.functions g) refl
+        where
+          by : (o : Option Function) → slice_get m.functions g ≡ o →
+              all_expression_labels (take g m.functions) ++ option_map_or expression_labels o [] ≡ all_expression_labels (take (g + 1) m.functions)
+          by (Some f) at =
+              let here = sym (get_or_from_slice_get m.functions g f f at) in
+              ap (λ ls. all_expression_labels (take g m.functions) ++ ls) (sym (append-nil (expression_labels f)))
+              ∙ (sym (flat_map-append expression_labels (take g m.functions) (f ∷ []))
+              ∙ ap all_expression_labels (ap (λ q. take g m.functions ++ q ∷ []) here ∙ sym (take_more m.functions g f lt)))
+          by None at = absurd (none-some (element m.functions g lt).0 (sym at ∙ (element m.functions g lt).1))
+
+  -- a plan with its names
+  pub named_plan : (explicit : Bool) (info : ModuleInfo) (g : ℕ) (old new : Names)
+      (planned : Planned) → g < length m.functions → HasNamedBefore m g old →
+      IsPlanOf explicit m info g planned →
+      NamesLabels old [] (labels_named_in m g) new planned.named →
+      IsNamedPlan explicit m info g new planned
+  unfolding expression_name
+  named_plan explicit info g old new planned lt before plan n = record {
+    plan = plan;
+    names = names;
+    namer_is = record {
+      words = n.words ∙ ap (λ (o : Names). record o { uses = new.uses }) before.words;
+      labels = subst (HasNamed new) (next_before g lt) (n.labels_named (labels_before m g) before.labels);
+    };
+  }
+    where
+      names : AreExpressionNames m g planned.named
+      names k =
+          named_are m g (labels_before m g) old before.words planned.named
+          (n.names (labels_before m g) before.labels) k
+
+  -- behind which none of its labels is full
+  pub none_full : (g : ℕ) (namer : Names) → g < length m.functions → HasNamedBefore m (g + 1) namer →
+      ExpressionNamesAreFullIn m (labels_before m g) g → ⊥
+  none_full g namer lt before full =
+      none_full_behind m g (labels_before m g) namer before.words
+      (subst (HasNamed namer) (sym (next_before g lt)) before.labels) full
+
+  -- nor is one of a function that is not there
+  pub none_past : (g : ℕ) → slice_get m.functions g ≡ None → ExpressionNamesAreFullIn m (labels_before m g) g → ⊥
+  none_past g past full =
+      no_label full.named full.label full.left (sym (ap (λ o. option_map_or expression_labels o []) past) ∙ full.all)
+    where
+      no_label : (named : List (List ℕ)) (label : List ℕ) (left : List (List ℕ)) →
+          [] ≡ named ++ label ∷ left → ⊥
+      no_label [] label left e = absurd cc
+      no_label (x ∷ named) label left e = absurd cc

@@ -1,0 +1,378 @@
+-- Texts in segments, written one behind another to an output, and what a want then says of them.
+use Rattle.std.proofs.Common.{◌≡◌, ℕ, ◌<◌, true, false, Bool, List, [], ◌∷◌, ◌++◌}
+use Rattle.std.proofs.Common.{Option, Some, None, append_assoc, refl, sym, ap, subst, ◌∙◌}
+use Rattle.std.specs.Option.{is_some}
+use Rattle.std.proofs.lemmas.List.{append-nil}
+use Rattle.naga_words.specs.Output.{Follows, Goes, IsReason, Lies, SegmentsFollow, SegmentsGo}
+use Rattle.naga_words.specs.Output.{SegmentsLie}
+use Rattle.naga_words.specs.Output.{OutputView, SpelledSegments}
+use Rattle.naga_words.specs.Output.{Wrote}
+use Rattle.naga_words.proofs.Writing.{behind_first, behind_then}
+use Rattle.naga_words.specs.Segments.{Segment, Word, Shown, Missing, IsRefused, lacks}
+use Rattle.naga_words.specs.Segments.{before_missing}
+use Rattle.naga_words.specs.Segments.{IsText, NoSegments, WordThen, ShownThen, HasWritten, HasBegun}
+use Rattle.naga_words.specs.declared.error.TypeTextError.{TypeTextError}
+use Rattle.naga_words.specs.declared.error.TypeTextError.TheVariants.{Sink, Memory, NoForm}
+use Rattle.naga_words.specs.declared.sink.SinkError.TheVariants.{Failed, Memory as SinkMemory}
+
+-- ---- texts of segments
+text_append : {ps qs : List Segment} {s t : List ℕ} → IsText ps s → IsText qs t
+    → IsText (ps ++ qs) (s ++ t)
+text_append NoSegments q = q
+text_append {t = t} (WordThen w {bytes = b} p) q =
+    rw (append_assoc w b t) (WordThen w (text_append p q))
+text_append {t = t} (ShownThen d {bytes = b} p) q =
+    rw (append_assoc d b t) (ShownThen d (text_append p q))
+
+-- what has a text lacks nothing
+before_written : {ps : List Segment} {s : List ℕ} (qs : List Segment) → IsText ps s
+    → before_missing (ps ++ qs) ≡ ps ++ before_missing qs
+before_written qs NoSegments = refl
+before_written qs (WordThen w {segments = ps} p) = ap (λ v. Word w ∷ v) (before_written qs p)
+before_written qs (ShownThen d {segments = ps} p) = ap (λ v. Shown ∷ v) (before_written qs p)
+
+-- some text of what stands before the first segment that is refused
+some_text : (ps : List Segment) → (s : List ℕ) × IsText (before_missing ps) s
+some_text [] = ([], NoSegments)
+some_text (Word w ∷ ps) = let r = some_text ps in (w ++ r.0, WordThen w r.1)
+some_text (Shown ∷ ps) = let r = some_text ps in ([] ++ r.0, ShownThen [] r.1)
+some_text (Missing ∷ ps) = ([], NoSegments)
+
+-- more segments behind what was begun
+begun_more_text : (ps qs : List Segment) (s : List ℕ) → IsText (before_missing ps) s
+    → (t : List ℕ) × IsText (before_missing (ps ++ qs)) (s ++ t)
+begun_more_text [] qs s NoSegments = some_text qs
+begun_more_text (Word w ∷ ps) qs s (WordThen _ {bytes = b} p) =
+    let r = begun_more_text ps qs b p in (r.0, rw (append_assoc w b r.0) (WordThen w r.1))
+begun_more_text (Shown ∷ ps) qs s (ShownThen d {bytes = b} p) =
+    let r = begun_more_text ps qs b p in (r.0, rw (append_assoc d b r.0) (ShownThen d r.1))
+begun_more_text (Missing ∷ ps) qs s NoSegments = ([], NoSegments)
+
+-- segments were written, and then others
+segments_then : (ps qs : List Segment) (a b c : List ℕ) → HasWritten ps a b → HasWritten qs b c
+    → HasWritten (ps ++ qs) a c
+segments_then ps qs a b c p q = record {
+  text = p.text ++ q.text;
+  is_text = text_append p.is_text q.is_text;
+  behind = q.behind ∙ (ap (λ v. v ++ q.text) p.behind ∙ append_assoc a p.text q.text);
+}
+
+-- segments were written, and then a beginning of others
+segments_then_fail : (ps qs : List Segment) (a b c : List ℕ) → HasWritten ps a b → HasBegun qs b c
+    → HasBegun (ps ++ qs) a c
+segments_then_fail ps qs a b c p q = record {
+  whole = p.text ++ q.whole;
+  is_text = rw (before_written qs p.is_text) (text_append p.is_text q.is_text);
+  behind = behind_then a p.text b q.whole c p.behind q.behind;
+}
+
+-- a beginning of segments is one of these and more
+segments_fail : (ps qs : List Segment) (a b : List ℕ) → HasBegun ps a b → HasBegun (ps ++ qs) a b
+segments_fail ps qs a b p = let r = begun_more_text ps qs p.whole p.is_text in record {
+  whole = p.whole ++ r.0;
+  is_text = r.1;
+  behind = behind_first a p.whole b r.0 p.behind;
+}
+
+-- what is written is begun
+begun_all : (ps : List Segment) (a b : List ℕ) → HasWritten ps a b → HasBegun ps a b
+begun_all ps a b p = record {
+  whole = p.text;
+  is_text =
+      rw (sym (append-nil ps)) (rw (before_written [] p.is_text) (rw (append-nil ps) p.is_text));
+  behind = (p.text, [], sym (append-nil p.text), p.behind);
+}
+
+-- nothing is a beginning
+pub begun_at_once : (ps : List Segment) (a : List ℕ) → HasBegun ps a a
+begun_at_once ps a =
+    let r = some_text ps in
+    record { whole = r.0; is_text = r.1; behind = ([], r.0, refl, sym (append-nil a)) }
+
+-- what lacks a segment at its front, and what lacks one behind
+lacks_before : (ps qs : List Segment) → lacks ps ≡ true → lacks (ps ++ qs) ≡ true
+lacks_before [] qs h = cc
+lacks_before (Word w ∷ ps) qs h = lacks_before ps qs h
+lacks_before (Shown ∷ ps) qs h = lacks_before ps qs h
+lacks_before (Missing ∷ ps) qs h = refl
+
+lacks_behind : (ps qs : List Segment) → lacks qs ≡ true → lacks (ps ++ qs) ≡ true
+lacks_behind [] qs h = h
+lacks_behind (Word w ∷ ps) qs h = lacks_behind ps qs h
+lacks_behind (Shown ∷ ps) qs h = lacks_behind ps qs h
+lacks_behind (Missing ∷ ps) qs h = refl
+
+-- ---- a row of segments, written to an output
+-- a reason of one kind is one of another
+pub reason_as : {one other : Type 0} (f : one → other) (failed failures : ℕ) (e : TypeTextError)
+    → IsReason one failed failures e → IsReason other failed failures e
+reason_as f failed failures (Sink Failed) reason = reason
+reason_as f failed failures (Sink (SinkMemory a)) reason = reason
+reason_as f failed failures (Memory a) reason = reason
+reason_as f failed failures NoForm reason = f reason
+
+module _ (refuses : Bool) (before after : OutputView) where
+  module _ (middle : OutputView) (ps qs : List Segment) where
+    -- the second segments, where the first stand whole
+    after_whole : (want : Option TypeTextError) → HasWritten ps before.content middle.content
+        → middle.failures ≡ before.failures → SegmentsLie refuses qs middle after want
+        → SegmentsLie refuses (ps ++ qs) before after want
+    after_whole None w kept stand =
+        (segments_then ps qs before.content middle.content after.content w stand.0, stand.1 ∙ kept)
+    after_whole (Some want) w kept stand = (
+      segments_then_fail ps qs before.content middle.content after.content w stand.0,
+      reason_as (λ r. (r.0, lacks_behind ps qs r.1)) before.failures after.failures want
+          (subst (λ n. IsReason (IsRefused refuses qs) n after.failures want) kept stand.1),
+    )
+
+    -- and where a beginning of the first does
+    after_segment : (want : TypeTextError) → SegmentsLie refuses ps before middle (Some want)
+        → SegmentsLie refuses (ps ++ qs) before middle (Some want)
+    after_segment want stand = (
+      segments_fail ps qs before.content middle.content stand.0,
+      reason_as (λ r. (r.0, lacks_before ps qs r.1)) before.failures middle.failures want stand.1,
+    )
+
+    after_middle : (want : Option TypeTextError) → want ≡ middle.want
+        → SegmentsLie refuses ps before middle want → SegmentsFollow want refuses qs middle after
+        → SegmentsLie refuses (ps ++ qs) before after after.want
+    after_middle None is stand follow = after_whole after.want stand.0 stand.1 follow
+    after_middle (Some want) is stand follow =
+        subst (λ (s : OutputView). SegmentsLie refuses (ps ++ qs) before s s.want) (sym follow)
+        (subst (λ o. SegmentsLie refuses (ps ++ qs) before middle o) is (after_segment want stand))
+
+    follow_then : (want : Option TypeTextError) → want ≡ before.want
+        → SegmentsFollow want refuses ps before middle
+        → SegmentsFollow middle.want refuses qs middle after
+        → SegmentsFollow want refuses (ps ++ qs) before after
+    follow_then None is first more = after_middle middle.want refl first more
+    follow_then (Some want) is first more =
+        let stays : SegmentsFollow (Some want) refuses qs middle after =
+        subst (λ o. SegmentsFollow o refuses qs middle after)
+        (ap (λ (s : OutputView). s.want) first ∙ sym is)
+        more in
+        stays ∙ first
+
+  -- a text that is one segment
+  module _ (segment : Segment) (text : List ℕ) (is_text : IsText (segment ∷ []) (text ++ []))
+      (known : before_missing (segment ∷ []) ≡ segment ∷ []) where
+    stands : (want : Option TypeTextError)
+        → Lies before.content before.failures text after.content after.failures want
+        → SegmentsLie refuses (segment ∷ []) before after want
+    stands None lies = (
+      record {
+        text = text ++ [];
+        is_text = is_text;
+        behind = lies.0 ∙ ap (λ t. before.content ++ t) (sym (append-nil text));
+      },
+      lies.1,
+    )
+    stands (Some want) lies = (
+      record {
+        whole = text ++ [];
+        is_text = subst (λ ps. IsText ps (text ++ [])) (sym known) is_text;
+        behind = behind_first before.content text after.content [] lies.0;
+      },
+      reason_as (λ none. absurd none) before.failures after.failures want lies.1,
+    )
+
+    follow_one : (want : Option TypeTextError) → Follows want before text after
+        → SegmentsFollow want refuses (segment ∷ []) before after
+    follow_one None follows = stands after.want follows
+    follow_one (Some want) follows = follows
+
+pub spells_then : {refuses : Bool} {before middle after : OutputView} {ps qs : List Segment}
+    → SpelledSegments refuses before middle ps → SpelledSegments refuses middle after qs
+    → SpelledSegments refuses before after (ps ++ qs)
+unfolding SegmentsGo
+spells_then {refuses} {before} {middle} {after} {ps} {qs} w v = record {
+  goes = (
+    follow_then refuses before after middle ps qs before.want refl w.goes.0 v.goes.0,
+    v.goes.1 ∙ w.goes.1,
+  );
+}
+
+-- what is never refused
+pub spells_any : {refuses : Bool} {before after : OutputView} {segments : List Segment}
+    → SpelledSegments false before after segments → SpelledSegments refuses before after segments
+unfolding SegmentsGo
+spells_any {refuses} {before} {after} {segments} w =
+    record { goes = (by before.want w.goes.0, w.goes.1) }
+  where
+    on : (want : Option TypeTextError) → SegmentsLie false segments before after want
+        → SegmentsLie refuses segments before after want
+    on None stand = stand
+    on (Some want) stand = (
+      stand.0,
+      reason_as (λ r. absurd (none r.0)) before.failures after.failures want stand.1,
+    )
+      where
+        none : false ≡ true → ⊥
+        none e = cc
+
+    by : (want : Option TypeTextError) → SegmentsFollow want false segments before after
+        → SegmentsFollow want refuses segments before after
+    by None follow = on after.want follow
+    by (Some want) follow = follow
+
+-- a word, or a debug text
+pub spells_word : {refuses : Bool} {before after : OutputView} {word : List ℕ} → Wrote before after word
+    → SpelledSegments refuses before after (Word word ∷ [])
+unfolding SegmentsGo Goes
+spells_word {refuses} {before} {after} {word} w = record {
+  goes = (
+    follow_one refuses before after (Word word) word (WordThen word NoSegments) refl before.want
+        w.goes.0,
+    w.goes.1,
+  );
+}
+
+pub spells_shown : {refuses : Bool} {before after : OutputView} {debug : List ℕ}
+    → Wrote before after debug → SpelledSegments refuses before after (Shown ∷ [])
+unfolding SegmentsGo Goes
+spells_shown {refuses} {before} {after} {debug} w = record {
+  goes = (
+    follow_one refuses before after Shown debug (ShownThen debug NoSegments) refl before.want
+        w.goes.0,
+    w.goes.1,
+  );
+}
+
+-- and then other segments
+pub spells_word_then : {refuses : Bool} {before middle after : OutputView} {word : List ℕ}
+    {segments : List Segment} → Wrote before middle word →
+    SpelledSegments refuses middle after segments
+    → SpelledSegments refuses before after (Word word ∷ segments)
+spells_word_then {refuses} {before} {middle} {after} {word} w v =
+    let first : SpelledSegments refuses before middle (Word word ∷ []) = spells_word w in
+    spells_then first v
+
+pub spells_shown_then : {refuses : Bool} {before middle after : OutputView} {debug : List ℕ}
+    {segments : List Segment} → Wrote before middle debug →
+    SpelledSegments refuses middle after segments
+    → SpelledSegments refuses before after (Shown ∷ segments)
+spells_shown_then {refuses} {before} {middle} {after} w v =
+    let first : SpelledSegments refuses before middle (Shown ∷ []) = spells_shown w in
+    spells_then first v
+
+-- nothing is written
+pub spells_nothing : {refuses : Bool} (before : OutputView) →
+    SpelledSegments refuses before before []
+unfolding SegmentsGo
+spells_nothing {refuses} before = record { goes = (by before.want refl, refl) }
+  where
+    by : (want : Option TypeTextError) → want ≡ before.want
+        → SegmentsFollow want refuses [] before before
+    by None is = subst (λ o. SegmentsLie refuses [] before before o) is
+        (record { text = []; is_text = NoSegments; behind = sym (append-nil before.content) }, refl)
+    by (Some want) is = refl
+
+-- behind a want all segments are written
+pub spells_no_more : {refuses : Bool} (before : OutputView) (segments : List Segment)
+    → is_some before.want ≡ true → SpelledSegments refuses before before segments
+unfolding SegmentsGo
+spells_no_more {refuses} before segments some = record { goes = (by before.want some, refl) }
+  where
+    by : (want : Option TypeTextError) → is_some want ≡ true
+        → SegmentsFollow want refuses segments before before
+    by None some = absurd (cc)
+    by (Some want) some = refl
+
+-- ---- a call that writes to the sink of an output without a want
+stands_so : (refuses : Bool) (before after : OutputView) (segments : List Segment)
+    → is_some before.want ≡ false → after.sink ≡ before.sink
+    → SegmentsLie refuses segments before after after.want →
+    SpelledSegments refuses before after segments
+unfolding SegmentsGo
+stands_so refuses before after segments fresh same stand =
+    record { goes = (by before.want fresh, same) }
+  where
+    by : (want : Option TypeTextError) → is_some want ≡ false
+        → SegmentsFollow want refuses segments before after
+    by None none = stand
+    by (Some want) none = absurd (cc)
+
+pub spells_answered : {refuses : Bool} {before after : OutputView} {segments : List Segment}
+    → is_some before.want ≡ false → after.sink ≡ before.sink
+    → HasWritten segments before.content after.content → after.failures ≡ before.failures
+    → after.want ≡ before.want → SpelledSegments refuses before after segments
+spells_answered {refuses} {before} {after} {segments} fresh same w kept want =
+    stands_so refuses before after segments fresh same
+    (subst (λ o. SegmentsLie refuses segments before after o) (sym (want ∙ none before.want fresh))
+    (w, kept))
+  where
+    none : (o : Option TypeTextError) → is_some o ≡ false → o ≡ None
+    none None is = refl
+    none (Some want) is = absurd (cc)
+
+pub spells_wanting : {refuses : Bool} {before after : OutputView} {segments : List Segment} (e : TypeTextError)
+    → is_some before.want ≡ false → after.sink ≡ before.sink → after.want ≡ Some e
+    → HasBegun segments before.content after.content
+    → (e ≡ NoForm → IsRefused refuses segments)
+    → (e ≡ Sink Failed → before.failures < after.failures) →
+    SpelledSegments refuses before after segments
+spells_wanting {refuses} {before} {after} {segments} e fresh same is begun form failure =
+    stands_so refuses before after segments fresh same
+    (subst (λ o. SegmentsLie refuses segments before after o) (sym is) (begun, by e form failure))
+  where
+    by : (e : TypeTextError) → (e ≡ NoForm → IsRefused refuses segments)
+        → (e ≡ Sink Failed → before.failures < after.failures)
+        → IsReason (IsRefused refuses segments) before.failures after.failures e
+    by (Sink Failed) form failure = failure refl
+    by (Sink (SinkMemory a)) form failure = tt
+    by (Memory a) form failure = tt
+    by NoForm form failure = form refl
+
+-- ---- an output that had no want at first
+from_fresh : (refuses : Bool) (start now : OutputView) (segments : List Segment)
+    → SpelledSegments refuses start now segments → start.want ≡ None → (want : Option TypeTextError)
+    → now.want ≡ want
+    → SegmentsLie refuses segments start now want
+unfolding SegmentsGo
+from_fresh refuses start now segments w fresh want is =
+    let follow : SegmentsFollow None refuses segments start now =
+    subst (λ o. SegmentsFollow o refuses segments start now) fresh w.goes.0 in
+    subst (λ o. SegmentsLie refuses segments start now o) is follow
+
+module _ {refuses : Bool} {start now : OutputView} {segments : List Segment} where
+  pub spelled_whole : SpelledSegments refuses start now segments → start.want ≡ None →
+      now.want ≡ None
+      → HasWritten segments start.content now.content
+  spelled_whole w fresh none = (from_fresh refuses start now segments w fresh None none).0
+
+  pub spelled_segment : SpelledSegments refuses start now segments → start.want ≡ None
+      → HasBegun segments start.content now.content
+  spelled_segment w fresh =
+      by now.want (from_fresh refuses start now segments w fresh now.want refl)
+    where
+      by : (want : Option TypeTextError) → SegmentsLie refuses segments start now want
+          → HasBegun segments start.content now.content
+      by None stand = begun_all segments start.content now.content stand.0
+      by (Some want) stand = stand.0
+
+  pub spelled_kept : SpelledSegments refuses start now segments → start.want ≡ None →
+      now.want ≡ None
+      → now.failures ≡ start.failures
+  spelled_kept w fresh none = (from_fresh refuses start now segments w fresh None none).1
+
+  pub spelled_refused : SpelledSegments refuses start now segments → start.want ≡ None
+      → now.want ≡ Some NoForm → IsRefused refuses segments
+  spelled_refused w fresh some =
+      (from_fresh refuses start now segments w fresh (Some NoForm) some).1
+
+  pub spelled_failed : SpelledSegments refuses start now segments → start.want ≡ None
+      → now.want ≡ Some (Sink Failed) → start.failures < now.failures
+  spelled_failed w fresh some =
+      (from_fresh refuses start now segments w fresh (Some (Sink Failed)) some).1
+
+  pub spelled_sink : SpelledSegments refuses start now segments → now.sink ≡ start.sink
+  unfolding SegmentsGo
+  spelled_sink w = w.goes.1
+
+pub ruleset rows =
+    (spells_then, spells_word_then, spells_shown_then, spells_word, spells_shown, spells_any)
+
+pub ruleset lent = (spells_no_more, spells_answered, spells_wanting)
+
+pub ruleset outcomes =
+    (spelled_whole, spelled_segment, spelled_kept, spelled_refused, spelled_failed, spelled_sink)
