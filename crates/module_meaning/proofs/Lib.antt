@@ -1,3 +1,4 @@
+mod StageBindingExamples
 mod StatementExamples
 pub mod AgreementExamples
 pub mod AlikeExamples
@@ -5,6 +6,8 @@ pub mod AlikeTypes
 pub mod BindingCounts
 pub mod ExpressionShapes
 pub mod Fitting
+pub mod Interface
+mod InterfaceExamples
 pub mod Lists
 pub mod ModuleShapeExamples
 pub mod ModuleShapes

@@ -23,7 +23,7 @@ use Rattle.module_meaning.proofs.WrittenSoFar.{written_so_far_parts}
 use Rattle.shader_runs.specs.Program.{Module}
 
 -- ---- modules
-nothing_there : {X : Type 0} (xs : List X) → (length xs == 0) ≡ true → xs ≡ []
+pub nothing_there : {X : Type 0} (xs : List X) → (length xs == 0) ≡ true → xs ≡ []
 nothing_there xs is = nil_from_length xs (eqb-true (length xs) 0 is)
 
 -- none of these has a name

@@ -32,6 +32,7 @@ pub mod Sampling
 pub mod ShapeKinds
 pub mod Shapes
 pub mod Soundness
+pub mod StageBindings
 pub mod StatementForms
 pub mod StatementShapes
 pub mod StatementsFit

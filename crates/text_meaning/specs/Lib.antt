@@ -1,4 +1,5 @@
 pub mod Abstraction
+pub mod Attributes
 pub mod Bindings
 pub mod Interface
 pub mod Literals
