@@ -30,6 +30,11 @@ use Rattle.module_meaning.specs.WrittenSoFar.{type_is_written_so_far}
 use Rattle.module_meaning.proofs.ModuleShapes.{nothing_there}
 use Rattle.module_meaning.proofs.WrittenSoFar.{written_so_far_parts}
 
+-- nothing, where a test fails
+none_where : {Y : Type 0} (b : Bool) (y : Y) → b ≡ false → (if b then Some y else None) ≡ None
+none_where true y is = absurd cc
+none_where false y is = refl
+
 -- ---- structs
 -- such a type is no struct that a text declares
 none_declared : (it : TypeInner) (undeclared extended : Bool) →
@@ -46,23 +51,20 @@ no_structs names t m h [] all = refl
 no_structs names t m h (u ∷ ts) all =
     let parts = and_parts (type_is_written_so_far m h u) _ all in
     let none = none_declared u.inner (is_undeclared m.special_types h) (is_extended_struct u.inner) parts.0 in
-    ap₂ cons_option (struct_none none) (no_structs names t m (h + 1) ts parts.1)
-  where
-    struct_none : (is_struct u.inner && not (is_undeclared m.special_types h)) ≡ false → struct_interface names t m (h, u) ≡ None
-    struct_none none = ap (λ b. if b then _ else None) none
+    ap₂ cons_option (none_where _ _ none) (no_structs names t m (h + 1) ts parts.1)
 
 -- ---- constants
+not_named : {X : Type 0} (name : Option X) → is_none name ≡ true → is_some name ≡ false
+not_named None none = refl
+not_named (Some name) none = absurd cc
+
 no_constants : (names : NameMap) (t : TypeNames) (value : ℕ → Option Value) (h : ℕ)
     (cs : List Constant) → list_all (λ c. is_none c.name) cs ≡ true →
     filter_map (constant_interface names t value) (enumerate_from h cs) ≡ []
 no_constants names t value h [] all = refl
 no_constants names t value h (c ∷ cs) all =
     let parts = and_parts (is_none c.name) (list_all (λ c. is_none c.name) cs) all in
-    ap₂ cons_option (constant_none c.name parts.0) (no_constants names t value (h + 1) cs parts.1)
-  where
-    constant_none : {X Y : Type 0} {y : Y} (name : Option X) → is_none name ≡ true → (if is_some name then Some y else None) ≡ None
-    constant_none None none = refl
-    constant_none (Some name) none = absurd cc
+    ap₂ cons_option (none_where _ _ (not_named c.name parts.0)) (no_constants names t value (h + 1) cs parts.1)
 
 -- ---- modules
 -- nothing but functions

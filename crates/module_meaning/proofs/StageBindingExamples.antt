@@ -20,8 +20,8 @@ use Rattle.module_meaning.specs.StageBindings.{stage_binding}
 
 -- what a test tells apart is not the same
 pub differ : {X : Type 0} (test : X → Bool) (x y : X) → test x ≡ true → test y ≡ false → x ≢ y
-differ test x y yes no e =
-    let clash : true ≡ false = sym yes ∙ ap test e ∙ no in
+differ test x y passes fails e =
+    let clash : true ≡ false = sym passes ∙ ap test e ∙ fails in
     cc
 
 -- the attributes say what the binding says
