@@ -3,7 +3,7 @@
 -- Throughout, m is a module, info what is known of it, names are those of its items, t its types with
 -- their names, h a handle, ts are types and cs constants.
 use Rattle.std.proofs.Common.{◌≡◌, ◌&&◌, ◌||◌, ◌+◌, ◌==◌, ℕ, Bool, true, false, not, List, [], ◌∷◌}
-use Rattle.std.proofs.Common.{Option, Some, None, length, map, refl, ap, ap₂, ◌∙◌}
+use Rattle.std.proofs.Common.{Option, Some, None, length, map, refl, ap₂}
 use Rattle.std.specs.Prelude.{IsTrue, if◌then◌else◌}
 use Rattle.std.specs.List.{cons_option, enumerate_from, filter_map, list_all}
 use Rattle.std.specs.Option.{is_none, is_some}

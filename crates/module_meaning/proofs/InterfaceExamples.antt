@@ -9,7 +9,6 @@ use Rattle.indexmap.specs.IndexMap.{with_entries}
 use Rattle.naga_ir.specs.declared.binding.Binding as ir_binding
 use Rattle.naga_ir.specs.declared.binding.Binding.TheVariants as binding
 use Rattle.naga_ir.specs.declared.binding.BuiltIn.TheVariants as builtin
-use Rattle.naga_ir.specs.declared.binding.Interpolation.TheVariants as interpolation
 use Rattle.naga_ir.specs.declared.expression.Expression.TheVariants as expression
 use Rattle.naga_ir.specs.declared.expression.Literal.TheVariants as literal
 use Rattle.naga_ir.specs.declared.module.Constant as ir_constant
@@ -17,14 +16,12 @@ use Rattle.naga_ir.specs.declared.module.EntryPoint as ir_entry_point
 use Rattle.naga_ir.specs.declared.module.Function as ir_function
 use Rattle.naga_ir.specs.declared.module.FunctionArgument.{FunctionArgument}
 use Rattle.naga_ir.specs.declared.module.GlobalVariable as ir_global
-use Rattle.naga_ir.specs.declared.module.LocalVariable.{LocalVariable}
 use Rattle.naga_ir.specs.declared.module.Module as ir_module
 use Rattle.naga_ir.specs.declared.module.Override as ir_override
 use Rattle.naga_ir.specs.declared.module.ShaderStage.{ShaderStage}
 use Rattle.naga_ir.specs.declared.module.ShaderStage.TheVariants as stages
 use Rattle.naga_ir.specs.declared.types.AddressSpace.TheVariants as spaces
 use Rattle.naga_ir.specs.declared.types.ArraySize.TheVariants as size
-use Rattle.naga_ir.specs.declared.types.Scalar.{Scalar}
 use Rattle.naga_ir.specs.declared.types.ScalarKind.TheVariants as kind
 use Rattle.naga_ir.specs.declared.types.StructMember as ir_member
 use Rattle.naga_ir.specs.declared.types.Type_.{Type_}
@@ -41,12 +38,12 @@ use Rattle.wgsl_text.specs.Attributes.{Attribute, Plain, Numbered, WorkgroupSize
 use Rattle.wgsl_text.specs.Declarations as tree
 use Rattle.wgsl_text.specs.Declarations.{Program, no_declarations}
 use Rattle.wgsl_text.specs.Expressions.{Expression}
-use Rattle.wgsl_text.specs.Functions.{EntryPoint, NoResult, Result, ResultOf}
+use Rattle.wgsl_text.specs.Functions.{EntryPoint, NoResult}
 use Rattle.wgsl_text.specs.Types.{TypeSpecifier}
 use Rattle.wgsl_text.specs.WorkedTrees as worked
-use Rattle.text_meaning.specs.Attributes.{stage_read, Stage, ComputeStage, MeshStage}
+use Rattle.text_meaning.specs.Attributes.{stage_read, Stage, ComputeStage, MeshStage, BuiltinValue, StageBinding}
 use Rattle.text_meaning.specs.Interface.{Interface, GlobalInterface, MemberInterface, OverrideInterface}
-use Rattle.text_meaning.specs.Interface.{PassedValue, EntryPointInterface, interface_read}
+use Rattle.text_meaning.specs.Interface.{interface_read}
 use Rattle.module_meaning.specs.Interface.{module_interface, stage_of}
 use Rattle.module_meaning.proofs.ModuleShapeExamples.{one}
 use Rattle.module_meaning.proofs.StageBindingExamples.{differ}
@@ -273,16 +270,16 @@ module _ (other : ir_module.Module) (info : ModuleInfo) (label : String Global)
     abbrev u32 : TypeSpecifier
     u32 = worked.named_type "u32"
 
-    abbrev builtin_attribute : Attribute
-    builtin_attribute = worked.worded_attribute attributes.Builtin "position"
+    abbrev position : List Attribute
+    position = worked.worded_attribute attributes.Builtin "position" ∷ []
 
     abbrev s : List tree.StructMember → tree.Struct
     s list = worked.struct "S" list
 
-    abbrev output : tree.Struct
-    output =
+    abbrev output : List Attribute → tree.Struct
+    output list =
         worked.struct "VertexOutput"
-        (worked.member (builtin_attribute ∷ []) "pos" (worked.template_of "vec4" ("f32" ∷ [])) ∷ [])
+        (worked.member list "pos" (worked.template_of "vec4" ("f32" ∷ [])) ∷ [])
 
     abbrev id : ℕ → Attribute
     id n = Numbered attributes.Id n
@@ -309,23 +306,30 @@ module _ (other : ir_module.Module) (info : ModuleInfo) (label : String Global)
         (worked.bound_parameter (worked.worded_attribute attributes.Builtin "vertex_index" ∷ []) "i" u32 ∷ [])
         (worked.gives "VertexOutput") [] [])
 
-    abbrev compute : List Attribute → EntryPoint
-    compute stage =
+    abbrev index : List Attribute
+    index = worked.worded_attribute attributes.Builtin "local_invocation_index" ∷ []
+
+    abbrev compute : (stage bound : List Attribute) → EntryPoint
+    compute stage bound =
         worked.entry_point stage
-        (worked.function "main_1"
-        (worked.bound_parameter (worked.worded_attribute attributes.Builtin "local_invocation_index" ∷ []) "i" u32 ∷ [])
-        NoResult [] [])
+        (worked.function "main_1" (worked.bound_parameter bound "i" u32 ∷ []) NoResult [] [])
 
     abbrev sized : ℕ → List Attribute
     sized n = Plain attributes.Compute ∷ WorkgroupSize n 1 1 ∷ []
 
-    abbrev both : tree.StructMember → List tree.Struct
-    both first = s (first ∷ worked.member [] "fn_" i32 ∷ []) ∷ output ∷ []
+    abbrev with_number : tree.StructMember → List tree.StructMember
+    with_number first = first ∷ worked.member [] "fn_" i32 ∷ []
+
+    abbrev two_numbers : List tree.StructMember
+    two_numbers = with_number (worked.member [] "fract" i32)
+
+    abbrev with_first_member : tree.StructMember → List tree.Struct
+    with_first_member first = s (with_number first) ∷ output position ∷ []
 
     abbrev text : Program
     text =
         record no_declarations {
-          structs = both (worked.member [] "fract" i32);
+          structs = s two_numbers ∷ output position ∷ [];
           constants = worked.constant "N" i32 (worked.integer 7) ∷ [];
           overrides =
               worked.override (id 3 ∷ []) "override_type" u32 None ∷
@@ -334,7 +338,7 @@ module _ (other : ir_module.Module) (info : ModuleInfo) (label : String Global)
           functions =
               worked.function "f" (worked.parameter "x" i32 ∷ []) (worked.gives "i32")
               (worked.local "a" u32 None ∷ []) [] ∷ [];
-          entry_points = vertex ∷ compute (sized 64) ∷ [];
+          entry_points = vertex ∷ compute (sized 64) index ∷ [];
         }
 
     abbrev read : Program → Interface
@@ -362,28 +366,32 @@ module _ (other : ir_module.Module) (info : ModuleInfo) (label : String Global)
     first_member test i = passes (λ st. passes test 0 st.members) 0 i.structs
 
     -- a member under another name, with another type, or with more room than it needs
-    other_member_name : another (record text { structs = both (worked.member [] "fract_" i32) })
+    other_member_name : another (record text { structs = with_first_member (worked.member [] "fract_" i32) })
     unfolding type_segments
     other_member_name = differ (first_member (λ st. bytes_eq st.name (codes "fract_"))) _ _ refl refl
 
-    other_member_type : another (record text { structs = both (worked.member [] "fract" u32) })
+    other_member_type : another (record text { structs = with_first_member (worked.member [] "fract" u32) })
     unfolding type_segments
     other_member_type = differ (first_member (λ st. bytes_eq st.type (codes "u32"))) _ _ refl refl
 
-    sized_member : another (record text { structs = both (worked.member (Numbered attributes.Size 16 ∷ []) "fract" i32) })
+    sized_member : another (record text { structs = with_first_member (worked.member (Numbered attributes.Size 16 ∷ []) "fract" i32) })
     unfolding type_segments
     sized_member = differ (first_member (λ st. is_some st.size)) _ _ refl refl
 
-    -- a member without its binding, a struct left out, and one that WGSL gives
-    position_left_out : another (record text { structs = s [] ∷ worked.struct "VertexOutput" (worked.member [] "pos" i32 ∷ []) ∷ [] })
-    unfolding type_segments
-    position_left_out = differ (λ i. passes (λ st. length st.members == 0) 0 i.structs) _ _ refl refl
+    -- a member that is bound to nothing, a struct left out, and one that no text declares
+    abbrev is_builtin : StageBinding → Bool
+    is_builtin (BuiltinValue word invariant) = true
+    is_builtin _ = false
 
-    struct_left_out : another (record text { structs = output ∷ [] })
+    position_left_out : another (record text { structs = s two_numbers ∷ output [] ∷ [] })
+    unfolding type_segments
+    position_left_out e = differ (λ i. passes (λ st. passes (λ member. is_builtin member.binding) 0 st.members) 1 i.structs) _ _ refl refl (sym e)
+
+    struct_left_out : another (record text { structs = output position ∷ [] })
     unfolding type_segments
     struct_left_out = differ (λ i. length i.structs == 1) _ _ refl refl
 
-    external_struct_declared : another (record text { structs = s [] ∷ output ∷ worked.struct "Params" [] ∷ [] })
+    external_struct_declared : another (record text { structs = s two_numbers ∷ output position ∷ worked.struct "Params" (worked.member [] "pos" u32 ∷ []) ∷ [] })
     unfolding type_segments
     external_struct_declared = differ (λ i. length i.structs == 3) _ _ refl refl
 
@@ -471,12 +479,17 @@ module _ (other : ir_module.Module) (info : ModuleInfo) (label : String Global)
     unfolding type_segments
     other_local = differ (λ i. passes (λ g. passes (bytes_eq (codes "i32")) 0 g.locals) 0 i.functions) _ _ refl refl
 
-    -- an entry point of another size, of another stage, and one left out
-    other_size : another (record text { entry_points = vertex ∷ compute (sized 32) ∷ [] })
+    -- an entry point whose argument is bound to nothing, one of another size, of another stage, and one
+    -- left out
+    argument_unbound : another (record text { entry_points = vertex ∷ compute (sized 64) [] ∷ [] })
+    unfolding type_segments
+    argument_unbound e = differ (λ i. passes (λ p. passes (λ a. is_builtin a.binding) 0 p.function.arguments) 1 i.entry_points) _ _ refl refl (sym e)
+
+    other_size : another (record text { entry_points = vertex ∷ compute (sized 32) index ∷ [] })
     unfolding type_segments
     other_size = differ (λ i. passes (λ p. is_sized 32 p.stage) 1 i.entry_points) _ _ refl refl
 
-    other_stage : another (record text { entry_points = vertex ∷ compute (Plain attributes.Vertex ∷ []) ∷ [] })
+    other_stage : another (record text { entry_points = vertex ∷ compute (Plain attributes.Vertex ∷ []) index ∷ [] })
     unfolding type_segments
     other_stage e = differ (λ i. passes (λ p. is_sized 64 p.stage) 1 i.entry_points) _ _ refl refl (sym e)
 

@@ -8,7 +8,7 @@ use Rattle.naga_ir.specs.declared.binding.Interpolation.{Interpolation}
 use Rattle.naga_ir.specs.declared.binding.Interpolation.TheVariants as interpolation
 use Rattle.naga_ir.specs.declared.binding.Sampling.{Sampling}
 use Rattle.naga_ir.specs.declared.binding.Sampling.TheVariants as sampling
-use Rattle.std.specs.Option.{is_none, is_some, option_map_or}
+use Rattle.std.specs.Option.{is_none, option_map_or}
 use Rattle.std.specs.Prelude.{codes}
 use Rattle.std.specs.Str.{bytes_eq}
 use Rattle.wgsl_text.specs.Attributes.{Attribute, Plain, Numbered, Invariant, PerPrimitive, Location}

@@ -18,8 +18,8 @@ use Rattle.wgsl_text.specs.Requests.{is_request}
 use Rattle.text_meaning.specs.Interface.{interface_read}
 use Rattle.module_meaning.specs.Interface.{module_interface}
 
--- The program declares what the module declares: under all values of overrides of their types, every
--- typed meaning of operators and in every world their interfaces are the same.
+-- The program declares what the module declares: under all values of overrides of their types,
+-- under every typed meaning of operators and in every world both have one interface.
 abbrev pub HasInterfaceOf : Module → ModuleInfo → Program → Type 0
 HasInterfaceOf m info program =
     let shape = module_shape m info in

@@ -4,11 +4,10 @@
 -- names, value tells the value of one of its own expressions, if it has one, and each declaration
 -- goes by its first letter and stands beside its handle: constant, override, global variable,
 -- function, entry point.
-use Rattle.std.specs.Prelude.{ℕ, ◌+◌, Bool, false, ◌&&◌, not, List, [], ◌∷◌, map, Option, Some}
+use Rattle.std.specs.Prelude.{ℕ, ◌+◌, ◌&&◌, not, List, [], ◌∷◌, map, Option, Some}
 use Rattle.std.specs.Prelude.{None, if◌then◌else◌}
 use Rattle.std.specs.List.{enumerate_from, filter_map}
 use Rattle.std.specs.Option.{is_some, option_and_then, option_map}
-use Rattle.naga_ir.specs.declared.flags.MemoryDecorations.{MemoryDecorations}
 use Rattle.naga_ir.specs.declared.module.Constant.{Constant}
 use Rattle.naga_ir.specs.declared.module.EntryPoint.{EntryPoint}
 use Rattle.naga_ir.specs.declared.module.Function as ir_function
@@ -31,7 +30,7 @@ use Rattle.wgsl_words.specs.Words.{space_word, space_access_word}
 use Rattle.shader_runs.specs.Constants.{module_initialiser_value}
 use Rattle.shader_runs.specs.Value.{Value}
 use Rattle.shader_runs.specs.World.{Meaning, Settings}
-use Rattle.text_meaning.specs.Attributes.{ResourceBinding, Stage, VertexStage, FragmentStage}
+use Rattle.text_meaning.specs.Attributes.{Stage, VertexStage, FragmentStage}
 use Rattle.text_meaning.specs.Attributes.{RayGenerationStage, ComputeStage, MeshStage, TaskStage}
 use Rattle.text_meaning.specs.Attributes.{AnyHitStage, ClosestHitStage, MissStage}
 use Rattle.text_meaning.specs.Interface.{ConstantInterface, EntryPointInterface, FunctionInterface}
@@ -41,7 +40,8 @@ use Rattle.module_meaning.specs.ExpressionContexts.{global_tree}
 use Rattle.module_meaning.specs.ModuleShapes.{module_shape}
 use Rattle.module_meaning.specs.Names.{constant_name, function_name, global_name, name_in}
 use Rattle.module_meaning.specs.Names.{override_name}
-use Rattle.module_meaning.specs.StageBindings.{stage_binding, is_coherent_memory, is_volatile_memory}
+use Rattle.module_meaning.specs.StageBindings.{stage_binding, is_coherent_memory}
+use Rattle.module_meaning.specs.StageBindings.{is_volatile_memory}
 use Rattle.module_meaning.specs.Types.{spelled_type}
 use Rattle.module_meaning.specs.Undeclared.{is_undeclared}
 

@@ -1,7 +1,7 @@
--- How values pass in and out of a module's stages, and how the accesses to its variables are ordered,
--- as a text tells it.
+-- How values pass in and out of a module's stages, and how the accesses to its variables are
+-- ordered, as a text tells it.
 --
--- Throughout, b is a binding, d are the decorations of a variable's memory.
+-- Throughout, b is a binding, and d are the decorations of a variable's memory.
 use Rattle.std.specs.Prelude.{ℕ, Bool, false, [], Option, Some, None, ◌==◌}
 use Rattle.std.specs.Int.RustNames.{bit_and}
 use Rattle.std.specs.Option.{option_map_or}

@@ -1,8 +1,9 @@
 -- What attributes say of what they stand on: how a value passes in or out of a stage, how a member
 -- is laid out, the number of an override, where a variable is bound and how its accesses are
--- ordered, and the stage of an entry point. What a text may leave out is told as what it then means.
+-- ordered, and the stage of an entry point. What a text leaves out is told as what it then means.
 --
--- Throughout, n, g and b are numbers, w, i, s and p are words, and l is what is known of a location.
+-- Throughout, n, g and b are numbers, w, i, s and p are words, and l is what is known of a
+-- location.
 use Rattle.std.specs.Prelude.{ℕ, Bool, true, false, List, [], ◌∷◌, Option, Some, None, codes}
 use Rattle.wgsl_text.specs.Attributes.{Attribute, Plain, Numbered, Worded, Interpolated}
 use Rattle.wgsl_text.specs.Attributes.{WorkgroupSize, Invariant, PerPrimitive, Coherent, Volatile}

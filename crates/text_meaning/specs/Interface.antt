@@ -2,8 +2,9 @@
 -- module under its names. A type is told by its spelling, a binding by what it means, and an
 -- initialiser by its value, under what the caller of a shader chooses and a meaning of operators.
 --
--- Throughout, value tells the value of an initialiser, if it has one, and each declaration goes by
--- its first letter: member, struct, constant, override, global, function, entry point.
+-- Throughout, value tells the value of an initialiser, if it has one, p is a parameter, and each
+-- declaration goes by its first letter: member, struct, constant, override, global, function, entry
+-- point.
 use Rattle.std.specs.Prelude.{ℕ, Bool, List, map, Option, Some, None}
 use Rattle.std.specs.List.{list_any}
 use Rattle.std.specs.Option.{option_map}
@@ -22,8 +23,8 @@ use Rattle.text_meaning.specs.Attributes.{alignment_read, behind_alignment, id_r
 use Rattle.text_meaning.specs.Attributes.{ResourceBinding, resource_binding_read, is_coherent}
 use Rattle.text_meaning.specs.Attributes.{is_volatile, Stage, stage_read}
 
--- a member of a struct: its type, how it passes in or out of a stage, and the size and the alignment
--- that it is given, if it is given any
+-- a member of a struct: how it passes in or out of a stage, the size and the alignment that it is
+-- given, if it is given any, and its type
 pub record MemberInterface : Type 0 where
   pub name : List ℕ
   pub binding : StageBinding
@@ -164,18 +165,18 @@ abbrev pub entry_point_interface_read : EntryPoint → EntryPointInterface
 entry_point_interface_read e =
     record { stage = stage_read e.stage; function = function_interface_read e.function }
 
--- The interface of a text. An initialiser gives the same in every world, since it asks for nothing.
+-- The interface of a text. A world is asked for nothing, since an initialiser makes no event.
 abbrev pub interface_read : Settings → Meaning → World → Program → Interface
-interface_read settings meaning world p =
-    let text = program_read p in
+interface_read settings meaning world program =
+    let text = program_read program in
     let value : Expression → Option Value =
     λ e. text_initialiser_value text settings world meaning is_request (expression_read e) in
     record {
-      enables = p.enables;
-      structs = map struct_interface_read p.structs;
-      constants = map (constant_interface_read value) p.constants;
-      overrides = map (override_interface_read value) p.overrides;
-      globals = map (global_interface_read value) p.globals;
-      functions = map function_interface_read p.functions;
-      entry_points = map entry_point_interface_read p.entry_points;
+      enables = program.enables;
+      structs = map struct_interface_read program.structs;
+      constants = map (constant_interface_read value) program.constants;
+      overrides = map (override_interface_read value) program.overrides;
+      globals = map (global_interface_read value) program.globals;
+      functions = map function_interface_read program.functions;
+      entry_points = map entry_point_interface_read program.entry_points;
     }
