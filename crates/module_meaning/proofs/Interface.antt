@@ -2,8 +2,8 @@
 --
 -- Throughout, m is a module, info what is known of it, names are those of its items, t its types with
 -- their names, h a handle, ts are types and cs constants.
-use Rattle.std.proofs.Common.{◌≡◌, ◌&&◌, ◌||◌, ◌+◌, ◌==◌, ℕ, Bool, true, false, not, List, [], ◌∷◌}
-use Rattle.std.proofs.Common.{Option, Some, None, length, map, refl, ap₂}
+use Rattle.std.proofs.Common.{◌≡◌, ◌&&◌, ◌||◌, ◌+◌, ℕ, Bool, true, false, not, List, [], ◌∷◌}
+use Rattle.std.proofs.Common.{Option, Some, None, map, refl, ap₂}
 use Rattle.std.specs.Prelude.{IsTrue, if◌then◌else◌}
 use Rattle.std.specs.List.{cons_option, enumerate_from, filter_map, list_all}
 use Rattle.std.specs.Option.{is_none, is_some}
@@ -27,7 +27,7 @@ use Rattle.module_meaning.specs.Interface.{global_expression_value}
 use Rattle.module_meaning.specs.Undeclared.{is_undeclared}
 use Rattle.module_meaning.specs.WrittenSoFar.{is_extended_struct, is_written_so_far, needs_nothing}
 use Rattle.module_meaning.specs.WrittenSoFar.{type_is_written_so_far}
-use Rattle.module_meaning.proofs.ModuleShapes.{nothing_there}
+use Rattle.module_meaning.proofs.ModuleShapes.{nothing_declared}
 use Rattle.module_meaning.proofs.WrittenSoFar.{written_so_far_parts}
 
 -- nothing, where a test fails
@@ -86,8 +86,7 @@ pub functions_declared_alone : (settings : Settings) (meaning : Meaning) (names 
 functions_declared_alone settings meaning names m info written =
     let is = written_so_far_parts m written in
     let constants = and_parts (list_all (λ c. is_none c.name) m.constants) _ is.0 in
-    let overrides = and_parts (length m.overrides == 0) _ constants.1 in
-    let globals = and_parts (length m.global_variables == 0) _ overrides.1 in
+    let nothing = nothing_declared m written in
     let t : TypeNames = names_of m.types names in
     let value = global_expression_value m info settings meaning in
     λ i. record {
@@ -95,10 +94,10 @@ functions_declared_alone settings meaning names m info written =
       structs = no_structs names t m 0 m.types is.1 i;
       constants = no_constants names t value 0 m.constants constants.0 i;
       overrides =
-          map (override_interface names t value) (enumerate_from 0 (nothing_there m.overrides overrides.0 i));
+          map (override_interface names t value) (enumerate_from 0 (nothing.0 i));
       globals =
-          map (global_interface names t value) (enumerate_from 0 (nothing_there m.global_variables globals.0 i));
+          map (global_interface names t value) (enumerate_from 0 (nothing.1 i));
       functions = function_interfaces names m.types 0 m.functions;
       entry_points =
-          map (entry_point_interface names t) (enumerate_from 0 (nothing_there m.entry_points.items globals.1 i));
+          map (entry_point_interface names t) (enumerate_from 0 (nothing.2 i));
     }

@@ -4,7 +4,7 @@
 -- names, value tells the value of one of its own expressions, if it has one, and each declaration
 -- goes by its first letter and stands beside its handle: constant, override, global variable,
 -- function, entry point.
-use Rattle.std.specs.Prelude.{ℕ, ◌+◌, ◌&&◌, not, List, [], ◌∷◌, map, Option, Some}
+use Rattle.std.specs.Prelude.{ℕ, ◌+◌, List, [], ◌∷◌, map, Option, Some}
 use Rattle.std.specs.Prelude.{None, if◌then◌else◌}
 use Rattle.std.specs.List.{enumerate_from, filter_map}
 use Rattle.std.specs.Option.{is_some, option_and_then, option_map}
@@ -25,7 +25,6 @@ use Rattle.naga_names.specs.Keys.{NameMap}
 use Rattle.naga_names.specs.Reset.{members_of}
 use Rattle.naga_names.specs.declared.key.NameKey.TheVariants as key
 use Rattle.naga_words.specs.Contexts.{names_of, Names as TypeNames}
-use Rattle.naga_words.specs.Spelling.{is_struct}
 use Rattle.wgsl_words.specs.Words.{space_word, space_access_word}
 use Rattle.shader_runs.specs.Constants.{module_initialiser_value}
 use Rattle.shader_runs.specs.Value.{Value}
@@ -43,7 +42,7 @@ use Rattle.module_meaning.specs.Names.{override_name}
 use Rattle.module_meaning.specs.StageBindings.{stage_binding, is_coherent_memory}
 use Rattle.module_meaning.specs.StageBindings.{is_volatile_memory}
 use Rattle.module_meaning.specs.Types.{spelled_type}
-use Rattle.module_meaning.specs.Undeclared.{is_undeclared}
+use Rattle.module_meaning.specs.Undeclared.{is_declared}
 
 -- ---- structs
 -- WGSL lays a member out by its rules: it is given no size and no alignment of its own.
@@ -61,7 +60,7 @@ member_interface names t h p =
 abbrev pub struct_interface :
     NameMap → TypeNames → ir_module.Module → ℕ × Type_ → Option StructInterface
 struct_interface names t m p =
-    if is_struct p.1.inner && not (is_undeclared m.special_types p.0) then Some (record {
+    if is_declared m.special_types p.0 p.1.inner then Some (record {
       name = name_in names (key.Type_ p.0);
       members =
           map (member_interface names t p.0) (enumerate_from 0 (members_of p.1.inner));

@@ -5,6 +5,7 @@ pub mod AlikeTypes
 pub mod BindingExtensions
 pub mod Bindings
 pub mod Conversions
+pub mod DeclaredItems
 pub mod ExpressionOperators
 pub mod ExpressionShapes
 pub mod ExpressionTypes

@@ -3,3 +3,4 @@ pub mod Attributes
 pub mod Bindings
 pub mod Interface
 pub mod Literals
+pub mod Resolution
