@@ -49,7 +49,7 @@ use Rattle.module_meaning.proofs.ModuleShapeExamples.{one}
 use Rattle.module_meaning.proofs.StageBindingExamples.{differ}
 
 -- a vector of two items
-abbrev two : {X : Type 0} → Vec X Global → X → X → Vec X Global
+abbrev pub two : {X : Type 0} → Vec X Global → X → X → Vec X Global
 two v x y = record v { len = 2; cap = 2; items = x ∷ y ∷ []; ok = (refl, omega arith); small = omega arith }
 
 -- an integer of 32 bits as a value

@@ -5,9 +5,10 @@ pub mod AlikeExamples
 pub mod AlikeTypes
 pub mod BindingCounts
 pub mod ExpressionShapes
+mod DeclaredItemExamples
 pub mod Fitting
 pub mod Interface
-mod InterfaceExamples
+pub mod InterfaceExamples
 pub mod Lists
 pub mod ModuleShapeExamples
 pub mod ModuleShapes

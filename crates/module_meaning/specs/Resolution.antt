@@ -23,7 +23,7 @@ use Rattle.module_meaning.specs.Types.{spelled_resolution, type_names}
 use Rattle.module_meaning.specs.Undeclared.{is_declared, is_spellable}
 use Rattle.text_meaning.specs.Abstraction.{program_read}
 use Rattle.text_meaning.specs.Resolution.{item_named, member_named, program_initialiser_targets}
-use Rattle.text_meaning.specs.Resolution.{stage_targets, type_items}
+use Rattle.text_meaning.specs.Resolution.{stage_targets, type_items, types_are_not_hidden}
 
 -- Each identifier of each function and of each named constant, in their order, stands for the
 -- constant, variable, function, argument, local or `let` that the module means there.
@@ -58,5 +58,7 @@ pub record ResolvesAs (m : Module) (info : ModuleInfo) (program : Program) : Typ
       ≡ map (map Some) (module_initialiser_targets m info)
   -- the variables that entry points name: outputs of meshes and payloads
   pub stages : stage_targets program ≡ map (map Some) (module_stage_targets m)
+  -- what types name, which no name that a function gives hides
   pub types : TypesResolve m program
+  pub not_hidden : IsTrue (types_are_not_hidden program)
   pub members : MembersResolve m program

@@ -1,42 +1,40 @@
 -- The names of the declarations that are written for a module stand for what they were written for.
 -- So far there are none.
-use Rattle.std.proofs.Common.{◌≡◌, ℕ, ◌<◌, Bool, true, false, List, [], ◌∷◌, ◌++◌, Option, Some, None, not}
-use Rattle.std.proofs.Common.{map, length, slice_get, refl, sym, ap, ap₂, subst, ◌∙◌, arith}
+use Rattle.std.proofs.Common.{◌≡◌, ℕ, Bool, true, false, ◌++◌, Some, not}
+use Rattle.std.proofs.Common.{map, length, slice_get, refl, sym, ap, subst, ◌∙◌, arith}
 use Rattle.std.specs.Prelude.{IsTrue}
 use Rattle.std.specs.Option.{option_map}
 use Rattle.std.proofs.lemmas.Bool.{and_parts}
 use Rattle.std.proofs.lemmas.Option.{same_Some}
 use Rattle.naga_info.specs.declared.info.ModuleInfo.{ModuleInfo}
-use Rattle.naga_info.specs.declared.info.TypeResolution.{TypeResolution}
-use Rattle.naga_info.specs.declared.info.TypeResolution.TheVariants.{Value}
 use Rattle.naga_ir.specs.declared.module.Module.{Module}
 use Rattle.naga_ir.specs.declared.types.Type_.{Type_}
-use Rattle.naga_ir.specs.declared.types.TypeInner.{TypeInner}
-use Rattle.naga_words.specs.Spelling.{is_struct, length_within}
+use Rattle.naga_words.specs.Spelling.{is_struct}
 use Rattle.wgsl_text.specs.Declarations.{Program}
 use Rattle.wgsl_text.specs.Reading.{type_layout}
-use Rattle.wgsl_text.specs.Types.{IsType, TypeSpecifier}
 use Rattle.shader_runs.specs.Resolution.{GlobalTarget}
-use Rattle.text_meaning.specs.Resolution.{item_named, program_initialiser_targets, stage_targets, type_items}
+use Rattle.text_meaning.specs.Abstraction.{program_read}
+use Rattle.text_meaning.specs.Resolution.{is_in_no_type, item_named, own_names, program_initialiser_targets}
+use Rattle.text_meaning.specs.Resolution.{stage_targets, type_items, types_are_not_hidden}
+use Rattle.std.specs.List.{list_all}
+use Rattle.module_meaning.proofs.Lists.{all_pass}
 use Rattle.module_meaning.specs.Accepted.{is_accepted}
 use Rattle.module_meaning.specs.DeclaredItems.{initialiser_meant, module_initialiser_targets, module_stage_targets}
 use Rattle.module_meaning.specs.DeclaredItems.{resolution_items, stage_variables}
-use Rattle.module_meaning.specs.Ranges.{resolution_fits}
 use Rattle.module_meaning.specs.Resolution.{MembersResolve, TypesResolve}
-use Rattle.module_meaning.specs.Types.{spelled_resolution, type_names}
-use Rattle.module_meaning.specs.Undeclared.{is_declared, is_spellable, is_undeclared}
-use Rattle.module_meaning.specs.WrittenSoFar.{is_written_so_far, types_are_written_so_far}
+use Rattle.module_meaning.specs.Types.{type_names}
+use Rattle.module_meaning.specs.Undeclared.{is_undeclared}
+use Rattle.module_meaning.specs.WrittenSoFar.{is_written_so_far}
 use Rattle.module_meaning.proofs.ModuleShapes.{nothing_declared}
 use Rattle.module_meaning.proofs.WrittenSoFar.{spellable_parts, written_so_far_parts}
 use Rattle.naga_form.proofs.AlikeNumbers.{is_no}
 use Rattle.naga_form.proofs.AcceptedGroups.{fit_of, types_are_counted, types_are_fit}
 use Rattle.naga_form.proofs.DistinguishedItems.{types_are_distinguished}
 use Rattle.naga_form.proofs.PartTypes.{known_within}
-use Rattle.naga_form.proofs.SameValues.{IsFit, one_layout, spelling_of, tree_is}
+use Rattle.naga_form.proofs.SameValues.{one_layout, spelling_of, tree_is}
 use Rattle.naga_form.proofs.TypeItems.{ItemsAreNamed, resolution_named}
 use Rattle.naga_form.proofs.WrittenTypes.{struct_undeclared, tree_there}
 use Rattle.naga_form.specs.Declarations.{written_program}
-use Rattle.naga_form.specs.TypeTrees.{resolution_tree}
 
 module _ (m : Module) (info : ModuleInfo) (explicit : Bool) (accepted : IsTrue (is_accepted m info))
     (written : IsTrue (is_written_so_far m))
@@ -83,6 +81,11 @@ module _ (m : Module) (info : ModuleInfo) (explicit : Bool) (accepted : IsTrue (
         subst (λ u. type_items (item_named program) u ≡ map Some (resolution_items m r)) (sym one)
         (resolution_named m (item_named program) named types.within r parts.1
         (known_within m info accepted r fits) tree.0 tree.1)
+
+    pub not_hidden : IsTrue (types_are_not_hidden program)
+    not_hidden =
+        all_pass (λ f. list_all (is_in_no_type program) (own_names f)) (program_read program).functions
+        (λ i f at. all_pass (is_in_no_type program) (own_names f) (λ j w there. refl))
 
     pub members_resolve : MembersResolve m program
     members_resolve h t at declared i member there =

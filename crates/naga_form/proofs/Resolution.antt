@@ -38,7 +38,7 @@ use Rattle.naga_form.specs.Declarations.{written_program}
 use Rattle.module_meaning.specs.Premises.{ScopesHold}
 use Rattle.module_meaning.specs.Resolution.{BodiesResolve, ResolvesAs}
 use Rattle.naga_form.proofs.DeclaredItems.{initialisers_resolve, members_resolve, stages_resolve}
-use Rattle.naga_form.proofs.DeclaredItems.{types_resolve}
+use Rattle.naga_form.proofs.DeclaredItems.{not_hidden, types_resolve}
 use Rattle.naga_form.proofs.Fits.{mapped_length}
 use Rattle.naga_form.proofs.WellFormed.{any_shape, applied_any}
 use Rattle.naga_form.proofs.ScopeRules.{scopes_are_checked}
@@ -118,5 +118,6 @@ resolves m info explicit accepted written have scope = record {
   initialisers = initialisers_resolve m info explicit accepted written;
   stages = stages_resolve m info explicit accepted written;
   types = types_resolve m info explicit accepted written;
+  not_hidden = not_hidden m info explicit accepted written;
   members = members_resolve m info explicit accepted written;
 }

@@ -3,21 +3,22 @@
 -- of functions stand for is told of the abstract text.
 --
 -- Throughout, names tell what each name stands for at the level of the module, p is a program, t a
--- type, w a word, and v, s, l and e are an override or a variable, a struct, a member and an entry
--- point.
-use Rattle.std.specs.Prelude.{ℕ, suc, List, [], ◌∷◌, ◌++◌, map, Option, Some, None}
+-- type, w a word, f a function, and v, s, l and e are an override or a variable, a struct, a member
+-- and an entry point.
+use Rattle.std.specs.Prelude.{ℕ, suc, Bool, List, [], ◌∷◌, ◌++◌, map, Option, Some, None}
 use Rattle.std.specs.Prelude.{if◌then◌else◌, slice_get}
-use Rattle.std.specs.List.{filter_map}
-use Rattle.std.specs.Option.{option_and_then, option_map, option_or}
+use Rattle.std.specs.List.{filter_map, list_all}
+use Rattle.std.specs.Option.{is_none, option_and_then, option_map, option_or}
 use Rattle.std.specs.Str.{bytes_eq}
 use Rattle.wgsl_text.specs.Attributes.{Attribute, Worded, Mesh, Payload, IncomingPayload}
 use Rattle.wgsl_text.specs.Declarations.{Program, Struct}
 use Rattle.wgsl_text.specs.Expressions.{Expression}
-use Rattle.wgsl_text.specs.Functions.{EntryPoint}
 use Rattle.wgsl_text.specs.Types.{TypeSpecifier, Named, Template, TemplateArguments, TypeArgument}
 use Rattle.wgsl_text.specs.Types.{NoTemplateArguments, TemplateRule, TakesElements, TakesPointee}
 use Rattle.wgsl_text.specs.Types.{rule_among, type_templates, plain_type_words}
 use Rattle.wgsl_text.specs.Words.{stands_in}
+use Rattle.shader_runs.specs.Bindings.{lines_lets}
+use Rattle.shader_runs.specs.Text.{TextFunction}
 use Rattle.shader_runs.specs.Resolution.{Target, Lookup, text_names, tree_targets_if}
 use Rattle.text_meaning.specs.Abstraction.{expression_read, program_read}
 
@@ -62,6 +63,20 @@ abbrev mutual
       type_items names t ++ length_items names more
   part_items names TakesPointee (TypeArgument space (TypeArgument t more)) = type_items names t
   part_items names _ _ = []
+
+-- the names that a function gives: to its arguments, its variables and its `let`s
+abbrev pub own_names : TextFunction → List (List ℕ)
+own_names f = f.parameters ++ (map (λ v. v.name) f.variables ++ lines_lets f.lines)
+
+-- a name that no type has: that of no struct and of no override
+abbrev pub is_in_no_type : Program → List ℕ → Bool
+is_in_no_type p w =
+    is_none (place_among w (map (λ s. s.name) p.structs ++ map (λ v. v.name) p.overrides))
+
+-- no function gives a name that a type has, so that a type means the same wherever it stands
+abbrev pub types_are_not_hidden : Program → Bool
+types_are_not_hidden p =
+    list_all (λ f. list_all (is_in_no_type p) (own_names f)) (program_read p).functions
 
 -- ---- initialisers and attributes
 -- the identifiers of an initialiser, if there is one
