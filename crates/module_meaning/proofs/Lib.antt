@@ -1,10 +1,14 @@
+mod StageBindingExamples
 mod StatementExamples
 pub mod AgreementExamples
 pub mod AlikeExamples
 pub mod AlikeTypes
 pub mod BindingCounts
 pub mod ExpressionShapes
+mod DeclaredItemExamples
 pub mod Fitting
+pub mod Interface
+pub mod InterfaceExamples
 pub mod Lists
 pub mod ModuleShapeExamples
 pub mod ModuleShapes

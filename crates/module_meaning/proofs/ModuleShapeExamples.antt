@@ -37,7 +37,7 @@ use Rattle.shader_runs.specs.Program.{Fixed, NamedConstant, Held, AtPlace, funct
 use Rattle.shader_runs.specs.Value.{IntegerType, PointerType, OtherType, Whole, Step, At, Field}
 
 -- a vector of one item
-abbrev one : {X : Type 0} → Vec X Global → X → Vec X Global
+abbrev pub one : {X : Type 0} → Vec X Global → X → Vec X Global
 one v x =
     record v {
       len = 1;

@@ -40,6 +40,15 @@ none_named (c ∷ cs) is =
     by None none rest = rest
     by (Some name) none rest = absurd cc
 
+-- neither overrides nor variables nor entry points
+pub nothing_declared : (m : ir_module.Module) → IsTrue (is_written_so_far m) →
+    (m.overrides ≡ []) × (m.global_variables ≡ []) × (m.entry_points.items ≡ [])
+nothing_declared m written =
+    let constants = and_parts (list_all (λ c. is_none c.name) m.constants) _ (written_so_far_parts m written).0 in
+    let overrides = and_parts (length m.overrides == 0) _ constants.1 in
+    let globals = and_parts (length m.global_variables == 0) _ overrides.1 in
+    (nothing_there m.overrides overrides.0, nothing_there m.global_variables globals.0, nothing_there m.entry_points.items globals.1)
+
 -- functions one by one are those side by side with what is known of them
 shapes_paired : (m : ir_module.Module) (info : ModuleInfo) (fs : List ir_function.Function)
     (ess : List (List ExpressionInfo)) →
@@ -67,22 +76,20 @@ declares_functions_alone m info written =
     let is = written_so_far_parts m written
     in let constants = and_parts (list_all (λ c. is_none c.name) m.constants) _ is.0
     in let named = none_named m.constants constants.0
-    in let overrides = and_parts (length m.overrides == 0) _ constants.1
-    in let globals = and_parts (length m.global_variables == 0) _ overrides.1
-    in let entry_points = nothing_there m.entry_points.items globals.1
+    in let nothing = nothing_declared m written
     in let functions =
     ap (map (λ p. function_shape m info p.0 p.1))
     ((λ i. zip m.functions info.functions.items ++
-    zip (map (λ p. p.function) (entry_points i)) info.entry_points.items)
+    zip (map (λ p. p.function) (nothing.2 i)) info.entry_points.items)
     ∙ append-nil (zip m.functions info.functions.items))
     ∙ shapes_paired m info m.functions info.functions.items
     in λ i. record {
       constant_types =
           map (λ c. declared_type m c.ty) (named i) ++
-          map (λ o. declared_type m o.ty) (nothing_there m.overrides overrides.0 i);
+          map (λ o. declared_type m o.ty) (nothing.0 i);
       initialisers =
           map (initialiser m info) (named i);
-      globals = map (variable_shape m) (nothing_there m.global_variables globals.0 i);
+      globals = map (variable_shape m) (nothing.1 i);
       parts = part_words m info;
       functions = reverse (functions i);
     }

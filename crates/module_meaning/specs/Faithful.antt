@@ -18,9 +18,16 @@ use Rattle.wgsl_text.specs.Requests.{is_request}
 use Rattle.text_meaning.specs.Interface.{interface_read}
 use Rattle.module_meaning.specs.Interface.{module_interface}
 
--- The program declares what the module declares.
-abbrev pub HasInterfaceOf : Module → Program → Type 0
-HasInterfaceOf m program = interface_read program ≡ module_interface (module_names m) m
+-- The program declares what the module declares: under all values of overrides of their types,
+-- under every typed meaning of operators and in every world both have one interface.
+abbrev pub HasInterfaceOf : Module → ModuleInfo → Program → Type 0
+HasInterfaceOf m info program =
+    let shape = module_shape m info in
+    (settings : Settings) → SettingsFit shape settings →
+    (meaning : Meaning) → IsTyped shape meaning →
+    (world : World) →
+    interface_read settings meaning world program
+    ≡ module_interface settings meaning (module_names m) m info
 
 -- What holds of each run of the module and the run of the program beside it: of each function and
 -- entry point, under all values of overrides and arguments of their types and every typed meaning

@@ -5,6 +5,7 @@ pub mod AlikeTypes
 pub mod BindingExtensions
 pub mod Bindings
 pub mod Conversions
+pub mod DeclaredItems
 pub mod ExpressionOperators
 pub mod ExpressionShapes
 pub mod ExpressionTypes
@@ -32,6 +33,7 @@ pub mod Sampling
 pub mod ShapeKinds
 pub mod Shapes
 pub mod Soundness
+pub mod StageBindings
 pub mod StatementForms
 pub mod StatementShapes
 pub mod StatementsFit

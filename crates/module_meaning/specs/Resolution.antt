@@ -1,19 +1,64 @@
--- Each identifier of a program stands for what it was written for. What it stands for is told of
--- the abstract text, which forgets types and member words: so far no type of a text has a name of
--- the module, and a member's word is one that WGSL gives (`Undeclared`).
-use Rattle.std.specs.Prelude.{◌≡◌, map, Some}
+-- Each name of a program stands for what it was written for. What the identifiers of functions stand
+-- for is told of the abstract text, which forgets types and member words: these are told by the
+-- types that they belong to.
+use Rattle.std.specs.Prelude.{◌≡◌, ℕ, map, Some, IsTrue, slice_get, length}
 use Rattle.naga_ir.specs.declared.module.Module.{Module}
+use Rattle.naga_ir.specs.declared.types.StructMember.{StructMember}
+use Rattle.naga_ir.specs.declared.types.Type_.{Type_}
 use Rattle.naga_info.specs.declared.info.ModuleInfo.{ModuleInfo}
+use Rattle.naga_info.specs.declared.info.TypeResolution.{TypeResolution}
+use Rattle.naga_names.specs.Reset.{members_of}
+use Rattle.naga_names.specs.declared.key.NameKey.TheVariants as key
 use Rattle.shader_runs.specs.Resolution.{text_targets, module_targets}
 use Rattle.wgsl_text.specs.Declarations.{Program}
-use Rattle.module_meaning.specs.Names.{module_names}
+use Rattle.wgsl_text.specs.Reading.{type_layout}
+use Rattle.wgsl_text.specs.Types.{TypeSpecifier, IsType}
+use Rattle.module_meaning.specs.DeclaredItems.{module_initialiser_targets, module_stage_targets}
+use Rattle.module_meaning.specs.DeclaredItems.{resolution_items}
+use Rattle.module_meaning.specs.Names.{module_names, name_in}
 use Rattle.module_meaning.specs.ModuleShapes.{module_shape}
 use Rattle.module_meaning.specs.Namings.{namings}
+use Rattle.module_meaning.specs.Ranges.{resolution_fits}
+use Rattle.module_meaning.specs.Types.{spelled_resolution, type_names}
+use Rattle.module_meaning.specs.Undeclared.{is_declared, is_spellable}
 use Rattle.text_meaning.specs.Abstraction.{program_read}
+use Rattle.text_meaning.specs.Resolution.{item_named, member_named, program_initialiser_targets}
+use Rattle.text_meaning.specs.Resolution.{stage_targets, type_items, types_are_not_hidden}
 
--- Each identifier of each function, in their order, stands for the function, argument, local or
--- `let` that the module means there.
-abbrev pub ResolvesAs : Module → ModuleInfo → Program → Type 0
-ResolvesAs m info program =
+-- Each identifier of each function and of each named constant, in their order, stands for the
+-- constant, variable, function, argument, local or `let` that the module means there.
+abbrev pub BodiesResolve : Module → ModuleInfo → Program → Type 0
+BodiesResolve m info program =
     text_targets (program_read program)
     ≡ map (map Some) (module_targets (module_shape m info) (namings (module_names m) m info))
+
+-- The identifiers of a type stand for the structs and overrides that the module's type is over,
+-- wherever a text has a type of this spelling.
+abbrev pub TypesResolve : Module → Program → Type 0
+TypesResolve m program =
+    (r : TypeResolution) → IsTrue (resolution_fits (length m.overrides) (length m.types) r) →
+    IsTrue (is_spellable m r) →
+    (t : TypeSpecifier) → IsType t → spelled_resolution (type_names m) r ≡ Some (type_layout t) →
+    type_items (item_named program) t ≡ map Some (resolution_items m r)
+
+-- A member's word stands for that member, where the type of its base is the struct.
+abbrev pub MembersResolve : Module → Program → Type 0
+MembersResolve m program =
+    (h : ℕ) (t : Type_) → slice_get m.types h ≡ Some t →
+    IsTrue (is_declared m.special_types h t.inner) →
+    (i : ℕ) (member : StructMember) → slice_get (members_of t.inner) i ≡ Some member →
+    member_named program.structs (name_in (module_names m) (key.Type_ h))
+    (name_in (module_names m) (key.StructMember h i))
+    ≡ Some i
+
+pub record ResolvesAs (m : Module) (info : ModuleInfo) (program : Program) : Type 0 where
+  pub bodies : BodiesResolve m info program
+  -- the initialisers of overrides and of variables
+  pub initialisers : program_initialiser_targets program
+      ≡ map (map Some) (module_initialiser_targets m info)
+  -- the variables that entry points name: outputs of meshes and payloads
+  pub stages : stage_targets program ≡ map (map Some) (module_stage_targets m)
+  -- what types name, which no name that a function gives hides
+  pub types : TypesResolve m program
+  pub not_hidden : IsTrue (types_are_not_hidden program)
+  pub members : MembersResolve m program

@@ -35,6 +35,10 @@ is_undeclared s h =
     (option_map_or (nat_eq h) s.external_texture_params false ||
     option_map_or (nat_eq h) s.external_texture_transfer_function false)
 
+-- the type at this handle is a struct that a text declares
+abbrev pub is_declared : SpecialTypes → (h : ℕ) → TypeInner → Bool
+is_declared s h it = is_struct it && not (is_undeclared s h)
+
 -- The type at a handle is such a struct, or is over one, as `own` tells of the types that stand
 -- before it.
 abbrev pub names_undeclared_by : SpecialTypes → (own : ℕ → Bool) → (h : ℕ) → TypeInner → Bool

@@ -26,6 +26,7 @@ pub mod FreeModules
 pub mod FreeNames
 pub mod FreeWords
 pub mod FunctionsFit
+pub mod DeclaredItems
 pub mod ExpressionNames
 pub mod Images
 pub mod Interface
@@ -71,6 +72,7 @@ pub mod TakenParts
 pub mod DistinguishedItems
 pub mod TreeWords
 pub mod TypeIdentity
+pub mod TypeItems
 pub mod TypeTrees
 pub mod TypedWords
 pub mod WellFormed

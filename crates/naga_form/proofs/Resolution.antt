@@ -36,7 +36,9 @@ use Rattle.module_meaning.specs.ExpressionContexts.{declared, types_known}
 use Rattle.module_meaning.specs.WrittenSoFar.{is_written_so_far}
 use Rattle.naga_form.specs.Declarations.{written_program}
 use Rattle.module_meaning.specs.Premises.{ScopesHold}
-use Rattle.module_meaning.specs.Resolution.{ResolvesAs}
+use Rattle.module_meaning.specs.Resolution.{BodiesResolve, ResolvesAs}
+use Rattle.naga_form.proofs.DeclaredItems.{initialisers_resolve, members_resolve, stages_resolve}
+use Rattle.naga_form.proofs.DeclaredItems.{not_hidden, types_resolve}
 use Rattle.naga_form.proofs.Fits.{mapped_length}
 use Rattle.naga_form.proofs.WellFormed.{any_shape, applied_any}
 use Rattle.naga_form.proofs.ScopeRules.{scopes_are_checked}
@@ -98,12 +100,24 @@ module _ (m : Module) (info : ModuleInfo) (accepted : IsTrue (is_accepted m info
       (function_naming (module_names m) (expression_name m g) m info g f es ∷ behind)
       (leaves_are_own m info is.callees f is.ranges es, all)
 
-pub resolves : (m : Module) (info : ModuleInfo) (explicit : Bool) → IsTrue (is_accepted m info) →
+bodies_resolve : (m : Module) (info : ModuleInfo) (explicit : Bool) → IsTrue (is_accepted m info) →
     IsTrue (is_written_so_far m) → AllWrittenHaveForms explicit m info → ScopesHold m info →
-    ResolvesAs m info (written_program m info explicit)
-resolves m info explicit accepted written have scope =
+    BodiesResolve m info (written_program m info explicit)
+bodies_resolve m info explicit accepted written have scope =
     let names = module_names m in
     ap text_targets (reads_as_shapes m info explicit accepted written have)
     ∙ resolves_as_meant (module_shape m info) (outer_names names m) (namings names m info)
     (module_fits m info accepted written explicit have ((scopes_are_checked m info accepted written).1 scope))
     (leaves_stand m info accepted 0 m.functions info.functions.items (from_start m.functions) [] tt)
+
+pub resolves : (m : Module) (info : ModuleInfo) (explicit : Bool) → IsTrue (is_accepted m info) →
+    IsTrue (is_written_so_far m) → AllWrittenHaveForms explicit m info → ScopesHold m info →
+    ResolvesAs m info (written_program m info explicit)
+resolves m info explicit accepted written have scope = record {
+  bodies = bodies_resolve m info explicit accepted written have scope;
+  initialisers = initialisers_resolve m info explicit accepted written;
+  stages = stages_resolve m info explicit accepted written;
+  types = types_resolve m info explicit accepted written;
+  not_hidden = not_hidden m info explicit accepted written;
+  members = members_resolve m info explicit accepted written;
+}

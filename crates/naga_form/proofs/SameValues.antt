@@ -301,7 +301,7 @@ module _ (m : Module) (are : TypesAreCounted m) where
   pub spelling_of : (r : TypeResolution) → spelled_resolution names r ≡ option_map type_layout (resolution_tree names r)
   spelling_of r = resolution_row text-append names (λ handle. true) r
 
-  one_layout : (t u : TypeSpecifier) → IsType t → IsType u → type_layout t ≡ type_layout u → t ≡ u
+  pub one_layout : (t u : TypeSpecifier) → IsType t → IsType u → type_layout t ≡ type_layout u → t ≡ u
   one_layout t u p q e =
       let one = type_has_one_reading t p in let two = type_has_one_reading u q in
       two.only t (subst (λ w. ReadsType (tokens w) t) e one.read)

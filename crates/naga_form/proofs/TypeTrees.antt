@@ -309,7 +309,7 @@ matrix_rule Quad Bi = refl
 matrix_rule Quad Tri = refl
 matrix_rule Quad Quad = refl
 
-cooperative_rule : (c r : CooperativeSize) → rule_among type_templates (cooperative_word c r) ≡ TakesRole
+pub cooperative_rule : (c r : CooperativeSize) → rule_among type_templates (cooperative_word c r) ≡ TakesRole
 cooperative_rule Eight Eight = refl
 cooperative_rule Eight Sixteen = refl
 cooperative_rule Sixteen Eight = refl
@@ -427,7 +427,7 @@ depth_is_plain true D3 true = refl
 depth_is_plain true Cube false = refl
 depth_is_plain true Cube true = refl
 
-storage_rule : (dim : ImageDimension) (arrayed : Bool) → rule_among type_templates (image_word (codes "texture_storage_") false dim arrayed) ≡ TakesFormat
+pub storage_rule : (dim : ImageDimension) (arrayed : Bool) → rule_among type_templates (image_word (codes "texture_storage_") false dim arrayed) ≡ TakesFormat
 storage_rule D1 false = refl
 storage_rule D1 true = refl
 storage_rule D2 false = refl

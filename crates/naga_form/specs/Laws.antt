@@ -80,9 +80,9 @@ IsAProgram =
 -- it declares what the module declares, where something is known of each function
 abbrev pub HasTheInterface : Type 0
 HasTheInterface =
-    (m : Module) (info : ModuleInfo) (explicit : Bool) →
+    (m : Module) (info : ModuleInfo) (explicit : Bool) → IsTrue (is_written_so_far m) →
     length m.functions ≡ length info.functions.items →
-    HasInterfaceOf m (written_program m info explicit)
+    HasInterfaceOf m info (written_program m info explicit)
 
 -- each of its identifiers stands for what it was written for
 abbrev pub ResolvesAsMeant : Type 0

@@ -19,7 +19,8 @@ pub fn is_a_program()
     ensures { IsAProgram }
 {}
 
-/// It declares what the module declares, where something is known of each function.
+/// It declares what the module declares, where the module is written so far and something is known of
+/// each function.
 pub fn has_the_interface()
     ensures { HasTheInterface }
 {}

@@ -164,7 +164,7 @@ module _ (m : Module) (info : ModuleInfo) (flags : WriterFlags)
               program = program;
               reading = one w.planned;
             };
-            interface = reading (HasInterfaceOf m) (has_interface m info explicit (functions_counted m info accepted));
+            interface = reading (HasInterfaceOf m info) (has_interface m info explicit written (functions_counted m info accepted));
             runs = reading (RunsAs m info)
                 (runs_as m info explicit accepted written have rules);
           };

@@ -36,7 +36,7 @@ pub record FaithfulWriting (explicit : Bool) (m : Module) (info : ModuleInfo)
   -- Otherwise it appends a text with exactly one reading,
   pub reading : OnOk answer (AppendsOneReading content now)
   -- a program with the module's interface,
-  pub interface : OnOk answer (EachReading content now (HasInterfaceOf m))
+  pub interface : OnOk answer (EachReading content now (HasInterfaceOf m info))
   -- that in every world, under every typed meaning of operators and every bound on loop turns makes
   -- the module's events, operands and result.
   pub runs : OnOk answer (EachReading content now (RunsAs m info))

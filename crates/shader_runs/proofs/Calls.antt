@@ -40,7 +40,7 @@ use Rattle.shader_runs.specs.Premises.{IsFixedName, IsName, StandsFree, Constant
 use Rattle.shader_runs.specs.Premises.{ConstantsWords, WordFits, AllBelow, LeafFits, AreDistinct}
 use Rattle.shader_runs.specs.Premises.{FunctionFits, AllFit, EnvironmentFits, IsTypedIn, AllTypedIn}
 use Rattle.shader_runs.specs.Premises.{SettingsFit, IsTyped}
-use Rattle.shader_runs.specs.Correct.{KeepsTypes, RunsAlike, ModuleFits}
+use Rattle.shader_runs.specs.Correct.{InitialisersAreAlike, KeepsTypes, RunsAlike, ModuleFits}
 use Rattle.shader_runs.specs.Constants.{environment_of, module_scope}
 use Rattle.shader_runs.proofs.Alike.{Answers, same_answer, mistyped_answer, alike_answers}
 use Rattle.shader_runs.proofs.Update.{and_left, and_right, same_bytes_equal, same_bytes_apart}
@@ -56,7 +56,7 @@ use Rattle.shader_runs.proofs.Names.{parameter_other, parameter_at, variable_pla
 use Rattle.shader_runs.proofs.Names.{variable_at, one_more_variable, take_one_more, globals_other}
 use Rattle.shader_runs.proofs.Names.{globals_at, held, length-names_from, length-functions_of}
 use Rattle.shader_runs.proofs.Names.{length-form_functions, module_names_in_scope, no_name_among}
-use Rattle.shader_runs.proofs.Constants.{environment_fits, scope_is}
+use Rattle.shader_runs.proofs.Constants.{environment_fits, initialiser_is, scope_is}
 
 pick_alike : {A : Type 0} (R : A → Type 0) (a b : Bool) (x x' y y' : ReachedOrHalted A) → a ≡ b → (b ≡ true → Answers R x x') → (b ≡ false → Answers R y y') → Answers R (cond b x y) (cond a x' y')
 pick_alike R a true x x' y y' e h k = subst (λ a. Answers R x (cond a x' y')) (sym e) (h refl)
@@ -662,6 +662,10 @@ pub names_are : (p : Module) (n : ModuleNames) (fs : List Naming) → ModuleFits
     (environment_of p s m)
 names_are p n fs fits s settings m typed w =
     scope_is p n fits.constants s settings m typed fs fits.all (module_within p fs fits.functions) w
+
+pub initialisers_are_alike : InitialisersAreAlike
+initialisers_are_alike p n fs fits s settings m typed w =
+    initialiser_is p n fits.constants s settings m typed fs fits.all (module_within p fs fits.functions) w
 
 pub runs_alike : RunsAlike
 runs_alike p n fs fits s settings m typed g f e vs h w turns t keeps =

@@ -19,12 +19,15 @@ use Rattle.shader_runs.specs.TextRun.{with_parameters}
 use Rattle.shader_runs.specs.TextRun.{with_globals, no_names, names_function}
 use Rattle.shader_runs.specs.Constants.{known_value, found_with, found_after, all_found}
 use Rattle.shader_runs.specs.Constants.{environment_of}
-use Rattle.shader_runs.specs.Constants.{is_declared, operate, initialised_name, with_constants}
+use Rattle.shader_runs.specs.Constants.{is_declared, initialised_name, with_constants}
 use Rattle.shader_runs.specs.Constants.{scope_with, initialiser_value, scope_after, module_scope}
+use Rattle.shader_runs.specs.Constants.{initialiser_words, module_initialiser_value}
+use Rattle.shader_runs.specs.Constants.{text_initialiser_value, value_denoted}
 use Rattle.shader_runs.specs.Scope.{ModuleNames, Naming}
 use Rattle.shader_runs.specs.Form.{constant_form, names_from, globals_from, constants_from}
 use Rattle.shader_runs.specs.Form.{form_functions, form_module}
-use Rattle.shader_runs.specs.Premises.{OperatesOutside, EachLeaf, IsLiteral, ConstantsFit}
+use Rattle.shader_runs.specs.Premises.{OperatesOutside, EachLeaf, EachWord, IsLiteral, ConstantsFit}
+use Rattle.shader_runs.specs.Premises.{ConstantInRange}
 use Rattle.shader_runs.specs.Premises.{SettingsFit, EnvironmentFits, IsTyped, AllFit}
 use Rattle.shader_runs.specs.Correct.{IsSolution, ConstantsAreComputed}
 use Rattle.shader_runs.proofs.Update.{and_both, same_bytes_apart, has_types_length}
@@ -308,7 +311,7 @@ module _ (p : Module) (n : ModuleNames) (fits : ConstantsFit p n) (s : Settings)
     text = form_module p n fs
 
     abbrev l : Words
-    l = record { world = w; meaning = m; respond = operate text m n.is_request }
+    l = initialiser_words text w m n.is_request
 
     abbrev names : List Bytes
     names = names_from n.constant 0 (length p.constant_types)
@@ -367,10 +370,10 @@ module _ (p : Module) (n : ModuleNames) (fits : ConstantsFit p n) (s : Settings)
           operates_so None = refl
           operates_so (Some vs) = ap (λ b. as_value (cond b (Halts Stuck t) (Gives (Some (m (Spelled word) vs)) t))) tests
 
-      gives : (i : ℕ) (e : ConstantTree) → slice_get p.initialisers i ≡ Some e → initialiser_value l here (constant_form n e) ≡ as_denoted (tree_value (known_value found) m e)
-      gives i e q =
-          let f = fits.initialisers i e q in
-          ap initialised_name (tree_gives l here n (known_value found) (λ k. k < length p.constant_types) constant_here (OperatesOutside p n) operates e f.words f.range [])
+      pub gives : (e : ConstantTree) → EachWord (OperatesOutside p n) e → ConstantInRange p e →
+          initialiser_value l here (constant_form n e) ≡ as_denoted (tree_value (known_value found) m e)
+      gives e words range =
+          ap initialised_name (tree_gives l here n (known_value found) (λ k. k < length p.constant_types) constant_here (OperatesOutside p n) operates e words range [])
           ∙ initialised_denoted (tree_value (known_value found) m e)
 
     -- each round of the text knows what the module's knows
@@ -381,16 +384,32 @@ module _ (p : Module) (n : ModuleNames) (fits : ConstantsFit p n) (s : Settings)
         scope_known (tree_value (known_value found) m)
         (initialiser_value l (scope_after l text s r))
         (λ i e q. ap (λ scope. initialiser_value l scope (constant_form n e)) (round_is r)
-        ∙ gives found (found_counted r) i e q)
+        ∙ (let f = fits.initialisers i e q in gives found (found_counted r) e f.words f.range))
+
+    -- so does the last round
+    scope_found : module_scope text s w m n.is_request ≡ with_known names all_rounds outside
+    scope_found = ap (scope_after l text s) (length-constants_from n 0 p.initialisers) ∙ round_is (constant_count p)
 
     pub scope_is : module_scope text s w m n.is_request ≡ module_names_in_scope p n env
     scope_is =
-        ap (scope_after l text s) (length-constants_from n 0 p.initialisers)
-        ∙ round_is (constant_count p)
+        scope_found
         ∙ ap (λ os. with_known names os outside) values.1
         ∙ sym (parameters_known names values.0 outside)
         ∙ ap (λ vs. with_parameters names vs outside) (sym constants_are)
         ∙ ap (λ gs. with_parameters names env.constants (with_globals (globals_from n.global 0 p.globals) gs 0 no_names)) (sym (held_values p.parts p.globals s.globals settings.globals))
+
+    -- and an initialiser has the module's value
+    pub initialiser_is : (e : ConstantTree) → EachWord (OperatesOutside p n) e → ConstantInRange p e →
+        text_initialiser_value text s w m n.is_request (constant_form n e) ≡ module_initialiser_value p s m e
+    initialiser_is e words range =
+        ap (λ scope. value_denoted (initialiser_value l scope (constant_form n e))) scope_found
+        ∙ ap value_denoted (gives all_rounds (found_counted (constant_count p)) e words range)
+        ∙ denoted_value (tree_value (known_value all_rounds) m e)
+        ∙ (λ j. tree_value (λ k. known_is k j) m e)
+      where
+        denoted_value : (o : Option Value) → value_denoted (as_denoted o) ≡ o
+        denoted_value None = refl
+        denoted_value (Some v) = refl
 
 pub constants_are_computed : ConstantsAreComputed
 constants_are_computed p n fits s settings m typed =

@@ -15,7 +15,7 @@ use Rattle.shader_runs.specs.World.{Environment, bind}
 use Rattle.shader_runs.specs.Outcome.{Stuck, ReachedOrHalted, Gives, Halts}
 use Rattle.shader_runs.specs.Program.{ConstantTree, VariableShape, Held, AtPlace, Module}
 use Rattle.shader_runs.specs.Program.{constant_count}
-use Rattle.shader_runs.specs.ProgramRun.{also, tree_value, run_call}
+use Rattle.shader_runs.specs.ProgramRun.{also, tree_value, constant_value, run_call}
 use Rattle.shader_runs.specs.Text.{Tree, TextConstant, TextModule}
 use Rattle.shader_runs.specs.TextRun.{Denotation, IsValue, Scope, Words, evaluate, with_parameters}
 use Rattle.shader_runs.specs.TextRun.{with_globals, no_names, names_function, word_use, follow_call}
@@ -106,11 +106,32 @@ abbrev pub scope_after : Words → TextModule → Settings → (rounds : ℕ) �
 scope_after l text s zero = scope_with (λ e. None) text s
 scope_after l text s (suc n) = scope_with (initialiser_value l (scope_after l text s n)) text s
 
+-- what words do in the initialisers of a text
+abbrev pub initialiser_words : TextModule → World → Meaning → (Bytes → Bool) → Words
+initialiser_words text w m is_request =
+    record { world = w; meaning = m; respond = operate text m is_request }
+
 -- the names of a text: as many rounds as it has named constants
 abbrev pub module_scope : TextModule → Settings → World → Meaning → (Bytes → Bool) → Scope
 module_scope text s w m is_request =
-    let l : Words = record { world = w; meaning = m; respond = operate text m is_request } in
-    scope_after l text s (length text.constants)
+    scope_after (initialiser_words text w m is_request) text s (length text.constants)
+
+-- what stands for a value; a reference does not
+abbrev pub value_denoted : Option Denotation → Option Value
+value_denoted (Some (IsValue v)) = Some v
+value_denoted _ = None
+
+-- the value of an initialiser of the text, where all its names are in scope
+abbrev pub text_initialiser_value :
+    TextModule → Settings → World → Meaning → (is_request : Bytes → Bool) → Tree → Option Value
+text_initialiser_value text s w m is_request e =
+    let names = module_scope text s w m is_request in
+    value_denoted (initialiser_value (initialiser_words text w m is_request) names e)
+
+-- the value of an initialiser of the module, by those of all its named constants and overrides
+abbrev pub module_initialiser_value :
+    Module → Settings → Meaning → ConstantTree → Option Value
+module_initialiser_value p s m e = constant_value (environment_of p s m) m e
 
 -- the run of a function of the text, by its name
 abbrev pub follow_module :

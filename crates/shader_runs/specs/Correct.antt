@@ -11,11 +11,13 @@ use Rattle.shader_runs.specs.Program.{Function, function_numbered, Module, Const
 use Rattle.shader_runs.specs.Program.{constant_count}
 use Rattle.shader_runs.specs.ProgramRun.{constant_value}
 use Rattle.shader_runs.specs.Constants.{global_values, environment_of, run_module, follow_module}
+use Rattle.shader_runs.specs.Constants.{module_initialiser_value, text_initialiser_value}
 use Rattle.shader_runs.specs.Scope.{ModuleNames, Naming}
-use Rattle.shader_runs.specs.Form.{form_module, functions_of}
+use Rattle.shader_runs.specs.Form.{constant_form, form_module, functions_of}
 use Rattle.shader_runs.specs.Typing.{IsConsistent}
 use Rattle.shader_runs.specs.Premises.{IsTyped, AllFit, ConstantsFit, SettingsFit, EnvironmentFits}
-use Rattle.shader_runs.specs.Premises.{ModuleNamesAreDistinct}
+use Rattle.shader_runs.specs.Premises.{ModuleNamesAreDistinct, EachWord, OperatesOutside}
+use Rattle.shader_runs.specs.Premises.{ConstantInRange}
 
 -- each answer of the world that the run asks for has its type
 abbrev pub KeepsTypes : {A : Type 0} → ReachedOrHalted A → Type 0
@@ -67,6 +69,20 @@ ConstantsAreComputed =
     EnvironmentFits p env
     × IsSolution p settings m env
     × ((other : Environment) → IsSolution p settings m other → other ≡ env)
+
+-- An initialiser has one value on both sides, in every world: what the text computes of its form is
+-- what the module computes of it. Its words are operators, and its names those of constants and
+-- overrides.
+abbrev pub InitialisersAreAlike : Type 0
+InitialisersAreAlike =
+    (p : Module) (n : ModuleNames) (fs : List Naming) →
+    ModuleFits p n fs →
+    (settings : Settings) → SettingsFit p settings →
+    (m : Meaning) → IsTyped p m →
+    (w : World) (e : ConstantTree) →
+    EachWord (OperatesOutside p n) e → ConstantInRange p e →
+    text_initialiser_value (form_module p n fs) settings w m n.is_request (constant_form n e)
+    ≡ module_initialiser_value p settings m e
 
 -- the law above isn't empty: every module whose
 -- operators are typed consistently has a typed meaning

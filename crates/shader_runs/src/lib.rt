@@ -2,7 +2,7 @@
 #![tactic(auto)]
 
 ghost use Rattle.shader_runs.specs.Correct.{RunsAlike, HasTypedMeaning, HasTypedWorld};
-ghost use Rattle.shader_runs.specs.Correct.{ConstantsAreComputed};
+ghost use Rattle.shader_runs.specs.Correct.{ConstantsAreComputed, InitialisersAreAlike};
 ghost use Rattle.shader_runs.specs.Identifiers.{BindsAsMeant, ResolvesAsMeant};
 ghost use Rattle.shader_runs.specs.Ends.{EndsArePassed};
 ghost use Rattle.shader_runs.specs.Points.{PointsAgree};
@@ -63,6 +63,11 @@ pub fn ends_are_passed()
 /// What a module computes for its named constants are the values of their initialisers.
 pub fn constants_are_computed()
     ensures { ConstantsAreComputed }
+{}
+
+/// An initialiser has the value in a text that it has in the module.
+pub fn initialisers_are_alike()
+    ensures { InitialisersAreAlike }
 {}
 
 /// What the first law asks of the meaning can be met.

@@ -1,5 +1,5 @@
 -- The types that the `let`s of a text tell.
-use Rattle.std.specs.Prelude.{◌≡◌, ℕ, List, [], ◌∷◌, ◌++◌, Option, Some, None}
+use Rattle.std.specs.Prelude.{ℕ, List, [], ◌∷◌, ◌++◌, Option, Some, None}
 use Rattle.wgsl_text.specs.Reading.{type_layout}
 use Rattle.wgsl_text.specs.Statements.{Statement, Let, TypedLet, If, Loop, LoopBreakIf, Switch}
 use Rattle.wgsl_text.specs.Statements.{Block, Statements, NoStatements, Then, OptionalBlock, NoBlock}

@@ -1,6 +1,6 @@
 -- The values of literals in a text.
-use Rattle.std.specs.Prelude.{ℕ, suc, ℤ, pos, negsuc, Bool, true, List, [], ◌==◌, ◌+◌, ◌*◌}
-use Rattle.std.specs.Prelude.{if◌then◌else◌, codes}
+use Rattle.std.specs.Prelude.{ℕ, suc, ℤ, pos, negsuc, Bool, true, List, []}
+use Rattle.std.specs.Prelude.{codes}
 use Rattle.wgsl_text.specs.Token.{Suffix, NoSuffix, SuffixI, SuffixU, SuffixLi, SuffixLu}
 use Rattle.wgsl_text.specs.Literals.{Literal, Truth, Suffixed, SignedShort, UnsignedShort}
 use Rattle.wgsl_text.specs.Literals.{LeastInteger, LeastLong}
