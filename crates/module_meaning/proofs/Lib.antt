@@ -3,6 +3,7 @@ pub mod AgreementExamples
 pub mod AlikeExamples
 pub mod AlikeTypes
 pub mod BindingCounts
+mod EnableExamples
 pub mod ExpressionShapes
 pub mod Fitting
 pub mod Lists

@@ -5,6 +5,7 @@ use Rattle.naga_ir.specs.declared.module.FunctionResult.{FunctionResult}
 use Rattle.naga_ir.specs.declared.module.Module as ir_module
 use Rattle.naga_ir.specs.declared.types.Type_.{Type_}
 use Rattle.naga_names.specs.Keys.{NameMap}
+use Rattle.module_meaning.specs.Enables.{needed_enables}
 use Rattle.module_meaning.specs.Names.{function_name}
 use Rattle.naga_words.specs.Contexts.{names_of, Names as TypeNames}
 use Rattle.module_meaning.specs.Types.{spelled_type}
@@ -36,12 +37,12 @@ function_interfaces names types g [] = []
 function_interfaces names types g (f ∷ more) =
     function_interface names types g f ∷ function_interfaces names types (g + 1) more
 
--- the interface of a module: its functions under their names, with the types of their arguments,
--- results and locals
+-- the interface of a module: the extensions that it needs, and its functions under their names, with
+-- the types of their arguments, results and locals
 abbrev pub module_interface : NameMap → ir_module.Module → Interface
 module_interface names m =
     record {
-      enables = [];
+      enables = needed_enables m;
       structs = [];
       constants = [];
       overrides = [];

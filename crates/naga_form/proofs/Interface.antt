@@ -23,6 +23,7 @@ use Rattle.wgsl_text.specs.Reading.{type_layout}
 use Rattle.wgsl_text.specs.Types.{TypeSpecifier, Named}
 use Rattle.module_meaning.specs.Namings.{function_naming}
 use Rattle.naga_form.specs.Expressions.{Source, function_source}
+use Rattle.module_meaning.specs.Enables.{needed_enables}
 use Rattle.module_meaning.specs.Names.{expression_name, module_names}
 use Rattle.naga_form.specs.Declarations.{written_program}
 use Rattle.naga_form.specs.Functions.{locals_form, parameters_form, result_form, function_form}
@@ -87,7 +88,7 @@ function_interfaces_form explicit names m info g (f ∷ fs) (es ∷ ess) size =
 
 pub has_interface : (m : Module) (info : ModuleInfo) (explicit : Bool) → length m.functions ≡ length info.functions.items → HasInterfaceOf m (written_program m info explicit)
 has_interface m info explicit size = λ i. record {
-  enables = [];
+  enables = needed_enables m;
   structs = [];
   constants = [];
   overrides = [];
