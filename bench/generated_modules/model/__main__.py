@@ -21,6 +21,7 @@ import subprocess
 import sys
 
 from acceptance import is_accepted
+from enables import enables_text
 from generator import generate
 from modules import EVENTS, PARTS, statements_in
 from rows import check_rows
@@ -124,7 +125,7 @@ class Tally:
 
     def run(self, number, module, text):
         """Whether each function's text does what the function does."""
-        texts = functions_in(text)
+        texts = functions_in(text.removeprefix(enables_text(module)))
         for at, (f, own) in enumerate(zip(module.functions, texts)):
             meant = module_runs(f)
             try:
@@ -158,6 +159,8 @@ class Tally:
             self.add(f"written, with {kind}", any(f.expressions[h].kind == kind for f, h in emitted))
         self.add("written, with constants without names", any(e.kind == "constant" for e in expressions))
         self.add("written, with structs", any(ty[0] == "struct" for ty in module.types))
+        for line in enables_text(module).split("\n")[:-2]:
+            self.add(f"written, with {line}")
         self.add_splits(module)
         firsts = [f.expressions[h].kind for f in module.functions for _, _, h in f.locals if h is not None]
         self.add("written, with first values that are no literals", any(kind != "literal" for kind in firsts))

@@ -1,7 +1,7 @@
 """Types and labels by chance."""
 
 from spelling import (
-    ATOMIC, BOOL, F32, F64, FUNCTION, HALVES, HANDLE, I32, I64, LOAD, SPACES, STORE, U32, U64, pointer_to)
+    ATOMIC, BOOL, F16, F32, F64, FUNCTION, HALVES, HANDLE, I32, I64, LOAD, SPACES, STORE, U32, U64, pointer_to)
 from words import FORMATS
 
 # labels that are alike, that are words of WGSL, that end in digits, or whose names are put together
@@ -35,12 +35,12 @@ def some_scalar(r):
 def some_number(r):
     """A scalar, a vector or a matrix."""
     scalar, shape = some_scalar(r), r.random()
-    scalar = r.choice([*HALVES]) if r.random() < 0.002 else scalar
+    scalar = r.choice([*HALVES]) if r.random() < 0.04 else scalar
     if shape < 0.5:
         return ("scalar", scalar)
     if shape < 0.75:
         return ("vector", r.randint(2, 4), scalar)
-    return ("matrix", r.randint(2, 4), r.randint(2, 4), r.choice([F32, F64]))
+    return ("matrix", r.randint(2, 4), r.randint(2, 4), r.choice([F32, F32, F32, F64, F64, F64, F16]))
 
 
 def some_array(r):

@@ -2,6 +2,7 @@
 
 from bodies import BodyMaker, spoil
 from chance import some_label, some_member_label, some_number, some_scalar, some_type
+from enables import some_binding
 from modules import LEAVES, RESULTS, Expression, Function, Module, Sampling, emit, returns, store
 from operators import LITERALS, conversion_word, wanted_scalar
 from spelling import (
@@ -85,6 +86,9 @@ class StructMaker:
         """A struct that no other one of the module is the same as, now and then without a label."""
         count = sum(ty[0] == "struct" for ty in self.module.types)
         ty = ("struct", tuple(members), 16 * count)
+        for number in range(len(members)):
+            if self.r.random() < 0.05:
+                self.module.bindings[ty, number] = some_binding(self.r)
         label = "__modf_result_f32" if self.r.random() < 0.8 else some_label(self.r)
         self.module.handle_of(ty, label if self.r.random() < 0.9 else None)
         return ty

@@ -113,12 +113,12 @@ class Function:
 
 class Module:
     """Types with their labels; the special ones, each with what gives it, its size and its scalar, or none where its
-    handle is nowhere; constants without names, by type and initialiser, which is one of the module's own expressions;
-    and functions."""
+    handle is nowhere; what members are bound to, by their struct and number; constants without names, by type and
+    initialiser, which is one of the module's own expressions; and functions."""
 
     def __init__(self):
         self.types, self.labels, self.functions = [], [], []
-        self.special = []
+        self.special, self.bindings = [], {}
         self.own, self.constants = Function(None, self), []
 
     def groups(self):

@@ -4,7 +4,7 @@ from acceptance import is_accepted
 from modules import Expression, Function, Module, Sampling, emit, returns, store
 from naming import Namer, member_names
 from runs import module_runs, text_runs
-from spelling import BOOL, F32, FUNCTION, I32, SCALAR_KINDS, pointer_to
+from spelling import BOOL, F16, F32, FUNCTION, I32, SCALAR_KINDS, U16, pointer_to
 from words import MATH
 from worlds import term
 from writer import NOT_YET_WRITTEN, UNDECLARED, answers_of, refusal
@@ -274,6 +274,30 @@ def check_structs():
             assert refusal(NOT_YET_WRITTEN) in answers_of(module, explicit)[1], told
 
 
+# what a member is bound to, and what that enables
+BOUND = [
+    (("builtin", "VertexIndex"), ""), (("builtin", "HitKind"), ""), (("location", "Flat", None, False), ""),
+    (("builtin", "ClipDistances"), "enable clip_distances;\n\n"),
+    (("builtin", "MeshTaskSize"), "enable wgpu_mesh_shader;\n\n"),
+    (("builtin", "WorldToObject"), "enable wgpu_ray_tracing_pipeline;\n\n"),
+    (("location", "PerVertex", None, False), "enable wgpu_per_vertex;\n\n"),
+    (("location", "PerVertex", 0, False), "enable dual_source_blending;\n\n"),
+    (("location", "PerVertex", None, True), "enable wgpu_mesh_shader;\n\n"),
+    (("location", None, 1, True), "enable dual_source_blending;\nenable wgpu_mesh_shader;\n\n")]
+
+
+def check_enables():
+    module = module_of([])
+    for ty in [("vector", 2, U16), ("value pointer", 0, F16, FUNCTION), ("matrix", 2, 2, F16), INT]:
+        module.handle_of(ty)
+    assert answers_of(module, False) == (True, {"enable f16;\nenable wgpu_int16;\n\n"})
+    for binding, text in BOUND:
+        module = module_of([], [PARTS])
+        module.handle_of(PARTS)
+        module.bindings[PARTS, 1] = binding
+        assert is_accepted(module) and answers_of(module, False) == (True, {text}), (binding, text)
+
+
 SAMPLED = (
     "fn sp(t: texture_2d<f32>, s: sampler, p: vec2<f32>) -> vec4<f32> {{\n"
     "    let {0} = {1};\n    return {0};\n}}\n\n")
@@ -308,6 +332,7 @@ def check_rows():
         module = module_of(functions)
         assert is_accepted(module) and answers_of(module, False) == (True, {text}), (answers_of(module, False), text)
     check_structs()
+    check_enables()
     check_run_of_late()
 
 

@@ -4,6 +4,7 @@ import json
 import math
 import struct
 
+from enables import binding_form
 from spelling import ATOMIC, F32, F64, LOAD, SCALAR_KINDS, STORE
 from operators import LITERALS
 from words import COMPARING, MATH, OPERATIONS, words_of
@@ -117,14 +118,16 @@ class Serde:
             dimension, arrayed, image_class = rest
             return {"Image": {"dim": DIMENSIONS[dimension], "arrayed": arrayed, "class": class_form(*image_class)}}
         if kind == "struct":
-            return {"Struct": {"members": [self.struct_member(*each) for each in rest[0]], "span": rest[1]}}
+            members = [self.struct_member(ty, number, *each) for number, each in enumerate(rest[0])]
+            return {"Struct": {"members": members, "span": rest[1]}}
         if kind == "atomic":
             return {"Atomic": scalar_form(rest[0])}
         return {"Sampler": {"comparison": rest[0]}} if kind == "sampler" else {"RayQuery": {"vertex_return": rest[0]}}
 
-    def struct_member(self, label, ty):
+    def struct_member(self, struct_type, number, label, ty):
         """A member; all stand at offset 0."""
-        return {"name": label, "ty": self.place_of(ty), "binding": None, "offset": 0}
+        binding = binding_form(self.module.bindings.get((struct_type, number)))
+        return {"name": label, "ty": self.place_of(ty), "binding": binding, "offset": 0}
 
     # ---- functions
     def function(self, f):

@@ -16,7 +16,7 @@ from words import FORMATS
 SCALAR_KINDS = ["sint", "uint", "float", "bool", "abstract"]
 BOOL, I32, U32, I64, U64, F32, F64 = [
     ("bool", 1), ("sint", 4), ("uint", 4), ("sint", 8), ("uint", 8), ("float", 4), ("float", 8)]
-# types of these are for an extension
+# types of these need an extension
 I16, U16, F16 = [("sint", 2), ("uint", 2), ("float", 2)]
 HALVES = {I16: "i16", U16: "u16", F16: "f16"}
 SCALARS = {BOOL: "bool", I32: "i32", U32: "u32", I64: "i64", U64: "u64", F32: "f32", F64: "f64", **HALVES}
@@ -128,11 +128,6 @@ def scalar_of(ty):
 def is_integer(ty):
     """Whether a type is an integer, of whatever width."""
     return ty[0] == "scalar" and ty[1][0] in ("sint", "uint")
-
-
-def waits(ty):
-    """Whether a type needs an extension."""
-    return scalar_of(ty) in HALVES
 
 
 def lacking_scalar(ty):

@@ -1,11 +1,12 @@
 """Scope, texts, and the constructs for which a module is refused."""
 
+from enables import enables_text
 from modules import EVENTS, IMAGES, LEAVES, PARTS, READS, RESULTS, holds_continue, statements_in
 from naming import names_of
 from operators import (
     act_word, barrier_words, conversion_word, literal_text, numbers_around, offset_of, wanted_scalar, word_of)
 from spelling import (
-    has_parts, lacking_scalar, points, points_to_atomic, scalar_of, spelled, waits, whole_of)
+    has_parts, lacking_scalar, points, points_to_atomic, scalar_of, spelled, whole_of)
 from words import MATH, MEMBERS, RELATIONAL
 
 NOT_YET_WRITTEN = "not yet written"
@@ -82,7 +83,7 @@ def answers_of(module, explicit):
     if not is_of_part(module):
         answers.add(refusal(NOT_YET_WRITTEN))
     names, namer = names_of(module)
-    text = ""
+    text = enables_text(module)
     for f, own in zip(module.functions, names):
         standing = {formless(f, h) for h in written_of(f)}
         standing |= {formless_type(module, ty) for ty in spelled_by(f, explicit)}
@@ -99,9 +100,9 @@ def answers_of(module, explicit):
 
 
 def is_of_part(module):
-    """No type that is declared waits, and none is a struct, but for those that no text declares."""
+    """No type is a struct, but for those that no text declares."""
     structs = [ty for ty in module.types if ty[0] == "struct"]
-    return not any(map(waits, module.types)) and all(map(module.names_undeclared, structs))
+    return all(map(module.names_undeclared, structs))
 
 
 def written_of(f):

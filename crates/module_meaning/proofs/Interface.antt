@@ -20,6 +20,7 @@ use Rattle.naga_words.specs.Spelling.{is_struct}
 use Rattle.shader_runs.specs.Value.{Value}
 use Rattle.shader_runs.specs.World.{Meaning, Settings}
 use Rattle.text_meaning.specs.Interface.{Interface}
+use Rattle.module_meaning.specs.Enables.{needed_enables}
 use Rattle.module_meaning.specs.Interface.{constant_interface, entry_point_interface}
 use Rattle.module_meaning.specs.Interface.{function_interfaces, global_interface, module_interface}
 use Rattle.module_meaning.specs.Interface.{override_interface, struct_interface}
@@ -67,11 +68,11 @@ no_constants names t value h (c ∷ cs) all =
     ap₂ cons_option (none_where _ _ (not_named c.name parts.0)) (no_constants names t value (h + 1) cs parts.1)
 
 -- ---- modules
--- nothing but functions
+-- nothing but the extensions that are needed, and functions
 abbrev pub functions_declared : NameMap → Module → Interface
 functions_declared names m =
     record {
-      enables = [];
+      enables = needed_enables m;
       structs = [];
       constants = [];
       overrides = [];
@@ -90,7 +91,7 @@ functions_declared_alone settings meaning names m info written =
     let t : TypeNames = names_of m.types names in
     let value = global_expression_value m info settings meaning in
     λ i. record {
-      enables = [];
+      enables = needed_enables m;
       structs = no_structs names t m 0 m.types is.1 i;
       constants = no_constants names t value 0 m.constants constants.0 i;
       overrides =

@@ -4,6 +4,7 @@ pub mod AgreementExamples
 pub mod AlikeExamples
 pub mod AlikeTypes
 pub mod BindingCounts
+mod EnableExamples
 pub mod ExpressionShapes
 mod DeclaredItemExamples
 pub mod Fitting

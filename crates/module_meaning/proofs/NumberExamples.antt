@@ -134,7 +134,7 @@ module _ (variable : GlobalVariable) (o : Override) where
   identified-by_17_bits = refl
 
 -- a vector of one item
-abbrev one : {X : Type 0} → Vec X Global → X → Vec X Global
+abbrev pub one : {X : Type 0} → Vec X Global → X → Vec X Global
 one v x =
     record v {
       len = 1;

@@ -24,6 +24,7 @@ use Rattle.naga_info.specs.declared.info.ModuleInfo.{ModuleInfo}
 use Rattle.naga_names.specs.Keys.{NameMap}
 use Rattle.naga_names.specs.Reset.{members_of}
 use Rattle.naga_names.specs.declared.key.NameKey.TheVariants as key
+use Rattle.module_meaning.specs.Enables.{needed_enables}
 use Rattle.naga_words.specs.Contexts.{names_of, Names as TypeNames}
 use Rattle.wgsl_words.specs.Words.{space_word, space_access_word}
 use Rattle.shader_runs.specs.Constants.{module_initialiser_value}
@@ -172,7 +173,7 @@ module_interface settings meaning names m info =
     let t : TypeNames = names_of m.types names in
     let value = global_expression_value m info settings meaning in
     record {
-      enables = [];
+      enables = needed_enables m;
       structs = filter_map (struct_interface names t m) (enumerate_from 0 m.types);
       constants = filter_map (constant_interface names t value) (enumerate_from 0 m.constants);
       overrides = map (override_interface names t value) (enumerate_from 0 m.overrides);

@@ -2,10 +2,10 @@ pub mod BindingCounts
 pub mod Accepted
 pub mod AgreeingOperators
 pub mod AlikeTypes
-pub mod BindingExtensions
 pub mod Bindings
 pub mod Conversions
 pub mod DeclaredItems
+pub mod Enables
 pub mod ExpressionOperators
 pub mod ExpressionShapes
 pub mod ExpressionTypes

@@ -40,7 +40,6 @@ use Rattle.naga_info.specs.Resolution.{inner_of}
 use Rattle.naga_info.specs.declared.info.ExpressionInfo.{ExpressionInfo}
 use Rattle.naga_info.specs.declared.info.TypeResolution.TheVariants.{Handle, Value}
 use Rattle.module_meaning.specs.AlikeTypes.{is_spelled}
-use Rattle.module_meaning.specs.BindingExtensions.{members_are_extended}
 use Rattle.module_meaning.specs.Conversions.{conversion_target}
 use Rattle.module_meaning.specs.ExpressionOperators.{has_parts, scalar_behind}
 use Rattle.module_meaning.specs.OperatorTable.{relational_word}
@@ -58,37 +57,10 @@ declares_functions m =
     (length m.global_variables == 0 && length m.entry_points.items == 0))
 
 -- ---- types
--- for an integer or a float of 16 bits a module enables an extension
-abbrev pub width_is_extended : ScalarKind → (width : ℕ) → Bool
-width_is_extended kind.Sint width = width == 2
-width_is_extended kind.Uint width = width == 2
-width_is_extended kind.Float width = width == 2
-width_is_extended _ width = false
-
-abbrev pub is_extended : Scalar → Bool
-is_extended s = width_is_extended s.kind s.width
-
--- a module declares nothing for a type that is no struct, and enables nothing for it
-abbrev pub needs_nothing : TypeInner → Bool
-needs_nothing (inner.Scalar s) = not (is_extended s)
-needs_nothing (inner.Vector size s) = not (is_extended s)
-needs_nothing (inner.Matrix columns rows s) = not (is_extended s)
-needs_nothing (inner.CooperativeMatrix columns rows s role) = false
-needs_nothing (inner.Struct members span) = false
-needs_nothing (inner.AccelerationStructure vertex_return) = false
-needs_nothing (inner.BindingArray base size) = false
-needs_nothing _ = true
-
--- some member of a struct has a binding for which a module enables an extension
-abbrev pub is_extended_struct : TypeInner → Bool
-is_extended_struct (inner.Struct members span) = members_are_extended members.items
-is_extended_struct _ = false
-
--- nor for a struct that no text declares; such a struct is refused by name where it would be spelled
+-- a type that is no struct has no declaration, nor has a struct that no text declares; such a struct
+-- is refused by name where it would be spelled
 abbrev pub type_is_written_so_far : Module → (h : ℕ) → Type_ → Bool
-type_is_written_so_far m h t =
-    needs_nothing t.inner || (is_struct t.inner &&
-    (is_undeclared m.special_types h && not (is_extended_struct t.inner)))
+type_is_written_so_far m h t = not (is_struct t.inner) || is_undeclared m.special_types h
 
 abbrev pub types_are_written_so_far : Module → Bool
 types_are_written_so_far m = all_placed (type_is_written_so_far m) m.types

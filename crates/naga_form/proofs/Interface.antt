@@ -28,6 +28,7 @@ use Rattle.wgsl_text.specs.Reading.{type_layout}
 use Rattle.wgsl_text.specs.Types.{TypeSpecifier, Named}
 use Rattle.module_meaning.specs.Namings.{function_naming}
 use Rattle.naga_form.specs.Expressions.{Source, function_source}
+use Rattle.module_meaning.specs.Enables.{needed_enables}
 use Rattle.module_meaning.specs.Names.{expression_name, module_names}
 use Rattle.naga_form.specs.Declarations.{written_program}
 use Rattle.naga_form.specs.Functions.{locals_form, parameters_form, result_form, function_form}
@@ -117,7 +118,7 @@ pub has_interface : (m : Module) (info : ModuleInfo) (explicit : Bool) →
 has_interface m info explicit written size settings fits meaning typed world =
     let functions = function_interfaces_form explicit (module_names m) m info 0 m.functions info.functions.items size (functions_are_written m written) in
     (λ i. record {
-      enables = [];
+      enables = needed_enables m;
       structs = [];
       constants = [];
       overrides = [];

@@ -1,5 +1,6 @@
 -- What is written for a module is a program of the grammar.
 use Rattle.module_meaning.specs.Accepted.{is_accepted}
+use Rattle.module_meaning.specs.Enables.{Extension, extensions, is_needed}
 use Rattle.module_meaning.specs.WrittenSoFar.{is_written_so_far, types_are_written_so_far}
 use Rattle.module_meaning.specs.WrittenSoFar.{constant_is_written, global_is_written}
 use Rattle.module_meaning.specs.WrittenSoFar.{is_written_literal}
@@ -7,11 +8,11 @@ use Rattle.module_meaning.specs.Ranges.{function_in_range, local_in_range, is_be
 use Rattle.module_meaning.proofs.WrittenSoFar.{written_so_far_parts, spelled_of_spellable}
 use Rattle.naga_form.proofs.AcceptedFunctions.{locals_are_in_range, of_function, ranges_are}
 use Rattle.naga_form.proofs.AcceptedFunctions.{soundness_is}
-use Rattle.std.proofs.Common.{◌≡◌, ℕ, ◌<◌, ◌≤◌, suc, Bool, true, List, [], ◌∷◌, length, refl, sym}
+use Rattle.std.proofs.Common.{◌≡◌, ℕ, ◌<◌, ◌≤◌, suc, Bool, true, false, List, [], ◌∷◌, length, refl, sym}
 use Rattle.std.proofs.Common.{ap, subst, ◌∙◌, arith, nat_lt, ◌+◌, Option, Some, None, ◌^◌, map}
-use Rattle.std.proofs.Common.{nat_le, add-zero, zero-add}
+use Rattle.std.proofs.Common.{nat_le, add-zero, zero-add, cond}
 use Rattle.std.specs.Prelude.{IsTrue, slice_get}
-use Rattle.std.specs.List.{list_all, AllByRecursion}
+use Rattle.std.specs.List.{list_all, AllByRecursion, filter}
 use Rattle.std.specs.Option.{option_map, option_to_list}
 use Rattle.std.proofs.lemmas.Bool.{ltb-true, leb-true, and_parts}
 use Rattle.naga_ir.specs.declared.module.Function as ir_function
@@ -22,7 +23,7 @@ use Rattle.naga_info.specs.declared.info.ExpressionInfo.{ExpressionInfo}
 use Rattle.naga_info.specs.declared.info.ModuleInfo.{ModuleInfo}
 use Rattle.module_meaning.specs.Undeclared.{is_spellable}
 use Rattle.wgsl_text.specs.Words.{IsIdentifier}
-use Rattle.wgsl_text.specs.Declarations.{IsProgram}
+use Rattle.wgsl_text.specs.Declarations.{IsEnable, IsProgram}
 use Rattle.wgsl_text.specs.Expressions.{IsExpression}
 use Rattle.wgsl_text.specs.Expressions as tree_expressions
 use Rattle.wgsl_text.specs.Functions.{IsValue, IsParameter, IsResult, IsLocal, Each, IsFunction}
@@ -247,12 +248,24 @@ module _ (explicit : Bool) (m : Module) (info : ModuleInfo) (accepted : IsTrue (
         functions_are (g + 1) fs ess (further m.functions g f fs there) (further info.functions.items g es ess known) (λ i f es here known. have (suc i) f es here known) counted.1,
       )
 
+-- each extension that is enabled is one that the grammar has
+enables_are : (needs : Extension → Bool) (xs : List Extension) →
+    Each (λ x. IsEnable x.word) xs → Each IsEnable (map (λ x. x.word) (filter needs xs))
+enables_are needs [] all = tt
+enables_are needs (x ∷ xs) all = by (needs x) (enables_are needs xs all.1)
+  where
+    by : (needed : Bool) → Each IsEnable (map (λ x. x.word) (filter needs xs)) →
+        Each IsEnable (map (λ x. x.word) (cond needed (x ∷ filter needs xs) (filter needs xs)))
+    by true more = (all.0, more)
+    by false more = more
+
 pub is_program : (m : Module) (info : ModuleInfo) (explicit : Bool) → IsTrue (is_accepted m info) →
     IsTrue (is_written_so_far m) → AllWrittenHaveForms explicit m info →
     IsTrue (handles_are_counted m) → IsProgram (written_program m info explicit)
 is_program m info explicit accepted written have few =
     record {
-      enables = tt;
+      enables = enables_are (is_needed m) extensions
+          (refl, (refl, (refl, (refl, (refl, (refl, (refl, (refl, (refl, (refl, (refl, tt)))))))))));
       structs = tt;
       constants = tt;
       overrides = tt;

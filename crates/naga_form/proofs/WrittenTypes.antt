@@ -30,8 +30,6 @@ use Rattle.naga_words.specs.Spelling.{is_struct, length_within}
 use Rattle.naga_words.specs.Words.{sampler_word}
 use Rattle.module_meaning.specs.AlikeTypes.{is_spelled, type_key as form_numbers}
 use Rattle.module_meaning.proofs.WrittenSoFar.{type_of_part}
-use Rattle.module_meaning.specs.BindingExtensions.{members_are_extended}
-use Rattle.module_meaning.specs.WrittenSoFar.{is_extended_struct, needs_nothing}
 use Rattle.module_meaning.specs.WrittenSoFar.{types_are_written_so_far}
 use Rattle.module_meaning.specs.Undeclared.{is_undeclared, names_undeclared}
 use Rattle.module_meaning.specs.Types.{type_names}
@@ -307,11 +305,9 @@ pub struct_undeclared : (m : Module) → types_are_written_so_far m ≡ true →
 struct_undeclared m all h t at is = by t.inner is (type_of_part m all h t at)
   where
     by : (it : TypeInner) → is_struct it ≡ true →
-        (needs_nothing it || (is_struct it &&
-        (is_undeclared m.special_types h && not (is_extended_struct it)))) ≡ true →
+        (not (is_struct it) || is_undeclared m.special_types h) ≡ true →
         is_undeclared m.special_types h ≡ true
-    by (inner.Struct members span) is part =
-        (and_parts (is_undeclared m.special_types h) (not (members_are_extended members.items)) part).0
+    by (inner.Struct members span) is part = part
     by _ is part = absurd cc
 
 module _ (m : Module) (types : TypesAreFit m) where

@@ -62,7 +62,7 @@ impl From<AllocError> for Error {
 }
 
 /// What was wanting in a text whose types all have forms.
-pub(crate) fn error_of_want(want: TypeTextError) -> Error
+pub fn error_of_want(want: TypeTextError) -> Error
     requires { want ≡ type_error.NoForm → ⊥ }
     ensures { IsErrorOf want result }
 {

@@ -4,9 +4,10 @@ use Rattle.std.proofs.Common.{ap, drop, inl, inr, length, subst, sym, None, Opti
 use Rattle.std.proofs.Common.{slice_get}
 use Rattle.std.proofs.lemmas.Option.{slice_get_within}
 use Rattle.naga_ir.specs.declared.module.Function.{Function}
-use Rattle.std.specs.Prelude.{IfErr, IsTrue, OnErr, OnOk, Result}
+use Rattle.std.specs.Prelude.{IfErr, IsErrAnd, IsTrue, OnErr, OnOk, Result}
 use Rattle.naga_ir.specs.declared.module.Module.{Module}
 use Rattle.module_meaning.specs.Accepted.{is_accepted}
+use Rattle.module_meaning.specs.Enables.{needed_enables}
 use Rattle.module_meaning.specs.WrittenSoFar.{is_written_so_far}
 use Rattle.wgsl_text.specs.Declarations.{Program}
 use Rattle.naga_form.specs.Declarations.{written_program}
@@ -25,13 +26,16 @@ use Rattle.naga_form.proofs.Bindings.{binds_as}
 use Rattle.module_meaning.specs.Resolution.{ResolvesAs}
 use Rattle.naga_form.proofs.Runs.{runs_as}
 use Rattle.naga_words.specs.Sink.{IsBehind}
-use Rattle.naga_wgsl_fns.specs.Appends.{StoppedWithin}
+use Rattle.naga_words.proofs.Writing.{behind_then}
+use Rattle.naga_wgsl_fns.proofs.Appending.{stopped_first, stopped_then, wrote_then}
+use Rattle.naga_wgsl_fns.specs.Appends.{StoppedWithin, Wrote}
 use Rattle.naga_wgsl_fns.specs.Errors.{IsWant, IsNotYetWritten}
 use Rattle.naga_wgsl_fns.specs.declared.error.Error.{Error}
 use Rattle.naga_wgsl_fns.specs.declared.error.Error.TheVariants.{FmtError, Custom, Unimplemented}
 use Rattle.naga_wgsl_fns.specs.declared.error.Error.TheVariants.{Memory}
 use Rattle.naga_back.specs.declared.flags.WriterFlags.{WriterFlags}
 use Rattle.naga_wgsl_fns.specs.FunctionText.{annotates_types}
+use Rattle.naga_wgsl_out.specs.Enables.{enables_text}
 use Rattle.naga_wgsl_out.specs.Writing.{HasPlan, MetNoPlan, WritesFunctions, WroteFunctions}
 use Rattle.naga_wgsl_out.specs.Writing.{WroteFunctionsBefore, lines_before, module_lines}
 use Rattle.naga_wgsl_out.specs.Writing.{written_text}
@@ -104,6 +108,10 @@ module _ (m : Module) (info : ModuleInfo) (flags : WriterFlags)
   abbrev program : Program
   program = written_program m info explicit
 
+  -- what stands in front of its functions
+  abbrev front : List ℕ
+  front = enables_text (needed_enables m)
+
   one : AllPlanned → HasOneReading Reads (written_text m info flags) program
   one planned =
       program_has_one_reading program (is_program m info explicit accepted
@@ -125,7 +133,8 @@ module _ (m : Module) (info : ModuleInfo) (flags : WriterFlags)
       pub text_ok : OnOk r (now ≡ content ++ written_text m info flags)
       pub text_err : OnErr r (IsBehind content (written_text m info flags) now)
       pub untouched : IfErr r (λ e. ComesBeforeText m e → now ≡ content)
-      pub written_before : IfErr r (λ e. TellsOfFunction m e → WroteFunctionsBefore m info flags content now)
+      pub written_before : IfErr r (λ e. TellsOfFunction m e →
+          WroteFunctionsBefore m info flags (content ++ front) now)
       pub unfailed : IfErr r (λ e. TellsOfModule e → after ≡ before)
       pub failures_ok : OnOk r (after ≡ before)
 
@@ -138,48 +147,12 @@ module _ (m : Module) (info : ModuleInfo) (flags : WriterFlags)
       by None past = none_past m full.0 past full.1
       by (Some f) at = (planned full.0 (slice_get_within m.functions full.0 f at)).nameable full.1
 
-  same_text : module_lines m info flags ≡ written_text m info flags
+  same_text : front ++ module_lines m info flags ≡ written_text m info flags
   same_text = written_lines m info flags accepted
 
   module _ (content now : List ℕ) (before after : ℕ) where
-    wrote : WroteFunctions m info flags content before now after →
-        Concludes (Ok tt) content now before after
-    wrote w =
-        let appended = w.wrote.appended ∙ ap (λ t. content ++ t) same_text in
-        let rules = all_planned_hold explicit m info written w.planned in
-        let have = all_planned_formed explicit m info w.planned in
-        let reading = each w.planned content now appended in
-        record {
-          is_faithful = record {
-            refusals = record {
-              written = written;
-              in_scope = rules;
-              formed = have;
-              nameable = none_reported w.planned;
-              keys = has.keys;
-            };
-            reading = record {
-              text = written_text m info flags;
-              appended = appended;
-              program = program;
-              reading = one w.planned;
-            };
-            interface = reading (HasInterfaceOf m info) (has_interface m info explicit written (functions_counted m info accepted));
-            runs = reading (RunsAs m info)
-                (runs_as m info explicit accepted written have rules);
-          };
-          resolved = reading (ResolvesAs m info)
-              (resolves m info explicit accepted written have rules);
-          binds = reading (BindsAs m info explicit) (binds_as m info explicit accepted written have);
-          text_ok = appended;
-          text_err = tt;
-          untouched = tt;
-          written_before = tt;
-          unfailed = tt;
-          failures_ok = w.wrote.kept;
-        }
-
-    stopped : (e : Error) → StoppedWithin content before (module_lines m info flags) now after e →
+    -- memory or the sink stopped it
+    stopped : (e : Error) → StoppedWithin content before (front ++ module_lines m info flags) now after e →
         Concludes (Err e) content now before after
     stopped e s = record {
       is_faithful = refused explicit m info e content now before after
@@ -196,31 +169,81 @@ module _ (m : Module) (info : ModuleInfo) (flags : WriterFlags)
       failures_ok = tt;
     }
 
-    met_no_plan : (e : Error) → MetNoPlan m info flags content before now after e →
-        Concludes (Err e) content now before after
-    met_no_plan e s = record {
-      is_faithful = refused explicit m info e content now before after
-          (fault_refuses explicit m info s.before.handle before after written e s.tells s.fault);
-      resolved = tt;
-      binds = tt;
-      text_ok = tt;
-      text_err = subst (λ t. IsBehind content t now) same_text (
-        lines_before m info flags s.before.handle,
-        lines_behind m info flags s.before.handle,
-        sym (lines_split m info flags s.before.handle),
-        s.before.written,
-      );
-      untouched = λ first.
-          absurd (first.1
-          (fault_reported explicit m info s.before.handle has.nameable e s.tells s.fault));
-      written_before = λ reported. s.before;
-      unfailed = λ tells. s.kept;
-      failures_ok = tt;
-    }
+    -- in front of the functions
+    pub concludes_in_front : (r : Result Unit Error) (error : Error) → IsErrAnd r (λ e. e ≡ error) →
+        StoppedWithin content before front now after error → Concludes r content now before after
+    concludes_in_front (Ok x) error is s = absurd is
+    concludes_in_front (Err e) error is s =
+        subst (λ e. Concludes (Err e) content now before after) (sym is)
+        (stopped error (stopped_first (module_lines m info flags) s))
 
-    pub concludes : (r : Result Unit Error) →
-        WritesFunctions m info flags r content before now after →
-        Concludes r content now before after
-    concludes (Ok _) w = wrote w
-    concludes (Err e) (inl s) = stopped e s
-    concludes (Err e) (inr s) = met_no_plan e s
+    -- behind it
+    module _ (middle : List ℕ) (among : ℕ) (stands : Wrote content before front middle among) where
+      wrote : WroteFunctions m info flags middle among now after →
+          Concludes (Ok tt) content now before after
+      wrote w =
+          let whole = wrote_then stands w.wrote in
+          let appended = whole.appended ∙ ap (λ t. content ++ t) same_text in
+          let rules = all_planned_hold explicit m info written w.planned in
+          let have = all_planned_formed explicit m info w.planned in
+          let reading = each w.planned content now appended in
+          record {
+            is_faithful = record {
+              refusals = record {
+                written = written;
+                in_scope = rules;
+                formed = have;
+                nameable = none_reported w.planned;
+                keys = has.keys;
+              };
+              reading = record {
+                text = written_text m info flags;
+                appended = appended;
+                program = program;
+                reading = one w.planned;
+              };
+              interface = reading (HasInterfaceOf m info) (has_interface m info explicit written (functions_counted m info accepted));
+              runs = reading (RunsAs m info)
+                  (runs_as m info explicit accepted written have rules);
+            };
+            resolved = reading (ResolvesAs m info)
+                (resolves m info explicit accepted written have rules);
+            binds = reading (BindsAs m info explicit) (binds_as m info explicit accepted written have);
+            text_ok = appended;
+            text_err = tt;
+            untouched = tt;
+            written_before = tt;
+            unfailed = tt;
+            failures_ok = whole.kept;
+          }
+
+      met_no_plan : (e : Error) → MetNoPlan m info flags middle among now after e →
+          Concludes (Err e) content now before after
+      met_no_plan e s = record {
+        is_faithful = refused explicit m info e content now before after
+            (fault_refuses explicit m info s.before.handle before after written e s.tells s.fault);
+        resolved = tt;
+        binds = tt;
+        text_ok = tt;
+        text_err = subst (λ t. IsBehind content t now) same_text
+            (behind_then content front middle (module_lines m info flags) now stands.appended (
+              lines_before m info flags s.before.handle,
+              lines_behind m info flags s.before.handle,
+              sym (lines_split m info flags s.before.handle),
+              s.before.written,
+            ));
+        untouched = λ first.
+            absurd (first.1
+            (fault_reported explicit m info s.before.handle has.nameable e s.tells s.fault));
+        written_before = λ reported.
+            subst (λ t. WroteFunctionsBefore m info flags t now) stands.appended s.before;
+        unfailed = λ tells. s.kept ∙ stands.kept;
+        failures_ok = tt;
+      }
+
+      pub concludes : (r : Result Unit Error) →
+          WritesFunctions m info flags r middle among now after →
+          Concludes r content now before after
+      concludes (Ok _) w = wrote w
+      concludes (Err e) (inl s) = stopped e (stopped_then stands s)
+      concludes (Err e) (inr s) = met_no_plan e s

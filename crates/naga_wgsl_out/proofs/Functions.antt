@@ -15,7 +15,8 @@ use Rattle.naga_info.specs.declared.info.ExpressionInfo.{ExpressionInfo}
 use Rattle.naga_info.specs.declared.info.ModuleInfo.{ModuleInfo}
 use Rattle.module_meaning.specs.Accepted.{is_accepted}
 use Rattle.wgsl_text.specs.Token.{LineEnd}
-use Rattle.wgsl_text.specs.Functions.{function_pieces, functions_pieces}
+use Rattle.wgsl_text.specs.Declarations.{enables_pieces}
+use Rattle.wgsl_text.specs.Functions.{function_pieces, functions_pieces, group_end}
 use Rattle.naga_form.specs.Functions.{function_form, functions_form}
 use Rattle.wgsl_text.proofs.Text.{text-append}
 use Rattle.naga_names.proofs.Refusal.{element}
@@ -24,6 +25,7 @@ use Rattle.wgsl_text.specs.Text.{text}
 use Rattle.naga_names.specs.Naming.{Names}
 use Rattle.naga_scope.specs.ExpressionNames.{NamesLabels}
 use Rattle.naga_scope.specs.Plans.{IsPlanOf, Planned}
+use Rattle.module_meaning.specs.Enables.{needed_enables}
 use Rattle.module_meaning.specs.Names.{expression_name, labels_before, labels_named_in}
 use Rattle.module_meaning.specs.Names.{module_names}
 use Rattle.naga_wgsl_fns.specs.Appends.{StoppedWithin, Wrote}
@@ -34,6 +36,7 @@ use Rattle.naga_wgsl_fns.specs.declared.error.Error.TheVariants.{Memory}
 use Rattle.naga_wgsl_fns.proofs.Appending.{stopped_first, stopped_then, wrote_nothing, wrote_then}
 use Rattle.naga_back.specs.declared.flags.WriterFlags.{WriterFlags}
 use Rattle.naga_wgsl_fns.specs.Refusals.{IsFault, IsPlanRefusal, TellsOfModule}
+use Rattle.naga_wgsl_out.specs.Enables.{enables_text}
 use Rattle.naga_wgsl_out.specs.ModuleRefusals.{HasNamedBefore}
 use Rattle.naga_wgsl_out.specs.Writing.{HasPlan, IsNamedPlan, MetNoPlan, WritesFunctions}
 use Rattle.naga_wgsl_out.specs.Writing.{WroteFunctions}
@@ -63,11 +66,17 @@ functions_text m info flags g (f ∷ fs) (es ∷ ess) size known =
     later : (i : ℕ) (ks : List ExpressionInfo) → slice_get ess i ≡ Some ks → known_of info ((g + 1) + i) ≡ ks
     later i ks at = let moved : g + suc i ≡ (g + 1) + i = omega arith in subst (λ h. known_of info h ≡ ks) moved (known (suc i) ks at)
 
--- so far a module's text is its functions
-pub written_lines : (m : Module) (info : ModuleInfo) (flags : WriterFlags) → IsTrue (is_accepted m info) → lines_of m info flags (enumerate_from 0 m.functions) ≡ written_text m info flags
+-- so far a module's text is what it enables and its functions
+pub written_lines : (m : Module) (info : ModuleInfo) (flags : WriterFlags) → IsTrue (is_accepted m info) →
+    enables_text (needed_enables m) ++ module_lines m info flags ≡ written_text m info flags
 written_lines m info flags accepted =
     let form = functions_form (annotates_types flags) (module_names m) m info 0 m.functions info.functions.items in
-    sym (ap text (append-nil (functions_pieces form)) ∙ functions_text m info flags 0 m.functions info.functions.items (functions_counted m info accepted) known)
+    let words = needed_enables m in
+    append_assoc (text (enables_pieces words)) (text (group_end words)) (module_lines m info flags)
+    ∙ (ap (λ t. text (enables_pieces words) ++ (text (group_end words) ++ t))
+    (sym (ap text (append-nil (functions_pieces form)) ∙ functions_text m info flags 0 m.functions info.functions.items (functions_counted m info accepted) known))
+    ∙ sym (text-append (enables_pieces words) (group_end words ++ (functions_pieces form ++ []))
+    ∙ ap (λ t. text (enables_pieces words) ++ t) (text-append (group_end words) (functions_pieces form ++ []))))
   where
     known : (i : ℕ) (es : List ExpressionInfo) → slice_get info.functions.items i ≡ Some es → known_of info (0 + i) ≡ es
     known i es at = let same : i ≡ 0 + i = omega arith in subst (λ h. known_of info h ≡ es) same (ap (λ o. unwrap_or o []) at)

@@ -1,3 +1,5 @@
+pub mod EnableRows
+pub mod FoundEnables
 pub mod ModuleScopes
 pub mod ReportedNames
 pub mod Functions

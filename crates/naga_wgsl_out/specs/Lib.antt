@@ -1,3 +1,4 @@
+pub mod Enables
 pub mod Writing
 pub mod ModuleRefusals
 pub mod Headline

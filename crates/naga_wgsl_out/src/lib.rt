@@ -10,6 +10,7 @@ pub mod back;
 pub mod builder;
 mod checked;
 pub mod diagnostics;
+mod enables;
 mod flags;
 pub mod info;
 pub mod proc;

@@ -3,6 +3,7 @@
 ghost use Rattle.std.specs.Prelude.{◌≡◌, ◌<◌, ◌++◌, [], IfErr, IfOk, IsTrue, OnErr, OnOk};
 ghost use Rattle.std.specs.Prelude.{codes, length, string_bytes};
 ghost use Rattle.module_meaning.specs.Accepted.{is_accepted};
+ghost use Rattle.module_meaning.specs.Enables.{needed_enables};
 ghost use Rattle.module_meaning.specs.WrittenSoFar.{is_written_so_far};
 ghost use Rattle.naga_names.specs.Keys.{names_in};
 ghost use Rattle.naga_words.specs.Sink.{IsBehind};
@@ -15,6 +16,7 @@ ghost use Rattle.naga_scope.specs.Plans.{AreExpressionNames, IsPlanOf};
 ghost use Rattle.naga_wgsl_fns.specs.Appends.{Appends};
 ghost use Rattle.naga_wgsl_fns.specs.FunctionText.{annotates_types};
 ghost use Rattle.naga_wgsl_fns.specs.Functions.{text_of_function};
+ghost use Rattle.naga_wgsl_out.specs.Enables.{enables_text};
 ghost use Rattle.naga_wgsl_out.specs.Headline.{EachReading, FaithfulWriting, answer_of, text_of};
 ghost use Rattle.naga_wgsl_fns.specs.Items.{HasNamedItemsOf};
 ghost use Rattle.naga_wgsl_fns.specs.Refusals.{TellsOfModule};
@@ -25,6 +27,7 @@ ghost use Rattle.naga_wgsl_out.specs.Writing.{WritesFunctions, Writing};
 ghost use Rattle.naga_wgsl_out.specs.Writing.{WroteFunctionsBefore};
 ghost use Rattle.naga_wgsl_out.specs.Writing.{written_text};
 
+use crate::enables::write_enables;
 use naga_acceptance::is_written_so_far;
 use naga_back::WriterFlags;
 use naga_info::ModuleInfo;
@@ -94,9 +97,10 @@ impl<W: TextSink> Writer<W> {
     /// A module is refused for a construct in it without a form, an operand out of scope or a name
     /// that can't be told, by the errors that `docs/REFUSALS.md` lists, and so far as
     /// `Unimplemented`, `not yet written`, where it has more than types, constants without names,
-    /// and functions. Where a function is refused, those in front of it stand in the sink, whole,
-    /// an empty line behind each. Behind want of memory or a failure of the sink a beginning of the
-    /// text stands there, and behind any other refusal what stood there before.
+    /// and functions. Where a function is refused, what the text enables and the functions in front
+    /// of it stand in the sink, whole, an empty line behind each. Behind want of memory or a failure
+    /// of the sink a beginning of the text stands there, and behind any other refusal what stood
+    /// there before.
     ///
     /// ```text
     /// match writer.write(&shader.module, &shader.info) {
@@ -127,7 +131,8 @@ impl<W: TextSink> Writer<W> {
         // What stands in front of the function that is refused.
         ensures written_before { IfErr result (λ e. TellsOfFunction «module».now e →
             WroteFunctionsBefore «module».now info.now self.old.flags
-            (W.text self.old.sink) (W.text self.new.sink)) }
+            (W.text self.old.sink ++ enables_text (needed_enables «module».now))
+            (W.text self.new.sink)) }
         ensures unfailed { IfErr result (λ e. TellsOfModule e →
             W.failures self.new.sink ≡ W.failures self.old.sink) }
         ensures flags { self.new.flags ≡ self.old.flags }
@@ -137,6 +142,7 @@ impl<W: TextSink> Writer<W> {
         }
         let globals = GlobalExpressions::of(self.alloc, module)?;
         let (names, mut namer) = names_of(self.alloc, module)?;
+        write_enables(module, &mut self.out)?;
         write_functions(
             self.alloc,
             module,

@@ -53,6 +53,8 @@ pub enum Row {
     Sampled,
     /// A function that adds both parts of a number.
     Modf,
+    /// A type of 16 bits and nothing else.
+    F16,
     /// A function with a switch whose cases are joined.
     Switch,
     /// The same, but a case with a statement falls through, which is refused.
@@ -103,6 +105,7 @@ impl Row {
             "idle" => Some(Row::Idle),
             "sample" => Some(Row::Sampled),
             "modf" => Some(Row::Modf),
+            "f16" => Some(Row::F16),
             "switch" => Some(Row::Switch),
             "through" => Some(Row::Through),
             "default" => Some(Row::Default),
@@ -119,7 +122,7 @@ impl Row {
         }
     }
 
-    /// Adds the row's functions to an empty module, with what is known of them.
+    /// Adds what the row has to an empty module, with what is known of them.
     pub fn build(self, alloc: Global, shader: &mut ModuleBuilder) -> Result<(), AllocError> {
         match self {
             Row::Empty => Ok(()),
@@ -141,6 +144,7 @@ impl Row {
             Row::Idle => build_idle(alloc, shader),
             Row::Sampled => build_sample(alloc, shader),
             Row::Modf => build_modf(alloc, shader),
+            Row::F16 => build_f16(shader),
             Row::Switch => build_switch(alloc, shader),
             Row::Through => build_through(alloc, shader),
             Row::Default => build_default(alloc, shader),
@@ -206,6 +210,11 @@ fn build_negative(alloc: Global, shader: &mut ModuleBuilder) -> Result<(), Alloc
     function.returns(i64_type);
     let minus_seven = function.literal(Literal::I64(-7))?;
     end_with(shader, function, minus_seven)
+}
+
+fn build_f16(shader: &mut ModuleBuilder) -> Result<(), AllocError> {
+    shader.scalar(Scalar::F16)?;
+    Ok(())
 }
 
 fn build_named(alloc: Global, shader: &mut ModuleBuilder) -> Result<(), AllocError> {

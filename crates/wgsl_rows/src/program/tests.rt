@@ -107,6 +107,8 @@ const ROWS: &[(&[&str], &str, &str, u8)] = &[
         "",
         0,
     ),
+    (&["f16"], "enable f16;\n\n", "", 0),
+    (&["f16", "explicit"], "enable f16;\n\n", "", 0),
     (
         &["pointer"],
         "fn h() {\n    var arr: array<i32, 4>;\n\n    let p = (&arr[0]);\n    (*p) = 2i;\n}\n\n",

@@ -17,7 +17,7 @@ returns g c =
     let after = g.W.TextSink.failures c.write_functions.new.out in
     let names = c.in_ok-names.ensures.ok in
     let end = concludes m info c.self.inside.flags accepted written _ names
-    _ now _ after r c.write_functions.ensures in
+    _ now _ after _ _ c.in_ok-write_enables.ensures r c.write_functions.ensures in
     let ends = subst
     (λ w. Concludes m info w.flags accepted written _ names r
     (g.W.TextSink.text w.sink) now (g.W.TextSink.failures w.sink) after)
