@@ -5,6 +5,7 @@ pub mod AlikeTypes
 pub mod BindingCounts
 pub mod ExpressionShapes
 pub mod Fitting
+pub mod FunctionNumbers
 pub mod Lists
 pub mod ModuleShapeExamples
 pub mod ModuleShapes

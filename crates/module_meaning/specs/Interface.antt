@@ -3,7 +3,6 @@ use Rattle.std.specs.Prelude.{ℕ, ◌+◌, List, [], ◌∷◌, map, Option, So
 use Rattle.naga_ir.specs.declared.module.Function as ir_function
 use Rattle.naga_ir.specs.declared.module.FunctionResult.{FunctionResult}
 use Rattle.naga_ir.specs.declared.module.Module as ir_module
-use Rattle.naga_ir.specs.declared.types.Type_.{Type_}
 use Rattle.naga_names.specs.Keys.{NameMap}
 use Rattle.module_meaning.specs.Names.{function_name}
 use Rattle.naga_words.specs.Contexts.{names_of, Names as TypeNames}
@@ -18,23 +17,24 @@ abbrev pub result_passed : TypeNames → Option FunctionResult → Option Passed
 result_passed t None = None
 result_passed t (Some r) = Some (passed_of_type t r.ty)
 
--- the interface of the module's function with this handle
-abbrev pub function_interface : NameMap → List Type_ → ℕ → ir_function.Function → FunctionInterface
-function_interface names types g f =
-    let t : TypeNames = names_of types names in
+-- the interface of the module's function with this number
+abbrev pub function_interface :
+    NameMap → ir_module.Module → ℕ → ir_function.Function → FunctionInterface
+function_interface names m g f =
+    let t : TypeNames = names_of m.types names in
     record {
-      name = function_name names g;
+      name = function_name m names g;
       arguments = map (λ a. passed_of_type t a.ty) f.arguments.items;
       result = result_passed t f.result;
       locals = map (λ l. spelled_type t l.ty) f.local_variables;
     }
 
--- the interfaces of the functions from this handle on
+-- the interfaces of the functions from this number on
 abbrev pub function_interfaces :
-    NameMap → List Type_ → ℕ → List ir_function.Function → List FunctionInterface
-function_interfaces names types g [] = []
-function_interfaces names types g (f ∷ more) =
-    function_interface names types g f ∷ function_interfaces names types (g + 1) more
+    NameMap → ir_module.Module → ℕ → List ir_function.Function → List FunctionInterface
+function_interfaces names m g [] = []
+function_interfaces names m g (f ∷ more) =
+    function_interface names m g f ∷ function_interfaces names m (g + 1) more
 
 -- the interface of a module: its functions under their names, with the types of their arguments,
 -- results and locals
@@ -46,6 +46,6 @@ module_interface names m =
       constants = [];
       overrides = [];
       globals = [];
-      functions = function_interfaces names m.types 0 m.functions;
+      functions = function_interfaces names m 0 m.functions;
       entry_points = [];
     }

@@ -5,7 +5,6 @@ use Rattle.naga_ir.specs.declared.module.Function as ir_function
 use Rattle.naga_ir.specs.declared.module.FunctionArgument.{FunctionArgument}
 use Rattle.naga_ir.specs.declared.module.FunctionResult.{FunctionResult}
 use Rattle.naga_ir.specs.declared.module.Module.{Module}
-use Rattle.naga_ir.specs.declared.types.Type_.{Type_}
 use Rattle.naga_info.specs.declared.info.ExpressionInfo.{ExpressionInfo}
 use Rattle.naga_info.specs.declared.info.ModuleInfo.{ModuleInfo}
 use Rattle.naga_names.specs.Keys.{NameMap}
@@ -48,11 +47,12 @@ form_passed t ty = record { attributes = []; type = type_layout (type_form t ty)
 passed_is : (t : TypeNames) (ty : ℕ) → form_passed t ty ≡ passed_of_type t ty
 passed_is t ty = ap (λ w. record { attributes = []; type = w }) (spelled_form t ty)
 
-parameters_passed : (names : NameMap) (types : List Type_) (g n : ℕ)
-    (args : List FunctionArgument) → map parameter_read (parameters_form names types g n args) ≡
-    map (λ a. passed_of_type (names_of types names) a.ty) args
-parameters_passed names types g n [] = refl
-parameters_passed names types g n (a ∷ more) = λ i. passed_is (names_of types names) a.ty i ∷ parameters_passed names types g (n + 1) more i
+parameters_passed : (names : NameMap) (m : Module) (g n : ℕ)
+    (args : List FunctionArgument) → map parameter_read (parameters_form names m g n args) ≡
+    map (λ a. passed_of_type (names_of m.types names) a.ty) args
+parameters_passed names m g n [] = refl
+parameters_passed names m g n (a ∷ more) =
+    λ i. passed_is (names_of m.types names) a.ty i ∷ parameters_passed names m g (n + 1) more i
 
 results_passed : (t : TypeNames) (r : Option FunctionResult) → result_read (result_form t r) ≡ result_passed t r
 results_passed t None = refl
@@ -65,10 +65,10 @@ locals_declared n t source l (v ∷ more) = λ i. spelled_form t v.ty i ∷ loca
 function_interface_form : (explicit : Bool) (names : NameMap) (named : ℕ → List ℕ) (m : Module)
     (info : ModuleInfo) (g : ℕ) (f : ir_function.Function) (es : List ExpressionInfo) →
     function_interface_read (function_form explicit names named m info g f es) ≡
-    function_interface names m.types g f
+    function_interface names m g f
 function_interface_form explicit names named m info g f es = λ i. record {
-  name = (function_interface names m.types g f).name;
-  arguments = parameters_passed names m.types g 0 f.arguments.items i;
+  name = (function_interface names m g f).name;
+  arguments = parameters_passed names m g 0 f.arguments.items i;
   result = results_passed (names_of m.types names) f.result i;
   locals = locals_declared (function_naming names named m info g f es) (names_of m.types names) (function_source m info f es) 0 f.local_variables i;
 }
@@ -77,7 +77,7 @@ function_interfaces_form : (explicit : Bool) (names : NameMap) (m : Module) (inf
     (g : ℕ) (fs : List ir_function.Function) (ess : List (List ExpressionInfo)) →
     length fs ≡ length ess →
     map function_interface_read (functions_form explicit names m info g fs ess) ≡
-    function_interfaces names m.types g fs
+    function_interfaces names m g fs
 function_interfaces_form explicit names m info g [] [] size = refl
 function_interfaces_form explicit names m info g [] (es ∷ ess) size = refl
 function_interfaces_form explicit names m info g (f ∷ fs) [] size = absurd (cc)
