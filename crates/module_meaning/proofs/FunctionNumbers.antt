@@ -18,7 +18,7 @@ use Rattle.naga_names.specs.declared.key.NameKey.TheVariants as key
 use Rattle.naga_info.specs.declared.info.ExpressionInfo.{ExpressionInfo}
 use Rattle.naga_info.specs.declared.info.ModuleInfo.{ModuleInfo}
 use Rattle.module_meaning.specs.FunctionNumbers.{all_functions, all_infos, entry_functions}
-use Rattle.module_meaning.specs.FunctionNumbers.{function_number}
+use Rattle.module_meaning.specs.FunctionNumbers.{callee_count, function_number}
 use Rattle.module_meaning.specs.FunctionNumbers.{function_type, IsFunctionOf}
 
 -- ---- lists one behind another
@@ -128,6 +128,12 @@ number_within m (item.EntryPoint j) lt =
     let mapped = length-map m.entry_points.items (λ p. p.function) in
     let counted : m.entry_points.len ≡ length m.entry_points.items = m.entry_points.ok.0 in
     omega (arith, lt, all, mapped, counted)
+
+-- a function calls functions of the module
+pub callees_within : (m : Module) (ty : FunctionType) → IsFunctionOf ty m →
+    callee_count m ty ≤ length m.functions
+callees_within m (item.Function h) lt = omega (arith, lt)
+callees_within m (item.EntryPoint j) lt = omega arith
 
 pub below_all : (m : Module) (h : ℕ) → h < length m.functions → h < length (all_functions m)
 below_all m h lt = number_within m (item.Function h) lt

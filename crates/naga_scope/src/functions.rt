@@ -9,27 +9,24 @@ use naga_back::FunctionType;
 use naga_info::{FunctionInfo, ModuleInfo};
 use naga_ir::{Function, Module};
 
-/// The function itself, which is one of the module's.
-pub fn function_of(module: &Module, ty: FunctionType) -> &Function
-    requires there { IsFunctionOf ty «module».now }
-    ensures { slice_get (all_functions «module».now) (function_number «module».now ty)
-        ≡ Some result.now }
-{
-    match ty {
-        FunctionType::Function(handle) => &module.functions[handle],
-        FunctionType::EntryPoint(index) => &module.entry_points[index as usize].function,
-    }
-}
-
-/// What is known of the expressions of a function of an accepted module.
-pub fn info_of<'a>(module: &Module, info: &'a ModuleInfo, ty: FunctionType) -> &'a FunctionInfo
+/// A function of an accepted module, or that of an entry point, with what is known of its expressions.
+pub fn function_of<'a>(
+    module: &'a Module,
+    info: &'a ModuleInfo,
+    ty: FunctionType,
+) -> (&'a Function, &'a FunctionInfo)
     requires accepted { IsTrue (is_accepted «module».now info.now) }
     requires there { IsFunctionOf ty «module».now }
-    ensures { slice_get (all_infos info.now) (function_number «module».now ty)
-        ≡ Some result.now }
+    ensures function { slice_get (all_functions «module».now) (function_number «module».now ty)
+        ≡ Some result.0.now }
+    ensures known { slice_get (all_infos info.now) (function_number «module».now ty)
+        ≡ Some result.1.now }
 {
     match ty {
-        FunctionType::Function(handle) => &info[handle],
-        FunctionType::EntryPoint(index) => info.get_entry_point(index as usize),
+        FunctionType::Function(handle) => (&module.functions[handle], &info[handle]),
+        FunctionType::EntryPoint(index) => {
+            let index = index as usize;
+            (&module.entry_points[index].function, info.get_entry_point(index))
+        }
     }
 }

@@ -20,7 +20,7 @@ mod written;
 pub use binding::binds;
 pub use continues::split_at_continue;
 pub use forms::{converted_scalar, sampling_has_form, scalar_behind, whole_known};
-pub use functions::{function_of, info_of};
+pub use functions::function_of;
 pub use global_expressions::GlobalExpressions;
 pub use plan::{Plan, PlanError};
 pub use points::{Availability, BoundName, Scope};

@@ -18,7 +18,7 @@ ghost use Rattle.naga_scope.specs.Results.{ResultsFit};
 ghost use Rattle.naga_scope.specs.declared.plan.PlanError.TheVariants.{Memory, Unnamed};
 
 use crate::check::function_holds;
-use crate::functions::{function_of, info_of};
+use crate::functions::function_of;
 use crate::global_expressions::GlobalExpressions;
 use crate::known_function::KnownFunction;
 use crate::named::expression_names;
@@ -107,10 +107,10 @@ impl Plan {
     /// Beside the names it takes memory four times: one table and its log serve the check, are then
     /// set back to the function's start, and serve the text; two others have the marks of what may
     /// be written out as a constant and of what is written, and are given back.
-    pub fn of(
+    pub fn of<'a>(
         alloc: Global,
-        module: &Module,
-        info: &ModuleInfo,
+        module: &'a Module,
+        info: &'a ModuleInfo,
         ty: FunctionType,
         globals: &GlobalExpressions,
         names: &HashMap<NameKey, String>,
@@ -131,11 +131,12 @@ impl Plan {
         ensures begun { OnErr result (HasBegunLabels namer.old
             (labels_named_in «module».now (function_number «module».now ty)) namer.new) }
     {
+        let (function, function_info) = function_of(module, info, ty);
         let known = KnownFunction {
             shader: module,
             module_info: info,
-            function: function_of(module, ty),
-            info: info_of(module, info, ty),
+            function,
+            info: function_info,
         };
         Plan::of_function(alloc, &known, globals, names, explicit, namer)
     }

@@ -36,7 +36,7 @@ use naga_ir::{
     Expression, Function, FunctionArgument, Handle, LocalVariable, Module, Place, Type_,
 };
 use naga_names::NameKey;
-use naga_scope::{Plan, Scope, function_of, info_of};
+use naga_scope::{Plan, Scope, function_of};
 use naga_words::{Output, TextSink};
 use std::alloc::Global;
 use std::collections::HashMap;
@@ -52,10 +52,10 @@ use std::collections::HashMap;
 /// stands behind what the sink held. Memory is taken where the sink takes it, for the blanks of a
 /// level deeper than any before, and where a type is spelled.
 #[tactic(auto, using(naga_words::proofs::Writing::fresh_output))]
-pub fn write_planned<W: TextSink>(
+pub fn write_planned<'a, W: TextSink>(
     alloc: Global,
-    module: &Module,
-    info: &ModuleInfo,
+    module: &'a Module,
+    info: &'a ModuleInfo,
     names: &HashMap<NameKey, String>,
     flags: WriterFlags,
     ty: FunctionType,
@@ -77,6 +77,7 @@ pub fn write_planned<W: TextSink>(
     ensures failures_ok { OnOk result (W.failures out.new ≡ W.failures out.old) }
     ensures reason { IfErr result (IsWant (W.failures out.old) (W.failures out.new)) }
 {
+    let (function, function_info) = function_of(module, info, ty);
     let (mut scope, named) = plan.into_parts();
     let text = FunctionText {
         shader: module,
@@ -85,8 +86,8 @@ pub fn write_planned<W: TextSink>(
         named: named.as_slice(),
         flags,
         ty,
-        function: function_of(module, ty),
-        info: info_of(module, info, ty),
+        function,
+        info: function_info,
     };
     let mut written = Output::new(out);
     text.write_declaration(alloc, &mut scope, &mut written);

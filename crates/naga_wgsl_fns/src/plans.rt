@@ -25,7 +25,7 @@ use naga_info::{FunctionInfo, ModuleInfo, TypeResolution};
 use naga_ir::{Function, Module};
 use naga_names::NameKey;
 use naga_names::namer::Namer;
-use naga_scope::{GlobalExpressions, Plan, PlanError, function_of, info_of};
+use naga_scope::{GlobalExpressions, Plan, PlanError, function_of};
 use std::alloc::Global;
 use std::collections::HashMap;
 
@@ -74,14 +74,10 @@ pub fn plan_of(
         namer,
     ) {
         Ok(plan) => Ok(plan),
-        Err(error) => Err(error_of_plan(
-            alloc,
-            module,
-            globals,
-            function_of(module, ty),
-            info_of(module, info, ty),
-            error,
-        )),
+        Err(error) => {
+            let (function, function_info) = function_of(module, info, ty);
+            Err(error_of_plan(alloc, module, globals, function, function_info, error))
+        }
     }
 }
 

@@ -17,18 +17,18 @@ pub of_function-requires : goal.of_function-requires
 of_function-requires c =
     let m = c.args.module.now in
     let info = c.args.info.now in
-    let f = c.function_of.result.now in
-    let es = c.info_of.result.now in
+    let f = c.function_of.result.0.now in
+    let es = c.function_of.result.1.now in
     let g = function_number m c.args.ty in
     let is =
-    of_number m info c.requires.accepted g f es c.function_of.ensures c.info_of.ensures in
+    of_number m info c.requires.accepted g f es c.function_of.ensures.function c.function_of.ensures.known in
     record {
       ordered = operands_stand_before m is.callees f is.ranges;
       results = results_fit is.callees (length f.expressions) f.body (ranges_are m is.callees f is.ranges).1;
       globals = c.requires.globals;
       names = c.requires.names;
       types = λ h k at. fits_in_range (length m.overrides) m.types k.ty
-          (known_is_fit m info c.requires.accepted g es c.info_of.ensures h k at);
+          (known_is_fit m info c.requires.accepted g es c.function_of.ensures.known h k at);
     }
 
 pub returns : goal.returns
@@ -36,17 +36,17 @@ returns c =
     let m = c.args.module.now in
     let info = c.args.info.now in
     let g = function_number m c.args.ty in
-    let f = c.function_of.result.now in
-    let es = c.info_of.result.now in
+    let f = c.function_of.result.0.now in
+    let es = c.function_of.result.1.now in
     let labels : expression_labels f ≡ labels_named_in m g =
-    sym (ap (λ o. option_map_or expression_labels o []) c.function_of.ensures) in
+    sym (ap (λ o. option_map_or expression_labels o []) c.function_of.ensures.function) in
     record {
-      ok = of_the_ok (IsPlan c.args.explicit m info) m info g f es c.function_of.ensures
-          c.info_of.ensures
+      ok = of_the_ok (IsPlan c.args.explicit m info) m info g f es c.function_of.ensures.function
+          c.function_of.ensures.known
           c.of_function.result c.of_function.ensures.ok;
       named = subst (λ ls. IfOk c.of_function.result (λ p. NamesLabels c.args.namer.now [] ls c.of_function.new.namer p.named)) labels c.of_function.ensures.named;
       err = of_the_err (λ f es. IsRefusalToPlan c.args.explicit m info f es c.args.namer.now) m info g f es
-          c.function_of.ensures c.info_of.ensures c.of_function.result
+          c.function_of.ensures.function c.function_of.ensures.known c.of_function.result
           c.of_function.ensures.err;
       begun = subst (λ ls. OnErr c.of_function.result (HasBegunLabels c.args.namer.now ls c.of_function.new.namer)) labels c.of_function.ensures.begun;
     }
