@@ -20,7 +20,7 @@ module _ (t : FunctionText) (can : CanWrite t) where
   m = t.shader.now
 
   -- the map has the name that the module has under the key
-  abbrev IsNamed : NameKey → Type 0
+  abbrev pub IsNamed : NameKey → Type 0
   IsNamed k = names_in t.names.now k ≡ Some (name_in (module_names m) k)
 
   own_type : function_type m (number t) ≡ t.ty

@@ -56,28 +56,28 @@ pub fn write_planned<'a, W: TextSink>(
     alloc: Global,
     module: &'a Module,
     info: &'a ModuleInfo,
-    names: &HashMap<NameKey, String>,
+    names: &'a HashMap<NameKey, String>,
     flags: WriterFlags,
-    ty: FunctionType,
+    ty: &FunctionType,
     plan: Plan,
     out: &mut W,
 ) -> Result<(), Error>
     requires accepted { IsTrue (is_accepted «module».now info.now) }
     requires written { IsTrue (is_written_so_far «module».now) }
-    requires there { IsFunctionOf ty «module».now }
+    requires there { IsFunctionOf ty.now «module».now }
     requires names { HasNamesOf «module».now (names_in names.now) }
     requires planned { IsPlanOf (annotates_types flags) «module».now info.now
-        (function_number «module».now ty) plan }
+        (function_number «module».now ty.now) plan }
     ensures text_ok { OnOk result (W.text out.new ≡ W.text out.old
         ++ text_under «module».now info.now flags (names_of plan)
-        (function_number «module».now ty)) }
+        (function_number «module».now ty.now)) }
     ensures text_err { OnErr result (IsBehind (W.text out.old)
-        (text_under «module».now info.now flags (names_of plan) (function_number «module».now ty))
+        (text_under «module».now info.now flags (names_of plan) (function_number «module».now ty.now))
         (W.text out.new)) }
     ensures failures_ok { OnOk result (W.failures out.new ≡ W.failures out.old) }
     ensures reason { IfErr result (IsWant (W.failures out.old) (W.failures out.new)) }
 {
-    let (function, function_info) = function_of(module, info, ty);
+    let (function, function_info) = function_of(module, info, *ty);
     let (mut scope, named) = plan.into_parts();
     let text = FunctionText {
         shader: module,
@@ -85,7 +85,7 @@ pub fn write_planned<'a, W: TextSink>(
         names,
         named: named.as_slice(),
         flags,
-        ty,
+        ty: *ty,
         function,
         info: function_info,
     };

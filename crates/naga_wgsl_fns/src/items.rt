@@ -70,7 +70,7 @@ pub fn write_function<W: TextSink>(
     }
     match ty {
         FunctionType::Function(_) => {
-            write_by_plan(alloc, module, info, ty, names, namer, flags, out)
+            write_by_plan(alloc, module, info, &ty, names, namer, flags, out)
         }
         FunctionType::EntryPoint(_) => unreachable!(),
     }
@@ -81,7 +81,7 @@ fn write_by_plan<W: TextSink>(
     alloc: Global,
     module: &Module,
     info: &ModuleInfo,
-    ty: FunctionType,
+    ty: &FunctionType,
     names: &HashMap<NameKey, String>,
     namer: &mut Namer,
     flags: WriterFlags,
@@ -89,11 +89,11 @@ fn write_by_plan<W: TextSink>(
 ) -> Result<(), Error>
     requires accepted { IsTrue (is_accepted «module».now info.now) }
     requires written { IsTrue (is_written_so_far «module».now) }
-    requires there { IsFunctionOf ty «module».now }
+    requires there { IsFunctionOf ty.now «module».now }
     requires names { HasNamesOf «module».now (names_in names.now) }
     requires words { HasOtherUses wgsl_names namer.old }
     ensures function { (earlier : List (List ℕ)) → HasNamed namer.old earlier →
-        FunctionWriting «module».now info.now flags earlier (function_number «module».now ty)
+        FunctionWriting «module».now info.now flags earlier (function_number «module».now ty.now)
         result namer.new
         (W.text out.old) (W.text out.new) (W.failures out.old) (W.failures out.new) }
     ensures words { HasOtherUses namer.old namer.new }

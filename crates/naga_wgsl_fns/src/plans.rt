@@ -37,11 +37,11 @@ use std::collections::HashMap;
 ///
 /// Else what keeps the function from having one is told by name, and `namer` has named some first
 /// ones of its labels.
-pub fn plan_of(
+pub fn plan_of<'a>(
     alloc: Global,
-    module: &Module,
-    info: &ModuleInfo,
-    ty: FunctionType,
+    module: &'a Module,
+    info: &'a ModuleInfo,
+    ty: &FunctionType,
     globals: &GlobalExpressions,
     names: &HashMap<NameKey, String>,
     flags: WriterFlags,
@@ -49,25 +49,25 @@ pub fn plan_of(
 ) -> Result<Plan, Error>
     requires accepted { IsTrue (is_accepted «module».now info.now) }
     requires written { IsTrue (is_written_so_far «module».now) }
-    requires there { IsFunctionOf ty «module».now }
+    requires there { IsFunctionOf ty.now «module».now }
     requires globals { MarksGlobals «module».now globals.now }
     requires names { HasNamesOf «module».now (names_in names.now) }
     requires words { HasOtherUses wgsl_names namer.old }
     ensures ok { IfOk result (IsPlanOf (annotates_types flags) «module».now info.now
-        (function_number «module».now ty)) }
+        (function_number «module».now ty.now)) }
     ensures named { IfOk result (λ p. NamesLabels namer.old []
-        (labels_named_in «module».now (function_number «module».now ty)) namer.new p.named) }
+        (labels_named_in «module».now (function_number «module».now ty.now)) namer.new p.named) }
     ensures err { IfErr result (λ e. (earlier : List (List ℕ)) → HasNamed namer.old earlier →
         IsPlanRefusal (annotates_types flags) «module».now info.now earlier
-        (function_number «module».now ty) e) }
+        (function_number «module».now ty.now) e) }
     ensures begun { OnErr result (HasBegunLabels namer.old
-        (labels_named_in «module».now (function_number «module».now ty)) namer.new) }
+        (labels_named_in «module».now (function_number «module».now ty.now)) namer.new) }
 {
     match Plan::of(
         alloc,
         module,
         info,
-        ty,
+        *ty,
         globals,
         names,
         annotates_types(flags),
@@ -75,7 +75,7 @@ pub fn plan_of(
     ) {
         Ok(plan) => Ok(plan),
         Err(error) => {
-            let (function, function_info) = function_of(module, info, ty);
+            let (function, function_info) = function_of(module, info, *ty);
             Err(error_of_plan(alloc, module, globals, function, function_info, error))
         }
     }

@@ -175,7 +175,7 @@ fn write_functions<W: TextSink>(
     for index in 0..module.functions.len() {
         let handle = Place::from_index(index);
         let ty = FunctionType::Function(handle);
-        let plan = plan_of(alloc, module, info, ty, globals, names, flags, namer)?;
+        let plan = plan_of(alloc, module, info, &ty, globals, names, flags, namer)?;
         write_function_line(alloc, module, info, names, flags, handle, plan, out)?;
     }
     Ok(())
@@ -202,7 +202,7 @@ fn write_function_line<W: TextSink>(
         (W.text out.new) (W.failures out.new) }
 {
     let ty = FunctionType::Function(handle);
-    write_planned(alloc, module, info, names, flags, ty, plan, out)?;
+    write_planned(alloc, module, info, names, flags, &ty, plan, out)?;
     put("\n", out)
 }
 

@@ -19,7 +19,7 @@ use Rattle.naga_wgsl_fns.proofs.functions.write_planned.Goals as goal
 pub write_declaration-requires-clause-can : goal.write_declaration-requires-clause-can
 write_declaration-requires-clause-can g c =
     let plan = plan_found (annotates_types c.args.flags) c.args.module.now c.args.info.now
-    (function_number c.args.module.now c.args.ty) c.function_of.result.0.now
+    (function_number c.args.module.now c.args.ty.now) c.function_of.result.0.now
     c.function_of.result.1.now c.args.plan c.function_of.ensures.function c.function_of.ensures.known c.requires.planned in
     can_write _ c.requires.accepted c.requires.written c.requires.names c.requires.there
     c.function_of.ensures.function c.function_of.ensures.known plan.formed plan.room
@@ -27,7 +27,7 @@ write_declaration-requires-clause-can g c =
 pub write_declaration-requires-clause-start : goal.write_declaration-requires-clause-start
 write_declaration-requires-clause-start g c =
     let plan = plan_found (annotates_types c.args.flags) c.args.module.now c.args.info.now
-    (function_number c.args.module.now c.args.ty) c.function_of.result.0.now
+    (function_number c.args.module.now c.args.ty.now) c.function_of.result.0.now
     c.function_of.result.1.now c.args.plan c.function_of.ensures.function c.function_of.ensures.known c.requires.planned in
     let named : ℕ → List ℕ = λ number.
     option_map_or string_bytes (slice_get c.as_slice.result.now number) [] in
@@ -37,21 +37,21 @@ write_declaration-requires-clause-start g c =
 pub write_declaration-requires-clause-named : goal.write_declaration-requires-clause-named
 write_declaration-requires-clause-named g c =
     let plan = plan_found (annotates_types c.args.flags) c.args.module.now c.args.info.now
-    (function_number c.args.module.now c.args.ty) c.function_of.result.0.now
+    (function_number c.args.module.now c.args.ty.now) c.function_of.result.0.now
     c.function_of.result.1.now c.args.plan c.function_of.ensures.function c.function_of.ensures.known c.requires.planned in
     ap (λ (p : TextPoint). p.named) c.into_parts-scope.ensures.scope ∙ plan.no_name
 
 pub write_declaration-requires-clause-size : goal.write_declaration-requires-clause-size
 write_declaration-requires-clause-size g c =
     let plan = plan_found (annotates_types c.args.flags) c.args.module.now c.args.info.now
-    (function_number c.args.module.now c.args.ty) c.function_of.result.0.now
+    (function_number c.args.module.now c.args.ty.now) c.function_of.result.0.now
     c.function_of.result.1.now c.args.plan c.function_of.ensures.function c.function_of.ensures.known c.requires.planned in
     ap (λ (p : TextPoint). length p.table) c.into_parts-scope.ensures.scope ∙ plan.size
 
 pub write_declaration-requires-clause-room : goal.write_declaration-requires-clause-room
 write_declaration-requires-clause-room g c =
     let plan = plan_found (annotates_types c.args.flags) c.args.module.now c.args.info.now
-    (function_number c.args.module.now c.args.ty) c.function_of.result.0.now
+    (function_number c.args.module.now c.args.ty.now) c.function_of.result.0.now
     c.function_of.result.1.now c.args.plan c.function_of.ensures.function c.function_of.ensures.known c.requires.planned in
     subst (λ (p : TextPoint). HasRoom p (block_changes c.function_of.result.0.now.body)) (sym c.into_parts-scope.ensures.scope) plan.changes
 
@@ -62,7 +62,7 @@ returns-in-Ok-clause-text_ok g c =
     (writes_as
     (sym
     (ap (λ named. text_under c.args.module.now c.args.info.now c.args.flags named
-    (function_number c.args.module.now c.args.ty))
+    (function_number c.args.module.now c.args.ty.now))
     (λ i number. sym (names_same c.as_slice.result.now c.into_parts-scope.result.1.items
     c.args.plan.named c.as_slice.ensures.value c.into_parts-scope.ensures.named number) i)
     ∙ text_under_names _ c.function_of.ensures.function c.function_of.ensures.known))
@@ -76,7 +76,7 @@ returns-clause-text_err g c =
     (writes_as
     (sym
     (ap (λ named. text_under c.args.module.now c.args.info.now c.args.flags named
-    (function_number c.args.module.now c.args.ty))
+    (function_number c.args.module.now c.args.ty.now))
     (λ i number. sym (names_same c.as_slice.result.now c.into_parts-scope.result.1.items
     c.args.plan.named c.as_slice.ensures.value c.into_parts-scope.ensures.named number) i)
     ∙ text_under_names _ c.function_of.ensures.function c.function_of.ensures.known))

@@ -12,13 +12,13 @@ pub error_of_plan-requires-clause-known : goal.error_of_plan-requires-clause-kno
 error_of_plan-requires-clause-known c =
     let m = c.args.«module».now in
     λ h k at. fits_in_range (length m.overrides) m.types k.ty
-    (known_is_fit m c.args.info.now c.requires.accepted (function_number c.args.«module».now c.args.ty) c.function_of-in-Err.result.1.now
-    c.function_of-in-Err.ensures.known h k at)
+    (known_is_fit m c.args.info.now c.requires.accepted (function_number c.args.«module».now c.args.ty.now) c.function_of.result.1.now
+    c.function_of.ensures.known h k at)
 
 pub error_of_plan-requires-clause-formless : goal.error_of_plan-requires-clause-formless
 error_of_plan-requires-clause-formless c =
     is_of_plan c.annotates_types.result c.args.«module».now c.args.info.now c.requires.accepted c.requires.written
-    (function_number c.args.«module».now c.args.ty) c.function_of-in-Err.result.0.now c.function_of-in-Err.ensures.function c.function_of-in-Err.result.1.now c.function_of-in-Err.ensures.known
+    (function_number c.args.«module».now c.args.ty.now) c.function_of.result.0.now c.function_of.ensures.function c.function_of.result.1.now c.function_of.ensures.known
     _ c.in-Err.error c.in-Err.ensures.err
 
 pub returns-in-Err-clause-err : goal.returns-in-Err-clause-err
@@ -26,16 +26,16 @@ returns-in-Err-clause-err c =
     let m = c.args.«module».now in
     let info = c.args.info.now in
     λ earlier has.
-    subst (λ explicit. IsPlanRefusal explicit m info earlier (function_number c.args.«module».now c.args.ty) c.error_of_plan.result)
+    subst (λ explicit. IsPlanRefusal explicit m info earlier (function_number c.args.«module».now c.args.ty.now) c.error_of_plan.result)
     c.annotates_types.ensures
     (plan_refusal c.annotates_types.result m info c.requires.accepted c.requires.written
-    (function_number c.args.«module».now c.args.ty) c.function_of-in-Err.result.0.now c.function_of-in-Err.ensures.function earlier c.function_of-in-Err.result.1.now
-    c.function_of-in-Err.ensures.known _ c.requires.words has c.in-Err.error c.error_of_plan.result
+    (function_number c.args.«module».now c.args.ty.now) c.function_of.result.0.now c.function_of.ensures.function earlier c.function_of.result.1.now
+    c.function_of.ensures.known _ c.requires.words has c.in-Err.error c.error_of_plan.result
     c.in-Err.ensures.err c.error_of_plan.ensures)
 
 pub returns-in-Ok-clause-ok : goal.returns-in-Ok-clause-ok
 returns-in-Ok-clause-ok c =
-    subst (λ explicit. IsPlanOf explicit c.args.«module».now c.args.info.now (function_number c.args.«module».now c.args.ty) c.in-Ok.plan)
+    subst (λ explicit. IsPlanOf explicit c.args.«module».now c.args.info.now (function_number c.args.«module».now c.args.ty.now) c.in-Ok.plan)
     c.annotates_types.ensures c.in-Ok.ensures.ok
 
 pub error_of_plan-requires-clause-ordered : goal.error_of_plan-requires-clause-ordered
@@ -44,5 +44,5 @@ error_of_plan-requires-clause-ordered c =
 
 pub error_of_plan-requires-clause-named : goal.error_of_plan-requires-clause-named
 error_of_plan-requires-clause-named c =
-    items_there c.args.«module».now c.args.info.now c.requires.accepted (function_number c.args.«module».now c.args.ty)
-    c.function_of-in-Err.result.0.now c.function_of-in-Err.ensures.function c.function_of-in-Err.result.1.now c.function_of-in-Err.ensures.known
+    items_there c.args.«module».now c.args.info.now c.requires.accepted (function_number c.args.«module».now c.args.ty.now)
+    c.function_of.result.0.now c.function_of.ensures.function c.function_of.result.1.now c.function_of.ensures.known
