@@ -77,7 +77,7 @@ functions_declared names m =
       constants = [];
       overrides = [];
       globals = [];
-      functions = function_interfaces names m.types 0 m.functions;
+      functions = function_interfaces names m 0 m.functions;
       entry_points = [];
     }
 
@@ -98,7 +98,7 @@ functions_declared_alone settings meaning names m info written =
           map (override_interface names t value) (enumerate_from 0 (nothing.0 i));
       globals =
           map (global_interface names t value) (enumerate_from 0 (nothing.1 i));
-      functions = function_interfaces names m.types 0 m.functions;
+      functions = function_interfaces names m 0 m.functions;
       entry_points =
           map (entry_point_interface names t) (enumerate_from 0 (nothing.2 i));
     }

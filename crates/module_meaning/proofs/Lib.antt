@@ -8,6 +8,7 @@ mod EnableExamples
 pub mod ExpressionShapes
 mod DeclaredItemExamples
 pub mod Fitting
+pub mod FunctionNumbers
 pub mod Interface
 pub mod InterfaceExamples
 pub mod Lists

@@ -1,20 +1,18 @@
--- The program of shapes of a module that is written so far: its functions alone.
+-- The program of shapes of a module that is written so far: its functions and entry points alone.
 --
--- Throughout, m is a module, info what is known of it, fs are functions, and ess is what is known of
--- their expressions.
+-- Throughout, m is a module and info what is known of it.
 use Rattle.std.proofs.Common.{◌≡◌, ◌==◌, true, List, [], ◌∷◌, ◌++◌, Option, Some, None}
 use Rattle.std.proofs.Common.{length, map, reverse, refl, ap, ◌∙◌}
 use Rattle.std.specs.Prelude.{IsTrue, if◌then◌else◌}
-use Rattle.std.specs.List.{list_all, filter, zip}
+use Rattle.std.specs.List.{list_all, filter}
 use Rattle.std.specs.Option.{is_none, is_some}
 use Rattle.std.proofs.lemmas.Bool.{and_parts, eqb-true}
-use Rattle.std.proofs.lemmas.List.{append-nil, nil_from_length}
+use Rattle.std.proofs.lemmas.List.{nil_from_length}
 use Rattle.naga_ir.specs.declared.module.Constant.{Constant}
-use Rattle.naga_ir.specs.declared.module.Function as ir_function
 use Rattle.naga_ir.specs.declared.module.Module as ir_module
-use Rattle.naga_info.specs.declared.info.ExpressionInfo.{ExpressionInfo}
 use Rattle.naga_info.specs.declared.info.ModuleInfo.{ModuleInfo}
-use Rattle.module_meaning.specs.FunctionShapes.{function_shape, function_shapes}
+use Rattle.module_meaning.specs.FunctionNumbers.{all_functions, all_infos}
+use Rattle.module_meaning.specs.FunctionShapes.{function_shapes}
 use Rattle.module_meaning.specs.ModuleShapes.{module_shape, initialiser, part_words}
 use Rattle.module_meaning.specs.ModuleShapes.{variable_shape}
 use Rattle.module_meaning.specs.WrittenSoFar.{is_written_so_far}
@@ -49,16 +47,7 @@ nothing_declared m written =
     let globals = and_parts (length m.global_variables == 0) _ overrides.1 in
     (nothing_there m.overrides overrides.0, nothing_there m.global_variables globals.0, nothing_there m.entry_points.items globals.1)
 
--- functions one by one are those side by side with what is known of them
-shapes_paired : (m : ir_module.Module) (info : ModuleInfo) (fs : List ir_function.Function)
-    (ess : List (List ExpressionInfo)) →
-    map (λ p. function_shape m info p.0 p.1) (zip fs ess) ≡ function_shapes m info fs ess
-shapes_paired m info [] ess = refl
-shapes_paired m info (f ∷ fs) [] = refl
-shapes_paired m info (f ∷ fs) (es ∷ ess) =
-    ap (λ shapes. function_shape m info f es ∷ shapes) (shapes_paired m info fs ess)
-
--- the program of a module that declares functions alone
+-- the program of a module that declares functions and entry points alone
 abbrev pub functions_alone : ir_module.Module → ModuleInfo → Module
 functions_alone m info =
     record {
@@ -66,7 +55,7 @@ functions_alone m info =
       initialisers = [];
       globals = [];
       parts = part_words m info;
-      functions = reverse (function_shapes m info m.functions info.functions.items);
+      functions = reverse (function_shapes m info (all_functions m) (all_infos info));
     }
 
 -- as a module that is written so far does
@@ -77,12 +66,6 @@ declares_functions_alone m info written =
     in let constants = and_parts (list_all (λ c. is_none c.name) m.constants) _ is.0
     in let named = none_named m.constants constants.0
     in let nothing = nothing_declared m written
-    in let functions =
-    ap (map (λ p. function_shape m info p.0 p.1))
-    ((λ i. zip m.functions info.functions.items ++
-    zip (map (λ p. p.function) (nothing.2 i)) info.entry_points.items)
-    ∙ append-nil (zip m.functions info.functions.items))
-    ∙ shapes_paired m info m.functions info.functions.items
     in λ i. record {
       constant_types =
           map (λ c. declared_type m c.ty) (named i) ++
@@ -91,5 +74,5 @@ declares_functions_alone m info written =
           map (initialiser m info) (named i);
       globals = map (variable_shape m) (nothing.1 i);
       parts = part_words m info;
-      functions = reverse (functions i);
+      functions = reverse (function_shapes m info (all_functions m) (all_infos info));
     }

@@ -10,9 +10,10 @@ use Rattle.wgsl_text.specs.Functions.{Function}
 use Rattle.wgsl_text.specs.Declarations.{Program}
 use Rattle.module_meaning.specs.Names.{module_names}
 use Rattle.module_meaning.specs.Types.{annotated_spelling, type_names}
+use Rattle.module_meaning.specs.FunctionNumbers.{all_functions, all_infos}
 use Rattle.module_meaning.specs.FunctionShapes.{function_shapes}
 use Rattle.module_meaning.specs.Namings.{namings_from, namings}
-use Rattle.text_meaning.specs.Abstraction.{program_read}
+use Rattle.text_meaning.specs.Abstraction.{functions_of, program_read}
 use Rattle.text_meaning.specs.Bindings.{statements_annotations}
 
 -- the types of the handles that each function binds, where types are to be told
@@ -24,10 +25,10 @@ module_annotations explicit m t (f ∷ fs) (es ∷ ess) =
     ∷ module_annotations explicit m t fs ess
 module_annotations explicit m t _ _ = []
 
--- the module's functions with their names, in their order
+-- the module's functions and entry points with their names, in their order
 abbrev pub functions_named : Module → ModuleInfo → List Naming
 functions_named m info =
-    namings_from (module_names m) m 0 (function_shapes m info m.functions info.functions.items)
+    namings_from (module_names m) m 0 (function_shapes m info (all_functions m) (all_infos info))
 
 -- the `let`s of a program: the names of those of each function, the last one first, and the types
 -- that those of each function tell, in the functions' order
@@ -39,7 +40,7 @@ abbrev pub lets_read : Program → Lets
 lets_read p =
     record {
       names = text_lets (program_read p);
-      annotations = map (λ (f : Function). statements_annotations f.body) p.functions;
+      annotations = map (λ (f : Function). statements_annotations f.body) (functions_of p);
     }
 
 -- those of a module: of its handles that are bound, in their order, each under its handle's name.
@@ -50,7 +51,7 @@ module_lets m info explicit =
     record {
       names = map bound_names (namings (module_names m) m info);
       annotations =
-          module_annotations explicit m (type_names m) (functions_named m info) info.functions.items;
+          module_annotations explicit m (type_names m) (functions_named m info) (all_infos info);
     }
 
 -- The program has the module's `let`s.

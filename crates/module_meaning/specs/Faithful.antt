@@ -43,7 +43,7 @@ OfEachRun m info program Holds =
     (g : ℕ) (f : shapes.Function) → shapes.function_numbered shape.functions g ≡ Some f →
     (arguments : List Value) → IsTrue (has_types shape.parts f.argument_types arguments) →
     (world : World) (turns : ℕ) (past : List Event) →
-    let name = function_name (module_names m) g in
+    let name = function_name m (module_names m) g in
     Holds
     (run_module shape settings world meaning turns g arguments past)
     (follow_module text settings world meaning is_request turns name arguments past)

@@ -4,6 +4,7 @@
 -- known of its expressions (ess are those of several functions), a their context, d what
 -- the module declares too, h a handle and e an expression (xs are several).
 use Rattle.std.specs.Prelude.{ℕ, ◌+◌, List, [], ◌∷◌, map}
+use Rattle.std.specs.List.{zip}
 use Rattle.std.specs.Option.{option_map}
 use Rattle.indexmap.specs.IndexMap.{keys}
 use Rattle.naga_ir.specs.StatementTree.{StatementTree, simple, block, branch, switch, loop}
@@ -72,6 +73,4 @@ function_shape m info f es =
 abbrev pub function_shapes :
     ir_module.Module → ModuleInfo → List ir_function.Function → List (List ExpressionInfo) →
     List Function
-function_shapes m info (f ∷ fs) (es ∷ ess) =
-    function_shape m info f es ∷ function_shapes m info fs ess
-function_shapes m info _ _ = []
+function_shapes m info fs ess = map (λ p. function_shape m info p.0 p.1) (zip fs ess)

@@ -128,17 +128,18 @@ body_interface t name f =
       locals = map (λ l. spelled_type t l.ty) f.local_variables;
     }
 
--- the interface of the module's function with this handle
-abbrev pub function_interface : NameMap → List Type_ → ℕ → ir_function.Function → FunctionInterface
-function_interface names types g f =
-    body_interface (names_of types names) (function_name names g) f
+-- the interface of the module's function with this number
+abbrev pub function_interface :
+    NameMap → ir_module.Module → ℕ → ir_function.Function → FunctionInterface
+function_interface names m g f =
+    body_interface (names_of m.types names) (function_name m names g) f
 
--- the interfaces of the functions from this handle on
+-- the interfaces of the functions from this number on
 abbrev pub function_interfaces :
-    NameMap → List Type_ → ℕ → List ir_function.Function → List FunctionInterface
-function_interfaces names types g [] = []
-function_interfaces names types g (f ∷ more) =
-    function_interface names types g f ∷ function_interfaces names types (g + 1) more
+    NameMap → ir_module.Module → ℕ → List ir_function.Function → List FunctionInterface
+function_interfaces names m g [] = []
+function_interfaces names m g (f ∷ more) =
+    function_interface names m g f ∷ function_interfaces names m (g + 1) more
 
 -- ---- entry points
 -- The stage of an entry point, with what this stage has: of a vertex no size is told, though the
@@ -178,7 +179,7 @@ module_interface settings meaning names m info =
       constants = filter_map (constant_interface names t value) (enumerate_from 0 m.constants);
       overrides = map (override_interface names t value) (enumerate_from 0 m.overrides);
       globals = map (global_interface names t value) (enumerate_from 0 m.global_variables);
-      functions = function_interfaces names m.types 0 m.functions;
+      functions = function_interfaces names m 0 m.functions;
       entry_points =
           map (entry_point_interface names t) (enumerate_from 0 m.entry_points.items);
     }

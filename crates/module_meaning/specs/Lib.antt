@@ -10,6 +10,7 @@ pub mod ExpressionOperators
 pub mod ExpressionShapes
 pub mod ExpressionTypes
 pub mod Faithful
+pub mod FunctionNumbers
 pub mod FunctionShapes
 pub mod ExpressionLabels
 pub mod InfoSizes

@@ -18,7 +18,8 @@ use Rattle.naga_info.specs.declared.info.TypeResolution.{TypeResolution}
 use Rattle.module_meaning.specs.AgreeingOperators.{Group, groups_of}
 use Rattle.module_meaning.specs.ExpressionShapes.{Declared, part_selector}
 use Rattle.module_meaning.specs.ExpressionTypes.{variable_type}
-use Rattle.module_meaning.specs.FunctionShapes.{function_shape}
+use Rattle.module_meaning.specs.FunctionNumbers.{all_functions, all_infos}
+use Rattle.module_meaning.specs.FunctionShapes.{function_shapes}
 use Rattle.module_meaning.specs.ExpressionContexts.{declared, global_tree}
 use Rattle.module_meaning.specs.InfoSizes.{is_handle_space}
 use Rattle.module_meaning.specs.Types.{declared_type, word_of_values}
@@ -92,17 +93,15 @@ variable_shape m g =
     else AtPlace (word_of_values m (variable_type g.space g.ty))
 
 -- ---- modules
--- The constants and overrides stand in it as they are numbered, its functions and then its entry
--- points with the last one first.
+-- The constants and overrides stand in it as they are numbered, and all functions with the last one
+-- first.
 abbrev pub module_shape : ir_module.Module → ModuleInfo → Module
 module_shape m info =
-    let functions = zip m.functions info.functions.items in
-    let entry_points = zip (map (λ p. p.function) m.entry_points.items) info.entry_points.items in
     record {
       constant_types = map (λ c. declared_type m c.ty) (named_constants m) ++
           map (λ o. declared_type m o.ty) m.overrides;
       initialisers = map (initialiser m info) (named_constants m);
       globals = map (variable_shape m) m.global_variables;
       parts = part_words m info;
-      functions = reverse (map (λ p. function_shape m info p.0 p.1) (functions ++ entry_points));
+      functions = reverse (function_shapes m info (all_functions m) (all_infos info));
     }

@@ -17,6 +17,8 @@ use Rattle.naga_names.specs.declared.key.NameKey.TheVariants as key
 use Rattle.naga_words.specs.Spelling.{is_struct}
 use Rattle.module_meaning.specs.ExpressionLabels.{all_expression_labels, expression_labels}
 use Rattle.module_meaning.specs.ExpressionLabels.{name_of_label}
+use Rattle.module_meaning.specs.FunctionNumbers.{all_functions, function_type}
+use Rattle.naga_back.specs.FunctionContext.{argument_key, function_key, local_key}
 use Rattle.wgsl_text.specs.Keywords.{reserved_words, builtin_words}
 
 -- what no name begins with
@@ -39,15 +41,15 @@ module_names m key =
 abbrev pub name_in : NameMap → NameKey → List ℕ
 name_in names key = unwrap_or (names key) []
 
--- the name of a function, of one of its arguments and of one of its locals
-abbrev pub function_name : NameMap → (function : ℕ) → List ℕ
-function_name names g = name_in names (key.Function g)
+-- the name of the function with this number, of one of its arguments and of one of its locals
+abbrev pub function_name : Module → NameMap → (function : ℕ) → List ℕ
+function_name m names g = name_in names (function_key (function_type m g))
 
-abbrev pub argument_name : NameMap → (function argument : ℕ) → List ℕ
-argument_name names g n = name_in names (key.FunctionArgument g n)
+abbrev pub argument_name : Module → NameMap → (function argument : ℕ) → List ℕ
+argument_name m names g n = name_in names (argument_key (function_type m g) n)
 
-abbrev pub local_name : NameMap → (function local : ℕ) → List ℕ
-local_name names g l = name_in names (key.FunctionLocal g l)
+abbrev pub local_name : Module → NameMap → (function local : ℕ) → List ℕ
+local_name m names g l = name_in names (local_key (function_type m g) l)
 
 -- that of a variable of the module, of a constant and of an override
 abbrev pub global_name : NameMap → (variable : ℕ) → List ℕ
@@ -74,18 +76,18 @@ numbered_name h = numbered_text (nat_lt h (2 ^ 64)) h
 abbrev pub item_labels : Module → List (List ℕ)
 item_labels m = labels_of (labelled_items wgsl_names m)
 
--- Behind them come those that front ends gave to expressions, function by function. These stand in
--- front of the ones given in this function.
+-- Behind them come those that front ends gave to expressions, function by function and then entry
+-- point by entry point. These stand in front of the ones given in this function.
 abbrev pub labels_before : Module → (function : ℕ) → List (List ℕ)
-labels_before m g = item_labels m ++ all_expression_labels (take g m.functions)
+labels_before m g = item_labels m ++ all_expression_labels (take g (all_functions m))
 
 -- these are given in this function, if there is such a one
 abbrev pub labels_named_in : Module → (function : ℕ) → List (List ℕ)
-labels_named_in m g = option_map_or expression_labels (slice_get m.functions g) []
+labels_named_in m g = option_map_or expression_labels (slice_get (all_functions m) g) []
 
 -- and these are all labels of the module
 abbrev pub module_labels : Module → List (List ℕ)
-module_labels m = item_labels m ++ all_expression_labels m.functions
+module_labels m = item_labels m ++ all_expression_labels (all_functions m)
 
 -- The names that front ends gave in a function, in the order of its text: each the name of its
 -- label behind all labels in front of it.
@@ -113,24 +115,24 @@ pub record ItemsAreDistinguished (m : Module) : Type 0 where
       name_in (module_names m) (key.StructMember h i) ≡
       name_in (module_names m) (key.StructMember h j) → i ≡ j
 
--- The map has the name of each type and of each member of a struct, of each function, of each
--- argument, whose numbers are no greater than the greatest `u32`, of each local, and of each variable,
--- constant and override of the module.
+-- The map has the name of each type and of each member of a struct, of each function and entry point,
+-- of each argument, whose numbers are no greater than the greatest `u32`, of each local, and of each
+-- variable, constant and override of the module.
 pub record HasNamesOf (m : Module) (names : NameMap) : Type 0 where
   pub types : (h : ℕ) (t : Type_) → slice_get m.types h ≡ Some t →
       names (key.Type_ h) ≡ Some (name_in (module_names m) (key.Type_ h))
   pub members : (h : ℕ) (t : Type_) → slice_get m.types h ≡ Some t →
       (i : ℕ) (a : StructMember) → slice_get (members_of t.inner) i ≡ Some a →
       names (key.StructMember h i) ≡ Some (name_in (module_names m) (key.StructMember h i))
-  pub functions : (g : ℕ) → g < length m.functions →
-      names (key.Function g) ≡ Some (function_name (module_names m) g)
-  pub arguments : (g : ℕ) (f : ir_function.Function) → slice_get m.functions g ≡ Some f →
+  pub functions : (g : ℕ) → g < length (all_functions m) →
+      names (function_key (function_type m g)) ≡ Some (function_name m (module_names m) g)
+  pub arguments : (g : ℕ) (f : ir_function.Function) → slice_get (all_functions m) g ≡ Some f →
       (n : ℕ) → n < length f.arguments.items →
-      names (key.FunctionArgument g n) ≡ Some (argument_name (module_names m) g n)
-  pub locals : (g : ℕ) (f : ir_function.Function) → slice_get m.functions g ≡ Some f →
+      names (argument_key (function_type m g) n) ≡ Some (argument_name m (module_names m) g n)
+  pub locals : (g : ℕ) (f : ir_function.Function) → slice_get (all_functions m) g ≡ Some f →
       (l : ℕ) → l < length f.local_variables →
-      names (key.FunctionLocal g l) ≡ Some (local_name (module_names m) g l)
-  pub numbers : (g : ℕ) (f : ir_function.Function) → slice_get m.functions g ≡ Some f →
+      names (local_key (function_type m g) l) ≡ Some (local_name m (module_names m) g l)
+  pub numbers : (g : ℕ) (f : ir_function.Function) → slice_get (all_functions m) g ≡ Some f →
       length f.arguments.items ≤ 2 ^ 32
   pub globals : (v : ℕ) → v < length m.global_variables →
       names (key.GlobalVariable v) ≡ Some (global_name (module_names m) v)

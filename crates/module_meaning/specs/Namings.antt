@@ -1,7 +1,7 @@
 -- The functions of a module as shapes, with the names that their texts use.
 --
 -- Throughout, names are those of the module m, info is what is known of it, c a constant (cs are
--- several), i a number of the runs, f a function with the handle g, es is what is known of its
+-- several), i a number of the runs, f a function with the number g, es is what is known of its
 -- expressions, and given tells the names that front ends gave in it, in the order of its text.
 use Rattle.std.specs.Prelude.{ℕ, suc, ◌+◌, ◌-◌, List, [], ◌∷◌, reverse, if◌then◌else◌, slice_get}
 use Rattle.std.specs.Option.{is_some, option_map_or}
@@ -13,6 +13,7 @@ use Rattle.naga_info.specs.declared.info.ModuleInfo.{ModuleInfo}
 use Rattle.naga_names.specs.Keys.{NameMap}
 use Rattle.naga_names.specs.declared.key.NameKey.{NameKey}
 use Rattle.naga_names.specs.declared.key.NameKey.TheVariants as key
+use Rattle.module_meaning.specs.FunctionNumbers.{all_functions, all_infos}
 use Rattle.module_meaning.specs.FunctionShapes.{function_shape, function_shapes}
 use Rattle.module_meaning.specs.Names.{function_name, argument_name, expression_name, global_name}
 use Rattle.module_meaning.specs.Names.{local_name, name_in, numbered_name}
@@ -40,37 +41,37 @@ outer_names names m =
     record {
       constant = λ i. name_in names (numbered_key m i);
       global = global_name names;
-      function = function_name names;
+      function = function_name m names;
       is_request = is_request;
     }
 
--- the names that the text of the function with this handle uses
+-- the names that the text of the function with this number uses
 abbrev pub inner_names : NameMap → ir_module.Module → (named : ℕ → List ℕ) → ℕ → Names
 inner_names names m named g =
     record {
       outer = outer_names names m;
-      argument = argument_name names g;
-      local_ = local_name names g;
+      argument = argument_name m names g;
+      local_ = local_name m names g;
       named = named;
       numbered = numbered_name;
       earlier = g;
     }
 
--- the function with this handle, under its names
+-- the function with this number, under its names
 abbrev pub function_naming :
     NameMap → (named : ℕ → List ℕ) → ir_module.Module → ModuleInfo → ℕ → ir_function.Function →
     List ExpressionInfo → Naming
 function_naming names named m info g f es =
     record { function = function_shape m info f es; names = inner_names names m named g }
 
--- the functions with their names, from this handle on, in a text of the whole module
+-- the functions with their names, from this number on, in a text of the whole module
 abbrev pub namings_from : NameMap → ir_module.Module → ℕ → List Function → List Naming
 namings_from names m g [] = []
 namings_from names m g (f ∷ fs) =
     record { function = f; names = inner_names names m (expression_name m g) g }
     ∷ namings_from names m (g + 1) fs
 
--- the functions with their names, the last one first; so far a module has no entry points
+-- the functions and entry points with their names, the last one first
 abbrev pub namings : NameMap → ir_module.Module → ModuleInfo → List Naming
 namings names m info =
-    reverse (namings_from names m 0 (function_shapes m info m.functions info.functions.items))
+    reverse (namings_from names m 0 (function_shapes m info (all_functions m) (all_infos info)))

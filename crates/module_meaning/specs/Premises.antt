@@ -9,6 +9,7 @@ use Rattle.shader_runs.specs.Premises.{AllBelow}
 use Rattle.shader_runs.specs.Program as shapes
 use Rattle.shader_runs.specs.Scope.{fits_function}
 use Rattle.shader_runs.specs.ScopeRules.{ScopeHolds}
+use Rattle.module_meaning.specs.FunctionNumbers.{all_functions}
 use Rattle.module_meaning.specs.Names.{module_names}
 use Rattle.module_meaning.specs.ModuleShapes.{module_shape}
 use Rattle.module_meaning.specs.Namings.{namings}
@@ -33,4 +34,4 @@ scope_holds m info = list_all fits_function (namings (module_names m) m info)
 
 -- handles are less than 2 ^ 64, as a `usize` is
 abbrev pub handles_are_counted : Module → Bool
-handles_are_counted m = list_all (λ f. nat_le (length f.expressions) (2 ^ 64)) m.functions
+handles_are_counted m = list_all (λ f. nat_le (length f.expressions) (2 ^ 64)) (all_functions m)

@@ -10,6 +10,7 @@ use Rattle.std.specs.Prelude.{◌≡◌, ℕ, Bool, true, List, [], ◌∷◌, �
 use Rattle.std.specs.Prelude.{IsFalse, IsTrue}
 use Rattle.std.specs.List.{IsAmong, filter, flat_map}
 use Rattle.std.specs.Option.{option_to_list}
+use Rattle.module_meaning.specs.FunctionNumbers.{all_functions, all_infos}
 use Rattle.module_meaning.specs.FunctionShapes.{function_shape}
 use Rattle.module_meaning.specs.StatementForms.{block_has_forms}
 use Rattle.module_meaning.specs.WrittenSoFar.{expression_has_form}
@@ -129,11 +130,11 @@ pub record WrittenHaveForms (explicit : Bool) (m : Module) (info : ModuleInfo) (
   pub types : (r : TypeResolution) → IsSpelledIn explicit m info f known r →
       IsTrue (is_spellable m r)
 
--- so it is in each function
+-- so it is in each function and entry point
 abbrev pub OfEachFunction : Module → ModuleInfo → (Function → List ExpressionInfo → Type 0) → Type 0
 OfEachFunction m info Holds =
-    (g : ℕ) (f : Function) (known : List ExpressionInfo) → slice_get m.functions g ≡ Some f →
-    slice_get info.functions.items g ≡ Some known → Holds f known
+    (g : ℕ) (f : Function) (known : List ExpressionInfo) → slice_get (all_functions m) g ≡ Some f →
+    slice_get (all_infos info) g ≡ Some known → Holds f known
 
 abbrev pub AllWrittenHaveForms : (explicit : Bool) → Module → ModuleInfo → Type 0
 AllWrittenHaveForms explicit m info = OfEachFunction m info (WrittenHaveForms explicit m info)

@@ -39,6 +39,11 @@ is_compute_like (Function handle) m = false
 is_compute_like (EntryPoint index) m =
     option_map_or (λ e. has_workgroups e.stage) (slice_get m.entry_points.items index) false
 
+-- the key of its own name
+abbrev pub function_key : FunctionType → NameKey
+function_key (Function handle) = key.Function handle
+function_key (EntryPoint index) = key.EntryPoint index
+
 -- the key of the name of a local variable
 abbrev pub local_key : FunctionType → (local : ℕ) → NameKey
 local_key (Function handle) local = key.FunctionLocal handle local

@@ -4,8 +4,8 @@ ghost use Rattle.std.specs.Prelude.{◌≡◌, ◌<◌, Some, length, slice_get}
 ghost use Rattle.std.specs.Option.{ForSome};
 ghost use Rattle.naga_info.specs.Resolution.{InRange};
 ghost use Rattle.naga_back.specs.FunctionContext.{IsFunction, IsInRange, argument_key};
-ghost use Rattle.naga_back.specs.FunctionContext.{external_texture_key, is_compute_like, local_key};
-ghost use Rattle.naga_back.specs.FunctionContext.{type_at};
+ghost use Rattle.naga_back.specs.FunctionContext.{external_texture_key, function_key};
+ghost use Rattle.naga_back.specs.FunctionContext.{is_compute_like, local_key, type_at};
 
 use indexmap::IndexMap;
 use naga_info::FunctionInfo;
@@ -37,6 +37,36 @@ impl FunctionType {
                 ShaderStage::Compute | ShaderStage::Task | ShaderStage::Mesh
             ),
             FunctionType::Function(_) => false,
+        }
+    }
+
+    /// The key of its own name.
+    pub fn key(self) -> NameKey
+        ensures { result ≡ function_key self }
+    {
+        match self {
+            FunctionType::Function(handle) => NameKey::Function(handle),
+            FunctionType::EntryPoint(index) => NameKey::EntryPoint(index),
+        }
+    }
+
+    /// The key of the name of one of its local variables.
+    pub fn local_key(self, local: Handle<LocalVariable>) -> NameKey
+        ensures { result ≡ local_key self local }
+    {
+        match self {
+            FunctionType::Function(handle) => NameKey::FunctionLocal(handle, local),
+            FunctionType::EntryPoint(index) => NameKey::EntryPointLocal(index, local),
+        }
+    }
+
+    /// The key of the name of one of its arguments, by its number from zero.
+    pub fn argument_key(self, arg: u32) -> NameKey
+        ensures { result ≡ argument_key self arg }
+    {
+        match self {
+            FunctionType::Function(handle) => NameKey::FunctionArgument(handle, arg),
+            FunctionType::EntryPoint(index) => NameKey::EntryPointArgument(index, arg),
         }
     }
 }
@@ -76,20 +106,14 @@ impl<'a> FunctionCtx<'a> {
     pub fn name_key(&self, local: Handle<LocalVariable>) -> NameKey
         ensures { result ≡ local_key self.now.ty local }
     {
-        match self.ty {
-            FunctionType::Function(handle) => NameKey::FunctionLocal(handle, local),
-            FunctionType::EntryPoint(index) => NameKey::EntryPointLocal(index, local),
-        }
+        self.ty.local_key(local)
     }
 
     /// The key of the name of an argument of this function, by its number from zero.
     pub fn argument_key(&self, arg: u32) -> NameKey
         ensures { result ≡ argument_key self.now.ty arg }
     {
-        match self.ty {
-            FunctionType::Function(handle) => NameKey::FunctionArgument(handle, arg),
-            FunctionType::EntryPoint(index) => NameKey::EntryPointArgument(index, arg),
-        }
+        self.ty.argument_key(arg)
     }
 
     /// The key of the name of a part of an argument that is an external texture, by the argument's

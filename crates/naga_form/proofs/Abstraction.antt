@@ -104,11 +104,14 @@ use Rattle.wgsl_text.specs.Expressions as tree_expressions
 use Rattle.naga_form.proofs.ReadExpressions.{plain_read, value_is, place_is, is_place, places_in}
 use Rattle.naga_form.proofs.ReadExpressions.{ReadsOut, ItemsRead, own_if_reads}
 
-pub names_counted : (names : NameMap) (types : List Type_) (g n : ℕ)
-    (args : List FunctionArgument) → map (λ p. p.name) (parameters_form names types g n args) ≡
-    names_from (argument_name names g) n (length args)
-names_counted names types g n [] = refl
-names_counted names types g n (a ∷ args) = ap (λ ns. argument_name names g n ∷ ns) (names_counted names types g (n + 1) args ∙ ap (λ k. names_from (argument_name names g) k (length args)) (add-one n))
+pub names_counted : (names : NameMap) (m : Module) (g n : ℕ)
+    (args : List FunctionArgument) → map (λ p. p.name) (parameters_form names m g n args) ≡
+    names_from (argument_name m names g) n (length args)
+names_counted names m g n [] = refl
+names_counted names m g n (a ∷ args) =
+    ap (λ ns. argument_name m names g n ∷ ns)
+    (names_counted names m g (n + 1) args
+    ∙ ap (λ k. names_from (argument_name m names g) k (length args)) (add-one n))
 
 -- ---- labels
 label_reads : (value : SwitchValue) → label_read (label_form value) ≡ label_shape value
@@ -487,8 +490,8 @@ written_reads explicit named m info g f es values size formed W closed written c
     let names = module_names m in
     let locals = locals_read named m info g f es values size W closed written constants formed 0 f.local_variables (λ k. ap (slice_get f.local_variables) (sym (add-zero k))) in
     λ i. record {
-      name = function_name names g;
-      parameters = (names_counted names m.types g 0 f.arguments.items ∙ ap (names_from (argument_name names g) 0) (sym (mapped_length (λ a. declared_type m a.ty) f.arguments.items))) i;
+      name = function_name m names g;
+      parameters = (names_counted names m g 0 f.arguments.items ∙ ap (names_from (argument_name m names g) 0) (sym (mapped_length (λ a. declared_type m a.ty) f.arguments.items))) i;
       variables = locals i;
       lines = lines_read named m info g f es values size W closed written constants
           (annotated_type explicit m (type_names m) es) 0 f.body

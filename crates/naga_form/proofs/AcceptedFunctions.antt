@@ -3,7 +3,13 @@
 use Rattle.naga_ir.specs.Operands.{expression_operands}
 use Rattle.naga_ir.specs.declared.expression.Expression.{Expression}
 use Rattle.module_meaning.specs.Ranges.{expression_in_range, names_in_range, all_below}
+use Rattle.module_meaning.proofs.FunctionNumbers.{in_append, which_function, IsNumbered}
+use Rattle.module_meaning.proofs.FunctionNumbers.{OfEntryPoint, OfFunction}
 use Rattle.module_meaning.proofs.SideBySide.{paired_at, zip_at, zip_parts}
+use Rattle.module_meaning.specs.FunctionNumbers.{IsFunctionOf, all_functions, all_infos}
+use Rattle.module_meaning.specs.FunctionNumbers.{callee_count, entry_functions, function_number}
+use Rattle.naga_back.specs.declared.context.FunctionType.{FunctionType}
+use Rattle.naga_back.specs.declared.context.FunctionType.TheVariants as item
 use Rattle.std.proofs.Common.{◌≡◌, ℕ, zero, suc, ◌≤◌, ◌+◌, Bool, true, List, [], ◌∷◌, ◌++◌}
 use Rattle.std.proofs.Common.{refl, sym, ap, ◌∙◌, length, Some, slice_get, map, arith}
 use Rattle.std.proofs.Common.{◌⊎◌, inl, inr, eqb-true, ◌==◌, subst}
@@ -11,8 +17,8 @@ use Rattle.std.specs.List.{list_all, zip}
 use Rattle.std.specs.Prelude.{IsTrue}
 use Rattle.std.specs.Option.{option_map}
 use Rattle.std.proofs.lemmas.Bool.{and_parts}
+use Rattle.std.proofs.lemmas.List.{length-append, length-map}
 use Rattle.std.proofs.lemmas.Option.{slice_get_within}
-use Rattle.naga_info.proofs.Options.{map_some}
 use Rattle.naga_ir.specs.declared.module.EntryPoint.{EntryPoint}
 use Rattle.naga_ir.specs.declared.module.Function.{Function}
 use Rattle.naga_ir.specs.declared.module.Module.{Module}
@@ -32,47 +38,20 @@ use Rattle.module_meaning.specs.StatementsFit.{body_is_sound}
 use Rattle.module_meaning.specs.Soundness.{module_is_sound, function_is_sound, entry_point_is_sound}
 use Rattle.module_meaning.proofs.Lists.{list_all_at}
 use Rattle.module_meaning.proofs.Lists.{placed_at}
-use Rattle.std.proofs.lemmas.Option.{slice_get-map}
 use Rattle.naga_names.proofs.Refusal.{element}
-use Rattle.naga_form.proofs.AgreeingUses.{in_left}
 use Rattle.naga_form.proofs.AcceptedGroups.{IsSoundGroup, functions_are, entry_points_are}
 
 -- ---- lists side by side and behind each other
-zip_length : {X Y : Type 0} (xs : List X) (ys : List Y) → length xs ≡ length ys →
-    length (zip xs ys) ≡ length xs
-zip_length [] ys same = refl
-zip_length (x ∷ xs) [] same = absurd (omega (arith, same))
-zip_length (x ∷ xs) (y ∷ ys) same = ap suc (zip_length xs ys (omega (arith, same)))
-
 paired_length : {X Y : Type 0} (test : X → Y → Bool) (xs : List X) (ys : List Y) →
     all_paired test xs ys ≡ true → length xs ≡ length ys
 paired_length test xs ys all =
     eqb-true (length xs) (length ys)
     (and_parts (length xs == length ys) (list_all (λ p. test p.0 p.1) (zip xs ys)) all).0
 
--- what stands in a list before another stands in one of both
-pub in_append : {X : Type 0} (xs ys : List X) (i : ℕ) (x : X) → slice_get (xs ++ ys) i ≡ Some x →
-    (slice_get xs i ≡ Some x) ⊎ ((j : ℕ) × (i ≡ length xs + j) × (slice_get ys j ≡ Some x))
-in_append [] ys i x there = let at : i ≡ 0 + i = omega arith in inr (i, at, there)
-in_append (y ∷ xs) ys zero x there = inl there
-in_append (y ∷ xs) ys (suc i) x there = by (in_append xs ys i x there)
-  where
-    by : (slice_get xs i ≡ Some x) ⊎ ((j : ℕ) × (i ≡ length xs + j) × (slice_get ys j ≡ Some x)) →
-        (slice_get xs i ≡ Some x) ⊎
-        ((j : ℕ) × (suc i ≡ suc (length xs) + j) × (slice_get ys j ≡ Some x))
-    by (inl here) = inl here
-    by (inr k) = let at = k.1 in inr (k.0, omega (arith, at), k.2)
-
 -- ---- functions
--- the entry points' functions, each with what is known of its expressions
-abbrev pub entry_points_known : Module → ModuleInfo → List (Function × List ExpressionInfo)
-entry_points_known m info =
-    zip (map (λ p. p.function) m.entry_points.items) info.entry_points.items
-
--- the functions and behind them those
+-- all functions, each with what is known of its expressions
 abbrev pub functions_known : Module → ModuleInfo → List (Function × List ExpressionInfo)
-functions_known m info =
-    zip m.functions info.functions.items ++ entry_points_known m info
+functions_known m info = zip (all_functions m) (all_infos info)
 
 -- the function with this number, which may call so many
 pub record IsAccepted (m : Module) (k : ℕ) (f : Function) (es : List ExpressionInfo) : Type 0 where
@@ -162,15 +141,35 @@ module _ (m : Module) (info : ModuleInfo) (accepted : IsTrue (is_accepted m info
   functions_counted =
       paired_length function_size_fits m.functions info.functions.items functions_paired
 
+  -- a function is in range, if it may call those before it, and that of an entry point if it may call all
+  function_range : (k : ℕ) (f : Function) → slice_get m.functions k ≡ Some f →
+      function_in_range m k f ≡ true
+  function_range k f here =
+      let from : 0 + k ≡ k = omega arith in
+      let range = and_parts _ _ ranges_parts.1 in let functions = and_parts _ _ range.1 in
+      sym (ap (λ n. function_in_range m n f) from) ∙
+      placed_at (function_in_range m) 0 m.functions k f functions.0 here
+
+  entry_point_range : (j : ℕ) (p : EntryPoint) → slice_get m.entry_points.items j ≡ Some p →
+      function_in_range m (length m.functions) p.function ≡ true
+  entry_point_range j p here =
+      let range = and_parts _ _ ranges_parts.1 in let functions = and_parts _ _ range.1 in
+      let own =
+      list_all_at (entry_point_in_range m) m.entry_points.items j p functions.1 here in
+      let count = length m.global_variables in
+      let one = and_parts (is_below count (option_map (λ k. k.output_variable) p.mesh_info)) _ own in
+      let two = and_parts (is_below count p.task_payload) _ one.1 in
+      let three = and_parts (is_below count p.incoming_ray_payload) _ two.1 in
+      (and_parts (workgroup_fits_32_bits p.workgroup_size)
+      (function_in_range m (length m.functions) p.function) three.1).1
+
   pub of_function : (k : ℕ) (f : Function) (es : List ExpressionInfo) →
       slice_get m.functions k ≡ Some f → slice_get info.functions.items k ≡ Some es →
       IsAccepted m k f es
   of_function k f es here there =
-      let from : 0 + k ≡ k = omega arith in
       let before : k ≤ k = omega arith in
       let within = slice_get_within m.functions k f here in
       let below : k ≤ length m.functions = omega (arith, within) in
-      let range = and_parts _ _ ranges_parts.1 in let functions = and_parts _ _ range.1 in
       record {
         callees = k;
         before = before;
@@ -178,8 +177,7 @@ module _ (m : Module) (info : ModuleInfo) (accepted : IsTrue (is_accepted m info
         size = eqb-true (length f.expressions) (length es)
             (paired_at function_size_fits m.functions info.functions.items functions_paired
             k f es here there);
-        ranges = sym (ap (λ n. function_in_range m n f) from) ∙
-            placed_at (function_in_range m) 0 m.functions k f functions.0 here;
+        ranges = function_range k f here;
         sound = paired_at (function_is_sound m) m.functions info.functions.items sound_parts.0
             k f es here there;
       }
@@ -192,16 +190,6 @@ module _ (m : Module) (info : ModuleInfo) (accepted : IsTrue (is_accepted m info
       let before : length m.functions ≤ k = omega (arith, at) in
       let all : length m.functions ≤ length m.functions = omega arith in
       let sizes = and_parts _ _ ranges_parts.0 in let more = and_parts _ _ sizes.1 in
-      let range = and_parts _ _ ranges_parts.1 in let functions = and_parts _ _ range.1 in
-      let own =
-      list_all_at (entry_point_in_range m) m.entry_points.items j p functions.1 here in
-      let count = length m.global_variables in
-      let one = and_parts (is_below count (option_map (λ k. k.output_variable) p.mesh_info)) _ own in
-      let two = and_parts (is_below count p.task_payload) _ one.1 in
-      let three = and_parts (is_below count p.incoming_ray_payload) _ two.1 in
-      let four =
-      and_parts (workgroup_fits_32_bits p.workgroup_size)
-      (function_in_range m (length m.functions) p.function) three.1 in
       record {
         callees = length m.functions;
         before = before;
@@ -209,7 +197,7 @@ module _ (m : Module) (info : ModuleInfo) (accepted : IsTrue (is_accepted m info
         size = eqb-true (length p.function.expressions) (length es)
             (paired_at (λ p es. function_size_fits p.function es) m.entry_points.items
             info.entry_points.items more.0 j p es here there);
-        ranges = four.1;
+        ranges = entry_point_range j p here;
         sound = paired_at (entry_point_is_sound m) m.entry_points.items info.entry_points.items
             sound_parts.1 j p es here there;
       }
@@ -225,25 +213,28 @@ module _ (m : Module) (info : ModuleInfo) (accepted : IsTrue (is_accepted m info
   pub numbered : (k : ℕ) (f : Function) (es : List ExpressionInfo) →
       slice_get (functions_known m info) k ≡ Some (f, es) → Numbered k f es
   numbered k f es there =
-      by
-      (in_append (zip m.functions info.functions.items) (entry_points_known m info) k (f, es) there)
+      let both = zip_parts (all_functions m) (all_infos info) k (f, es) there in
+      by (which_function m k f both.0)
+      (in_append info.functions.items info.entry_points.items k es both.1)
     where
-      by : (slice_get (zip m.functions info.functions.items) k ≡ Some (f, es)) ⊎
-          ((j : ℕ) × (k ≡ length (zip m.functions info.functions.items) + j) ×
-          (slice_get (entry_points_known m info) j ≡ Some (f, es))) →
+      by : IsNumbered m k f → (slice_get info.functions.items k ≡ Some es) ⊎
+          ((j : ℕ) × (k ≡ length info.functions.items + j)
+          × (slice_get info.entry_points.items j ≡ Some es)) →
           Numbered k f es
-      by (inl here) =
-          let both = zip_parts m.functions info.functions.items k (f, es) here in
-          AsFunction both.0 both.1
-      by (inr e) =
-          let both =
-          zip_parts (map (λ p. p.function) m.entry_points.items) info.entry_points.items e.0 (f, es) e.2 in
-          let found =
-          map_some (λ p. p.function) (slice_get m.entry_points.items e.0) f
-          (sym (slice_get-map (λ p. p.function) m.entry_points.items e.0) ∙ both.0) in
-          let counted =
-          ap (λ n. n + e.0) (zip_length m.functions info.functions.items functions_counted) in
-          AsEntryPoint e.0 found.0 (e.1 ∙ counted) found.1 both.1 found.2
+      by (OfFunction here ty) (inl known) = AsFunction here known
+      by (OfFunction here ty) (inr e) =
+          let within = slice_get_within m.functions k f here in
+          let counted = functions_counted in let at = e.1 in
+          absurd (omega (arith, within, counted, at))
+      by (OfEntryPoint j p at here same ty) (inl known) =
+          let within = slice_get_within info.functions.items k es known in
+          let counted = functions_counted in
+          absurd (omega (arith, within, counted, at))
+      by (OfEntryPoint j p at here same ty) (inr e) =
+          let counted = functions_counted in let also = e.1 in
+          let one : e.0 ≡ j = omega (arith, counted, at, also) in
+          AsEntryPoint j p at here
+          (ap (slice_get info.entry_points.items) (sym one) ∙ e.2) same
 
   -- each of them
   pub accepted_at : (k : ℕ) (f : Function) (es : List ExpressionInfo) →
@@ -255,17 +246,61 @@ module _ (m : Module) (info : ModuleInfo) (accepted : IsTrue (is_accepted m info
       by (AsEntryPoint j p at here known same) =
           subst (λ f. IsAccepted m k f es) same (of_entry_point k j p es at here known)
 
-  -- a function of the module has its number among these
-  pub function_there : (g : ℕ) (f : Function) → slice_get m.functions g ≡ Some f →
+  -- so many of both kinds are known
+  pub entry_points_counted : length m.entry_points.items ≡ length info.entry_points.items
+  entry_points_counted =
+      let more = and_parts _ _ (and_parts _ _ ranges_parts.0).1 in
+      paired_length (λ p es. function_size_fits p.function es) m.entry_points.items
+      info.entry_points.items more.0
+
+  pub all_counted : length (all_functions m) ≡ length (all_infos info)
+  all_counted =
+      let functions = functions_counted in let entry_points = entry_points_counted in
+      let one = length-append m.functions (entry_functions m.entry_points.items) in
+      let two = length-append info.functions.items info.entry_points.items in
+      let mapped = length-map m.entry_points.items (λ p. p.function) in
+      omega (arith, functions, entry_points, one, two, mapped)
+
+  -- of each something is known
+  pub known_there : (g : ℕ) (f : Function) → slice_get (all_functions m) g ≡ Some f →
+      (es : List ExpressionInfo) × (slice_get (all_infos info) g ≡ Some es)
+  known_there g f here =
+      let within = slice_get_within (all_functions m) g f here in
+      let counted = all_counted in
+      element (all_infos info) g (omega (arith, within, counted))
+
+  pub function_there : (g : ℕ) (f : Function) → slice_get (all_functions m) g ≡ Some f →
       (es : List ExpressionInfo) × (slice_get (functions_known m info) g ≡ Some (f, es))
   function_there g f here =
-      let within = slice_get_within m.functions g f here in
-      let counted = functions_counted in
-      let known = element info.functions.items g (omega (arith, within, counted)) in (
-        known.0,
-        in_left (zip m.functions info.functions.items) (entry_points_known m info) g (f, known.0)
-            (zip_at m.functions info.functions.items g f known.0 here known.1),
-      )
+      let known = known_there g f here in
+      (known.0, zip_at (all_functions m) (all_infos info) g f known.0 here known.1)
+
+  -- acceptance says it of what has a number and is known
+  pub of_number : (g : ℕ) (f : Function) (es : List ExpressionInfo) →
+      slice_get (all_functions m) g ≡ Some f → slice_get (all_infos info) g ≡ Some es →
+      IsAccepted m g f es
+  of_number g f es here known =
+      accepted_at g f es (zip_at (all_functions m) (all_infos info) g f es here known)
+
+  -- each is in range, where it may call so many
+  pub ranges_of : (ty : FunctionType) → IsFunctionOf ty m → (f : Function) →
+      slice_get (all_functions m) (function_number m ty) ≡ Some f →
+      function_in_range m (callee_count m ty) f ≡ true
+  ranges_of (item.Function h) lt f at = by (which_function m h f at)
+    where
+      by : IsNumbered m h f → function_in_range m h f ≡ true
+      by (OfFunction here ty) = function_range h f here
+      by (OfEntryPoint j p number here same ty) = absurd (omega (arith, lt, number))
+  ranges_of (item.EntryPoint j) lt f at = by (which_function m (length m.functions + j) f at)
+    where
+      by : IsNumbered m (length m.functions + j) f →
+          function_in_range m (length m.functions) f ≡ true
+      by (OfFunction here ty) =
+          let within = slice_get_within m.functions (length m.functions + j) f here in
+          absurd (omega (arith, within))
+      by (OfEntryPoint i p number here same ty) =
+          subst (λ f. function_in_range m (length m.functions) f ≡ true) same
+          (entry_point_range i p here)
 
   -- what is known of the expressions of each
   pub group_at : (k : ℕ) (f : Function) (es : List ExpressionInfo) →

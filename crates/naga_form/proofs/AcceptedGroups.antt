@@ -4,6 +4,7 @@ use Rattle.module_meaning.specs.Names.{TypesAreDistinguished}
 use Rattle.module_meaning.proofs.SideBySide.{in_groups, paired_at}
 use Rattle.std.proofs.Common.{◌≡◌, ℕ, zero, suc, ◌<◌, ◌+◌, Bool, true, false, List, [], ◌∷◌, refl, sym, ap, ◌∙◌, length, ◌&&◌}
 use Rattle.std.proofs.Common.{Option, Some, None, slice_get, map, arith, nat_lt, ◌^◌, ◌≤◌, eqb-true}
+use Rattle.std.proofs.Common.{◌⊎◌, inl, inr}
 use Rattle.std.specs.List.{list_all}
 use Rattle.std.specs.Prelude.{IsTrue}
 use Rattle.std.specs.Option.{option_map, option_map_or}
@@ -48,7 +49,9 @@ use Rattle.module_meaning.specs.Soundness.{module_is_sound, function_is_sound, e
 use Rattle.module_meaning.proofs.Lists.{list_all_at}
 use Rattle.module_meaning.proofs.Lists.{placed_at}
 use Rattle.naga_names.proofs.Refusal.{element}
-use Rattle.naga_form.proofs.AgreeingUses.{AreKnown, AllFit, IsIn, in_left, in_right}
+use Rattle.naga_form.proofs.AgreeingUses.{AreKnown, AllFit, IsIn, in_right}
+use Rattle.module_meaning.proofs.FunctionNumbers.{in_append, in_left}
+use Rattle.module_meaning.specs.FunctionNumbers.{all_infos}
 use Rattle.naga_form.proofs.SameValues.{TypesAreCounted, TypesAreFit, IsFit, InnerIsCounted}
 use Rattle.naga_form.proofs.SameValues.{LengthIsCounted}
 
@@ -213,19 +216,29 @@ module _ (m : Module) (info : ModuleInfo) where
         (list_all_at (list_all (λ k. resolution_fits (length m.overrides) (length m.types) k.ty)) info.functions.items k es (and_parts _ _ ranges_parts.3).0 there)
         (paired_at (function_is_sound m) m.functions info.functions.items sound_parts.1 k f es here there)
 
-    -- each entry point
-    -- what is known of a function's expressions is fit, and names what is there
+    -- what is known of the expressions of each function and entry point is fit, and names what is there
     pub known_is_fit : (k : ℕ) (es : List ExpressionInfo) →
-        slice_get info.functions.items k ≡ Some es → (h : ℕ) (e : ExpressionInfo) →
+        slice_get (all_infos info) k ≡ Some es → (h : ℕ) (e : ExpressionInfo) →
         slice_get es h ≡ Some e → resolution_fits (length m.overrides) (length m.types) e.ty ≡ true
     known_is_fit k es there h e at =
-        list_all_at (λ k. resolution_fits (length m.overrides) (length m.types) k.ty) es h e
-        (list_all_at (list_all (λ k. resolution_fits (length m.overrides) (length m.types) k.ty)) info.functions.items k es (and_parts _ _ ranges_parts.3).0 there)
-        at
+        list_all_at fits es h e
+        (by (in_append info.functions.items info.entry_points.items k es there)) at
+      where
+        fits : ExpressionInfo → Bool
+        fits k = resolution_fits (length m.overrides) (length m.types) k.ty
 
-    pub known_fits : (k : ℕ) (es : List ExpressionInfo) → slice_get info.functions.items k ≡ Some es → (h : ℕ) (e : ExpressionInfo) → slice_get es h ≡ Some e → IsFit m e.ty
+        by : (slice_get info.functions.items k ≡ Some es) ⊎
+            ((j : ℕ) × (k ≡ length info.functions.items + j)
+            × (slice_get info.entry_points.items j ≡ Some es)) → list_all fits es ≡ true
+        by (inl here) = list_all_at (list_all fits) info.functions.items k es (and_parts _ _ ranges_parts.3).0 here
+        by (inr e) =
+            let more = and_parts _ _ ranges_parts.3 in
+            list_all_at (list_all fits) info.entry_points.items e.0 es (and_parts _ _ more.1).0 e.2
+
+    pub known_fits : (k : ℕ) (es : List ExpressionInfo) → slice_get (all_infos info) k ≡ Some es → (h : ℕ) (e : ExpressionInfo) → slice_get es h ≡ Some e → IsFit m e.ty
     known_fits k es there h e at = fit_of e.ty (known_is_fit k es there h e at)
 
+    -- each entry point
     pub entry_points_are : (k : ℕ) (p : EntryPoint) (es : List ExpressionInfo) →
         slice_get m.entry_points.items k ≡ Some p → slice_get info.entry_points.items k ≡ Some es →
         IsSoundGroup m info (Some p.function) (function_group p.function es)

@@ -19,6 +19,7 @@ use Rattle.module_meaning.specs.Operations.{Operation}
 use Rattle.module_meaning.specs.OperatorTable.{Operator, run_word}
 use Rattle.module_meaning.specs.ExpressionContexts.{expression_context}
 use Rattle.module_meaning.specs.Types.{type_of_values}
+use Rattle.module_meaning.proofs.FunctionNumbers.{in_left}
 use Rattle.module_meaning.proofs.Operations.{all_agree_at}
 use Rattle.naga_form.proofs.OperatorKeys.{IsFormed, IsKeyed, keyed, one_key_of_word}
 use Rattle.naga_form.proofs.SameValues.{TypesAreCounted, IsFit, numbers_by_values, values_by_numbers}
@@ -26,11 +27,6 @@ use Rattle.naga_form.proofs.SameValues.{TypesAreCounted, IsFit, numbers_by_value
 -- ---- where an item of a list of lists stands
 abbrev pub IsIn : {X : Type 0} → List X → X → Type 0
 IsIn xs x = (i : ℕ) × (slice_get xs i ≡ Some x)
-
-pub in_left : {X : Type 0} (xs ys : List X) (i : ℕ) (x : X) → slice_get xs i ≡ Some x → slice_get (xs ++ ys) i ≡ Some x
-in_left [] ys i x here = absurd cc
-in_left (y ∷ xs) ys zero x here = here
-in_left (y ∷ xs) ys (suc i) x here = in_left xs ys i x here
 
 pub in_right : {X : Type 0} (xs ys : List X) (x : X) → IsIn ys x → IsIn (xs ++ ys) x
 in_right [] ys x there = there

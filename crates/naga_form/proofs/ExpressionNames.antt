@@ -21,6 +21,7 @@ use Rattle.naga_names.proofs.Refusal.{element}
 use Rattle.naga_names.proofs.Reset.{labels_of-around}
 use Rattle.module_meaning.specs.ExpressionLabels.{all_expression_labels, expression_labels}
 use Rattle.module_meaning.specs.ExpressionLabels.{name_of_label}
+use Rattle.module_meaning.specs.FunctionNumbers.{all_functions}
 use Rattle.module_meaning.specs.Names.{expression_name, item_labels}
 use Rattle.module_meaning.specs.Names.{labels_before, module_labels, module_names, name_in}
 use Rattle.module_meaning.specs.Names.{numbered_name, wgsl_names}
@@ -89,7 +90,7 @@ module _ (m : Module) where
       let parts = split_at (labelled_items wgsl_names m) s.place item s.there in
       let first = before_item item s in
       let own = labels_of parts.0 in
-      let named = all_expression_labels m.functions in
+      let named = all_expression_labels (all_functions m) in
       let split = ap labels_of parts.1
       ∙ labels_of-around (take s.place (labelled_items wgsl_names m)) item parts.0 s.outside in
       record {
@@ -109,7 +110,7 @@ module _ (m : Module) where
       omega (arith, counts)
 
   -- ---- one function's labels
-  module _ (g : ℕ) (f : ir_function.Function) (found : slice_get m.functions g ≡ Some f) where
+  module _ (g : ℕ) (f : ir_function.Function) (found : slice_get (all_functions m) g ≡ Some f) where
     abbrev labels : List (List ℕ)
     labels = expression_labels f
 
@@ -120,13 +121,13 @@ module _ (m : Module) where
     pub named_stands : (k : ℕ) (label : List ℕ) → slice_get labels k ≡ Some label →
         StandsBehind (module_labels m) (before_named k) label
     named_stands k label at =
-        let functions = split_at m.functions g f found in
+        let functions = split_at (all_functions m) g f found in
         let own = split_at labels k label at in
         let items = item_labels m in
-        let front = all_expression_labels (take g m.functions) in
+        let front = all_expression_labels (take g (all_functions m)) in
         let behind = all_expression_labels functions.0 in
         let split = ap all_expression_labels functions.1
-        ∙ flat_map-append expression_labels (take g m.functions) (f ∷ functions.0) in
+        ∙ flat_map-append expression_labels (take g (all_functions m)) (f ∷ functions.0) in
         let here = ap (λ ls. ls ++ behind) own.1
         ∙ append_assoc (take k labels) (label ∷ own.0) behind in
         let rest = label ∷ (own.0 ++ behind) in
@@ -171,7 +172,7 @@ module _ (m : Module) where
         (item_stands item s) (named_stands k label.0 label.1)
         (sym (name_is m item s) ∙ (e ∙ named_name_is k label.0 label.1)) in
         let short = before_item_short item s in
-        let one = length-append (item_labels m) (all_expression_labels (take g m.functions)) in
+        let one = length-append (item_labels m) (all_expression_labels (take g (all_functions m))) in
         let two = length-append (labels_before m g) (take k labels) in
         omega (arith, same, short, one, two)
 

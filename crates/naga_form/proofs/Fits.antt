@@ -74,10 +74,6 @@ some_mapped : {X Y : Type 0} (t : X → Y) (o : Option X) → is_some (option_ma
 some_mapped t None = refl
 some_mapped t (Some x) = refl
 
--- the item of a local
-abbrev pub local_item : ℕ → ℕ → LocalVariable → LabelledItem
-local_item g l v = (key.FunctionLocal g l, label_or v.name (codes "local"))
-
 -- ---- how many names front ends gave in front of a point
 joined : (k : ℕ) (xs ys : List (List ℕ)) → k + length xs + length ys ≡ k + length (xs ++ ys)
 joined k xs ys = let both = length-append xs ys in omega (arith, both)

@@ -29,6 +29,7 @@ use Rattle.shader_runs.specs.Scope.{ModuleNames, Names, Naming, fits_function}
 use Rattle.naga_form.proofs.AcceptedFunctions.{functions_known, accepted_at, group_at}
 use Rattle.naga_form.proofs.AcceptedFunctions.{function_there, ranges_are, soundness_is}
 use Rattle.naga_form.proofs.AcceptedGroups.{types_are_counted}
+use Rattle.module_meaning.proofs.FunctionNumbers.{function_among}
 use Rattle.naga_form.proofs.Leaves.{ConstantsAreTyped, leaves}
 use Rattle.naga_form.proofs.Ordered.{ordered}
 use Rattle.naga_form.proofs.Regular.{AreWorded, StandBehind, regular}
@@ -127,7 +128,7 @@ module _ (m : Module) (info : ModuleInfo) (accepted : IsTrue (is_accepted m info
       Tells shape_numbered callees → StandBehind m info count callees
   stand_behind count callees le tells = record {
     shape_of_callee = λ g f lt there.
-        let known = function_there m info accepted g f there in (
+        let known = function_there m info accepted g f (function_among m g f there) in (
           known.0,
           tells g (omega (arith, lt, le)) ∙
               (slice_get-map (λ p. function_shape m info p.0 p.1) (functions_known m info) g ∙

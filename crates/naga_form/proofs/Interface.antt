@@ -10,7 +10,6 @@ use Rattle.naga_ir.specs.declared.module.Function as ir_function
 use Rattle.naga_ir.specs.declared.module.FunctionArgument.{FunctionArgument}
 use Rattle.naga_ir.specs.declared.module.FunctionResult.{FunctionResult}
 use Rattle.naga_ir.specs.declared.module.Module.{Module}
-use Rattle.naga_ir.specs.declared.types.Type_.{Type_}
 use Rattle.naga_info.specs.declared.info.ExpressionInfo.{ExpressionInfo}
 use Rattle.naga_info.specs.declared.info.ModuleInfo.{ModuleInfo}
 use Rattle.naga_names.specs.Keys.{NameMap}
@@ -65,15 +64,15 @@ passed_is : (t : TypeNames) (ty : ℕ) (b : Option Binding) → is_none b ≡ tr
     form_passed t ty ≡ record { binding = stage_binding b; type = spelled_type t ty }
 passed_is t ty b is = λ i. record { binding = unbound_is b is i; type = spelled_form t ty i }
 
-parameters_passed : (names : NameMap) (types : List Type_) (g n : ℕ) (args : List FunctionArgument) →
+parameters_passed : (names : NameMap) (m : Module) (g n : ℕ) (args : List FunctionArgument) →
     list_all (λ a. is_none a.binding) args ≡ true →
-    map parameter_read (parameters_form names types g n args) ≡
-    map (argument_passed (names_of types names)) args
-parameters_passed names types g n [] is = refl
-parameters_passed names types g n (a ∷ more) is =
+    map parameter_read (parameters_form names m g n args) ≡
+    map (argument_passed (names_of m.types names)) args
+parameters_passed names m g n [] is = refl
+parameters_passed names m g n (a ∷ more) is =
     let parts = and_parts (is_none a.binding) (list_all (λ a. is_none a.binding) more) is in
-    λ i. passed_is (names_of types names) a.ty a.binding parts.0 i ∷
-    parameters_passed names types g (n + 1) more parts.1 i
+    λ i. passed_is (names_of m.types names) a.ty a.binding parts.0 i ∷
+    parameters_passed names m g (n + 1) more parts.1 i
 
 results_passed : (t : TypeNames) (r : Option FunctionResult) →
     option_map_or (λ r. is_none r.binding) r true ≡ true →
@@ -89,12 +88,12 @@ function_interface_form : (explicit : Bool) (names : NameMap) (named : ℕ → L
     (info : ModuleInfo) (g : ℕ) (f : ir_function.Function) (es : List ExpressionInfo) →
     function_is_written f ≡ true →
     function_interface_read (function_form explicit names named m info g f es) ≡
-    function_interface names m.types g f
+    function_interface names m g f
 function_interface_form explicit names named m info g f es is =
     let unbound = and_parts (list_all (λ a. is_none a.binding) f.arguments.items) (option_map_or (λ r. is_none r.binding) f.result true) is in
     λ i. record {
-      name = (function_interface names m.types g f).name;
-      arguments = parameters_passed names m.types g 0 f.arguments.items unbound.0 i;
+      name = (function_interface names m g f).name;
+      arguments = parameters_passed names m g 0 f.arguments.items unbound.0 i;
       result = results_passed (names_of m.types names) f.result unbound.1 i;
       locals = locals_declared (function_naming names named m info g f es) (names_of m.types names) (function_source m info f es) 0 f.local_variables i;
     }
@@ -103,7 +102,7 @@ function_interfaces_form : (explicit : Bool) (names : NameMap) (m : Module) (inf
     (g : ℕ) (fs : List ir_function.Function) (ess : List (List ExpressionInfo)) →
     length fs ≡ length ess → list_all function_is_written fs ≡ true →
     map function_interface_read (functions_form explicit names m info g fs ess) ≡
-    function_interfaces names m.types g fs
+    function_interfaces names m g fs
 function_interfaces_form explicit names m info g [] [] size is = refl
 function_interfaces_form explicit names m info g [] (es ∷ ess) size is = refl
 function_interfaces_form explicit names m info g (f ∷ fs) [] size is = absurd (cc)

@@ -42,7 +42,7 @@ module _ (m : Module) (info : ModuleInfo) (explicit : Bool) (accepted : IsTrue (
       (run_module shape settings world meaning turns g arguments past) ×
       (KeepsTypes (run_module shape settings world meaning turns g arguments past) →
       IsNotStuck (follow_module text settings world meaning is_request turns
-      (function_name (module_names m) g) arguments past)))
+      (function_name m (module_names m) g) arguments past)))
       (sym (reads_as_shapes m info explicit accepted written have))
       (runs_are_not_stuck shape (outer_names (module_names m) m) (namings (module_names m) m info)
       (module_fits m info accepted written explicit have

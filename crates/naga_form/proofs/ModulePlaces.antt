@@ -1,12 +1,10 @@
 -- Where each function of the program of shapes of an accepted module comes from, and what stands at
 -- its handles: the shapes of the expressions, and the types of their values.
 use Rattle.module_meaning.specs.Names.{TypesAreDistinguished}
-use Rattle.module_meaning.proofs.SideBySide.{zip_parts}
 use Rattle.std.proofs.Common.{◌≡◌, ℕ, zero, suc, ◌+◌, List, [], ◌∷◌, ◌++◌, refl, sym, ap, ◌∙◌, map, length}
 use Rattle.std.proofs.Common.{Some, None, slice_get, arith, ◌⊎◌, inl, inr}
 use Rattle.std.specs.Prelude.{IsTrue, reverse}
 use mathlib.Core.List.{reverse_aux}
-use Rattle.std.specs.List.{zip}
 use Rattle.std.specs.Option.{option_map}
 use Rattle.std.proofs.lemmas.Option.{same_Some}
 use Rattle.naga_ir.specs.declared.expression.Expression as ir
@@ -24,7 +22,8 @@ use Rattle.module_meaning.specs.Types.{type_of_values}
 use Rattle.shader_runs.specs.Premises.{handle_types}
 use Rattle.shader_runs.specs.Program.{Function, expression_of, handle_type}
 use Rattle.shader_runs.specs.Value.{type_at}
-use Rattle.naga_form.proofs.AcceptedGroups.{IsSoundGroup, functions_are, entry_points_are}
+use Rattle.naga_form.proofs.AcceptedFunctions.{functions_known, group_at}
+use Rattle.naga_form.proofs.AcceptedGroups.{IsSoundGroup}
 use Rattle.naga_form.proofs.AgreeingUses.{value_at}
 
 -- ---- where an item of a list comes from
@@ -79,40 +78,20 @@ pub record IsShapeOf (m : ir_module.Module) (info : ModuleInfo) (f : Function) :
   pub same : f ≡ function_shape m info function known
 
 module _ (m : ir_module.Module) (info : ModuleInfo) (accepted : IsTrue (is_accepted m info)) (distinguished : TypesAreDistinguished m) where
-  abbrev functions : List (ir_function.Function × List ExpressionInfo)
-  functions = zip m.functions info.functions.items
-
-  abbrev entry_points : List (ir_function.Function × List ExpressionInfo)
-  entry_points = zip (map (λ p. p.function) m.entry_points.items) info.entry_points.items
-
-  shape_of_either : (f : Function) (p : ir_function.Function × List ExpressionInfo) →
-      function_shape m info p.0 p.1 ≡ f →
-      ((k : ℕ) × (slice_get functions k ≡ Some p)) ⊎ ((k : ℕ) × (slice_get entry_points k ≡ Some p)) →
-      IsShapeOf m info f
-  shape_of_either f p same (inl found) =
-      let parts = zip_parts m.functions info.functions.items found.0 p found.1 in
-      record {
-        function = p.0;
-        known = p.1;
-        sound = functions_are m info accepted found.0 p.0 p.1 parts.0 parts.1;
-        same = sym same;
-      }
-  shape_of_either f p same (inr found) =
-      let parts = zip_parts (map (λ p. p.function) m.entry_points.items) info.entry_points.items found.0 p found.1 in
-      let entry = in_image (λ p. p.function) m.entry_points.items found.0 p.0 parts.0 in
-      record {
-        function = entry.0.function;
-        known = p.1;
-        sound = entry_points_are m info accepted found.0 entry.0 p.1 entry.1 parts.1;
-        same = sym same ∙ ap (λ g. function_shape m info g p.1) (sym entry.2);
-      }
+  abbrev shape : ir_function.Function × List ExpressionInfo → Function
+  shape p = function_shape m info p.0 p.1
 
   -- each function of the program is the shape of one of the module's, or of an entry point's
   pub function_at : (place : ℕ) (f : Function) → slice_get (module_shape m info).functions place ≡ Some f → IsShapeOf m info f
   function_at place f there =
-      let found = in_reversed (map (λ p. function_shape m info p.0 p.1) (functions ++ entry_points)) place f there in
-      let image = in_image (λ p. function_shape m info p.0 p.1) (functions ++ entry_points) found.0 f found.1 in
-      shape_of_either f image.0 image.2 (in_row functions entry_points found.0 image.0 image.1)
+      let found = in_reversed (map shape (functions_known m info)) place f there in
+      let image = in_image shape (functions_known m info) found.0 f found.1 in
+      record {
+        function = image.0.0;
+        known = image.0.1;
+        sound = group_at m info accepted found.0 image.0.0 image.0.1 image.1;
+        same = sym image.2;
+      }
 
 -- ---- handles
 -- what is evaluated at an index of expressions that stand in a function from a handle on

@@ -2,7 +2,7 @@
 use Rattle.std.proofs.Common.{◌≡◌, ℕ, ◌<◌, suc, Bool, true, false, not, List, [], ◌∷◌, ◌++◌, length}
 use Rattle.std.proofs.Common.{take, drop, refl, sym, ap, subst, ◌∙◌, ◌||◌, zero, codes, nat_lt, map}
 use Rattle.std.proofs.Common.{Some, None, ◌^◌, decimal, nat_eq, true≢false, ◌≢◌, replicate}
-use Rattle.std.specs.Prelude.{slice_get, ◌==◌, unwrap_or}
+use Rattle.std.specs.Prelude.{slice_get, string_bytes, ◌==◌, unwrap_or}
 use Rattle.std.specs.FinSet as set
 use Rattle.std.specs.Bool.{one_answer}
 use Rattle.std.specs.Char.{is_ascii_digit, is_ascii_uppercase, is_ascii_lowercase}
@@ -25,13 +25,22 @@ use Rattle.naga_names.proofs.NameShapes.{name_after_is_word, name_after_no_keywo
 use Rattle.naga_names.proofs.NameShapes.{name_after_no_builtin, plain_ends, name_after_not_numbered}
 use Rattle.naga_names.proofs.Keys.{items_apart}
 use Rattle.naga_names.proofs.NamedItems.{Stands, put_at, item_names_tell, function_stands}
-use Rattle.naga_names.proofs.NamedItems.{argument_stands}
+use Rattle.naga_names.proofs.NamedItems.{argument_stands, entry_argument_stands}
+use Rattle.naga_names.proofs.NamedItems.{entry_local_stands, entry_point_stands, local_stands}
 use Rattle.wgsl_text.specs.Keywords.{builtin_words, reserved_words}
 use Rattle.wgsl_text.specs.Words.{stands_in, is_builtin, IsIdentifier, is_letter, is_word_byte}
 use Rattle.wgsl_text.specs.Words.{all_word_bytes, is_word_text, is_reserved}
 use Rattle.shader_runs.proofs.Update.{and_left, and_right}
-use Rattle.module_meaning.specs.Names.{module_names, wgsl_names, numbered_text}
+use Rattle.module_meaning.specs.FunctionNumbers.{all_functions, function_number, function_type}
+use Rattle.module_meaning.specs.Names.{module_names, wgsl_names, numbered_text, function_name}
 use Rattle.module_meaning.specs.Names.{numbered_name, name_in}
+use Rattle.module_meaning.proofs.FunctionNumbers.{IsNumbered, OfEntryPoint, OfFunction}
+use Rattle.module_meaning.proofs.FunctionNumbers.{function_keys_tell, one_number, which_function}
+use Rattle.naga_back.specs.FunctionContext.{argument_key, function_key, local_key}
+use Rattle.naga_back.specs.declared.context.FunctionType.{FunctionType}
+use Rattle.naga_back.specs.declared.context.FunctionType.TheVariants as item
+use Rattle.naga_ir.specs.declared.module.LocalVariable.{LocalVariable}
+use Rattle.std.specs.Option.{option_map_or}
 
 -- ---- words
 letter_of : (d u l s : Bool) → (((d || u) || l) || s) ≡ true → not d ≡ true → (l || (u || s)) ≡ true
@@ -167,17 +176,76 @@ module _ (m : Module) where
       let place = item_names_tell wgsl_names (labelled_items wgsl_names m) s.place t.place a b s.there t.there s.outside t.outside (sym (name_is a s) ∙ e ∙ name_is b t) in
       ap (λ o. unwrap_or o a) (sym s.there ∙ ap (slice_get (labelled_items wgsl_names m)) place ∙ t.there)
 
-  -- the items of functions and arguments
+  -- the label of a function, or of an entry point
+  abbrev pub function_label : ir_function.Function → FunctionType → List ℕ
+  function_label f (item.Function handle) = label_or f.name (codes "function")
+  function_label f (item.EntryPoint index) =
+      option_map_or (λ p. string_bytes p.name) (slice_get m.entry_points.items index) []
+
+  -- the items of functions, arguments and locals
   abbrev pub function_item : ℕ → ir_function.Function → LabelledItem
-  function_item g f = (key.Function g, label_or f.name (codes "function"))
+  function_item g f = (function_key (function_type m g), function_label f (function_type m g))
 
   abbrev pub argument_item : ℕ → ℕ → FunctionArgument → LabelledItem
-  argument_item g n a = (key.FunctionArgument g n, label_or a.name (codes "param"))
+  argument_item g n a = (argument_key (function_type m g) n, label_or a.name (codes "param"))
 
-  pub function_there : (g : ℕ) (f : ir_function.Function) → slice_get m.functions g ≡ Some f → Stands (labelled_items wgsl_names m) (function_item g f)
-  function_there g f e = function_stands wgsl_names m g f e
+  abbrev pub local_item : ℕ → ℕ → LocalVariable → LabelledItem
+  local_item g l v = (local_key (function_type m g) l, label_or v.name (codes "local"))
+
+  pub function_there : (g : ℕ) (f : ir_function.Function) → slice_get (all_functions m) g ≡ Some f →
+      Stands (labelled_items wgsl_names m) (function_item g f)
+  function_there g f found = by (which_function m g f found)
+    where
+      stands : FunctionType → Type 0
+      stands ty = Stands (labelled_items wgsl_names m) (function_key ty, function_label f ty)
+
+      by : IsNumbered m g f → stands (function_type m g)
+      by (OfFunction here ty) = subst stands (sym ty) (function_stands wgsl_names m g f here)
+      by (OfEntryPoint j p at here same ty) =
+          subst stands (sym ty)
+          (subst (λ label. Stands (labelled_items wgsl_names m) (key.EntryPoint j, label))
+          (sym (ap (λ o. option_map_or (λ p. string_bytes p.name) o []) here))
+          (entry_point_stands wgsl_names m j p here))
 
   pub argument_there : (g : ℕ) (f : ir_function.Function) (n : ℕ) (a : FunctionArgument) →
-      slice_get m.functions g ≡ Some f → slice_get f.arguments.items n ≡ Some a →
+      slice_get (all_functions m) g ≡ Some f → slice_get f.arguments.items n ≡ Some a →
       Stands (labelled_items wgsl_names m) (argument_item g n a)
-  argument_there g f n a e there = argument_stands wgsl_names m g f n a e there
+  argument_there g f n a found there = by (which_function m g f found)
+    where
+      stands : FunctionType → Type 0
+      stands ty =
+          Stands (labelled_items wgsl_names m) (argument_key ty n, label_or a.name (codes "param"))
+
+      by : IsNumbered m g f → stands (function_type m g)
+      by (OfFunction here ty) =
+          subst stands (sym ty) (argument_stands wgsl_names m g f n a here there)
+      by (OfEntryPoint j p at here same ty) =
+          subst stands (sym ty) (entry_argument_stands wgsl_names m j p n a here
+          (ap (λ f. slice_get f.arguments.items n) same ∙ there))
+
+  pub local_there : (g : ℕ) (f : ir_function.Function) (l : ℕ) (v : LocalVariable) →
+      slice_get (all_functions m) g ≡ Some f → slice_get f.local_variables l ≡ Some v →
+      Stands (labelled_items wgsl_names m) (local_item g l v)
+  local_there g f l v found there = by (which_function m g f found)
+    where
+      stands : FunctionType → Type 0
+      stands ty =
+          Stands (labelled_items wgsl_names m) (local_key ty l, label_or v.name (codes "local"))
+
+      by : IsNumbered m g f → stands (function_type m g)
+      by (OfFunction here ty) = subst stands (sym ty) (local_stands wgsl_names m g f l v here there)
+      by (OfEntryPoint j p at here same ty) =
+          subst stands (sym ty) (entry_local_stands wgsl_names m j p l v here
+          (ap (λ f. slice_get f.local_variables l) same ∙ there))
+
+  -- functions with one name have one number
+  pub one_function : (g k : ℕ) (f h : ir_function.Function) → slice_get (all_functions m) g ≡ Some f →
+      slice_get (all_functions m) k ≡ Some h →
+      function_name m (module_names m) g ≡ function_name m (module_names m) k → g ≡ k
+  one_function g k f h at there e =
+      let same =
+      items_tell (function_item g f) (function_item k h) (function_there g f at)
+      (function_there k h there) e in
+      let ty =
+      function_keys_tell (function_type m g) (function_type m k) (ap (λ item. item.0) same) in
+      sym (one_number m g) ∙ ap (function_number m) ty ∙ one_number m k

@@ -60,12 +60,12 @@ use Rattle.naga_info.specs.declared.info.TypeResolution.TheVariants.{Handle, Val
 use Rattle.naga_form.proofs.WrittenTypes.{tree_there}
 use Rattle.naga_form.proofs.Literals.{literal_is}
 use Rattle.naga_form.proofs.Names.{item_is_identifier, argument_item, argument_there}
-use Rattle.naga_names.proofs.NamedItems.{local_stands}
+use Rattle.naga_form.proofs.Names.{local_item, local_there}
+use Rattle.module_meaning.specs.FunctionNumbers.{all_functions}
 use Rattle.naga_ir.specs.declared.expression.Expression.TheVariants as expression
 use Rattle.shader_runs.specs.Program.{binds}
 use Rattle.shader_runs.specs.Scope.{Availability, Bound, Handles, Naming}
 use Rattle.module_meaning.specs.Namings.{function_naming}
-use Rattle.naga_form.proofs.Fits.{local_item}
 
 -- ---- plain forms
 -- a plain form of the grammar
@@ -116,7 +116,7 @@ values_are operand [] all = tt
 values_are operand (h ∷ hs) all = (value_is_one (operand h) all.0, values_are operand hs all.1)
 
 module _ (m : Module) (info : ModuleInfo) (g : ℕ) (f : ir_function.Function)
-    (found : slice_get m.functions g ≡ Some f) (es : List ExpressionInfo) (callees : ℕ)
+    (found : slice_get (all_functions m) g ≡ Some f) (es : List ExpressionInfo) (callees : ℕ)
     (ranges : function_in_range m callees f ≡ true) (W : ℕ → Type 0)
     (closed : AreClosed W (binds (function_shape m info f es)) f) (written : AreWritten W m f es)
     (types : TypesAreFit m) (fits : (h : ℕ) (k : ExpressionInfo) → slice_get es h ≡ Some k →
@@ -246,7 +246,7 @@ module _ (m : Module) (info : ModuleInfo) (g : ℕ) (f : ir_function.Function)
       item_is_identifier m (argument_item m g n a.0) (argument_there m g f n a.0 found a.1)
   own_is operand h (expression.LocalVariable v) at is all =
       let l = element f.local_variables v (ltb-true v (length f.local_variables) (names_are_in_range m callees f ranges h (expression.LocalVariable v) at)) in
-      (item_is_identifier m (local_item g v l.0) (local_stands wgsl_names m g f v l.0 found l.1), refl)
+      (item_is_identifier m (local_item m g v l.0) (local_there m g f v l.0 found l.1), refl)
   own_is operand h (expression.ZeroValue ty) at is all =
       let form = type_at ty (spelled_of_spellable m (Handle ty) is.0) in
       applied_is operand (notation (type_tree (type_names m) ty) (constructor d.context (Handle ty) 0)) [] tt

@@ -6,7 +6,7 @@ use Rattle.module_meaning.specs.WrittenSoFar.{constant_is_written, global_is_wri
 use Rattle.module_meaning.specs.WrittenSoFar.{is_written_literal}
 use Rattle.module_meaning.specs.Ranges.{function_in_range, local_in_range, is_below}
 use Rattle.module_meaning.proofs.WrittenSoFar.{written_so_far_parts, spelled_of_spellable}
-use Rattle.naga_form.proofs.AcceptedFunctions.{locals_are_in_range, of_function, ranges_are}
+use Rattle.naga_form.proofs.AcceptedFunctions.{locals_are_in_range, of_number, ranges_are}
 use Rattle.naga_form.proofs.AcceptedFunctions.{soundness_is}
 use Rattle.std.proofs.Common.{◌≡◌, ℕ, ◌<◌, ◌≤◌, suc, Bool, true, false, List, [], ◌∷◌, length, refl, sym}
 use Rattle.std.proofs.Common.{ap, subst, ◌∙◌, arith, nat_lt, ◌+◌, Option, Some, None, ◌^◌, map}
@@ -59,15 +59,16 @@ use Rattle.naga_info.specs.declared.info.TypeResolution.{TypeResolution}
 use Rattle.naga_form.proofs.Facts.{further, from_start}
 use Rattle.naga_form.proofs.Literals.{literal_is}
 use Rattle.naga_form.proofs.Names.{item_is_identifier, function_item, argument_item, function_there}
-use Rattle.naga_form.proofs.Names.{argument_there}
+use Rattle.naga_form.proofs.Names.{argument_there, local_item, local_there}
 use Rattle.naga_form.proofs.NumberedNames.{numbered_is}
-use Rattle.naga_names.proofs.NamedItems.{local_stands}
+use Rattle.module_meaning.proofs.FunctionNumbers.{function_among, info_among}
+use Rattle.module_meaning.specs.FunctionNumbers.{all_functions, all_infos}
+use Rattle.naga_form.proofs.WritableModules.{no_further_functions}
 use Rattle.naga_ir.specs.declared.expression.Expression.TheVariants as expression
 use Rattle.naga_ir.specs.declared.module.LocalVariable.{LocalVariable}
 use Rattle.shader_runs.specs.Program.{binds}
 use Rattle.shader_runs.specs.Scope.{Handles, Naming, at_start}
 use Rattle.module_meaning.specs.Namings.{function_naming}
-use Rattle.naga_form.proofs.Fits.{local_item}
 use Rattle.naga_form.proofs.ExpressionNames.{named_is_identifier}
 use Rattle.module_meaning.specs.ExpressionLabels.{expression_labels}
 use Rattle.module_meaning.specs.StatementForms.{block_has_forms}
@@ -78,7 +79,7 @@ use Rattle.naga_form.proofs.StatementPrograms.{lines_are, start_is}
 
 -- ---- functions
 module _ (m : Module) (info : ModuleInfo) (g : ℕ) (f : ir_function.Function)
-    (found : slice_get m.functions g ≡ Some f) (es : List ExpressionInfo) (callees : ℕ)
+    (found : slice_get (all_functions m) g ≡ Some f) (es : List ExpressionInfo) (callees : ℕ)
     (there : callees ≤ length m.functions) (ranges : function_in_range m callees f ≡ true)
     (sound : body_is_sound m f (map (λ e. e.ty) es) ≡ true) (W : ℕ → Type 0)
     (closed : AreClosed W (binds (function_shape m info f es)) f) (written : AreWritten W m f es)
@@ -118,7 +119,7 @@ module _ (m : Module) (info : ModuleInfo) (g : ℕ) (f : ir_function.Function)
       let both = and_parts (local_in_range (length m.types) (length f.expressions) v) (list_all (local_in_range (length m.types) (length f.expressions)) vs) fit in
       let parts = and_parts (nat_lt v.ty (length m.types)) (is_below (length f.expressions) v.init) both.0 in (
         record {
-          name = item_is_identifier m (local_item g l here.0) (local_stands wgsl_names m g f l here.0 found here.1);
+          name = item_is_identifier m (local_item m g l here.0) (local_there m g f l here.0 found here.1);
           type = is_type_at m types v.ty (spelled_of_spellable m (Handle v.ty) (spelled (Handle v.ty) (OfLocal l v (ap (slice_get f.local_variables) (sym (zero-add l)) ∙ sym (at 0)))));
           value = first_is v.init (closed.firsts l v (ap (slice_get f.local_variables) (sym (zero-add l)) ∙ sym (at 0)));
         },
@@ -137,7 +138,7 @@ module _ (m : Module) (info : ModuleInfo) (g : ℕ) (f : ir_function.Function)
   parameters_are : (n : ℕ) (args : List FunctionArgument) →
       n + length args ≡ length f.arguments.items →
       ((k : ℕ) → slice_get args k ≡ slice_get f.arguments.items (k + n)) →
-      Each IsParameter (parameters_form (module_names m) m.types g n args)
+      Each IsParameter (parameters_form (module_names m) m g n args)
   parameters_are n [] size at = tt
   parameters_are n (a ∷ args) size at =
       let next : (n + 1) + length args ≡ length f.arguments.items = omega (arith, size) in
@@ -163,10 +164,11 @@ module _ (m : Module) (info : ModuleInfo) (g : ℕ) (f : ir_function.Function)
   result_is (Some r) at = (tt, refl, is_type_at m types r.ty (spelled_of_spellable m (Handle r.ty) (spelled (Handle r.ty) (OfResult r at))))
 
   -- functions that it calls and results have identifiers
-  callee_is : (h : ℕ) → h < callees → IsIdentifier (function_name (module_names m) h)
+  callee_is : (h : ℕ) → h < callees → IsIdentifier (function_name m (module_names m) h)
   callee_is h lt =
       let callee = element m.functions h (omega (arith, lt, there)) in
-      item_is_identifier m (function_item m h callee.0) (function_there m h callee.0 callee.1)
+      item_is_identifier m (function_item m h callee.0)
+      (function_there m h callee.0 (function_among m h callee.0 callee.1))
 
   result_named : (h : ℕ) → h < length f.expressions → IsIdentifier (numbered_name h)
   result_named h lt = numbered_is h (omega (arith, lt, few))
@@ -215,13 +217,13 @@ module _ (explicit : Bool) (m : Module) (info : ModuleInfo) (accepted : IsTrue (
 
   -- a function, under names of front ends that are identifiers
   pub one_is : (named : ℕ → List ℕ) (g : ℕ) (f : ir_function.Function)
-      (found : slice_get m.functions g ≡ Some f) (es : List ExpressionInfo) →
-      slice_get info.functions.items g ≡ Some es →
+      (found : slice_get (all_functions m) g ≡ Some f) (es : List ExpressionInfo) →
+      slice_get (all_infos info) g ≡ Some es →
       ((k : ℕ) → k < length (expression_labels f) → IsIdentifier (named k)) →
       WrittenHaveForms explicit m info f es → length f.expressions ≤ 2 ^ 64 →
       IsFunction (function_form explicit (module_names m) named m info g f es)
   one_is named g f found es here named_are have few =
-      let is = of_function m info accepted g f es found here in
+      let is = of_number m info accepted g f es found here in
       function_is m info g f found es is.callees is.there is.ranges
       (soundness_is m f es is.sound).1 (IsWrittenIn m info f es)
       (written_are_closed m info f es) have.expressions
@@ -230,9 +232,9 @@ module _ (explicit : Bool) (m : Module) (info : ModuleInfo) (accepted : IsTrue (
 
   functions_are : (g : ℕ) (fs : List ir_function.Function) (ess : List (List ExpressionInfo)) →
       ((i : ℕ) (f : ir_function.Function) → slice_get fs i ≡ Some f →
-      slice_get m.functions (g + i) ≡ Some f) →
+      slice_get (all_functions m) (g + i) ≡ Some f) →
       ((i : ℕ) (es : List ExpressionInfo) → slice_get ess i ≡ Some es →
-      slice_get info.functions.items (g + i) ≡ Some es) →
+      slice_get (all_infos info) (g + i) ≡ Some es) →
       ((i : ℕ) (f : ir_function.Function) (es : List ExpressionInfo) → slice_get fs i ≡ Some f →
       slice_get ess i ≡ Some es → WrittenHaveForms explicit m info f es) →
       IsTrue (list_all (λ f. nat_le (length f.expressions) (2 ^ 64)) fs) → Each IsFunction (functions_form explicit (module_names m) m info g fs ess)
@@ -241,11 +243,11 @@ module _ (explicit : Bool) (m : Module) (info : ModuleInfo) (accepted : IsTrue (
   functions_are g (f ∷ fs) [] there known have few = tt
   functions_are g (f ∷ fs) (es ∷ ess) there known have few =
       let here : g + 0 ≡ g = omega arith in
-      let found = subst (λ h. slice_get m.functions h ≡ Some f) here (there 0 f refl) in
-      let own = subst (λ h. slice_get info.functions.items h ≡ Some es) here (known 0 es refl) in
+      let found = subst (λ h. slice_get (all_functions m) h ≡ Some f) here (there 0 f refl) in
+      let own = subst (λ h. slice_get (all_infos info) h ≡ Some es) here (known 0 es refl) in
       let counted = and_parts (nat_le (length f.expressions) (2 ^ 64)) (list_all (λ f. nat_le (length f.expressions) (2 ^ 64)) fs) few in (
         one_is (expression_name m g) g f found es own (named_is_identifier m g f found) (have 0 f es refl refl) (leb-true (length f.expressions) (2 ^ 64) counted.0),
-        functions_are (g + 1) fs ess (further m.functions g f fs there) (further info.functions.items g es ess known) (λ i f es here known. have (suc i) f es here known) counted.1,
+        functions_are (g + 1) fs ess (further (all_functions m) g f fs there) (further (all_infos info) g es ess known) (λ i f es here known. have (suc i) f es here known) counted.1,
       )
 
 -- each extension that is enabled is one that the grammar has
@@ -271,7 +273,10 @@ is_program m info explicit accepted written have few =
       overrides = tt;
       globals = tt;
       functions = functions_are explicit m info accepted written 0 m.functions info.functions.items
-          (from_start m.functions) (from_start info.functions.items)
-          (λ i f es here known. have i f es here known) few;
+          (λ i f here. from_start (all_functions m) i f (function_among m i f here))
+          (λ i es known. from_start (all_infos info) i es (info_among info i es known))
+          (λ i f es here known. have i f es (function_among m i f here) (info_among info i es known))
+          (subst (λ fs. IsTrue (list_all (λ f. nat_le (length f.expressions) (2 ^ 64)) fs))
+          (no_further_functions m info accepted written) few);
       entry_points = tt;
     }

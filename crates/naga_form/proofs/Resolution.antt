@@ -23,6 +23,7 @@ use Rattle.shader_runs.specs.Scope.{Naming}
 use Rattle.shader_runs.specs.Resolution.{text_targets}
 use Rattle.shader_runs.specs.Identifiers.{LeafStands, LeavesStand}
 use Rattle.shader_runs.proofs.Resolution.{resolves_as_meant}
+use Rattle.module_meaning.specs.FunctionNumbers.{all_functions, all_infos}
 use Rattle.module_meaning.specs.Names.{expression_name, module_names}
 use Rattle.module_meaning.specs.Types.{declared_type}
 use Rattle.module_meaning.specs.ExpressionOperators.{is_atomic_pointer}
@@ -88,15 +89,15 @@ module _ (m : Module) (info : ModuleInfo) (callees : ℕ) (f : ir_function.Funct
   leaves_are_own h = any_shape m info f es h (λ o. LeafStands own o) tt (leaf_stands h)
 
 module _ (m : Module) (info : ModuleInfo) (accepted : IsTrue (is_accepted m info)) where
-  leaves_stand : (g : ℕ) (fs : List ir_function.Function) (ess : List (List ExpressionInfo)) → ((i : ℕ) (f : ir_function.Function) → slice_get fs i ≡ Some f → slice_get m.functions (g + i) ≡ Some f) →
+  leaves_stand : (g : ℕ) (fs : List ir_function.Function) (ess : List (List ExpressionInfo)) → ((i : ℕ) (f : ir_function.Function) → slice_get fs i ≡ Some f → slice_get (all_functions m) (g + i) ≡ Some f) →
       (behind : List Naming) → LeavesStand behind → LeavesStand (reverse_aux (namings_from (module_names m) m g (function_shapes m info fs ess)) behind)
   leaves_stand g [] ess there behind all = all
   leaves_stand g (f ∷ fs) [] there behind all = all
   leaves_stand g (f ∷ fs) (es ∷ ess) there behind all =
       let here : g + 0 ≡ g = omega arith in
-      let known = function_there m info accepted g f (subst (λ h. slice_get m.functions h ≡ Some f) here (there 0 f refl)) in
+      let known = function_there m info accepted g f (subst (λ h. slice_get (all_functions m) h ≡ Some f) here (there 0 f refl)) in
       let is = accepted_at m info accepted g f known.0 known.1 in
-      leaves_stand (g + 1) fs ess (further m.functions g f fs there)
+      leaves_stand (g + 1) fs ess (further (all_functions m) g f fs there)
       (function_naming (module_names m) (expression_name m g) m info g f es ∷ behind)
       (leaves_are_own m info is.callees f is.ranges es, all)
 
@@ -108,7 +109,8 @@ bodies_resolve m info explicit accepted written have scope =
     ap text_targets (reads_as_shapes m info explicit accepted written have)
     ∙ resolves_as_meant (module_shape m info) (outer_names names m) (namings names m info)
     (module_fits m info accepted written explicit have ((scopes_are_checked m info accepted written).1 scope))
-    (leaves_stand m info accepted 0 m.functions info.functions.items (from_start m.functions) [] tt)
+    (leaves_stand m info accepted 0 (all_functions m) (all_infos info)
+    (from_start (all_functions m)) [] tt)
 
 pub resolves : (m : Module) (info : ModuleInfo) (explicit : Bool) → IsTrue (is_accepted m info) →
     IsTrue (is_written_so_far m) → AllWrittenHaveForms explicit m info → ScopesHold m info →

@@ -21,11 +21,12 @@ use Rattle.naga_form.specs.Declarations.{written_program}
 use Rattle.naga_form.proofs.Abstraction.{function_reads}
 use Rattle.naga_form.proofs.AcceptedFunctions.{functions_paired}
 use Rattle.module_meaning.specs.InfoSizes.{function_size_fits}
-use Rattle.module_meaning.proofs.SideBySide.{paired_at}
+use Rattle.module_meaning.proofs.SideBySide.{paired_at, zip_parts}
 use Rattle.naga_form.proofs.DistinguishedItems.{types_are_distinguished}
-use Rattle.naga_form.proofs.Names.{items_tell, function_item, function_there}
+use Rattle.naga_form.proofs.Names.{one_function}
+use Rattle.module_meaning.specs.FunctionNumbers.{all_functions, all_infos}
+use Rattle.module_meaning.proofs.FunctionNumbers.{function_among, info_among}
 use Rattle.naga_names.proofs.Refusal.{element}
-use Rattle.naga_names.specs.declared.key.NameKey.TheVariants as key
 use Rattle.shader_runs.specs.Program as shapes
 use Rattle.shader_runs.specs.Scope.{Naming, fits_function}
 use Rattle.shader_runs.specs.Text.{TextModule}
@@ -47,15 +48,14 @@ use Rattle.module_meaning.specs.Faithful.{RunsAs}
 use Rattle.module_meaning.specs.StatementForms.{block_has_forms}
 use Rattle.module_meaning.specs.Written.{AllWrittenHaveForms, WrittenHaveForms}
 use Rattle.naga_form.proofs.Facts.{further, from_start}
-use Rattle.naga_form.proofs.WritableModules.{no_case_falls, no_entry_points}
+use Rattle.naga_form.proofs.WritableModules.{no_case_falls, no_further_functions, no_further_infos}
 use Rattle.naga_form.proofs.WrittenSoFarFits.{is_free}
 use Rattle.naga_form.proofs.ConstantsFit.{constants_are_typed}
 use Rattle.naga_form.proofs.FunctionsFit.{IsFree, AllBehind, all_fit_freely}
-use Rattle.naga_form.proofs.AcceptedFunctions.{functions_known, group_at, numbered, Numbered, functions_counted, AsFunction, AsEntryPoint}
+use Rattle.naga_form.proofs.AcceptedFunctions.{all_counted, functions_known, group_at}
 use Rattle.naga_form.proofs.Leaves.{ConstantsAreTyped}
 use Rattle.module_meaning.specs.Accepted.{is_accepted}
 use Rattle.module_meaning.specs.WrittenSoFar.{function_is_written}
-use Rattle.naga_ir.specs.declared.module.EntryPoint.{EntryPoint}
 use Rattle.std.proofs.lemmas.Bool.{and_parts, eqb-true}
 use Rattle.naga_form.proofs.AcceptedGroups.{declarations_are}
 use Rattle.naga_form.proofs.AcceptedGroups.{types_are_fit}
@@ -108,18 +108,26 @@ pub program_reads : (m : Module) (info : ModuleInfo) (explicit : Bool) →
     (namings (module_names m) m info)
 program_reads m info explicit accepted written have =
     let listed = namings_from (module_names m) m 0 (function_shapes m info m.functions info.functions.items) in
+    let all =
+    ap (λ fs. reverse (namings_from (module_names m) m 0 (function_shapes m info fs (all_infos info))))
+    (no_further_functions m info accepted written)
+    ∙ ap (λ ess. reverse (namings_from (module_names m) m 0 (function_shapes m info m.functions ess)))
+    (no_further_infos m info accepted written) in
     let each = functions_read explicit m info (written_so_far_parts m written).1
     (declarations_are m info accepted).size 0 m.functions
     info.functions.items (functions_are_written m written)
-    (λ i f es here known. have i f es here known) sized in
+    (λ i f es here known.
+    have i f es (function_among m i f here) (info_among info i es known)) sized in
     λ i. record {
       constants = [];
       overrides = [];
       globals = [];
-      functions = (ap reverse
-          (append-nil (map function_read
-          (functions_form explicit (module_names m) m info 0 m.functions info.functions.items))
-          ∙ each) ∙ sym (form_functions-map (reverse listed) ∙ map-reverse form_function listed)) i;
+      functions = (ap (λ fs. reverse (map function_read fs))
+          (append-nil (functions_form explicit (module_names m) m info 0 m.functions
+          info.functions.items))
+          ∙ (ap reverse each
+          ∙ (sym (form_functions-map (reverse listed) ∙ map-reverse form_function listed)
+          ∙ ap form_functions (sym all)))) i;
     }
   where
     sized : (i : ℕ) (f : ir_function.Function) (es : List ExpressionInfo) → slice_get m.functions i ≡ Some f → slice_get info.functions.items i ≡ Some es → length f.expressions ≡ length es
@@ -150,24 +158,17 @@ module _ (m : Module) (info : ModuleInfo) (accepted : IsTrue (is_accepted m info
   no_globals : p.globals ≡ []
   no_globals = ap (λ p. p.globals) same
 
-  all_counted : length p.functions ≡ length m.functions
-  all_counted =
-      ap (λ p. length p.functions) same
-      ∙ (length-reverse (function_shapes m info m.functions info.functions.items)
-      ∙ shapes_counted m info m.functions info.functions.items (functions_counted m info accepted))
+  all_shaped : length p.functions ≡ length (all_functions m)
+  all_shaped =
+      length-reverse (function_shapes m info (all_functions m) (all_infos info))
+      ∙ shapes_counted m info (all_functions m) (all_infos info) (all_counted m info accepted)
 
   module _ (explicit : Bool) (have : AllWrittenHaveForms explicit m info) where
     -- the statements of each function that is known have forms
     forms_at : (k : ℕ) (f : ir_function.Function) (es : List ExpressionInfo) → slice_get (functions_known m info) k ≡ Some (f, es) → block_has_forms f.body ≡ true
-    forms_at k f es at = by (numbered m info accepted k f es at)
-      where
-        none : (xs : List EntryPoint) (j : ℕ) (e : EntryPoint) → xs ≡ [] → slice_get xs j ≡ Some e → ⊥
-        none [] j e is at = absurd cc
-        none (x ∷ xs) j e is at = absurd cc
-
-        by : Numbered m info accepted k f es → block_has_forms f.body ≡ true
-        by (AsFunction here known) = (have k f es here known).statements
-        by (AsEntryPoint j e number here known of) = absurd (none m.entry_points.items j e (no_entry_points m info accepted written) here)
+    forms_at k f es at =
+        let both = zip_parts (all_functions m) (all_infos info) k (f, es) at in
+        (have k f es both.0 both.1).statements
 
     constants_typed : (k : ℕ) (f : ir_function.Function) (es : List ExpressionInfo) → slice_get (functions_known m info) k ≡ Some (f, es) → ConstantsAreTyped m info f es
     constants_typed k f es at = constants_are_typed m info accepted (types_are_distinguished m) f es (group_at m info accepted k f es at)
@@ -175,7 +176,7 @@ module _ (m : Module) (info : ModuleInfo) (accepted : IsTrue (is_accepted m info
     -- nothing is left of each function, behind those before it
     all_free : (g : ℕ) (fs : List ir_function.Function) (ess : List (List ExpressionInfo)) →
         ((i : ℕ) (f : ir_function.Function) → slice_get fs i ≡ Some f →
-        slice_get m.functions (g + i) ≡ Some f) →
+        slice_get (all_functions m) (g + i) ≡ Some f) →
         IsTrue (list_all fits_function
         (namings_from (module_names m) m g (function_shapes m info fs ess))) →
         (behind : List Naming) → length behind ≡ g →
@@ -186,11 +187,11 @@ module _ (m : Module) (info : ModuleInfo) (accepted : IsTrue (is_accepted m info
     all_free g (f ∷ fs) [] there scoped behind at so_far = so_far
     all_free g (f ∷ fs) (es ∷ ess) there scoped behind at so_far =
         let here : g + 0 ≡ g = omega arith in
-        let found = subst (λ h. slice_get m.functions h ≡ Some f) here (there 0 f refl) in
+        let found = subst (λ h. slice_get (all_functions m) h ≡ Some f) here (there 0 f refl) in
         let own = function_naming (module_names m) (expression_name m g) m info g f es in
         let scopes = and_parts (fits_function own) (list_all fits_function (namings_from (module_names m) m (g + 1) (function_shapes m info fs ess))) scoped in
-        let this = is_free m info (types_are_fit m info accepted) g f found es p no_constant_types no_globals all_counted (functions_of behind) (length-functions_of behind ∙ at) scopes.0 in
-        all_free (g + 1) fs ess (further m.functions g f fs there) scopes.1 (own ∷ behind) (ap suc at ∙ sym (add-one g)) (this, so_far)
+        let this = is_free m info (types_are_fit m info accepted) g f found es p no_constant_types no_globals all_shaped (functions_of behind) (length-functions_of behind ∙ at) scopes.0 in
+        all_free (g + 1) fs ess (further (all_functions m) g f fs there) scopes.1 (own ∷ behind) (ap suc at ∙ sym (add-one g)) (this, so_far)
 
     no_constants : ConstantsFit (functions_alone m info) (outer_names (module_names m) m)
     no_constants = record {
@@ -200,31 +201,28 @@ module _ (m : Module) (info : ModuleInfo) (accepted : IsTrue (is_accepted m info
       distinct = λ i k lt lk e. absurd (omega (arith, lt));
     }
 
-    one_function : (g k : ℕ) → key.Function g ≡ key.Function k → g ≡ k
-    one_function g k e = cc
-
     pub module_fits : IsTrue (scope_holds m info) →
         ModuleFits (module_shape m info) (outer_names (module_names m) m) (namings (module_names m) m info)
     module_fits scope =
-        let listed = namings_from (module_names m) m 0 (function_shapes m info m.functions info.functions.items) in
+        let listed = namings_from (module_names m) m 0 (function_shapes m info (all_functions m) (all_infos info)) in
         record {
           functions = same_functions m info accepted written;
           distinct = record {
             functions = λ g k lg lk e.
-                let a = element m.functions g (subst (λ n. g < n) all_counted lg) in
-                let b = element m.functions k (subst (λ n. k < n) all_counted lk) in
-                one_function g k (ap (λ item. item.0) (items_tell m (function_item m g a.0) (function_item m k b.0) (function_there m g a.0 a.1) (function_there m k b.0 b.1) e));
+                let a = element (all_functions m) g (subst (λ n. g < n) all_shaped lg) in
+                let b = element (all_functions m) k (subst (λ n. k < n) all_shaped lk) in
+                one_function m g k a.0 b.0 a.1 b.1 e;
           };
           constants = subst (λ p. ConstantsFit p (outer_names (module_names m) m)) (sym same) no_constants;
           all = all_fit_freely m info accepted (types_are_distinguished m) constants_typed
               (λ k f es at. no_case_falls f.body (forms_at k f es at)) (outer_names (module_names m) m)
               (namings (module_names m) m info) (same_functions m info accepted written) false forms_at
-              (all_free 0 m.functions info.functions.items (from_start m.functions) (all_reversed fits_function listed [] scope) [] refl tt);
+              (all_free 0 (all_functions m) (all_infos info) (from_start (all_functions m)) (all_reversed fits_function listed [] scope) [] refl tt);
         }
 
     runs : IsTrue (scope_holds m info) → RunsAs m info (written_program m info explicit)
     runs scope settings fit meaning typed g f found arguments typed_arguments world turns past keeps =
-        ap (λ (text : TextModule). follow_module text settings world meaning is_request turns (function_name (module_names m) g) arguments past) (reads_as_shapes m info explicit accepted written have)
+        ap (λ (text : TextModule). follow_module text settings world meaning is_request turns (function_name m (module_names m) g) arguments past) (reads_as_shapes m info explicit accepted written have)
         ∙ runs_alike (module_shape m info) (outer_names (module_names m) m)
         (namings (module_names m) m info) (module_fits scope) settings fit meaning typed g f found
         arguments typed_arguments world turns past keeps

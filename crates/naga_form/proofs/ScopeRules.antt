@@ -16,6 +16,7 @@ use Rattle.shader_runs.specs.Form.{functions_of}
 use Rattle.shader_runs.specs.Premises.{AllBelow}
 use Rattle.shader_runs.proofs.ScopeRules.{scope_check_is_the_rules}
 use Rattle.shader_runs.proofs.Update.{and_left, and_right}
+use Rattle.module_meaning.specs.FunctionNumbers.{all_functions, all_infos}
 use Rattle.module_meaning.specs.Names.{module_names}
 use Rattle.module_meaning.specs.WrittenSoFar.{is_written_so_far}
 use Rattle.module_meaning.proofs.ModuleShapes.{declares_functions_alone, functions_alone}
@@ -39,8 +40,11 @@ functions_of_namings names m g (f ∷ fs) = ap (λ fs. f ∷ fs) (functions_of_n
 -- the functions of the namings are those of the module that declares them alone
 pub namings_functions : (m : Module) (info : ModuleInfo) → functions_of (namings (module_names m) m info) ≡ (functions_alone m info).functions
 namings_functions m info =
-    let listed = namings_from (module_names m) m 0 (function_shapes m info m.functions info.functions.items) in
-    functions_of-map (reverse listed) ∙ (map-reverse (λ n. n.function) listed ∙ ap reverse (functions_of_namings (module_names m) m 0 (function_shapes m info m.functions info.functions.items)))
+    let shapes = function_shapes m info (all_functions m) (all_infos info) in
+    let listed = namings_from (module_names m) m 0 shapes in
+    functions_of-map (reverse listed)
+    ∙ (map-reverse (λ n. n.function) listed
+    ∙ ap reverse (functions_of_namings (module_names m) m 0 shapes))
 
 -- operands stand before their expressions
 abbrev IsOrdered : List shapes.Function → Naming → Type 0

@@ -1,12 +1,12 @@
 -- A module that is written so far, and of which all that is written has forms, holds nothing that no
 -- text is ever written for: no constant has a name, and only empty cases fall through.
 use Rattle.std.proofs.Common.{◌≡◌, ℕ, Bool, true, not, ◌&&◌, ◌||◌, List, [], ◌∷◌, Some, refl, ap}
-use Rattle.std.proofs.Common.{slice_get, subst, arith, length}
+use Rattle.std.proofs.Common.{slice_get, subst, arith, length, ◌++◌, ◌∙◌}
 use Rattle.std.specs.Prelude.{IsTrue, ◌==◌}
 use Rattle.std.specs.List.{list_all}
 use Rattle.std.specs.Option.{is_none}
 use Rattle.std.proofs.lemmas.Bool.{and_from, and_parts, eqb-true}
-use Rattle.std.proofs.lemmas.List.{nil_from_length}
+use Rattle.std.proofs.lemmas.List.{append-nil, nil_from_length}
 use Rattle.std.proofs.lemmas.Option.{slice_get_within}
 use Rattle.naga_ir.specs.StatementTree.{StatementTree, simple, block, branch, switch, loop}
 use Rattle.naga_ir.specs.StatementTree.{BlockTree, no_statements, statement, has_no_statements}
@@ -19,6 +19,8 @@ use Rattle.naga_info.specs.declared.info.ExpressionInfo.{ExpressionInfo}
 use Rattle.naga_info.specs.declared.info.ModuleInfo.{ModuleInfo}
 use Rattle.naga_names.proofs.Refusal.{element}
 use Rattle.module_meaning.specs.Accepted.{is_accepted}
+use Rattle.module_meaning.specs.FunctionNumbers.{all_functions, all_infos, entry_functions}
+use Rattle.module_meaning.proofs.FunctionNumbers.{function_among, info_among}
 use Rattle.module_meaning.specs.StatementForms.{statement_has_form, block_has_forms}
 use Rattle.module_meaning.specs.StatementForms.{cases_have_forms}
 use Rattle.module_meaning.specs.Writable.{AreWrittenOut, OnlyEmptyFall, is_written_out}
@@ -29,7 +31,8 @@ use Rattle.module_meaning.specs.WrittenSoFar.{is_written_so_far}
 use Rattle.module_meaning.proofs.Lists.{all_pass, list_all_at}
 use Rattle.module_meaning.proofs.WrittenSoFar.{written_so_far_parts}
 use Rattle.naga_form.proofs.AcceptedFunctions.{AsEntryPoint, AsFunction, Numbered}
-use Rattle.naga_form.proofs.AcceptedFunctions.{functions_counted, functions_known, numbered}
+use Rattle.naga_form.proofs.AcceptedFunctions.{entry_points_counted, functions_counted}
+use Rattle.naga_form.proofs.AcceptedFunctions.{functions_known, numbered}
 
 -- ---- cases
 -- what has a form holds no other case that falls through
@@ -106,6 +109,19 @@ module _ (m : Module) (info : ModuleInfo) (accepted : IsTrue (is_accepted m info
       and_parts (length m.global_variables == 0) (length m.entry_points.items == 0) two.1 in
       nil_from_length m.entry_points.items (eqb-true (length m.entry_points.items) 0 three.1)
 
+  -- all functions are those that others may call
+  pub no_further_functions : all_functions m ≡ m.functions
+  no_further_functions =
+      ap (λ ps. m.functions ++ entry_functions ps) no_entry_points ∙ append-nil m.functions
+
+  pub no_further_infos : all_infos info ≡ info.functions.items
+  no_further_infos =
+      let counted = entry_points_counted m info accepted in
+      let none = ap length no_entry_points in
+      ap (λ ess. info.functions.items ++ ess)
+      (nil_from_length info.entry_points.items (omega (arith, counted, none)))
+      ∙ append-nil info.functions.items
+
   pub only_empty : (explicit : Bool) → AllWrittenHaveForms explicit m info → OnlyEmptyFall m
   only_empty explicit have =
       record {
@@ -118,4 +134,5 @@ module _ (m : Module) (info : ModuleInfo) (accepted : IsTrue (is_accepted m info
           let within = slice_get_within m.functions g f here in
           let counted = functions_counted m info accepted in
           let known = element info.functions.items g (omega (arith, within, counted)) in
-          no_case_falls f.body (have g f known.0 here known.1).statements
+          no_case_falls f.body
+          (have g f known.0 (function_among m g f here) (info_among info g known.0 known.1)).statements

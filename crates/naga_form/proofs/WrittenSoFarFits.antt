@@ -19,6 +19,13 @@ use Rattle.module_meaning.specs.OperatorTable.{Relational, Splat, run_word, Oper
 use Rattle.module_meaning.specs.OperatorTable.{WithoutForm, ValueOf, Cast, PartAt, Derivative, with_type}
 use Rattle.module_meaning.specs.OperatorTable.{AtomicLoad, RayIntersection, RayCorners}
 use Rattle.module_meaning.specs.Types.{type_names}
+use Rattle.module_meaning.specs.FunctionNumbers.{all_functions, function_type}
+use Rattle.module_meaning.proofs.FunctionNumbers.{argument_keys_tell, local_keys_tell}
+use Rattle.module_meaning.proofs.FunctionNumbers.{no_argument_is_function, no_argument_is_local}
+use Rattle.module_meaning.proofs.FunctionNumbers.{no_argument_is_type, no_function_is_type}
+use Rattle.module_meaning.proofs.FunctionNumbers.{no_local_is_function, no_local_is_type}
+use Rattle.naga_back.specs.FunctionContext.{argument_key, function_key, local_key}
+use Rattle.naga_back.specs.declared.context.FunctionType.{FunctionType}
 use Rattle.naga_info.specs.declared.info.TypeResolution.{TypeResolution}
 use Rattle.naga_info.specs.declared.info.TypeResolution.TheVariants.{Handle, Value}
 use Rattle.shader_runs.specs.Program.{Constructed, no_constant}
@@ -59,7 +66,7 @@ use Rattle.shader_runs.specs.Premises.{IsName, NameKey, name_at}
 use Rattle.naga_form.proofs.AlikeNumbers.{is_no}
 use Rattle.naga_form.proofs.Names.{numbered_distinct, name_is, item_is_identifier}
 use Rattle.naga_form.proofs.Names.{item_not_numbered, items_tell, function_item, argument_item}
-use Rattle.naga_form.proofs.Names.{function_there, argument_there}
+use Rattle.naga_form.proofs.Names.{function_there, argument_there, local_item, local_there}
 use Rattle.naga_names.proofs.Refusal.{element}
 use Rattle.module_meaning.specs.Names.{argument_name, numbered_name, wgsl_names, module_names}
 use Rattle.module_meaning.specs.Names.{name_in, function_name, local_name, numbered_text}
@@ -75,7 +82,7 @@ use Rattle.naga_names.proofs.NameShapes.{name_after_is_word}
 use Rattle.naga_names.proofs.NamedItems.{Stands, local_stands, type_stands}
 use Rattle.wgsl_text.specs.Requests.{is_request}
 use Rattle.wgsl_text.specs.Words.{is_builtin}
-use Rattle.naga_form.proofs.Fits.{named_by_all_is, local_item, mapped_length}
+use Rattle.naga_form.proofs.Fits.{named_by_all_is, mapped_length}
 use Rattle.naga_form.proofs.ExpressionNames.{named_no_item, named_no_word, named_not_numbered}
 use Rattle.naga_form.proofs.ExpressionNames.{named_tell}
 use Rattle.module_meaning.specs.ExpressionLabels.{expression_labels}
@@ -132,9 +139,9 @@ none_listed i ts e lt = let none : i < 0 = subst (λ ts. i < length ts) e lt in 
 
 -- ---- one function
 module _ (m : Module) (info : ModuleInfo) (types : TypesAreFit m) (g : ℕ) (f : ir_function.Function)
-    (found : slice_get m.functions g ≡ Some f) (es : List ExpressionInfo) (p : shapes.Module)
+    (found : slice_get (all_functions m) g ≡ Some f) (es : List ExpressionInfo) (p : shapes.Module)
     (constants : p.constant_types ≡ []) (globals : p.globals ≡ [])
-    (counted : length p.functions ≡ length m.functions) where
+    (counted : length p.functions ≡ length (all_functions m)) where
   abbrev own : Naming
   own = function_naming (module_names m) (expression_name m g) m info g f es
 
@@ -169,9 +176,9 @@ module _ (m : Module) (info : ModuleInfo) (types : TypesAreFit m) (g : ℕ) (f :
       (not (is_word (c ∷ rest)) || is_builtin (c ∷ rest)) ≡ true → StandsFree p own (c ∷ rest)
   stands_free c rest one two other = (functions, no_name)
     where
-      functions : (k : ℕ) → k < length p.functions → function_name (module_names m) k ≢ c ∷ rest
+      functions : (k : ℕ) → k < length p.functions → function_name m (module_names m) k ≢ c ∷ rest
       functions k lt =
-          let a = element m.functions k (subst (λ n. k < n) counted lt) in
+          let a = element (all_functions m) k (subst (λ n. k < n) counted lt) in
           no_word (function_item m k a.0) (c ∷ rest) (function_there m k a.0 a.1) other
 
       no_name : IsNoName p own (c ∷ rest)
@@ -180,7 +187,7 @@ module _ (m : Module) (info : ModuleInfo) (types : TypesAreFit m) (g : ℕ) (f :
           no_word (argument_item m g i a.0) (c ∷ rest) (argument_there m g f i a.0 found a.1) other e
       no_name (FixedKey (LocalName i)) is e =
           let a = element f.local_variables i (subst (λ n. i < n) (mapped_length (λ l. l.init) f.local_variables) is) in
-          no_word (local_item g i a.0) (c ∷ rest) (local_stands wgsl_names m g f i a.0 found a.1) other e
+          no_word (local_item m g i a.0) (c ∷ rest) (local_there m g f i a.0 found a.1) other e
       no_name (FixedKey (ConstantName i)) is e = none_listed i p.constant_types constants is
       no_name (FixedKey (GlobalName i)) is e = none_listed i p.globals globals is
       no_name (NumberedKey h) is e = sign_not_numbered h c rest one two e
@@ -212,7 +219,8 @@ module _ (m : Module) (info : ModuleInfo) (types : TypesAreFit m) (g : ℕ) (f :
 
   -- the name of an item that is no argument and no local is none that the text of the function uses
   item_is_no_name : (item : LabelledItem) → Stands (labelled_items wgsl_names m) item →
-      ((i : ℕ) → key.FunctionArgument g i ≡ item.0 → ⊥) → ((i : ℕ) → key.FunctionLocal g i ≡ item.0 → ⊥) →
+      ((i : ℕ) → argument_key (function_type m g) i ≡ item.0 → ⊥) →
+      ((i : ℕ) → local_key (function_type m g) i ≡ item.0 → ⊥) →
       IsNoName p own (name_in (module_names m) item.0)
   item_is_no_name item there no_argument no_local = by
     where
@@ -222,7 +230,7 @@ module _ (m : Module) (info : ModuleInfo) (types : TypesAreFit m) (g : ℕ) (f :
           other_name item there (argument_item m g i a.0) (argument_there m g f i a.0 found a.1) (no_argument i) e
       by (FixedKey (LocalName i)) is e =
           let a = element f.local_variables i (subst (λ n. i < n) (mapped_length (λ l. l.init) f.local_variables) is) in
-          other_name item there (local_item g i a.0) (local_stands wgsl_names m g f i a.0 found a.1) (no_local i) e
+          other_name item there (local_item m g i a.0) (local_there m g f i a.0 found a.1) (no_local i) e
       by (FixedKey (ConstantName i)) is e = none_listed i p.constant_types constants is
       by (FixedKey (GlobalName i)) is e = none_listed i p.globals globals is
       by (NumberedKey k) is e = item_not_numbered m item k there (sym e)
@@ -243,32 +251,30 @@ module _ (m : Module) (info : ModuleInfo) (types : TypesAreFit m) (g : ℕ) (f :
       w : List ℕ
       w = name_in (module_names m) (key.Type_ h)
 
-      no_function : (k : ℕ) → key.Function k ≡ key.Type_ h → ⊥
-      no_function k e = cc
+      no_argument : (i : ℕ) → argument_key (function_type m g) i ≡ key.Type_ h → ⊥
+      no_argument i = no_argument_is_type (function_type m g) i h
 
-      no_argument : (i : ℕ) → key.FunctionArgument g i ≡ key.Type_ h → ⊥
-      no_argument i e = cc
+      no_local : (i : ℕ) → local_key (function_type m g) i ≡ key.Type_ h → ⊥
+      no_local i = no_local_is_type (function_type m g) i h
 
-      no_local : (i : ℕ) → key.FunctionLocal g i ≡ key.Type_ h → ⊥
-      no_local i e = cc
-
-      functions : (k : ℕ) → k < length p.functions → function_name (module_names m) k ≢ w
+      functions : (k : ℕ) → k < length p.functions → function_name m (module_names m) k ≢ w
       functions k lt =
-          let a = element m.functions k (subst (λ n. k < n) counted lt) in
-          other_name item there (function_item m k a.0) (function_there m k a.0 a.1) (no_function k)
+          let a = element (all_functions m) k (subst (λ n. k < n) counted lt) in
+          other_name item there (function_item m k a.0) (function_there m k a.0 a.1)
+          (no_function_is_type (function_type m k) h)
 
   -- nor is that of a function in front of it
-  callee_is_no_name : (k : ℕ) → k < g → IsNoName p own (function_name (module_names m) k)
+  callee_is_no_name : (k : ℕ) → k < g → IsNoName p own (function_name m (module_names m) k)
   callee_is_no_name k lt =
-      let within = slice_get_within m.functions g f found in
-      let a = element m.functions k (omega (arith, lt, within)) in
+      let within = slice_get_within (all_functions m) g f found in
+      let a = element (all_functions m) k (omega (arith, lt, within)) in
       item_is_no_name (function_item m k a.0) (function_there m k a.0 a.1) no_argument no_local
     where
-      no_argument : (i : ℕ) → key.FunctionArgument g i ≡ key.Function k → ⊥
-      no_argument i e = cc
+      no_argument : (i : ℕ) → argument_key (function_type m g) i ≡ function_key (function_type m k) → ⊥
+      no_argument i = no_argument_is_function (function_type m g) (function_type m k) i
 
-      no_local : (i : ℕ) → key.FunctionLocal g i ≡ key.Function k → ⊥
-      no_local i e = cc
+      no_local : (i : ℕ) → local_key (function_type m g) i ≡ function_key (function_type m k) → ⊥
+      no_local i = no_local_is_function (function_type m g) (function_type m k) i
 
   -- what is spelled by a type is called by that, or by what no text has where it has no form
   spelled_words : (r : TypeResolution) → IsFit m r → (P : Operator → Type 0) →
@@ -498,33 +504,27 @@ module _ (m : Module) (info : ModuleInfo) (types : TypesAreFit m) (g : ℕ) (f :
       local_in : (i : ℕ) → i < local_count shape → i < length f.local_variables
       local_in i lt = subst (λ n. i < n) (mapped_length (λ l. l.init) f.local_variables) lt
 
-      one_argument : (i j : ℕ) → key.FunctionArgument g i ≡ key.FunctionArgument g j → i ≡ j
-      one_argument i j e = cc
+      own_type : FunctionType
+      own_type = function_type m g
 
-      one_local : (i j : ℕ) → key.FunctionLocal g i ≡ key.FunctionLocal g j → i ≡ j
-      one_local i j e = cc
-
-      mixed : (i j : ℕ) → key.FunctionArgument g i ≡ key.FunctionLocal g j → ⊥
-      mixed i j e = cc
-
-      mixed_keys : (i j : ℕ) → i < length f.arguments.items → j < length f.local_variables → argument_name (module_names m) g i ≡ local_name (module_names m) g j → ⊥
+      mixed_keys : (i j : ℕ) → i < length f.arguments.items → j < length f.local_variables → argument_name m (module_names m) g i ≡ local_name m (module_names m) g j → ⊥
       mixed_keys i j li lj e =
           let a = element f.arguments.items i li in
           let b = element f.local_variables j lj in
-          let same = items_tell m (argument_item m g i a.0) (local_item g j b.0) (argument_there m g f i a.0 found a.1) (local_stands wgsl_names m g f j b.0 found b.1) e in
-          mixed i j (ap (λ item. item.0) same)
+          let same = items_tell m (argument_item m g i a.0) (local_item m g j b.0) (argument_there m g f i a.0 found a.1) (local_there m g f j b.0 found b.1) e in
+          no_argument_is_local own_type own_type i j (ap (λ item. item.0) same)
 
       apart : (a b : NameKey) → IsName p shape a → IsName p shape b → name_at own.names a ≡ name_at own.names b → a ≡ b
       apart (FixedKey (ArgumentName i)) (FixedKey (ArgumentName j)) la lb e =
           let a = element f.arguments.items i (argument_in i la) in
           let b = element f.arguments.items j (argument_in j lb) in
           let same = items_tell m (argument_item m g i a.0) (argument_item m g j b.0) (argument_there m g f i a.0 found a.1) (argument_there m g f j b.0 found b.1) e in
-          ap (λ k. FixedKey (ArgumentName k)) (one_argument i j (ap (λ item. item.0) same))
+          ap (λ k. FixedKey (ArgumentName k)) (argument_keys_tell own_type i j (ap (λ item. item.0) same))
       apart (FixedKey (LocalName i)) (FixedKey (LocalName j)) la lb e =
           let a = element f.local_variables i (local_in i la) in
           let b = element f.local_variables j (local_in j lb) in
-          let same = items_tell m (local_item g i a.0) (local_item g j b.0) (local_stands wgsl_names m g f i a.0 found a.1) (local_stands wgsl_names m g f j b.0 found b.1) e in
-          ap (λ k. FixedKey (LocalName k)) (one_local i j (ap (λ item. item.0) same))
+          let same = items_tell m (local_item m g i a.0) (local_item m g j b.0) (local_there m g f i a.0 found a.1) (local_there m g f j b.0 found b.1) e in
+          ap (λ k. FixedKey (LocalName k)) (local_keys_tell own_type i j (ap (λ item. item.0) same))
       apart (FixedKey (ArgumentName i)) (FixedKey (LocalName j)) la lb e = absurd (mixed_keys i j (argument_in i la) (local_in j lb) e)
       apart (FixedKey (LocalName i)) (FixedKey (ArgumentName j)) la lb e = absurd (mixed_keys j i (argument_in j lb) (local_in i la) (sym e))
       apart (FixedKey (ArgumentName i)) (NumberedKey h) la lb e =
@@ -532,9 +532,9 @@ module _ (m : Module) (info : ModuleInfo) (types : TypesAreFit m) (g : ℕ) (f :
       apart (NumberedKey h) (FixedKey (ArgumentName i)) la lb e =
           let a = element f.arguments.items i (argument_in i lb) in absurd (item_not_numbered m (argument_item m g i a.0) h (argument_there m g f i a.0 found a.1) (sym e))
       apart (FixedKey (LocalName i)) (NumberedKey h) la lb e =
-          let a = element f.local_variables i (local_in i la) in absurd (item_not_numbered m (local_item g i a.0) h (local_stands wgsl_names m g f i a.0 found a.1) e)
+          let a = element f.local_variables i (local_in i la) in absurd (item_not_numbered m (local_item m g i a.0) h (local_there m g f i a.0 found a.1) e)
       apart (NumberedKey h) (FixedKey (LocalName i)) la lb e =
-          let a = element f.local_variables i (local_in i lb) in absurd (item_not_numbered m (local_item g i a.0) h (local_stands wgsl_names m g f i a.0 found a.1) (sym e))
+          let a = element f.local_variables i (local_in i lb) in absurd (item_not_numbered m (local_item m g i a.0) h (local_there m g f i a.0 found a.1) (sym e))
       apart (NumberedKey h) (NumberedKey k) la lb e = ap NumberedKey (numbered_distinct h k e)
       apart (NamedKey j) (NamedKey k) la lb e = ap NamedKey (named_tell m g f found j k (named_in j la) (named_in k lb) e)
       apart (FixedKey (ArgumentName i)) (NamedKey k) la lb e =
@@ -542,9 +542,9 @@ module _ (m : Module) (info : ModuleInfo) (types : TypesAreFit m) (g : ℕ) (f :
       apart (NamedKey k) (FixedKey (ArgumentName i)) la lb e =
           let a = element f.arguments.items i (argument_in i lb) in absurd (named_no_item m g f found k (named_in k la) (argument_item m g i a.0) (argument_there m g f i a.0 found a.1) (sym e))
       apart (FixedKey (LocalName i)) (NamedKey k) la lb e =
-          let a = element f.local_variables i (local_in i la) in absurd (named_no_item m g f found k (named_in k lb) (local_item g i a.0) (local_stands wgsl_names m g f i a.0 found a.1) e)
+          let a = element f.local_variables i (local_in i la) in absurd (named_no_item m g f found k (named_in k lb) (local_item m g i a.0) (local_there m g f i a.0 found a.1) e)
       apart (NamedKey k) (FixedKey (LocalName i)) la lb e =
-          let a = element f.local_variables i (local_in i lb) in absurd (named_no_item m g f found k (named_in k la) (local_item g i a.0) (local_stands wgsl_names m g f i a.0 found a.1) (sym e))
+          let a = element f.local_variables i (local_in i lb) in absurd (named_no_item m g f found k (named_in k la) (local_item m g i a.0) (local_there m g f i a.0 found a.1) (sym e))
       apart (NamedKey k) (NumberedKey h) la lb e = absurd (named_not_numbered m g f found k h (named_in k la) e)
       apart (NumberedKey h) (NamedKey k) la lb e = absurd (named_not_numbered m g f found k h (named_in k lb) (sym e))
       apart (FixedKey (ConstantName i)) y la lb e = absurd (none_listed i p.constant_types constants la)

@@ -1,6 +1,6 @@
 -- The function that is written for a function of a module, under the module's names.
 --
--- Throughout, m is a module, info what is known of it, f a function with the handle g, es what is
+-- Throughout, m is a module, info what is known of it, f a function with the number g, es what is
 -- known of its expressions, and t are the names that types are spelled with.
 use Rattle.std.specs.Prelude.{ℕ, Bool, List, [], ◌∷◌, Option, None, Some, ◌+◌}
 use Rattle.std.specs.Option.{option_map}
@@ -8,7 +8,6 @@ use Rattle.naga_ir.specs.declared.module.Function as ir_function
 use Rattle.naga_ir.specs.declared.module.FunctionArgument.{FunctionArgument}
 use Rattle.naga_ir.specs.declared.module.FunctionResult.{FunctionResult}
 use Rattle.naga_ir.specs.declared.module.Module.{Module}
-use Rattle.naga_ir.specs.declared.types.Type_.{Type_}
 use Rattle.naga_names.specs.Keys.{NameMap}
 use Rattle.wgsl_text.specs.Functions.{Parameter, Result, NoResult, ResultOf, Local, Function}
 use Rattle.module_meaning.specs.Names.{function_name, argument_name, expression_name}
@@ -33,19 +32,19 @@ locals_form n t source l (v ∷ more) =
       value = option_map (value_form n source (at_start n.function)) v.init;
     } ∷ locals_form n t source (l + 1) more
 
-abbrev pub parameter_form : NameMap → List Type_ → ℕ → ℕ → FunctionArgument → Parameter
-parameter_form names types g number a =
+abbrev pub parameter_form : NameMap → Module → ℕ → ℕ → FunctionArgument → Parameter
+parameter_form names m g number a =
     record {
       attributes = [];
-      name = argument_name names g number;
-      type = type_form (names_of types names) a.ty;
+      name = argument_name m names g number;
+      type = type_form (names_of m.types names) a.ty;
     }
 
 -- the arguments from this number on
-abbrev pub parameters_form : NameMap → List Type_ → ℕ → ℕ → List FunctionArgument → List Parameter
-parameters_form names types g number [] = []
-parameters_form names types g number (a ∷ more) =
-    parameter_form names types g number a ∷ parameters_form names types g (number + 1) more
+abbrev pub parameters_form : NameMap → Module → ℕ → ℕ → List FunctionArgument → List Parameter
+parameters_form names m g number [] = []
+parameters_form names m g number (a ∷ more) =
+    parameter_form names m g number a ∷ parameters_form names m g (number + 1) more
 
 abbrev pub result_form : TypeNames → Option FunctionResult → Result
 result_form t None = NoResult
@@ -60,14 +59,14 @@ function_form explicit names named m info g f es =
     let source : Source = function_source m info f es in
     let t : TypeNames = names_of m.types names in
     record {
-      name = function_name names g;
-      parameters = parameters_form names m.types g 0 f.arguments.items;
+      name = function_name m names g;
+      parameters = parameters_form names m g 0 f.arguments.items;
       result = result_form t f.result;
       locals = locals_form n t source 0 f.local_variables;
       body = lines_form n (annotated_type explicit m t es) source 0 f.body (at_start n.function);
     }
 
--- the functions from this handle on, each with what is known of its expressions, in a text of the whole
+-- the functions from this number on, each with what is known of its expressions, in a text of the whole
 -- module
 abbrev pub functions_form :
     (explicit : Bool) → NameMap → Module → ModuleInfo → ℕ → List ir_function.Function →

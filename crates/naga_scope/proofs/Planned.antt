@@ -11,6 +11,7 @@ use Rattle.shader_runs.specs.Premises.{AllBelow}
 use Rattle.shader_runs.specs.Scope.{fits_function}
 use Rattle.shader_runs.specs.ScopeRules.{ScopeHolds}
 use Rattle.shader_runs.proofs.ScopeRules.{scope_check_is_the_rules}
+use Rattle.module_meaning.specs.FunctionNumbers.{all_functions, all_infos}
 use Rattle.module_meaning.specs.FunctionShapes.{function_shape, function_shapes}
 use Rattle.module_meaning.specs.Namings.{function_naming}
 use Rattle.module_meaning.specs.Premises.{OperandsStandBefore}
@@ -46,14 +47,15 @@ shape_found m info (x ∷ fs) (y ∷ ess) (suc g) f es at known =
 -- a plan of a function that there is
 pub plan_found : (explicit : Bool) (m : Module) (info : ModuleInfo) (g : ℕ)
     (f : ir_function.Function) (es : List ExpressionInfo) (planned : Planned) →
-    slice_get m.functions g ≡ Some f → slice_get info.functions.items g ≡ Some es →
+    slice_get (all_functions m) g ≡ Some f → slice_get (all_infos info) g ≡ Some es →
     IsPlanOf explicit m info g planned → IsPlan explicit m info f es planned
 plan_found explicit m info g f es planned at known plan = plan f es at known
 
--- what holds of a function that there is, where a call has an answer, holds of the one with its handle
+-- what holds of a function that there is, where a call has an answer, holds of the one with its number
 module _ {T : Type 0} (Q : ir_function.Function → List ExpressionInfo → T → Type 0) (m : Module)
     (info : ModuleInfo) (g : ℕ) (f : ir_function.Function) (es : List ExpressionInfo)
-    (at : slice_get m.functions g ≡ Some f) (known : slice_get info.functions.items g ≡ Some es) where
+    (at : slice_get (all_functions m) g ≡ Some f)
+    (known : slice_get (all_infos info) g ≡ Some es) where
   of_this : (x : T) → Q f es x → OfFunctionAt m info g (λ f es. Q f es x)
   of_this x holds h hs here there =
       subst (λ k. Q k hs x) (same_Some f h (sym at ∙ here))

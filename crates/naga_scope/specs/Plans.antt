@@ -15,6 +15,7 @@ use Rattle.naga_info.specs.declared.info.TypeResolution.TheVariants.{Handle}
 use Rattle.shader_runs.specs.Program.{Function}
 use Rattle.shader_runs.specs.Scope.{at_start}
 use Rattle.shader_runs.specs.ScopeRules.{ScopeHolds}
+use Rattle.module_meaning.specs.FunctionNumbers.{all_functions, all_infos}
 use Rattle.module_meaning.specs.FunctionShapes.{function_shape, function_shapes}
 use Rattle.module_meaning.specs.ExpressionLabels.{expression_labels}
 use Rattle.module_meaning.specs.Names.{expression_name}
@@ -30,14 +31,14 @@ use Rattle.naga_scope.specs.declared.plan.PlanError.TheVariants.{OutOfScope, Wit
 use Rattle.naga_scope.specs.declared.plan.PlanError.TheVariants.{TypeWithoutForm, LetWithoutForm}
 use Rattle.naga_scope.specs.declared.plan.PlanError.TheVariants.{StatementWithoutForm, Memory}
 
--- the shape of the function with this handle, if there is one
-abbrev pub function_shape_at : Module → ModuleInfo → (handle : ℕ) → Option Function
-function_shape_at m info handle =
-    slice_get (function_shapes m info m.functions info.functions.items) handle
+-- the shape of the function with this number, if there is one
+abbrev pub function_shape_at : Module → ModuleInfo → (number : ℕ) → Option Function
+function_shape_at m info number =
+    slice_get (function_shapes m info (all_functions m) (all_infos info)) number
 
 -- the rules of scope hold in it, if there is one
-abbrev pub ScopeHoldsIn : Module → ModuleInfo → (handle : ℕ) → Type 0
-ScopeHoldsIn m info handle = IfSome (function_shape_at m info handle) ScopeHolds
+abbrev pub ScopeHoldsIn : Module → ModuleInfo → (number : ℕ) → Type 0
+ScopeHoldsIn m info number = IfSome (function_shape_at m info number) ScopeHolds
 
 -- what contracts see of a plan: where the expressions stand at the function's start, and the names
 -- that front ends gave, in the order of the text
@@ -92,24 +93,25 @@ abbrev pub IsRefusalToPlanFor : (explicit : Bool) → KnownFunction → Names �
 IsRefusalToPlanFor explicit k namer error =
     IsRefusalToPlan explicit k.shader.now k.module_info.now k.function.now k.info.now namer error
 
--- what holds of the function with this handle and of what is known of its expressions, if there is one
-abbrev pub OfFunctionAt : Module → ModuleInfo → (handle : ℕ) →
+-- what holds of the function with this number and of what is known of its expressions, if there is
+-- one
+abbrev pub OfFunctionAt : Module → ModuleInfo → (number : ℕ) →
     (ir.Function → List ExpressionInfo → Type 0) → Type 0
-OfFunctionAt m info handle Holds =
-    (f : ir.Function) (es : List ExpressionInfo) → slice_get m.functions handle ≡ Some f →
-    slice_get info.functions.items handle ≡ Some es → Holds f es
+OfFunctionAt m info number Holds =
+    (f : ir.Function) (es : List ExpressionInfo) → slice_get (all_functions m) number ≡ Some f →
+    slice_get (all_infos info) number ≡ Some es → Holds f es
 
--- a plan of the function with this handle, and why there is none
-abbrev pub IsPlanOf : (explicit : Bool) → Module → ModuleInfo → (handle : ℕ) → Planned → Type 0
-IsPlanOf explicit m info handle plan =
-    OfFunctionAt m info handle (λ f es. IsPlan explicit m info f es plan)
+-- a plan of the function with this number, and why there is none
+abbrev pub IsPlanOf : (explicit : Bool) → Module → ModuleInfo → (number : ℕ) → Planned → Type 0
+IsPlanOf explicit m info number plan =
+    OfFunctionAt m info number (λ f es. IsPlan explicit m info f es plan)
 
-abbrev pub IsRefusalToPlanOf : (explicit : Bool) → Module → ModuleInfo → (handle : ℕ) → Names →
+abbrev pub IsRefusalToPlanOf : (explicit : Bool) → Module → ModuleInfo → (number : ℕ) → Names →
     PlanError → Type 0
-IsRefusalToPlanOf explicit m info handle namer error =
-    OfFunctionAt m info handle (λ f es. IsRefusalToPlan explicit m info f es namer error)
+IsRefusalToPlanOf explicit m info number namer error =
+    OfFunctionAt m info number (λ f es. IsRefusalToPlan explicit m info f es namer error)
 
--- these are the names that front ends gave in the function with this handle
-abbrev pub AreExpressionNames : Module → (handle : ℕ) → (names : List (List ℕ)) → Type 0
-AreExpressionNames m handle names =
-    (number : ℕ) → get_or names number [] ≡ expression_name m handle number
+-- these are the names that front ends gave in the function with this number
+abbrev pub AreExpressionNames : Module → (number : ℕ) → (names : List (List ℕ)) → Type 0
+AreExpressionNames m number names =
+    (label : ℕ) → get_or names label [] ≡ expression_name m number label

@@ -1,9 +1,10 @@
 //! What is decided of a function before its text.
 
-ghost use Rattle.std.specs.Prelude.{◌≡◌, ◌<◌, [], List, IfErr, IfOk, IsTrue, OnErr, length, map};
+ghost use Rattle.std.specs.Prelude.{◌≡◌, [], List, IfErr, IfOk, IsTrue, OnErr, length, map};
 ghost use Rattle.std.specs.Prelude.{string_bytes};
 ghost use Rattle.module_meaning.specs.Accepted.{is_accepted};
 ghost use Rattle.module_meaning.specs.ExpressionLabels.{expression_labels};
+ghost use Rattle.module_meaning.specs.FunctionNumbers.{IsFunctionOf, function_number};
 ghost use Rattle.module_meaning.specs.Names.{HasNamesOf, labels_named_in};
 ghost use Rattle.module_meaning.specs.Premises.{OperandsStandBefore};
 ghost use Rattle.naga_names.specs.Keys.{names_in};
@@ -17,6 +18,7 @@ ghost use Rattle.naga_scope.specs.Results.{ResultsFit};
 ghost use Rattle.naga_scope.specs.declared.plan.PlanError.TheVariants.{Memory, Unnamed};
 
 use crate::check::function_holds;
+use crate::functions::function_of;
 use crate::global_expressions::GlobalExpressions;
 use crate::known_function::KnownFunction;
 use crate::named::expression_names;
@@ -24,8 +26,9 @@ use crate::points::Scope;
 use crate::spelled::{annotated_without_form, declared_without_form};
 use crate::statements::{FormlessStatement, formless_statement};
 use crate::written::written_without_form;
+use naga_back::FunctionType;
 use naga_info::ModuleInfo;
-use naga_ir::{Expression, Function, Handle, Module, Type_};
+use naga_ir::{Expression, Handle, Module, Type_};
 use naga_names::namer::Namer;
 use naga_names::{NameKey, NamerError};
 use std::alloc::{AllocError, Global};
@@ -92,8 +95,8 @@ impl Model for Plan {
 }
 
 impl Plan {
-    /// The plan of the function with this handle, for a module that is accepted with what is known
-    /// of it, and is written so far; `explicit` says whether `let`s tell types.
+    /// The plan of this function of a module that is accepted with what is known of it, and is
+    /// written so far; `explicit` says whether `let`s tell types.
     /// Where the rules of scope don't hold in the function, a statement, a written expression or a
     /// type that is spelled has no form, a label gets no name, or there is no memory, there is no
     /// plan.
@@ -104,33 +107,36 @@ impl Plan {
     /// Beside the names it takes memory four times: one table and its log serve the check, are then
     /// set back to the function's start, and serve the text; two others have the marks of what may
     /// be written out as a constant and of what is written, and are given back.
-    pub fn of(
+    pub fn of<'a>(
         alloc: Global,
-        module: &Module,
-        info: &ModuleInfo,
-        handle: Handle<Function>,
+        module: &'a Module,
+        info: &'a ModuleInfo,
+        ty: FunctionType,
         globals: &GlobalExpressions,
         names: &HashMap<NameKey, String>,
         explicit: bool,
         namer: &mut Namer,
     ) -> Result<Plan, PlanError>
         requires accepted { IsTrue (is_accepted «module».now info.now) }
-        requires handle { handle < length «module».now.functions }
+        requires there { IsFunctionOf ty «module».now }
         requires globals { MarksGlobals «module».now globals.now }
         requires names { HasNamesOf «module».now (names_in names.now) }
-        ensures ok { IfOk result (IsPlanOf explicit «module».now info.now handle) }
-        ensures named { IfOk result (λ p.
-            NamesLabels namer.old [] (labels_named_in «module».now handle) namer.new p.named) }
+        ensures ok { IfOk result
+            (IsPlanOf explicit «module».now info.now (function_number «module».now ty)) }
+        ensures named { IfOk result (λ p. NamesLabels namer.old []
+            (labels_named_in «module».now (function_number «module».now ty)) namer.new p.named) }
         ensures err { IfErr result
-            (IsRefusalToPlanOf explicit «module».now info.now handle namer.old) }
-        ensures begun { OnErr result
-            (HasBegunLabels namer.old (labels_named_in «module».now handle) namer.new) }
+            (IsRefusalToPlanOf explicit «module».now info.now (function_number «module».now ty)
+            namer.old) }
+        ensures begun { OnErr result (HasBegunLabels namer.old
+            (labels_named_in «module».now (function_number «module».now ty)) namer.new) }
     {
+        let (function, function_info) = function_of(module, info, ty);
         let known = KnownFunction {
             shader: module,
             module_info: info,
-            function: &module.functions[handle],
-            info: &info[handle],
+            function,
+            info: function_info,
         };
         Plan::of_function(alloc, &known, globals, names, explicit, namer)
     }

@@ -6,7 +6,7 @@ use Rattle.std.proofs.Common.{List, [], ◌∷◌, ◌++◌, append_assoc, drop,
 use Rattle.std.proofs.Common.{slice_get, slice_index_or, get_or, map, string_bytes, ◌^◌}
 use Rattle.std.specs.declared.string.String.{String}
 use Rattle.std.specs.Prelude.{if◌then◌else◌, unwrap_or, IsTrue}
-use Rattle.std.specs.List.{list_all, zip}
+use Rattle.std.specs.List.{list_all}
 use Rattle.std.specs.Option.{option_map_or}
 use Rattle.std.proofs.lemmas.Bool.{and_parts}
 use Rattle.std.proofs.lemmas.List.{append-nil, drop_all}
@@ -19,10 +19,7 @@ use Rattle.naga_ir.specs.declared.module.Module.{Module}
 use Rattle.naga_info.specs.declared.info.ExpressionInfo.{ExpressionInfo}
 use Rattle.naga_info.specs.declared.info.ModuleInfo.{ModuleInfo}
 use Rattle.module_meaning.specs.Accepted.{is_accepted}
-use Rattle.module_meaning.specs.InfoSizes.{sizes_fit, type_is_fit}
 use Rattle.module_meaning.specs.WrittenSoFar.{is_written_so_far}
-use Rattle.module_meaning.specs.Ranges.{all_placed, declarations_in_range, function_in_range}
-use Rattle.module_meaning.specs.Ranges.{module_in_range, module_ranges_fit}
 use Rattle.naga_form.specs.Expressions.{value_form}
 use Rattle.naga_form.specs.Statements.{lines_form}
 use Rattle.wgsl_text.specs.Functions.{Parameter, value_pieces, parameter_pieces}
@@ -33,9 +30,8 @@ use Rattle.naga_form.specs.Functions.{function_form}
 use Rattle.wgsl_text.proofs.Text.{text-append}
 use Rattle.naga_names.proofs.Refusal.{element}
 use Rattle.module_meaning.proofs.Lists.{list_all_at, placed_at}
-use Rattle.module_meaning.proofs.SideBySide.{zip_at}
-use Rattle.naga_form.proofs.AcceptedFunctions.{accepted_at, entry_points_known}
-use Rattle.naga_form.proofs.AgreeingUses.{in_left}
+use Rattle.naga_form.proofs.AcceptedFunctions.{of_number, ranges_of}
+use Rattle.module_meaning.specs.FunctionNumbers.{IsFunctionOf, all_functions, all_infos}
 use Rattle.wgsl_text.proofs.Functions.{value_text as value_row_text, locals_text as local_row_text}
 use Rattle.wgsl_text.proofs.Functions.{function_text as function_row_text}
 use Rattle.naga_names.specs.Keys.{names_in}
@@ -55,7 +51,7 @@ use Rattle.naga_wgsl_fns.specs.declared.error.Error.{Error}
 use Rattle.wgsl_text.specs.Reading.{expression_layout, type_layout}
 use Rattle.wgsl_text.specs.Text.{text}
 use Rattle.naga_wgsl_fns.specs.declared.functions.FunctionText.{FunctionText}
-use Rattle.naga_wgsl_fns.specs.FunctionText.{handles_in, named_in}
+use Rattle.naga_wgsl_fns.specs.FunctionText.{handles_in, named_in, number}
 use Rattle.naga_wgsl_fns.specs.FunctionText.{CanWrite, source, naming, annotates_types}
 use Rattle.naga_wgsl_fns.specs.FunctionText.{let_annotation}
 use Rattle.naga_wgsl_fns.specs.FunctionText.{type_names_of}
@@ -72,43 +68,19 @@ use Rattle.naga_wgsl_fns.specs.Functions.{locals_text, next_argument_text, resul
 use Rattle.naga_wgsl_fns.specs.Functions.{text_under}
 
 -- ---- what is wanted
--- what is known of a function is what is known of its handle
-known_is : (info : ModuleInfo) (g : ℕ) (es : List ExpressionInfo) → slice_get info.functions.items g ≡ Some es → known_of info g ≡ es
+-- what is known of a function is what is known of its number
+known_is : (info : ModuleInfo) (g : ℕ) (es : List ExpressionInfo) → slice_get (all_infos info) g ≡ Some es → known_of info g ≡ es
 known_is info g es at = ap (λ o. unwrap_or o []) at
-
--- all that an accepted module names is there
-names_are_there : (m : Module) (info : ModuleInfo) → IsTrue (is_accepted m info) → IsTrue (module_ranges_fit m info)
-unfolding is_accepted
-names_are_there m info accepted = (and_parts (module_ranges_fit m info) _ accepted).0
-
--- so is what a function names, if it may call those before it
-function_names_there : (m : Module) (info : ModuleInfo) → IsTrue (module_ranges_fit m info) → (g : ℕ) (f : Function) → slice_get m.functions g ≡ Some f → IsTrue (function_in_range m g f)
-unfolding module_ranges_fit
-function_names_there m info fit g f here =
-    let one = and_parts (sizes_fit m info) _ fit in
-    let two = and_parts (list_all type_is_fit m.types) _ one.1 in
-    let three = and_parts (module_in_range m) _ two.1 in
-    let four = and_parts (declarations_in_range m) _ three.0 in
-    let five = and_parts (all_placed (function_in_range m) m.functions) _ four.1 in
-    let at : 0 + g ≡ g = omega arith in
-    sym (ap (λ n. function_in_range m n f) at) ∙ placed_at (function_in_range m) 0 m.functions g f five.0 here
-
--- of each of its expressions one thing is known
-one_is_known : (m : Module) (info : ModuleInfo) → IsTrue (is_accepted m info) →
-    (g : ℕ) (f : Function) (es : List ExpressionInfo) → slice_get m.functions g ≡ Some f →
-    slice_get info.functions.items g ≡ Some es → length f.expressions ≡ length es
-one_is_known m info accepted g f es here known =
-    let both = zip_at m.functions info.functions.items g f es here known in
-    (accepted_at m info accepted g f es (in_left (zip m.functions info.functions.items) (entry_points_known m info) g (f, es) both)).size
 
 pub can_write : (t : FunctionText) → IsTrue (is_accepted t.shader.now t.module_info.now) →
     IsTrue (is_written_so_far t.shader.now) → HasNamesOf t.shader.now (names_in t.names.now) →
-    slice_get t.shader.now.functions t.handle ≡ Some t.function.now →
-    slice_get t.module_info.now.functions.items t.handle ≡ Some t.info.now →
+    IsFunctionOf t.ty t.shader.now →
+    slice_get (all_functions t.shader.now) (number t) ≡ Some t.function.now →
+    slice_get (all_infos t.module_info.now) (number t) ≡ Some t.info.now →
     WrittenHaveForms (annotates_types t.flags) t.shader.now t.module_info.now t.function.now
     t.info.now →
     length (expression_labels t.function.now) < 2 ^ 64 → CanWrite t
-can_write t accepted written named here known formed room =
+can_write t accepted written named there here known formed room =
     let m = t.shader.now in
     let info = t.module_info.now in
     let f = t.function.now in
@@ -116,10 +88,11 @@ can_write t accepted written named here known formed room =
       named = named;
       accepted = accepted;
       is_supported = written;
+      there = there;
       function = here;
       infos = known;
-      ranges = function_names_there m info (names_are_there m info accepted) t.handle f here;
-      size = one_is_known m info accepted t.handle f t.info.now here known;
+      ranges = ranges_of m info accepted t.ty there f here;
+      size = (of_number m info accepted (number t) f t.info.now here known).size;
       formed = formed;
       room = room;
     }
@@ -140,15 +113,15 @@ names_same slice names named same are number =
 
 -- the text of a function that there is
 pub text_under_names : (t : FunctionText) →
-    slice_get t.shader.now.functions t.handle ≡ Some t.function.now →
-    slice_get t.module_info.now.functions.items t.handle ≡ Some t.info.now →
-    text_under t.shader.now t.module_info.now t.flags (named_in t) t.handle ≡ function_text t
+    slice_get (all_functions t.shader.now) (number t) ≡ Some t.function.now →
+    slice_get (all_infos t.module_info.now) (number t) ≡ Some t.info.now →
+    text_under t.shader.now t.module_info.now t.flags (named_in t) (number t) ≡ function_text t
 unfolding function_text
 text_under_names t here known =
     let m = t.shader.now in
     let info = t.module_info.now in
-    let form = λ (f : Function) (es : List ExpressionInfo). text (function_pieces (function_form (annotates_types t.flags) (module_names m) (named_in t) m info t.handle f es)) in
-    ap (λ o. option_map_or (λ f. form f (known_of info t.handle)) o []) here ∙ ap (form t.function.now) (known_is info t.handle t.info.now known)
+    let form = λ (f : Function) (es : List ExpressionInfo). text (function_pieces (function_form (annotates_types t.flags) (module_names m) (named_in t) m info (number t) f es)) in
+    ap (λ o. option_map_or (λ f. form f (known_of info (number t))) o []) here ∙ ap (form t.function.now) (known_is info (number t) t.info.now known)
 
 -- ---- the head
 pub head_row : (f : FunctionText) →
@@ -185,8 +158,8 @@ result_row f = by f.function.now.result
 
 -- what is left of the arguments from this number on, with the parenthesis behind the last
 abbrev pub arguments_left : FunctionText → ℕ → List FunctionArgument → List ℕ
-arguments_left f zero more = text (parameters_pieces (parameters_form (module_names f.shader.now) f.shader.now.types f.handle zero more))
-arguments_left f (suc n) more = text (more_parameters_pieces (parameters_form (module_names f.shader.now) f.shader.now.types f.handle (suc n) more))
+arguments_left f zero more = text (parameters_pieces (parameters_form (module_names f.shader.now) f.shader.now (number f) zero more))
+arguments_left f (suc n) more = text (more_parameters_pieces (parameters_form (module_names f.shader.now) f.shader.now (number f) (suc n) more))
 
 pub arguments_start : (f : FunctionText) → arguments_text f ≡ arguments_left f 0 f.function.now.arguments.items
 unfolding arguments_text
@@ -199,18 +172,18 @@ unfolding next_argument_text argument_text joined_texts
 arguments_row f n a more = by n
   where
     form : ℕ → List FunctionArgument → List Parameter
-    form n more = parameters_form (module_names f.shader.now) f.shader.now.types f.handle n more
+    form n more = parameters_form (module_names f.shader.now) f.shader.now (number f) n more
 
     later : (n : ℕ) → text (more_parameters_pieces (form (n + 1) more)) ≡ arguments_left f (n + 1) more
     later n = rw add-one refl
 
     split : (n : ℕ) →
         text (parameter_pieces
-        (parameter_form (module_names f.shader.now) f.shader.now.types f.handle n a) ++
+        (parameter_form (module_names f.shader.now) f.shader.now (number f) n a) ++
         more_parameters_pieces (form (n + 1) more)) ≡ argument_text f n a ++ arguments_left f
         (n + 1) more
     split n =
-        text-append (parameter_pieces (parameter_form (module_names f.shader.now) f.shader.now.types f.handle n a)) (more_parameters_pieces (form (n + 1) more))
+        text-append (parameter_pieces (parameter_form (module_names f.shader.now) f.shader.now (number f) n a)) (more_parameters_pieces (form (n + 1) more))
         ∙ ap (λ t. argument_text f n a ++ t) (later n)
 
     by : (n : ℕ) → arguments_left f n (a ∷ more) ≡ (separator n ++ argument_text f n a) ++ arguments_left f (n + 1) more

@@ -15,6 +15,7 @@ pub mod LoopRows
 pub mod Members
 pub mod ModuleTexts
 pub mod NameRows
+pub mod OwnNames
 pub mod PartForms
 pub mod PartRows
 pub mod PlanRefusals

@@ -33,9 +33,10 @@ use Rattle.module_meaning.proofs.Lists.{list_all_at}
 use Rattle.module_meaning.proofs.WrittenSoFar.{functions_are_written}
 use Rattle.module_meaning.specs.LackingScalars.{lacking_scalar}
 use Rattle.module_meaning.specs.Written.{IsSpelledIn}
+use Rattle.module_meaning.specs.FunctionNumbers.{all_functions, all_infos}
 use Rattle.module_meaning.specs.FunctionShapes.{function_shape, function_shapes}
 use Rattle.module_meaning.specs.Undeclared.{is_spellable, names_undeclared}
-use Rattle.naga_form.proofs.AcceptedFunctions.{functions_counted}
+use Rattle.naga_form.proofs.AcceptedFunctions.{all_counted}
 use Rattle.naga_info.specs.declared.info.TypeResolution.{TypeResolution}
 use Rattle.naga_info.specs.declared.info.TypeResolution.TheVariants.{Handle}
 use Rattle.naga_ir.specs.declared.types.Scalar.{Scalar}
@@ -91,7 +92,7 @@ pub planned_holds : (explicit : Bool) (m : Module) (info : ModuleInfo) (earlier 
     (i : ℕ) (planned : Planned) → IsPlanOf explicit m info i planned →
     (ExpressionNamesAreFullIn m earlier i → ⊥) → IsWritableAt explicit m info earlier i
 planned_holds explicit m info earlier i planned plan nameable = record {
-  in_scope = of_shape m info m.functions info.functions.items i ScopeHolds
+  in_scope = of_shape m info (all_functions m) (all_infos info) i ScopeHolds
       (λ f es at known. (plan f es at known).in_scope);
   formed = λ f es at known. (plan f es at known).formed;
   nameable = nameable;
@@ -228,22 +229,22 @@ names_no_sink m known es _ reason named = named
 
 module _ (explicit : Bool) (m : Module) (info : ModuleInfo) (accepted : IsTrue (is_accepted m info))
     (written : IsTrue (is_written_so_far m)) (i : ℕ) (f : ir_function.Function)
-    (stands : slice_get m.functions i ≡ Some f) where
-  counted : length m.functions ≡ length info.functions.items
-  counted = functions_counted m info accepted
+    (stands : slice_get (all_functions m) i ≡ Some f) where
+  counted : length (all_functions m) ≡ length (all_infos info)
+  counted = all_counted m info accepted
 
-  within : i < length m.functions
-  within = slice_get_within m.functions i f stands
+  within : i < length (all_functions m)
+  within = slice_get_within (all_functions m) i f stands
 
-  known : (es : List ExpressionInfo) × (slice_get info.functions.items i ≡ Some es)
-  known = element info.functions.items i (omega (arith, within, counted))
+  known : (es : List ExpressionInfo) × (slice_get (all_infos info) i ≡ Some es)
+  known = element (all_infos info) i (omega (arith, within, counted))
 
   -- where the check of the function fails, the rules don't hold in it
   out_of_scope : (namer : Names) → IsRefusalToPlanOf explicit m info i namer OutOfScope →
       ScopeHoldsIn m info i → ⊥
   out_of_scope namer refusal holds =
       refusal f known.0 stands known.1 (subst (λ o. IfSome o ScopeHolds)
-      (shape_found m info m.functions info.functions.items i f known.0 stands known.1) holds)
+      (shape_found m info (all_functions m) (all_infos info) i f known.0 stands known.1) holds)
 
   -- a handle of which something is known is in range
   known_there : (es : List ExpressionInfo) (h : ℕ) (P : ExpressionInfo → Type 0) →
@@ -254,7 +255,7 @@ module _ (explicit : Bool) (m : Module) (info : ModuleInfo) (accepted : IsTrue (
       by None at is = absurd is
       by (Some k) at is = slice_get_within es h k at
 
-  pub is_of_plan : (es : List ExpressionInfo) → slice_get info.functions.items i ≡ Some es →
+  pub is_of_plan : (es : List ExpressionInfo) → slice_get (all_infos info) i ≡ Some es →
       (namer : Names) (error : PlanError) → IsRefusalToPlanOf explicit m info i namer error →
       IsOfPlan m f es error
   is_of_plan es here namer OutOfScope refusal = tt
@@ -316,7 +317,7 @@ module _ (explicit : Bool) (m : Module) (info : ModuleInfo) (accepted : IsTrue (
     for_names namer words (namer_error.Memory e) reported refusal is =
         subst (IsPlanRefusal explicit m info earlier i) (sym is) tt
 
-    type_named : (es : List ExpressionInfo) → slice_get info.functions.items i ≡ Some es →
+    type_named : (es : List ExpressionInfo) → slice_get (all_infos info) i ≡ Some es →
         (reported : Error) (r : TypeResolution) → IsSpelledIn explicit m info f es r →
         IsFalse (is_spellable m r) → NamesType m r reported →
         NamesFormlessType explicit m info i reported
@@ -331,7 +332,7 @@ module _ (explicit : Bool) (m : Module) (info : ModuleInfo) (accepted : IsTrue (
       named = is;
     }
 
-    pub plan_refusal : (es : List ExpressionInfo) → slice_get info.functions.items i ≡ Some es →
+    pub plan_refusal : (es : List ExpressionInfo) → slice_get (all_infos info) i ≡ Some es →
         (namer : Names) → HasOtherUses wgsl_names namer → HasNamed namer earlier →
         (error : PlanError) (reported : Error) →
         IsRefusalToPlanOf explicit m info i namer error → TellsPlanError m f es error reported →
@@ -384,8 +385,8 @@ module _ (explicit : Bool) (m : Module) (info : ModuleInfo) (accepted : IsTrue (
 
 -- each constant and variable that an expression of an accepted function names is there
 pub items_there : (m : Module) (info : ModuleInfo) → IsTrue (is_accepted m info) → (i : ℕ)
-    (f : ir_function.Function) → slice_get m.functions i ≡ Some f → (es : List ExpressionInfo) →
-    slice_get info.functions.items i ≡ Some es → (h : ℕ) (e : Expression) →
+    (f : ir_function.Function) → slice_get (all_functions m) i ≡ Some f → (es : List ExpressionInfo) →
+    slice_get (all_infos info) i ≡ Some es → (h : ℕ) (e : Expression) →
     slice_get f.expressions h ≡ Some e → NamesItemsOf m e
 items_there m info accepted i f stands es stand h e at =
     let numbered = function_there m info accepted i f stands in

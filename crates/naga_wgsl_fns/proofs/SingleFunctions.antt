@@ -18,7 +18,8 @@ use Rattle.module_meaning.specs.ExpressionLabels.{expression_labels, name_of_lab
 use Rattle.module_meaning.specs.Names.{item_labels, labels_named_in, module_names, wgsl_names}
 use Rattle.module_meaning.specs.WrittenSoFar.{is_written_so_far}
 use Rattle.module_meaning.proofs.WrittenSoFar.{written_so_far_parts}
-use Rattle.naga_form.proofs.AcceptedFunctions.{functions_counted}
+use Rattle.module_meaning.specs.FunctionNumbers.{all_functions, all_infos, function_number}
+use Rattle.naga_form.proofs.AcceptedFunctions.{all_counted}
 use Rattle.naga_form.proofs.Names.{is_identifier}
 use Rattle.naga_form.proofs.Programs.{one_is}
 use Rattle.naga_form.specs.Functions.{function_form}
@@ -68,9 +69,10 @@ pub of_each : (ty : FunctionType) (Holds : ℕ → Type 0) → ((handle : ℕ) �
 of_each (item.Function handle) Holds all = all handle
 of_each (item.EntryPoint index) Holds all = tt
 
-pub of_one : (ty : FunctionType) (handle : ℕ) → ty ≡ item.Function handle → (Holds : ℕ → Type 0) →
-    Holds handle → OfFunction ty Holds
-of_one ty handle is Holds holds = subst (λ t. OfFunction t Holds) (sym is) holds
+pub of_one : (m : Module) (ty : FunctionType) (handle : ℕ) → ty ≡ item.Function handle →
+    (Holds : ℕ → Type 0) → Holds (function_number m ty) → OfFunction ty Holds
+of_one m ty handle is Holds holds =
+    subst (λ t. OfFunction t Holds) (sym is) (subst Holds (ap (function_number m) is) holds)
 
 -- a namer that has named some first labels of a function has named the items in front of them
 pub items_named : (m : Module) (handle : ℕ) (old new : Names) → HasNamedItemsOf m old →
@@ -162,7 +164,7 @@ module _ (m : Module) (info : ModuleInfo) (flags : WriterFlags) (earlier : List 
   for_want before after (Memory e) is = tt
   for_want before after _ is = absurd is
 
-  identifiers : (f : ir_function.Function) → slice_get m.functions handle ≡ Some f → (k : ℕ) →
+  identifiers : (f : ir_function.Function) → slice_get (all_functions m) handle ≡ Some f → (k : ℕ) →
       k < length (expression_labels f) → IsIdentifier (named_behind m earlier handle k)
   identifiers f stands k lt =
       let label = element (expression_labels f) k lt in
@@ -172,19 +174,19 @@ module _ (m : Module) (info : ModuleInfo) (flags : WriterFlags) (earlier : List 
       subst IsIdentifier (sym (same ∙ name)) (is_identifier (earlier ++ take k (expression_labels f)) label.0)
 
   module _ (accepted : IsTrue (is_accepted m info)) (written : IsTrue (is_written_so_far m))
-      (there : handle < length m.functions) (old new : Names) (words : HasOtherUses wgsl_names old)
+      (there : handle < length (all_functions m)) (old new : Names) (words : HasOtherUses wgsl_names old)
       (has : HasNamed old earlier) (planned : Planned) (plan : IsPlanOf explicit m info handle planned)
       (named : NamesLabels old [] labels new planned.named) where
     abbrev f : ir_function.Function
-    f = (element m.functions handle there).0
+    f = (element (all_functions m) handle there).0
 
-    stands : slice_get m.functions handle ≡ Some f
-    stands = (element m.functions handle there).1
+    stands : slice_get (all_functions m) handle ≡ Some f
+    stands = (element (all_functions m) handle there).1
 
-    known : (es : List ExpressionInfo) × (slice_get info.functions.items handle ≡ Some es)
+    known : (es : List ExpressionInfo) × (slice_get (all_infos info) handle ≡ Some es)
     known =
-        let counted = functions_counted m info accepted in
-        element info.functions.items handle (omega (arith, there, counted))
+        let counted = all_counted m info accepted in
+        element (all_infos info) handle (omega (arith, there, counted))
 
     abbrev form : Function
     form = function_form explicit (module_names m) (named_behind m earlier handle) m info handle f

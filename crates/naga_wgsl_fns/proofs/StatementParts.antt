@@ -19,7 +19,7 @@ use Rattle.naga_form.proofs.WrittenHandles.{all_front, all_rest}
 use Rattle.naga_ir.specs.StatementTree.{StatementTree, block, branch, switch, loop, BlockTree, no_statements, statement}
 use Rattle.naga_ir.specs.StatementTree.{CaseTrees, no_cases, case, has_no_statements}
 use Rattle.naga_ir.specs.declared.statement.SwitchValue.{SwitchValue}
-use Rattle.naga_wgsl_fns.specs.FunctionText.{AreInText, CanWriteBlock, CanWriteCases, CanWriteStatement, IsInText, IsLet, bound}
+use Rattle.naga_wgsl_fns.specs.FunctionText.{AreInText, CanWriteBlock, CanWriteCases, CanWriteStatement, IsInText, IsLet, bound, callees}
 use Rattle.naga_wgsl_fns.specs.declared.functions.FunctionText.{FunctionText}
 
 abbrev count : FunctionText → ℕ
@@ -29,7 +29,7 @@ count f = length f.function.now.expressions
 pub first_inside : (f : FunctionText) (st : StatementTree) (b : BlockTree) → CanWriteBlock f (statement st b) → CanWriteStatement f st
 first_inside f st b w =
     record {
-      in_range = (and_parts (statement_in_range f.handle (count f) st) (block_in_range f.handle (count f) b) w.in_range).0;
+      in_range = (and_parts (statement_in_range (callees f) (count f) st) (block_in_range (callees f) (count f) b) w.in_range).0;
       formed = (and_parts (statement_has_form st) (block_has_forms b) w.formed).0;
       roots = all_front (IsInText f) (statement_roots (bound f) st) (block_roots (bound f) b) w.roots;
       lets = all_front (IsLet f) (statement_lets (bound f) st) (block_lets (bound f) b) w.lets;
@@ -38,7 +38,7 @@ first_inside f st b w =
 pub rest_inside : (f : FunctionText) (st : StatementTree) (b : BlockTree) → CanWriteBlock f (statement st b) → CanWriteBlock f b
 rest_inside f st b w =
     record {
-      in_range = (and_parts (statement_in_range f.handle (count f) st) (block_in_range f.handle (count f) b) w.in_range).1;
+      in_range = (and_parts (statement_in_range (callees f) (count f) st) (block_in_range (callees f) (count f) b) w.in_range).1;
       formed = (and_parts (statement_has_form st) (block_has_forms b) w.formed).1;
       roots = all_rest (IsInText f) (statement_roots (bound f) st) (block_roots (bound f) b) w.roots;
       lets = all_rest (IsLet f) (statement_lets (bound f) st) (block_lets (bound f) b) w.lets;
@@ -64,9 +64,9 @@ condition_inside f c a r w = w.roots.0
 
 pub accept_inside : (f : FunctionText) (c : ℕ) (a r : BlockTree) → CanWriteStatement f (branch c a r) → CanWriteBlock f a
 accept_inside f c a r w =
-    let ranges = and_parts (nat_lt c (count f)) (block_in_range f.handle (count f) a && block_in_range f.handle (count f) r) w.in_range in
+    let ranges = and_parts (nat_lt c (count f)) (block_in_range (callees f) (count f) a && block_in_range (callees f) (count f) r) w.in_range in
     record {
-      in_range = (and_parts (block_in_range f.handle (count f) a) (block_in_range f.handle (count f) r) ranges.1).0;
+      in_range = (and_parts (block_in_range (callees f) (count f) a) (block_in_range (callees f) (count f) r) ranges.1).0;
       formed = (and_parts (block_has_forms a) (block_has_forms r) w.formed).0;
       roots = all_front (IsInText f) (block_roots (bound f) a) (block_roots (bound f) r) w.roots.1;
       lets = all_front (IsLet f) (block_lets (bound f) a) (block_lets (bound f) r) w.lets;
@@ -74,9 +74,9 @@ accept_inside f c a r w =
 
 pub reject_inside : (f : FunctionText) (c : ℕ) (a r : BlockTree) → CanWriteStatement f (branch c a r) → CanWriteBlock f r
 reject_inside f c a r w =
-    let ranges = and_parts (nat_lt c (count f)) (block_in_range f.handle (count f) a && block_in_range f.handle (count f) r) w.in_range in
+    let ranges = and_parts (nat_lt c (count f)) (block_in_range (callees f) (count f) a && block_in_range (callees f) (count f) r) w.in_range in
     record {
-      in_range = (and_parts (block_in_range f.handle (count f) a) (block_in_range f.handle (count f) r) ranges.1).1;
+      in_range = (and_parts (block_in_range (callees f) (count f) a) (block_in_range (callees f) (count f) r) ranges.1).1;
       formed = (and_parts (block_has_forms a) (block_has_forms r) w.formed).1;
       roots = all_rest (IsInText f) (block_roots (bound f) a) (block_roots (bound f) r) w.roots.1;
       lets = all_rest (IsLet f) (block_lets (bound f) a) (block_lets (bound f) r) w.lets;
@@ -86,7 +86,7 @@ reject_inside f c a r w =
 pub body_inside : (f : FunctionText) (b c : BlockTree) (e : Option ℕ) → CanWriteStatement f (loop b c e) → CanWriteBlock f b
 body_inside f b c e w =
     record {
-      in_range = (and_parts (block_in_range f.handle (count f) b) (block_in_range f.handle (count f) c && is_below (count f) e) w.in_range).0;
+      in_range = (and_parts (block_in_range (callees f) (count f) b) (block_in_range (callees f) (count f) c && is_below (count f) e) w.in_range).0;
       formed = (and_parts (block_has_forms b) (block_has_forms c) w.formed).0;
       roots = all_front (IsInText f) (block_roots (bound f) b) (block_roots (bound f) c ++ option_to_list e) w.roots;
       lets = all_front (IsLet f) (block_lets (bound f) b) (block_lets (bound f) c) w.lets;
@@ -94,9 +94,9 @@ body_inside f b c e w =
 
 pub continuing_inside : (f : FunctionText) (b c : BlockTree) (e : Option ℕ) → CanWriteStatement f (loop b c e) → CanWriteBlock f c
 continuing_inside f b c e w =
-    let ranges = and_parts (block_in_range f.handle (count f) b) (block_in_range f.handle (count f) c && is_below (count f) e) w.in_range in
+    let ranges = and_parts (block_in_range (callees f) (count f) b) (block_in_range (callees f) (count f) c && is_below (count f) e) w.in_range in
     record {
-      in_range = (and_parts (block_in_range f.handle (count f) c) (is_below (count f) e) ranges.1).0;
+      in_range = (and_parts (block_in_range (callees f) (count f) c) (is_below (count f) e) ranges.1).0;
       formed = (and_parts (block_has_forms b) (block_has_forms c) w.formed).1;
       roots = all_front (IsInText f) (block_roots (bound f) c) (option_to_list e)
           (all_rest (IsInText f) (block_roots (bound f) b) (block_roots (bound f) c ++ option_to_list e) w.roots);
@@ -115,7 +115,7 @@ selector_inside f h cs w = w.roots.0
 pub cases_inside : (f : FunctionText) (h : ℕ) (cs : CaseTrees) → CanWriteStatement f (switch h cs) → CanWriteCases f cs
 cases_inside f h cs w =
     record {
-      in_range = (and_parts (nat_lt h (count f)) (cases_in_range f.handle (count f) cs) w.in_range).1;
+      in_range = (and_parts (nat_lt h (count f)) (cases_in_range (callees f) (count f) cs) w.in_range).1;
       formed = w.formed;
       roots = w.roots.1;
       lets = w.lets;
@@ -123,10 +123,10 @@ cases_inside f h cs w =
 
 module _ (f : FunctionText) (v : SwitchValue) (b : BlockTree) (falls : Bool) (cs : CaseTrees)
     (w : CanWriteCases f (case v b falls cs)) where
-  ranges : IsTrue (block_in_range f.handle (count f) b) × IsTrue (cases_in_range f.handle (count f) cs)
+  ranges : IsTrue (block_in_range (callees f) (count f) b) × IsTrue (cases_in_range (callees f) (count f) cs)
   ranges =
-      and_parts (block_in_range f.handle (count f) b) (cases_in_range f.handle (count f) cs)
-      (and_parts (label_fits_32_bits v) (block_in_range f.handle (count f) b && cases_in_range f.handle (count f) cs) w.in_range).1
+      and_parts (block_in_range (callees f) (count f) b) (cases_in_range (callees f) (count f) cs)
+      (and_parts (label_fits_32_bits v) (block_in_range (callees f) (count f) b && cases_in_range (callees f) (count f) cs) w.in_range).1
 
   forms : IsTrue (not falls || has_no_statements b) × IsTrue (block_has_forms b && cases_have_forms cs)
   forms = and_parts (not falls || has_no_statements b) (block_has_forms b && cases_have_forms cs) w.formed
@@ -179,7 +179,7 @@ nothing_inside f = record { in_range = refl; formed = refl; roots = tt; lets = t
 
 together : (f : FunctionText) (st : StatementTree) (b : BlockTree) → CanWriteStatement f st → CanWriteBlock f b → CanWriteBlock f (statement st b)
 together f st b one other = record {
-  in_range = both_true (statement_in_range f.handle (count f) st) (block_in_range f.handle (count f) b) one.in_range other.in_range;
+  in_range = both_true (statement_in_range (callees f) (count f) st) (block_in_range (callees f) (count f) b) one.in_range other.in_range;
   formed = both_true (statement_has_form st) (block_has_forms b) one.formed other.formed;
   roots = both_all (IsInText f) (statement_roots (bound f) st) (block_roots (bound f) b) one.roots other.roots;
   lets = both_all (IsLet f) (statement_lets (bound f) st) (block_lets (bound f) b) one.lets other.lets;

@@ -35,7 +35,7 @@ use Rattle.naga_form.proofs.WrittenHandles.{written_are_closed}
 use Rattle.naga_ir.specs.declared.module.LocalVariable.{LocalVariable}
 use Rattle.shader_runs.specs.Program.{from}
 use Rattle.naga_wgsl_fns.proofs.Wanted.{first_within}
-use Rattle.naga_wgsl_fns.specs.FunctionText.{AreInText, CanWrite, IsInText, bound}
+use Rattle.naga_wgsl_fns.specs.FunctionText.{AreInText, CanWrite, IsInText, bound, callees}
 use Rattle.naga_wgsl_fns.specs.declared.functions.FunctionText.{FunctionText}
 
 -- ---- the handles of an `Emit`
@@ -225,8 +225,8 @@ module _ (t : FunctionText) (can : CanWrite t) where
       let f = t.function.now in
       let closed = written_are_closed t.shader.now t.module_info.now f t.info.now in
       in_text (block_roots (bound t) f.body)
-      (block_within (bound t) t.handle (length f.expressions) f.body
-      (ranges_are t.shader.now t.handle f can.ranges).1)
+      (block_within (bound t) (callees t) (length f.expressions) f.body
+      (ranges_are t.shader.now (callees t) f can.ranges).1)
       closed.body
 
   pub first_in_range : (l : ℕ) (v : LocalVariable) →
@@ -249,13 +249,13 @@ let_named binds _ h is = ap option_to_list is
 pub outcome_inside : (t : FunctionText) (st : StatementTree) (h : ℕ) → CanWriteStatement t st → own_result st ≡ Some h →
     (h < length t.function.now.expressions) × IsLet t h
 outcome_inside t (simple st) h w is =
-    (result_within (bound t) t.handle (length t.function.now.expressions) st h w.in_range is, (subst (AreLets t) (let_named (bound t) st h is) w.lets).0)
+    (result_within (bound t) (callees t) (length t.function.now.expressions) st h w.in_range is, (subst (AreLets t) (let_named (bound t) st h is) w.lets).0)
 outcome_inside t _ h w is = absurd cc
 
 -- ---- the body
 pub body_of : (t : FunctionText) → CanWrite t → CanWriteBlock t t.function.now.body
 body_of t can = record {
-  in_range = (ranges_are t.shader.now t.handle t.function.now can.ranges).1;
+  in_range = (ranges_are t.shader.now (callees t) t.function.now can.ranges).1;
   formed = can.formed.statements;
   roots = body_in_text t can;
   lets = all_among (block_lets (bound t) t.function.now.body) (λ h among. among);

@@ -94,7 +94,7 @@ use Rattle.wgsl_text.specs.Reading.{type_layout}
 use Rattle.wgsl_text.specs.Types.{Named, TypeSpecifier}
 use Rattle.naga_wgsl_fns.specs.declared.functions.FunctionText.{FunctionText}
 use Rattle.naga_wgsl_fns.specs.FunctionText.{CanWrite, IsInText, IsLet, context, naming}
-use Rattle.naga_wgsl_fns.specs.FunctionText.{annotates_types}
+use Rattle.naga_wgsl_fns.specs.FunctionText.{annotates_types, callees, number}
 use Rattle.module_meaning.specs.Written.{IsWrittenIn, OfArgument, OfLet, OfLocal, OfResult}
 use Rattle.naga_form.proofs.WrittenHandles.{all_front, all_rest, written_are_closed}
 use Rattle.std.specs.List.{AllByRecursion}
@@ -199,7 +199,7 @@ module _ (t : FunctionText) (can : CanWrite t) where
   info = t.module_info.now
 
   abbrev g : ℕ
-  g = t.handle
+  g = number t
 
   abbrev f : Function
   f = t.function.now
@@ -229,7 +229,7 @@ module _ (t : FunctionText) (can : CanWrite t) where
   local_is_in_range l v here =
       and_parts (nat_lt v.ty (length m.types)) (is_below (length f.expressions) v.init)
       (list_all_at (local_in_range (length m.types) (length f.expressions)) f.local_variables l
-      v (locals_are_in_range m g f can.ranges) here)
+      v (locals_are_in_range m (callees t) f can.ranges) here)
 
   pub first_within : (l : ℕ) (v : LocalVariable) → slice_get f.local_variables l ≡ Some v → IsTrue (is_below (length f.expressions) v.init)
   first_within l v here = (local_is_in_range l v here).1
@@ -443,7 +443,7 @@ module _ (t : FunctionText) (can : CanWrite t) where
 
   -- what an expression names is there
   names_there : (h : ℕ) (e own : Expression) → slice_get f.expressions h ≡ Some e → e ≡ own → IsTrue (names_in_range m (length f.arguments.items) (length f.local_variables) own)
-  names_there h e own here is = ap (names_in_range m (length f.arguments.items) (length f.local_variables)) (sym is) ∙ names_are_in_range m g f can.ranges h e here
+  names_there h e own here is = ap (names_in_range m (length f.arguments.items) (length f.local_variables)) (sym is) ∙ names_are_in_range m (callees t) f can.ranges h e here
 
   pub argument_within : (h : ℕ) {e : Expression} {n : ℕ} → slice_get f.expressions h ≡ Some e → e ≡ expression.FunctionArgument n → n < length f.arguments.items
   argument_within h {e} {n} here is = ltb-true n (length f.arguments.items) (names_there h e (expression.FunctionArgument n) here is)
@@ -458,7 +458,7 @@ module _ (t : FunctionText) (can : CanWrite t) where
   override_within h {e} {o} here is = ltb-true o (length m.overrides) (names_there h e (expression.Override o) here is)
 
   pub ordered : OperandsStandBefore f.expressions
-  ordered h e at = operands_stand_before m g f can.ranges h e at
+  ordered h e at = operands_stand_before m (callees t) f can.ranges h e at
 
   pub all_before : (h : ℕ) (e : Expression) → slice_get f.expressions h ≡ Some e → AllBelow h (expression_operands e)
   all_before h e here = ordered h e here

@@ -1,4 +1,6 @@
 -- What the text of a function is made from, as the laws see it, and what it wants of its module.
+use Rattle.module_meaning.specs.FunctionNumbers.{IsFunctionOf, all_functions, all_infos}
+use Rattle.module_meaning.specs.FunctionNumbers.{callee_count, function_number}
 use Rattle.module_meaning.specs.FunctionShapes.{function_shape}
 use Rattle.module_meaning.specs.StatementForms.{block_has_forms, cases_have_forms}
 use Rattle.module_meaning.specs.StatementForms.{statement_has_form}
@@ -31,6 +33,14 @@ use Rattle.wgsl_text.specs.Types.{TypeSpecifier}
 use Rattle.naga_back.specs.declared.flags.WriterFlags.{WriterFlags}
 use Rattle.naga_wgsl_fns.specs.declared.functions.FunctionText.{FunctionText}
 
+-- the number of the function among those of its module
+abbrev pub number : FunctionText → ℕ
+number f = function_number f.shader.now f.ty
+
+-- how many functions it may call
+abbrev pub callees : FunctionText → ℕ
+callees f = callee_count f.shader.now f.ty
+
 -- each `let` tells its type
 abbrev pub annotates_types : WriterFlags → Bool
 annotates_types flags = bit_and flags.0 1 == 1
@@ -43,7 +53,8 @@ named_in f number = option_map_or string_bytes (slice_get f.named.now number) []
 abbrev pub naming : FunctionText → Naming
 naming f =
     let m = f.shader.now in
-    function_naming (module_names m) (named_in f) m f.module_info.now f.handle f.function.now f.info.now
+    function_naming (module_names m) (named_in f) m f.module_info.now (number f) f.function.now
+    f.info.now
 
 -- what a table of where its expressions stand says of them
 abbrev pub handles_in : FunctionText → List Availability → Handles
@@ -96,34 +107,35 @@ AreLets f handles = AllByRecursion (IsLet f) handles
 -- writes and those that its `let`s name are among the function's. So it is with a block, and with
 -- the cases of a switch.
 pub record CanWriteStatement (f : FunctionText) (st : StatementTree) : Type 0 where
-  pub in_range : IsTrue (statement_in_range f.handle (length f.function.now.expressions) st)
+  pub in_range : IsTrue (statement_in_range (callees f) (length f.function.now.expressions) st)
   pub formed : IsTrue (statement_has_form st)
   pub roots : AreInText f (statement_roots (bound f) st)
   pub lets : AreLets f (statement_lets (bound f) st)
 
 pub record CanWriteBlock (f : FunctionText) (b : BlockTree) : Type 0 where
-  pub in_range : IsTrue (block_in_range f.handle (length f.function.now.expressions) b)
+  pub in_range : IsTrue (block_in_range (callees f) (length f.function.now.expressions) b)
   pub formed : IsTrue (block_has_forms b)
   pub roots : AreInText f (block_roots (bound f) b)
   pub lets : AreLets f (block_lets (bound f) b)
 
 pub record CanWriteCases (f : FunctionText) (cases : CaseTrees) : Type 0 where
-  pub in_range : IsTrue (cases_in_range f.handle (length f.function.now.expressions) cases)
+  pub in_range : IsTrue (cases_in_range (callees f) (length f.function.now.expressions) cases)
   pub formed : IsTrue (cases_have_forms cases)
   pub roots : AreInText f (cases_roots (bound f) cases)
   pub lets : AreLets f (cases_lets (bound f) cases)
 
--- It is a function of its module, which is accepted and written so far, and has
--- its names. All that it names is there, if it may call the functions before it, and of each of its
--- expressions one type is known. Each expression that is written and each type that is spelled has a
+-- It is a function of its module, or that of an entry point, and the module is accepted and written
+-- so far, and has its names. All that it names is there, if it may call the functions before it, and of
+-- each of its expressions one type is known. Each expression that is written and each type that is spelled has a
 -- form. Its names that front ends gave are there, in the order of the text, and told apart in 64 bits.
 pub record CanWrite (f : FunctionText) : Type 0 where
   pub named : HasNamesOf f.shader.now (names_in f.names.now)
   pub accepted : IsTrue (is_accepted f.shader.now f.module_info.now)
   pub is_supported : IsTrue (is_written_so_far f.shader.now)
-  pub function : slice_get f.shader.now.functions f.handle ≡ Some f.function.now
-  pub infos : slice_get f.module_info.now.functions.items f.handle ≡ Some f.info.now
-  pub ranges : IsTrue (function_in_range f.shader.now f.handle f.function.now)
+  pub there : IsFunctionOf f.ty f.shader.now
+  pub function : slice_get (all_functions f.shader.now) (number f) ≡ Some f.function.now
+  pub infos : slice_get (all_infos f.module_info.now) (number f) ≡ Some f.info.now
+  pub ranges : IsTrue (function_in_range f.shader.now (callees f) f.function.now)
   pub size : length f.function.now.expressions ≡ length f.info.now
   pub formed : WrittenHaveForms (annotates_types f.flags) f.shader.now f.module_info.now
       f.function.now

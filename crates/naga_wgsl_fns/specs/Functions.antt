@@ -23,14 +23,15 @@ use Rattle.wgsl_text.specs.Text.{text}
 use Rattle.naga_back.specs.declared.flags.WriterFlags.{WriterFlags}
 use Rattle.naga_wgsl_fns.specs.declared.functions.FunctionText.{FunctionText}
 use Rattle.naga_wgsl_fns.specs.FunctionText.{named_in, handles_in, source, naming}
-use Rattle.naga_wgsl_fns.specs.FunctionText.{annotates_types, type_names_of}
+use Rattle.naga_wgsl_fns.specs.FunctionText.{annotates_types, number, type_names_of}
+use Rattle.module_meaning.specs.FunctionNumbers.{all_functions, all_infos}
 use Rattle.naga_wgsl_fns.specs.Names.{name_of_function}
 use Rattle.naga_wgsl_fns.specs.Statements.{lines_text}
 use Rattle.naga_wgsl_fns.specs.Types.{type_text}
 
--- what is known of the expressions of the function with this handle
+-- what is known of the expressions of the function with this number
 abbrev pub known_of : ModuleInfo → ℕ → List ExpressionInfo
-known_of info handle = unwrap_or (slice_get info.functions.items handle) []
+known_of info number = unwrap_or (slice_get (all_infos info) number) []
 
 -- the names that a plan has
 abbrev pub names_of : Planned → (number : ℕ) → List ℕ
@@ -39,29 +40,29 @@ names_of plan number = get_or plan.named number []
 -- the text of a function of the module, with what is known of its expressions and the names that front
 -- ends gave in it
 abbrev pub text_of :
-    Module → ModuleInfo → WriterFlags → (named : ℕ → List ℕ) → (handle : ℕ) → ir.Function →
+    Module → ModuleInfo → WriterFlags → (named : ℕ → List ℕ) → (number : ℕ) → ir.Function →
     List ExpressionInfo → List ℕ
-text_of m info flags named handle f known =
-    let form = function_form (annotates_types flags) (module_names m) named m info handle f known in
+text_of m info flags named number f known =
+    let form = function_form (annotates_types flags) (module_names m) named m info number f known in
     text (function_pieces form)
 
--- the same of the module's function with this handle; nothing, where there is none
+-- the same of the module's function with this number; nothing, where there is none
 abbrev pub text_under :
-    Module → ModuleInfo → WriterFlags → (named : ℕ → List ℕ) → (handle : ℕ) → List ℕ
-text_under m info flags named handle =
-    option_map_or (λ f. text_of m info flags named handle f (known_of info handle))
-    (slice_get m.functions handle) []
+    Module → ModuleInfo → WriterFlags → (named : ℕ → List ℕ) → (number : ℕ) → List ℕ
+text_under m info flags named number =
+    option_map_or (λ f. text_of m info flags named number f (known_of info number))
+    (slice_get (all_functions m) number) []
 
 -- and in a text of the whole module
-abbrev pub text_of_function : Module → ModuleInfo → WriterFlags → (handle : ℕ) → List ℕ
-text_of_function m info flags handle = text_under m info flags (expression_name m handle) handle
+abbrev pub text_of_function : Module → ModuleInfo → WriterFlags → (number : ℕ) → List ℕ
+text_of_function m info flags number = text_under m info flags (expression_name m number) number
 
 -- the form of a function
 abbrev pub form_of : FunctionText → Function
 form_of f =
     let m = f.shader.now in
     let info = f.module_info.now in
-    function_form (annotates_types f.flags) (module_names m) (named_in f) m info f.handle
+    function_form (annotates_types f.flags) (module_names m) (named_in f) m info (number f)
     f.function.now
     f.info.now
 
@@ -82,17 +83,17 @@ head_text f =
     (arguments_text f ++ (result_text f ++ codes " {\n"))))
 
 -- the argument with this number
-unfoldable pub argument_text : FunctionText → (number : ℕ) → FunctionArgument → List ℕ
-argument_text f number argument =
+unfoldable pub argument_text : FunctionText → (n : ℕ) → FunctionArgument → List ℕ
+argument_text f n argument =
     let m = f.shader.now in
-    text (parameter_pieces (parameter_form (module_names m) m.types f.handle number argument))
+    text (parameter_pieces (parameter_form (module_names m) m (number f) n argument))
 
 -- what stands before it
-abbrev pub separator : (number : ℕ) → List ℕ
-separator number = if number == 0 then [] else codes ", "
+abbrev pub separator : (n : ℕ) → List ℕ
+separator n = if n == 0 then [] else codes ", "
 
-unfoldable pub next_argument_text : FunctionText → (number : ℕ) → FunctionArgument → List ℕ
-next_argument_text f number argument = separator number ++ argument_text f number argument
+unfoldable pub next_argument_text : FunctionText → (n : ℕ) → FunctionArgument → List ℕ
+next_argument_text f n argument = separator n ++ argument_text f n argument
 
 -- the type of what is returned
 unfoldable pub answer_text : FunctionText → (ty : ℕ) → List ℕ

@@ -2,8 +2,8 @@
 --
 -- Throughout, m is the module, earlier are labels that were named before, handle is that of the
 -- function, and explicit says whether `let`s tell types.
-use Rattle.std.specs.Prelude.{◌≡◌, ⊤, ℕ, ◌<◌, ◌++◌, Bool, List, ◌⊎◌, codes, string_bytes, IfErr, IsFalse}
-use Rattle.std.specs.Prelude.{Ok, Err, OnErr, OnOk, Result, length, vec_len}
+use Rattle.std.specs.Prelude.{◌≡◌, ⊤, ℕ, ◌++◌, Bool, List, ◌⊎◌, codes, string_bytes, IfErr, IsFalse}
+use Rattle.std.specs.Prelude.{Ok, Err, OnErr, OnOk, Result}
 use Rattle.naga_ir.specs.declared.module.Module.{Module}
 use Rattle.naga_info.specs.declared.info.ModuleInfo.{ModuleInfo}
 use Rattle.naga_names.specs.Naming.{HasNamed, Names}
@@ -23,11 +23,6 @@ use Rattle.naga_wgsl_fns.specs.Functions.{text_under}
 use Rattle.naga_wgsl_fns.specs.Refusals.{HasNamedLabels, IsFault, IsWritableAt, TellsOfModule}
 use Rattle.naga_wgsl_fns.specs.declared.error.Error.{Error}
 use Rattle.naga_wgsl_fns.specs.declared.error.Error.TheVariants.{FmtError, Memory, Unimplemented}
-
--- it is one of the module's functions or of its entry points
-abbrev pub IsFunctionOf : FunctionType → Module → Type 0
-IsFunctionOf (item.Function handle) m = handle < length m.functions
-IsFunctionOf (item.EntryPoint index) m = index < vec_len m.entry_points
 
 -- of a function, and not of an entry point
 abbrev pub OfFunction : FunctionType → (ℕ → Type 0) → Type 0

@@ -6,17 +6,16 @@ use Rattle.naga_ir.specs.declared.module.Module.{Module}
 use Rattle.naga_scope.specs.Availabilities.{name_of_bound}
 use Rattle.naga_scope.specs.declared.points.BoundName.{BoundName}
 use Rattle.shader_runs.specs.Scope.{bound_name}
-use Rattle.naga_wgsl_fns.specs.FunctionText.{named_in}
-use Rattle.naga_wgsl_fns.specs.FunctionText.{naming}
+use Rattle.naga_wgsl_fns.specs.FunctionText.{named_in, naming, number}
 use Rattle.naga_wgsl_fns.specs.declared.functions.FunctionText.{FunctionText}
 
 -- the function itself
 unfoldable pub name_of_function : FunctionText → List ℕ
-name_of_function f = function_name (module_names f.shader.now) f.handle
+name_of_function f = function_name f.shader.now (module_names f.shader.now) (number f)
 
 -- its argument with this number
-unfoldable pub name_of_argument : FunctionText → (number : ℕ) → List ℕ
-name_of_argument f number = argument_name (module_names f.shader.now) f.handle number
+unfoldable pub name_of_argument : FunctionText → (n : ℕ) → List ℕ
+name_of_argument f n = argument_name f.shader.now (module_names f.shader.now) (number f) n
 
 -- an expression that a `let` binds under this name
 unfoldable pub bound_text : FunctionText → (handle : ℕ) → BoundName → List ℕ
@@ -24,12 +23,12 @@ bound_text f handle name =
     name_of_bound (named_in f) (numbered_name handle) name
 
 -- the one that a `let` binds behind so many given names
-unfoldable pub next_name_text : FunctionText → (number handle : ℕ) → List ℕ
-next_name_text f number handle = bound_name (naming f) number handle
+unfoldable pub next_name_text : FunctionText → (given handle : ℕ) → List ℕ
+next_name_text f given handle = bound_name (naming f) given handle
 
 -- its local with this handle
 unfoldable pub name_of_local : FunctionText → (local : ℕ) → List ℕ
-name_of_local f local = local_name (module_names f.shader.now) f.handle local
+name_of_local f local = local_name f.shader.now (module_names f.shader.now) (number f) local
 
 -- a variable, a constant and an override of the module
 unfoldable pub name_of_global : FunctionText → (variable : ℕ) → List ℕ

@@ -30,6 +30,7 @@ use Rattle.naga_ir.specs.declared.expression.Literal.TheVariants as literal
 use Rattle.naga_ir.specs.declared.module.Constant as constant
 use Rattle.naga_ir.specs.declared.module.Function.{Function}
 use Rattle.naga_ir.specs.declared.module.Module.{Module}
+use Rattle.module_meaning.specs.FunctionNumbers.{all_functions, all_infos}
 use Rattle.module_meaning.specs.WrittenSoFar.{expression_has_form, is_written_literal, known_passes}
 use Rattle.module_meaning.specs.Sampling.{offset_is_written, sampling_is_written}
 use Rattle.module_meaning.specs.LackingScalars.{lacking_scalar}
@@ -61,11 +62,11 @@ use Rattle.naga_wgsl_fns.specs.declared.error.Error.TheVariants.{FmtError, Custo
 use Rattle.naga_wgsl_fns.specs.declared.error.Error.TheVariants.{Memory}
 use Rattle.naga_wgsl_fns.specs.declared.error.Error.TheVariants.{UnsupportedRelationalFunction}
 
--- the names of some labels that front ends gave in the function with this handle can't be told
+-- the names of some labels that front ends gave in the function with this number can't be told
 -- behind these earlier labels, since so many of them have one base
-abbrev pub ExpressionNamesAreFullIn : Module → (earlier : List (List ℕ)) → (handle : ℕ) → Type 0
-ExpressionNamesAreFullIn m earlier handle =
-    SomeLabelIsFull wgsl_names earlier (labels_named_in m handle)
+abbrev pub ExpressionNamesAreFullIn : Module → (earlier : List (List ℕ)) → (number : ℕ) → Type 0
+ExpressionNamesAreFullIn m earlier number =
+    SomeLabelIsFull wgsl_names earlier (labels_named_in m number)
 
 -- what is told where a `Namer` answers an error: of its memory as such, else by name
 abbrev pub IsErrorOfNames : NamerError → Error → Type 0
@@ -242,23 +243,23 @@ NamesStatement formless_statement.FallThrough error =
 NamesStatement formless_statement.ImageCompareExchange error =
     IsUnimplemented (codes "image compare exchange") error
 
--- a statement without a form stands in the function with this handle, and is named
-pub record NamesFormlessStatement (m : Module) (info : ModuleInfo) (handle : ℕ) (error : Error) :
+-- a statement without a form stands in the function with this number, and is named
+pub record NamesFormlessStatement (m : Module) (info : ModuleInfo) (number : ℕ) (error : Error) :
     Type 0 where
   pub function : Function
   pub known : List ExpressionInfo
-  pub stands : slice_get m.functions handle ≡ Some function
-  pub is_known : slice_get info.functions.items handle ≡ Some known
+  pub stands : slice_get (all_functions m) number ≡ Some function
+  pub is_known : slice_get (all_infos info) number ≡ Some known
   pub statement : FormlessStatement
   pub formless : formless_statement_of function.body ≡ Some statement
   pub named : NamesStatement statement error
 
--- an expression is written in the function with this handle that has no form, and is named
-pub record NamesFormless (m : Module) (info : ModuleInfo) (handle : ℕ) (error : Error) : Type 0 where
+-- an expression is written in the function with this number that has no form, and is named
+pub record NamesFormless (m : Module) (info : ModuleInfo) (number : ℕ) (error : Error) : Type 0 where
   pub function : Function
   pub known : List ExpressionInfo
-  pub stands : slice_get m.functions handle ≡ Some function
-  pub is_known : slice_get info.functions.items handle ≡ Some known
+  pub stands : slice_get (all_functions m) number ≡ Some function
+  pub is_known : slice_get (all_infos info) number ≡ Some known
   pub expression : ℕ
   pub written : IsWrittenIn m info function known expression
   pub named : IsSomeAnd (slice_get function.expressions expression) (λ e.
@@ -266,21 +267,21 @@ pub record NamesFormless (m : Module) (info : ModuleInfo) (handle : ℕ) (error 
       × NamesExpression m known function.expressions e error)
 
 -- or a type without a form is spelled beside its expressions, and is named
-pub record NamesFormlessType (explicit : Bool) (m : Module) (info : ModuleInfo) (handle : ℕ)
+pub record NamesFormlessType (explicit : Bool) (m : Module) (info : ModuleInfo) (number : ℕ)
     (error : Error) : Type 0 where
   pub function : Function
   pub known : List ExpressionInfo
-  pub stands : slice_get m.functions handle ≡ Some function
-  pub is_known : slice_get info.functions.items handle ≡ Some known
+  pub stands : slice_get (all_functions m) number ≡ Some function
+  pub is_known : slice_get (all_infos info) number ≡ Some known
   pub type : TypeResolution
   pub spelled : IsSpelledIn explicit m info function known type
   pub formless : IsFalse (is_spellable m type)
   pub named : NamesType m type error
 
-abbrev pub HasFormlessIn : (explicit : Bool) → Module → ModuleInfo → (handle : ℕ) → Error → Type 0
-HasFormlessIn explicit m info handle error =
-    NamesFormless m info handle error
-    ⊎ (NamesFormlessType explicit m info handle error ⊎ NamesFormlessStatement m info handle error)
+abbrev pub HasFormlessIn : (explicit : Bool) → Module → ModuleInfo → (number : ℕ) → Error → Type 0
+HasFormlessIn explicit m info number error =
+    NamesFormless m info number error
+    ⊎ (NamesFormlessType explicit m info number error ⊎ NamesFormlessStatement m info number error)
 
 -- ---- refusals
 -- the error tells of the module, and not of memory or of the sink
@@ -307,30 +308,30 @@ abbrev pub TellsOfFullNamer : Error → Type 0
 TellsOfFullNamer (Custom message) = string_bytes message ≡ codes "namer is full"
 TellsOfFullNamer _ = ⊥
 
--- the rules of scope hold in the function with this handle, each written handle of it, each of its
+-- the rules of scope hold in the function with this number, each written handle of it, each of its
 -- statements and each type that it spells has a form, and behind these labels those that front ends
 -- gave in it can be named
 pub record IsWritableAt (explicit : Bool) (m : Module) (info : ModuleInfo)
-    (earlier : List (List ℕ)) (handle : ℕ) : Type 0 where
-  pub in_scope : ScopeHoldsIn m info handle
-  pub formed : OfFunctionAt m info handle (WrittenHaveForms explicit m info)
-  pub nameable : ExpressionNamesAreFullIn m earlier handle → ⊥
+    (earlier : List (List ℕ)) (number : ℕ) : Type 0 where
+  pub in_scope : ScopeHoldsIn m info number
+  pub formed : OfFunctionAt m info number (WrittenHaveForms explicit m info)
+  pub nameable : ExpressionNamesAreFullIn m earlier number → ⊥
 
 -- why it has no plan: the rules of scope don't hold in it, a statement without a form stands in it,
 -- an expression without one is written there or a type without one spelled, a label that a front
 -- end gave in it gets no name, or memory ran out
 abbrev pub IsFault : (explicit : Bool) → Module → ModuleInfo → (earlier : List (List ℕ)) →
-    (handle : ℕ) → Error → Type 0
-IsFault explicit m info earlier handle error =
-    (TellsOfScope error × (ScopeHoldsIn m info handle → ⊥))
-    ⊎ (HasFormlessIn explicit m info handle error
-    ⊎ (TellsOfFullNamer error × ExpressionNamesAreFullIn m earlier handle))
+    (number : ℕ) → Error → Type 0
+IsFault explicit m info earlier number error =
+    (TellsOfScope error × (ScopeHoldsIn m info number → ⊥))
+    ⊎ (HasFormlessIn explicit m info number error
+    ⊎ (TellsOfFullNamer error × ExpressionNamesAreFullIn m earlier number))
 
 abbrev pub IsPlanRefusal : (explicit : Bool) → Module → ModuleInfo → (earlier : List (List ℕ)) →
-    (handle : ℕ) → Error → Type 0
-IsPlanRefusal explicit m info earlier handle (Memory e) = ⊤
-IsPlanRefusal explicit m info earlier handle error =
-    TellsOfModule error × IsFault explicit m info earlier handle error
+    (number : ℕ) → Error → Type 0
+IsPlanRefusal explicit m info earlier number (Memory e) = ⊤
+IsPlanRefusal explicit m info earlier number error =
+    TellsOfModule error × IsFault explicit m info earlier number error
 
 -- the handle that an error of a plan tells of has an expression without a form, or one of which a
 -- type is known; and what is told is the name of that, or what else the error says

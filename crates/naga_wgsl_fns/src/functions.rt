@@ -6,6 +6,7 @@ ghost use Rattle.module_meaning.specs.Accepted.{is_accepted};
 ghost use Rattle.module_meaning.specs.AlikeTypes.{is_spelled};
 ghost use Rattle.module_meaning.specs.WrittenSoFar.{is_written_so_far};
 ghost use Rattle.naga_info.specs.declared.info.TypeResolution.TheVariants as resolution;
+ghost use Rattle.module_meaning.specs.FunctionNumbers.{IsFunctionOf, function_number};
 ghost use Rattle.module_meaning.specs.Names.{HasNamesOf};
 ghost use Rattle.naga_names.specs.Keys.{names_in};
 ghost use Rattle.naga_scope.specs.Changes.{block_changes};
@@ -29,13 +30,13 @@ ghost use Rattle.naga_wgsl_fns.specs.Functions.{names_of, text_under};
 use crate::Error;
 use crate::error::error_of_want;
 use crate::indent::Indent;
-use naga_back::WriterFlags;
+use naga_back::{FunctionType, WriterFlags};
 use naga_info::{FunctionInfo, ModuleInfo};
 use naga_ir::{
     Expression, Function, FunctionArgument, Handle, LocalVariable, Module, Place, Type_,
 };
 use naga_names::NameKey;
-use naga_scope::{Plan, Scope};
+use naga_scope::{Plan, Scope, function_of};
 use naga_words::{Output, TextSink};
 use std::alloc::Global;
 use std::collections::HashMap;
@@ -51,28 +52,32 @@ use std::collections::HashMap;
 /// stands behind what the sink held. Memory is taken where the sink takes it, for the blanks of a
 /// level deeper than any before, and where a type is spelled.
 #[tactic(auto, using(naga_words::proofs::Writing::fresh_output))]
-pub fn write_planned<W: TextSink>(
+pub fn write_planned<'a, W: TextSink>(
     alloc: Global,
-    module: &Module,
-    info: &ModuleInfo,
-    names: &HashMap<NameKey, String>,
+    module: &'a Module,
+    info: &'a ModuleInfo,
+    names: &'a HashMap<NameKey, String>,
     flags: WriterFlags,
-    handle: Handle<Function>,
+    ty: &FunctionType,
     plan: Plan,
     out: &mut W,
 ) -> Result<(), Error>
     requires accepted { IsTrue (is_accepted «module».now info.now) }
     requires written { IsTrue (is_written_so_far «module».now) }
-    requires handle { handle < length «module».now.functions }
+    requires there { IsFunctionOf ty.now «module».now }
     requires names { HasNamesOf «module».now (names_in names.now) }
-    requires planned { IsPlanOf (annotates_types flags) «module».now info.now handle plan }
-    ensures text_ok { OnOk result (W.text out.new
-        ≡ W.text out.old ++ text_under «module».now info.now flags (names_of plan) handle) }
+    requires planned { IsPlanOf (annotates_types flags) «module».now info.now
+        (function_number «module».now ty.now) plan }
+    ensures text_ok { OnOk result (W.text out.new ≡ W.text out.old
+        ++ text_under «module».now info.now flags (names_of plan)
+        (function_number «module».now ty.now)) }
     ensures text_err { OnErr result (IsBehind (W.text out.old)
-        (text_under «module».now info.now flags (names_of plan) handle) (W.text out.new)) }
+        (text_under «module».now info.now flags (names_of plan) (function_number «module».now ty.now))
+        (W.text out.new)) }
     ensures failures_ok { OnOk result (W.failures out.new ≡ W.failures out.old) }
     ensures reason { IfErr result (IsWant (W.failures out.old) (W.failures out.new)) }
 {
+    let (function, function_info) = function_of(module, info, *ty);
     let (mut scope, named) = plan.into_parts();
     let text = FunctionText {
         shader: module,
@@ -80,9 +85,9 @@ pub fn write_planned<W: TextSink>(
         names,
         named: named.as_slice(),
         flags,
-        handle,
-        function: &module.functions[handle],
-        info: &info[handle],
+        ty: *ty,
+        function,
+        info: function_info,
     };
     let mut written = Output::new(out);
     text.write_declaration(alloc, &mut scope, &mut written);
@@ -101,7 +106,8 @@ pub(crate) struct FunctionText<'a> {
     /// The names that front ends gave, in the order of the text.
     pub(crate) named: &'a [String],
     pub(crate) flags: WriterFlags,
-    pub(crate) handle: Handle<Function>,
+    /// Which of the module's functions it is.
+    pub(crate) ty: FunctionType,
     pub(crate) function: &'a Function,
     pub(crate) info: &'a FunctionInfo,
 }

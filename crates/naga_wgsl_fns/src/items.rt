@@ -1,7 +1,8 @@
 //! A module's functions, written one by one.
 
-ghost use Rattle.std.specs.Prelude.{◌≡◌, ◌<◌, ℕ, List, IsErrAnd, IsTrue, length};
+ghost use Rattle.std.specs.Prelude.{◌≡◌, ℕ, List, IsErrAnd, IsTrue};
 ghost use Rattle.module_meaning.specs.Accepted.{is_accepted};
+ghost use Rattle.module_meaning.specs.FunctionNumbers.{IsFunctionOf, function_number};
 ghost use Rattle.module_meaning.specs.Names.{HasNamesOf, wgsl_names};
 ghost use Rattle.module_meaning.specs.WrittenSoFar.{is_written_so_far};
 ghost use Rattle.naga_names.specs.Keys.{names_in};
@@ -9,7 +10,7 @@ ghost use Rattle.naga_names.specs.Naming.{HasNamed};
 ghost use Rattle.naga_scope.specs.ExpressionNames.{HasOtherUses};
 ghost use Rattle.naga_wgsl_fns.specs.Errors.{IsNotYetWritten};
 ghost use Rattle.naga_wgsl_fns.specs.Items.{FunctionWriting, HasNamedItemsOf, IsEntryPoint};
-ghost use Rattle.naga_wgsl_fns.specs.Items.{IsFunctionOf, OfFunction};
+ghost use Rattle.naga_wgsl_fns.specs.Items.{OfFunction};
 
 use crate::error::{Error, not_yet_written};
 use crate::functions::write_planned;
@@ -17,7 +18,7 @@ use crate::plans::plan_of;
 use naga_acceptance::is_written_so_far;
 use naga_back::{FunctionType, WriterFlags};
 use naga_info::ModuleInfo;
-use naga_ir::{Function, Handle, Module};
+use naga_ir::Module;
 use naga_names::NameKey;
 use naga_names::namer::Namer;
 use naga_scope::GlobalExpressions;
@@ -68,8 +69,8 @@ pub fn write_function<W: TextSink>(
         return Err(not_yet_written(alloc));
     }
     match ty {
-        FunctionType::Function(handle) => {
-            write_by_plan(alloc, module, info, handle, names, namer, flags, out)
+        FunctionType::Function(_) => {
+            write_by_plan(alloc, module, info, &ty, names, namer, flags, out)
         }
         FunctionType::EntryPoint(_) => unreachable!(),
     }
@@ -80,7 +81,7 @@ fn write_by_plan<W: TextSink>(
     alloc: Global,
     module: &Module,
     info: &ModuleInfo,
-    handle: Handle<Function>,
+    ty: &FunctionType,
     names: &HashMap<NameKey, String>,
     namer: &mut Namer,
     flags: WriterFlags,
@@ -88,15 +89,16 @@ fn write_by_plan<W: TextSink>(
 ) -> Result<(), Error>
     requires accepted { IsTrue (is_accepted «module».now info.now) }
     requires written { IsTrue (is_written_so_far «module».now) }
-    requires handle { handle < length «module».now.functions }
+    requires there { IsFunctionOf ty.now «module».now }
     requires names { HasNamesOf «module».now (names_in names.now) }
     requires words { HasOtherUses wgsl_names namer.old }
     ensures function { (earlier : List (List ℕ)) → HasNamed namer.old earlier →
-        FunctionWriting «module».now info.now flags earlier handle result namer.new
+        FunctionWriting «module».now info.now flags earlier (function_number «module».now ty.now)
+        result namer.new
         (W.text out.old) (W.text out.new) (W.failures out.old) (W.failures out.new) }
     ensures words { HasOtherUses namer.old namer.new }
 {
     let globals = GlobalExpressions::of(alloc, module)?;
-    let plan = plan_of(alloc, module, info, handle, &globals, names, flags, namer)?;
-    write_planned(alloc, module, info, names, flags, handle, plan, out)
+    let plan = plan_of(alloc, module, info, ty, &globals, names, flags, namer)?;
+    write_planned(alloc, module, info, names, flags, ty, plan, out)
 }

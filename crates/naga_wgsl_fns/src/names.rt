@@ -30,7 +30,7 @@ impl FunctionText<'_> {
         requires { CanWrite self.now }
         ensures { Writes W.text W.failures out.old out.new (name_of_function self.now) }
     {
-        self.write_name(&NameKey::Function(self.handle), out);
+        self.write_name(&self.ty.key(), out);
     }
 
     #[inline(never)]
@@ -40,7 +40,7 @@ impl FunctionText<'_> {
         requires argument { number < length self.now.function.now.arguments.items }
         ensures { Writes W.text W.failures out.old out.new (name_of_argument self.now number) }
     {
-        self.write_name(&NameKey::FunctionArgument(self.handle, number), out);
+        self.write_name(&self.ty.argument_key(number), out);
     }
 
     #[inline(never)]
@@ -54,7 +54,7 @@ impl FunctionText<'_> {
         requires local { local < length self.now.function.now.local_variables }
         ensures { Writes W.text W.failures out.old out.new (name_of_local self.now local) }
     {
-        self.write_name(&NameKey::FunctionLocal(self.handle, local), out);
+        self.write_name(&self.ty.local_key(local), out);
     }
 
     /// A variable of the module.

@@ -1,8 +1,9 @@
 //! The plan of a function, or why there is none.
 
-ghost use Rattle.std.specs.Prelude.{◌≡◌, ◌<◌, [], ℕ, List, IfErr, IfOk, IsTrue, OnErr, Some};
-ghost use Rattle.std.specs.Prelude.{length, slice_get};
+ghost use Rattle.std.specs.Prelude.{◌≡◌, [], ℕ, List, IfErr, IfOk, IsTrue, OnErr, Some};
+ghost use Rattle.std.specs.Prelude.{slice_get};
 ghost use Rattle.module_meaning.specs.Accepted.{is_accepted};
+ghost use Rattle.module_meaning.specs.FunctionNumbers.{IsFunctionOf, function_number};
 ghost use Rattle.module_meaning.specs.Names.{HasNamesOf, labels_named_in, wgsl_names};
 ghost use Rattle.module_meaning.specs.WrittenSoFar.{is_written_so_far};
 ghost use Rattle.naga_ir.specs.declared.expression.Expression.{Expression};
@@ -19,12 +20,12 @@ ghost use Rattle.naga_wgsl_fns.specs.Refusals.{TellsPlanError};
 use crate::error::{Error, custom, names_error};
 use crate::forms::{statement_without_form, type_without_form, without_form};
 use crate::types::annotates_types;
-use naga_back::WriterFlags;
+use naga_back::{FunctionType, WriterFlags};
 use naga_info::{FunctionInfo, ModuleInfo, TypeResolution};
-use naga_ir::{Function, Handle, Module};
+use naga_ir::{Function, Module};
 use naga_names::NameKey;
 use naga_names::namer::Namer;
-use naga_scope::{GlobalExpressions, Plan, PlanError};
+use naga_scope::{GlobalExpressions, Plan, PlanError, function_of};
 use std::alloc::Global;
 use std::collections::HashMap;
 
@@ -36,11 +37,11 @@ use std::collections::HashMap;
 ///
 /// Else what keeps the function from having one is told by name, and `namer` has named some first
 /// ones of its labels.
-pub fn plan_of(
+pub fn plan_of<'a>(
     alloc: Global,
-    module: &Module,
-    info: &ModuleInfo,
-    handle: Handle<Function>,
+    module: &'a Module,
+    info: &'a ModuleInfo,
+    ty: &FunctionType,
     globals: &GlobalExpressions,
     names: &HashMap<NameKey, String>,
     flags: WriterFlags,
@@ -48,37 +49,35 @@ pub fn plan_of(
 ) -> Result<Plan, Error>
     requires accepted { IsTrue (is_accepted «module».now info.now) }
     requires written { IsTrue (is_written_so_far «module».now) }
-    requires handle { handle < length «module».now.functions }
+    requires there { IsFunctionOf ty.now «module».now }
     requires globals { MarksGlobals «module».now globals.now }
     requires names { HasNamesOf «module».now (names_in names.now) }
     requires words { HasOtherUses wgsl_names namer.old }
-    ensures ok { IfOk result (IsPlanOf (annotates_types flags) «module».now info.now handle) }
-    ensures named { IfOk result (λ p.
-        NamesLabels namer.old [] (labels_named_in «module».now handle) namer.new p.named) }
+    ensures ok { IfOk result (IsPlanOf (annotates_types flags) «module».now info.now
+        (function_number «module».now ty.now)) }
+    ensures named { IfOk result (λ p. NamesLabels namer.old []
+        (labels_named_in «module».now (function_number «module».now ty.now)) namer.new p.named) }
     ensures err { IfErr result (λ e. (earlier : List (List ℕ)) → HasNamed namer.old earlier →
-        IsPlanRefusal (annotates_types flags) «module».now info.now earlier handle e) }
-    ensures begun { OnErr result
-        (HasBegunLabels namer.old (labels_named_in «module».now handle) namer.new) }
+        IsPlanRefusal (annotates_types flags) «module».now info.now earlier
+        (function_number «module».now ty.now) e) }
+    ensures begun { OnErr result (HasBegunLabels namer.old
+        (labels_named_in «module».now (function_number «module».now ty.now)) namer.new) }
 {
     match Plan::of(
         alloc,
         module,
         info,
-        handle,
+        *ty,
         globals,
         names,
         annotates_types(flags),
         namer,
     ) {
         Ok(plan) => Ok(plan),
-        Err(error) => Err(error_of_plan(
-            alloc,
-            module,
-            globals,
-            &module.functions[handle],
-            &info[handle],
-            error,
-        )),
+        Err(error) => {
+            let (function, function_info) = function_of(module, info, *ty);
+            Err(error_of_plan(alloc, module, globals, function, function_info, error))
+        }
     }
 }
 

@@ -12,6 +12,7 @@ use Rattle.naga_ir.specs.declared.module.Module.{Module}
 use Rattle.naga_names.specs.Naming.{HasNamed, Names}
 use Rattle.module_meaning.specs.ExpressionLabels.{expression_labels}
 use Rattle.module_meaning.specs.ExpressionLabels.{all_expression_labels}
+use Rattle.module_meaning.specs.FunctionNumbers.{all_functions}
 use Rattle.module_meaning.specs.Names.{expression_name, item_labels, labels_before}
 use Rattle.module_meaning.specs.Names.{labels_named_in}
 use Rattle.naga_scope.specs.ExpressionNames.{NamesLabels}
@@ -24,29 +25,29 @@ use Rattle.naga_wgsl_out.specs.Writing.{IsNamedPlan}
 
 module _ (m : Module) where
   -- the labels in front of the next function
-  next_before : (g : ℕ) → g < length m.functions →
+  next_before : (g : ℕ) → g < length (all_functions m) →
       labels_before m g ++ labels_named_in m g ≡ labels_before m (g + 1)
   next_before g lt =
       let items = item_labels m in
-      let front = all_expression_labels (take g m.functions) in
+      let front = all_expression_labels (take g (all_functions m)) in
       let one = one_function in
       append_assoc items front (labels_named_in m g) ∙ ap (λ ls. items ++ ls) one
     where
-      one_function : all_expression_labels (take g m.functions) ++ labels_named_in m g ≡ all_expression_labels (take (g + 1) m.functions)
-      one_function = by (slice_get m.functions g) refl
+      one_function : all_expression_labels (take g (all_functions m)) ++ labels_named_in m g ≡ all_expression_labels (take (g + 1) (all_functions m))
+      one_function = by (slice_get (all_functions m) g) refl
         where
-          by : (o : Option Function) → slice_get m.functions g ≡ o →
-              all_expression_labels (take g m.functions) ++ option_map_or expression_labels o [] ≡ all_expression_labels (take (g + 1) m.functions)
+          by : (o : Option Function) → slice_get (all_functions m) g ≡ o →
+              all_expression_labels (take g (all_functions m)) ++ option_map_or expression_labels o [] ≡ all_expression_labels (take (g + 1) (all_functions m))
           by (Some f) at =
-              let here = sym (get_or_from_slice_get m.functions g f f at) in
-              ap (λ ls. all_expression_labels (take g m.functions) ++ ls) (sym (append-nil (expression_labels f)))
-              ∙ (sym (flat_map-append expression_labels (take g m.functions) (f ∷ []))
-              ∙ ap all_expression_labels (ap (λ q. take g m.functions ++ q ∷ []) here ∙ sym (take_more m.functions g f lt)))
-          by None at = absurd (none-some (element m.functions g lt).0 (sym at ∙ (element m.functions g lt).1))
+              let here = sym (get_or_from_slice_get (all_functions m) g f f at) in
+              ap (λ ls. all_expression_labels (take g (all_functions m)) ++ ls) (sym (append-nil (expression_labels f)))
+              ∙ (sym (flat_map-append expression_labels (take g (all_functions m)) (f ∷ []))
+              ∙ ap all_expression_labels (ap (λ q. take g (all_functions m) ++ q ∷ []) here ∙ sym (take_more (all_functions m) g f lt)))
+          by None at = absurd (none-some (element (all_functions m) g lt).0 (sym at ∙ (element (all_functions m) g lt).1))
 
   -- a plan with its names
   pub named_plan : (explicit : Bool) (info : ModuleInfo) (g : ℕ) (old new : Names)
-      (planned : Planned) → g < length m.functions → HasNamedBefore m g old →
+      (planned : Planned) → g < length (all_functions m) → HasNamedBefore m g old →
       IsPlanOf explicit m info g planned →
       NamesLabels old [] (labels_named_in m g) new planned.named →
       IsNamedPlan explicit m info g new planned
@@ -66,14 +67,14 @@ module _ (m : Module) where
           (n.names (labels_before m g) before.labels) k
 
   -- behind which none of its labels is full
-  pub none_full : (g : ℕ) (namer : Names) → g < length m.functions → HasNamedBefore m (g + 1) namer →
+  pub none_full : (g : ℕ) (namer : Names) → g < length (all_functions m) → HasNamedBefore m (g + 1) namer →
       ExpressionNamesAreFullIn m (labels_before m g) g → ⊥
   none_full g namer lt before full =
       none_full_behind m g (labels_before m g) namer before.words
       (subst (HasNamed namer) (sym (next_before g lt)) before.labels) full
 
   -- nor is one of a function that is not there
-  pub none_past : (g : ℕ) → slice_get m.functions g ≡ None → ExpressionNamesAreFullIn m (labels_before m g) g → ⊥
+  pub none_past : (g : ℕ) → slice_get (all_functions m) g ≡ None → ExpressionNamesAreFullIn m (labels_before m g) g → ⊥
   none_past g past full =
       no_label full.named full.label full.left (sym (ap (λ o. option_map_or expression_labels o []) past) ∙ full.all)
     where

@@ -11,6 +11,8 @@ use Rattle.module_meaning.specs.Enables.{needed_enables}
 use Rattle.module_meaning.specs.WrittenSoFar.{is_written_so_far}
 use Rattle.wgsl_text.specs.Declarations.{Program}
 use Rattle.naga_form.specs.Declarations.{written_program}
+use Rattle.module_meaning.specs.FunctionNumbers.{all_functions}
+use Rattle.naga_form.proofs.WritableModules.{no_further_functions}
 use Rattle.naga_form.proofs.Resolution.{resolves}
 use Rattle.naga_form.proofs.Interface.{has_interface}
 use Rattle.naga_form.proofs.Programs.{is_program}
@@ -103,7 +105,12 @@ module _ (m : Module) (info : ModuleInfo) (flags : WriterFlags)
 
   -- a plan of each function
   abbrev AllPlanned : Type 0
-  AllPlanned = (i : ℕ) → i < length m.functions → HasPlan explicit m info i
+  AllPlanned = (i : ℕ) → i < length (all_functions m) → HasPlan explicit m info i
+
+  -- so it is where those that others may call have one, since there are no others so far
+  all_planned : ((i : ℕ) → i < length m.functions → HasPlan explicit m info i) → AllPlanned
+  all_planned planned i lt =
+      planned i (subst (λ fs. i < length fs) (no_further_functions m info accepted written) lt)
 
   abbrev program : Program
   program = written_program m info explicit
@@ -141,11 +148,11 @@ module _ (m : Module) (info : ModuleInfo) (flags : WriterFlags)
   -- each label has a name
   none_reported : AllPlanned → NamerIsFull m → ⊥
   none_reported planned (inl items) = has.nameable items
-  none_reported planned (inr full) = by (slice_get m.functions full.0) refl
+  none_reported planned (inr full) = by (slice_get (all_functions m) full.0) refl
     where
-      by : (o : Option Function) → slice_get m.functions full.0 ≡ o → ⊥
+      by : (o : Option Function) → slice_get (all_functions m) full.0 ≡ o → ⊥
       by None past = none_past m full.0 past full.1
-      by (Some f) at = (planned full.0 (slice_get_within m.functions full.0 f at)).nameable full.1
+      by (Some f) at = (planned full.0 (slice_get_within (all_functions m) full.0 f at)).nameable full.1
 
   same_text : front ++ module_lines m info flags ≡ written_text m info flags
   same_text = written_lines m info flags accepted
@@ -184,23 +191,24 @@ module _ (m : Module) (info : ModuleInfo) (flags : WriterFlags)
       wrote w =
           let whole = wrote_then stands w.wrote in
           let appended = whole.appended ∙ ap (λ t. content ++ t) same_text in
-          let rules = all_planned_hold explicit m info written w.planned in
-          let have = all_planned_formed explicit m info w.planned in
-          let reading = each w.planned content now appended in
+          let planned = all_planned w.planned in
+          let rules = all_planned_hold explicit m info written planned in
+          let have = all_planned_formed explicit m info planned in
+          let reading = each planned content now appended in
           record {
             is_faithful = record {
               refusals = record {
                 written = written;
                 in_scope = rules;
                 formed = have;
-                nameable = none_reported w.planned;
+                nameable = none_reported planned;
                 keys = has.keys;
               };
               reading = record {
                 text = written_text m info flags;
                 appended = appended;
                 program = program;
-                reading = one w.planned;
+                reading = one planned;
               };
               interface = reading (HasInterfaceOf m info) (has_interface m info explicit written (functions_counted m info accepted));
               runs = reading (RunsAs m info)

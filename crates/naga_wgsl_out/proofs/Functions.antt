@@ -44,6 +44,7 @@ use Rattle.naga_wgsl_out.specs.Writing.{line_of, lines_before, lines_of, module_
 use Rattle.naga_wgsl_out.proofs.ExpressionNames.{named_plan, none_full}
 use Rattle.naga_wgsl_fns.proofs.PlanRefusals.{fault_fails}
 use Rattle.naga_wgsl_out.proofs.ModuleScopes.{has_plan_holds}
+use Rattle.module_meaning.proofs.FunctionNumbers.{below_all, function_among, info_among}
 
 functions_text : (m : Module) (info : ModuleInfo) (flags : WriterFlags) (g : ℕ) (fs : List Function)
     (ess : List (List ExpressionInfo)) → length fs ≡ length ess →
@@ -79,7 +80,7 @@ written_lines m info flags accepted =
     ∙ ap (λ t. text (enables_pieces words) ++ t) (text-append (group_end words) (functions_pieces form ++ []))))
   where
     known : (i : ℕ) (es : List ExpressionInfo) → slice_get info.functions.items i ≡ Some es → known_of info (0 + i) ≡ es
-    known i es at = let same : i ≡ 0 + i = omega arith in subst (λ h. known_of info h ≡ es) same (ap (λ o. unwrap_or o []) at)
+    known i es at = let same : i ≡ 0 + i = omega arith in subst (λ h. known_of info h ≡ es) same (ap (λ o. unwrap_or o []) (info_among info i es at))
 
 -- the first of the functions that are left
 pub next_line : (m : Module) (info : ModuleInfo) (flags : WriterFlags) (all : List (ℕ × Function))
@@ -111,7 +112,7 @@ text_is : (m : Module) (info : ModuleInfo) (flags : WriterFlags) (n : ℕ) (f : 
 text_is m info flags n f lt is =
     let at = at_enumerated 0 m.functions n f lt is in
     let same : 0 + n ≡ n = omega arith in
-    let found : slice_get m.functions f.0 ≡ Some f.1 = ap (slice_get m.functions) (at.0 ∙ same) ∙ at.2 in
+    let found = function_among m f.0 f.1 (ap (slice_get m.functions) (at.0 ∙ same) ∙ at.2) in
     sym (ap (λ o. option_map_or (λ g. text (function_pieces (function_form (annotates_types flags) (module_names m) (expression_name m f.0) m info f.0 g (known_of info f.0)))) o []) found)
 
 -- the lines that are left begin with those of the next function
@@ -217,7 +218,7 @@ module _ (m : Module) (info : ModuleInfo) (flags : WriterFlags) {n : ℕ} {conte
         IsNamedPlan (annotates_types flags) m info handle next planned
     named_at planned next plan names =
         named_plan m (annotates_types flags) info handle namer next planned
-        (subst (λ k. k < length m.functions) (sym is) lt) named_before plan names
+        (below_all m handle (subst (λ k. k < length m.functions) (sym is) lt)) named_before plan names
 
     -- one more
     pub up_to_more : (planned : Planned) (next : Names) {now : List ℕ} {failures : ℕ} →
@@ -230,7 +231,8 @@ module _ (m : Module) (info : ModuleInfo) (flags : WriterFlags) {n : ℕ} {conte
           (subst (HasPlan (annotates_types flags) m info) is (record {
             planned = planned;
             plan = plan.plan;
-            nameable = none_full m handle next (subst (λ k. k < length m.functions) (sym is) lt) plan.namer_is;
+            nameable = none_full m handle next
+                (below_all m handle (subst (λ k. k < length m.functions) (sym is) lt)) plan.namer_is;
           }));
       named = subst (λ k. HasNamedBefore m (k + 1) next) is plan.namer_is;
     }

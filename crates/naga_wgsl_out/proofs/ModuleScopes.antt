@@ -16,9 +16,10 @@ use Rattle.module_meaning.proofs.Lists.{all_pass}
 use Rattle.module_meaning.specs.WrittenSoFar.{is_written_so_far}
 use Rattle.module_meaning.specs.Written.{AllWrittenHaveForms}
 use Rattle.module_meaning.specs.Premises.{EachScopeHolds, ScopesHold, handles_are_counted}
+use Rattle.module_meaning.specs.FunctionNumbers.{all_functions, all_infos}
 use Rattle.module_meaning.specs.FunctionShapes.{function_shapes}
 use Rattle.module_meaning.proofs.ModuleShapes.{declares_functions_alone}
-use Rattle.naga_form.proofs.AcceptedFunctions.{functions_counted}
+use Rattle.naga_form.proofs.AcceptedFunctions.{all_counted}
 use Rattle.naga_names.proofs.Refusal.{element}
 use Rattle.module_meaning.specs.Names.{labels_before}
 use Rattle.naga_scope.specs.Plans.{ScopeHoldsIn}
@@ -60,7 +61,7 @@ each_from (f ∷ fs) at = (at 0 (omega arith), each_from fs (λ i lt. at (suc i)
 pub scope_holds_in : (m : Module) (info : ModuleInfo) → IsTrue (is_written_so_far m) →
     ScopesHold m info → (i : ℕ) → ScopeHoldsIn m info i
 scope_holds_in m info written rules i =
-    let own = function_shapes m info m.functions info.functions.items in
+    let own = function_shapes m info (all_functions m) (all_infos info) in
     let is_supported = subst (λ (p : shapes.Module). EachScopeHolds p.functions)
     (declares_functions_alone m info written) rules in
     each_at own (turned_back own [] is_supported).0 i
@@ -73,8 +74,8 @@ has_plan_holds explicit m info i has =
 
 -- more shapes than functions there are none
 shapes_below : (m : Module) (info : ModuleInfo) (i : ℕ) →
-    i < length (function_shapes m info m.functions info.functions.items) → i < length m.functions
-shapes_below m info i lt = by m.functions info.functions.items i lt
+    i < length (function_shapes m info (all_functions m) (all_infos info)) → i < length (all_functions m)
+shapes_below m info i lt = by (all_functions m) (all_infos info) i lt
   where
     by : (fs : List ir_function.Function) (ess : List _) (i : ℕ) →
         i < length (function_shapes m info fs ess) → i < length fs
@@ -87,9 +88,9 @@ shapes_below m info i lt = by m.functions info.functions.items i lt
 -- where each function has a plan, the rules of scope hold in the module
 pub all_planned_hold : (explicit : Bool) (m : Module) (info : ModuleInfo) →
     IsTrue (is_written_so_far m) →
-    ((i : ℕ) → i < length m.functions → HasPlan explicit m info i) → ScopesHold m info
+    ((i : ℕ) → i < length (all_functions m) → HasPlan explicit m info i) → ScopesHold m info
 all_planned_hold explicit m info written planned =
-    let own = function_shapes m info m.functions info.functions.items in
+    let own = function_shapes m info (all_functions m) (all_infos info) in
     subst (λ (p : shapes.Module). EachScopeHolds p.functions)
     (sym (declares_functions_alone m info written))
     (turned own []
@@ -98,24 +99,24 @@ all_planned_hold explicit m info written planned =
 -- and its handles are counted
 pub all_planned_counted : (explicit : Bool) (m : Module) (info : ModuleInfo) →
     IsTrue (is_accepted m info) →
-    ((i : ℕ) → i < length m.functions → HasPlan explicit m info i) → IsTrue (handles_are_counted m)
+    ((i : ℕ) → i < length (all_functions m) → HasPlan explicit m info i) → IsTrue (handles_are_counted m)
 all_planned_counted explicit m info accepted planned =
-    all_pass (λ f. nat_le (length f.expressions) (2 ^ 64)) m.functions at
+    all_pass (λ f. nat_le (length f.expressions) (2 ^ 64)) (all_functions m) at
   where
-    at : (i : ℕ) (f : ir_function.Function) → slice_get m.functions i ≡ Some f →
+    at : (i : ℕ) (f : ir_function.Function) → slice_get (all_functions m) i ≡ Some f →
         nat_le (length f.expressions) (2 ^ 64) ≡ true
     at i f is =
-        let within = slice_get_within m.functions i f is in
-        let counted = functions_counted m info accepted in
-        let known = element info.functions.items i (omega (arith, within, counted)) in
+        let within = slice_get_within (all_functions m) i f is in
+        let counted = all_counted m info accepted in
+        let known = element (all_infos info) i (omega (arith, within, counted)) in
         ((planned i within).plan f known.0 is known.1).counted
 
 -- and each written handle and each type that is spelled has a form
 pub all_planned_formed : (explicit : Bool) (m : Module) (info : ModuleInfo) →
-    ((i : ℕ) → i < length m.functions → HasPlan explicit m info i) →
+    ((i : ℕ) → i < length (all_functions m) → HasPlan explicit m info i) →
     AllWrittenHaveForms explicit m info
 all_planned_formed explicit m info planned g f known at is =
-    ((planned g (slice_get_within m.functions g f at)).plan f known at is).formed
+    ((planned g (slice_get_within (all_functions m) g f at)).plan f known at is).formed
 
 -- ---- functions without one
 expression_reported : (m : Module) (info : ModuleInfo) (i : ℕ) (error : Error) →

@@ -1,9 +1,9 @@
 -- What a `Namer` that was reset by a module knows of the module's names.
 use Rattle.std.proofs.Common.{◌≡◌, ℕ, zero, suc, ◌<◌, ◌≤◌, ◌^◌, true, false, List, length, Some}
 use Rattle.std.proofs.Common.{None, sym, ap, subst, unwrap_or, [], ◌∙◌, arith, append-nil}
-use Rattle.std.specs.Prelude.{slice_get, map, Result, Ok, Err, OnOk, IfErr, IsErr}
+use Rattle.std.specs.Prelude.{slice_get, map, nat_lt, Result, Ok, Err, OnOk, IfErr, IsErr}
 use Rattle.std.specs.FinSet as set
-use Rattle.std.proofs.lemmas.Bool.{ltb-true}
+use Rattle.std.proofs.lemmas.Bool.{and_parts, ltb-true}
 use Rattle.naga_ir.specs.declared.module.Function.{Function}
 use Rattle.naga_ir.specs.declared.module.Module.{Module}
 use Rattle.naga_keywords.specs.Words.{Words}
@@ -17,7 +17,7 @@ use Rattle.naga_names.specs.Reset.{HasNamedItems, LabelledItem, key_fits, labell
 use Rattle.naga_names.specs.Reset.{type_label}
 use Rattle.naga_names.proofs.Members.{member_named, member_put}
 use Rattle.naga_names.specs.declared.key.NameKey.TheVariants as key
-use Rattle.naga_names.proofs.NamedItems.{constant_stands, global_stands, local_stands, named_there}
+use Rattle.naga_names.proofs.NamedItems.{constant_stands, global_stands, named_there}
 use Rattle.naga_names.proofs.NamedItems.{override_stands, type_stands}
 use Rattle.module_meaning.specs.Names.{reserved_prefixes, wgsl_names, module_names, function_name}
 use Rattle.module_meaning.specs.Names.{HasNamesOf, item_labels}
@@ -26,12 +26,22 @@ use Rattle.naga_form.proofs.Names.{argument_there}
 use Rattle.naga_form.proofs.MemberNames.{puts}
 use Rattle.naga_names.proofs.Refusal.{element}
 use Rattle.module_meaning.proofs.Lists.{list_all_at}
-use Rattle.naga_form.proofs.Fits.{local_item}
+use Rattle.naga_form.proofs.Names.{local_item, local_there}
+use Rattle.module_meaning.specs.FunctionNumbers.{all_functions, function_type}
+use Rattle.naga_back.specs.FunctionContext.{argument_key, function_key}
+use Rattle.naga_back.specs.declared.context.FunctionType.{FunctionType}
+use Rattle.naga_back.specs.declared.context.FunctionType.TheVariants as item
 use Rattle.naga_wgsl_out.specs.ModuleRefusals.{ItemsAreFull, KeyIsOutOfRange, HasAllNames, HasNamedBefore}
+
+-- the number of an argument whose key can be told
+number_fits : (ty : FunctionType) (n : ℕ) → key_fits (argument_key ty n) ≡ true → nat_lt n (2 ^ 32) ≡ true
+number_fits (item.Function h) n fits = fits
+number_fits (item.EntryPoint e) n fits = (and_parts (nat_lt e (2 ^ 16)) (nat_lt n (2 ^ 32)) fits).1
 
 module _ (m : Module) (before now : NameMap) (names : Names) (has : HasNamedItems wgsl_names before (labelled_items wgsl_names m) names now) where
   -- the map has an item's name
-  function_is : (g : ℕ) (f : Function) → slice_get m.functions g ≡ Some f → now (key.Function g) ≡ Some (function_name (module_names m) g)
+  function_is : (g : ℕ) (f : Function) → slice_get (all_functions m) g ≡ Some f →
+      now (function_key (function_type m g)) ≡ Some (function_name m (module_names m) g)
   function_is g f found =
       let s = function_there m g f found in
       named_there wgsl_names before m names now has (function_item m g f) s ∙ ap Some (sym (name_is m (function_item m g f) s))
@@ -46,19 +56,22 @@ module _ (m : Module) (before now : NameMap) (names : Names) (has : HasNamedItem
         let here = member_named wgsl_names m h t at i a there before now names has in
         let named = member_put wgsl_names m h t at i a there (λ _. None) (module_names m) (puts m) in
         here ∙ ap Some (sym (ap (λ o. unwrap_or o []) named));
-    functions = λ g lt. let f = element m.functions g lt in function_is g f.0 f.1;
+    functions = λ g lt. let f = element (all_functions m) g lt in function_is g f.0 f.1;
     arguments = λ g f found n lt.
         let a = element f.arguments.items n lt in
         let s = argument_there m g f n a.0 found a.1 in
         named_there wgsl_names before m names now has (argument_item m g n a.0) s ∙ ap Some (sym (name_is m (argument_item m g n a.0) s));
     locals = λ g f found l lt.
         let v = element f.local_variables l lt in
-        let s = local_stands wgsl_names m g f l v.0 found v.1 in
-        named_there wgsl_names before m names now has (local_item g l v.0) s ∙ ap Some (sym (name_is m (local_item g l v.0) s));
+        let s = local_there m g f l v.0 found v.1 in
+        named_there wgsl_names before m names now has (local_item m g l v.0) s ∙ ap Some (sym (name_is m (local_item m g l v.0) s));
     numbers = λ g f found. at_most (length f.arguments.items) (λ n lt.
         let a = element f.arguments.items n lt in
         let s = argument_there m g f n a.0 found a.1 in
-        ltb-true n (2 ^ 32) (list_all_at (λ item. key_fits item.0) (labelled_items wgsl_names m) s.place (argument_item m g n a.0) has.keys s.there));
+        ltb-true n (2 ^ 32)
+        (number_fits (function_type m g) n
+        (list_all_at (λ item. key_fits item.0) (labelled_items wgsl_names m) s.place
+        (argument_item m g n a.0) has.keys s.there)));
     globals = λ v lt.
         let k = element m.global_variables v lt in
         let s = global_stands wgsl_names m v k.0 k.1 in

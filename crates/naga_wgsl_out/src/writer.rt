@@ -29,7 +29,7 @@ ghost use Rattle.naga_wgsl_out.specs.Writing.{written_text};
 
 use crate::enables::write_enables;
 use naga_acceptance::is_written_so_far;
-use naga_back::WriterFlags;
+use naga_back::{FunctionType, WriterFlags};
 use naga_info::ModuleInfo;
 use naga_ir::{Function, Handle, Module, Place};
 use naga_names::by_bytes::{builtin_words, reserved_words};
@@ -180,7 +180,8 @@ fn write_functions<W: TextSink>(
 {
     for index in 0..module.functions.len() {
         let handle = Place::from_index(index);
-        let plan = plan_of(alloc, module, info, handle, globals, names, flags, namer)?;
+        let ty = FunctionType::Function(handle);
+        let plan = plan_of(alloc, module, info, &ty, globals, names, flags, namer)?;
         write_function_line(alloc, module, info, names, flags, handle, plan, out)?;
     }
     Ok(())
@@ -206,7 +207,8 @@ fn write_function_line<W: TextSink>(
         (text_of_function «module».now info.now flags handle ++ codes "\n")
         (W.text out.new) (W.failures out.new) }
 {
-    write_planned(alloc, module, info, names, flags, handle, plan, out)?;
+    let ty = FunctionType::Function(handle);
+    write_planned(alloc, module, info, names, flags, &ty, plan, out)?;
     put("\n", out)
 }
 

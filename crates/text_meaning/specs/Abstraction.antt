@@ -143,13 +143,16 @@ function_read f =
 abbrev pub constant_read : tree_declarations.NamedConstant → TextConstant
 constant_read c = record { name = c.name; initialiser = expression_read c.value }
 
--- a text's functions and entry points, the last one first
+-- a text's functions, and behind them those of its entry points
+abbrev pub functions_of : tree_declarations.Program → List tree_functions.Function
+functions_of p = p.functions ++ map (λ e. e.function) p.entry_points
+
+-- what a text does; its functions stand there with the last one first
 abbrev pub program_read : tree_declarations.Program → TextModule
 program_read p =
     record {
       constants = map constant_read p.constants;
       overrides = map (λ o. o.name) p.overrides;
       globals = map module_variable_read p.globals;
-      functions = reverse
-          (map function_read p.functions ++ map (λ e. function_read e.function) p.entry_points);
+      functions = reverse (map function_read (functions_of p));
     }

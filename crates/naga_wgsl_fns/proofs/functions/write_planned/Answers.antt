@@ -4,7 +4,7 @@ use Rattle.std.specs.Option.{option_map_or}
 use Rattle.naga_scope.specs.Availabilities.{TextPoint, handles_of}
 use Rattle.naga_scope.specs.Changes.{block_changes}
 use Rattle.naga_scope.specs.Log.{HasRoom}
-use Rattle.naga_form.proofs.AcceptedFunctions.{functions_counted}
+use Rattle.module_meaning.specs.FunctionNumbers.{function_number}
 use Rattle.naga_words.proofs.Writing.{content_begun_as, content_whole_as, never_formless}
 use Rattle.naga_words.proofs.Writing.{reason_known}
 use Rattle.naga_words.proofs.Writing.{same_sink, writes_as}
@@ -18,15 +18,17 @@ use Rattle.naga_wgsl_fns.proofs.functions.write_planned.Goals as goal
 
 pub write_declaration-requires-clause-can : goal.write_declaration-requires-clause-can
 write_declaration-requires-clause-can g c =
-    let plan = plan_found (annotates_types c.args.flags) c.args.module.now c.args.info.now c.args.handle c.index.result.now
-    c.index-2.result.now c.args.plan c.index.ensures c.index-2.ensures c.requires.planned in
-    can_write _ c.requires.accepted c.requires.written c.requires.names c.index.ensures
-    c.index-2.ensures plan.formed plan.room
+    let plan = plan_found (annotates_types c.args.flags) c.args.module.now c.args.info.now
+    (function_number c.args.module.now c.args.ty.now) c.function_of.result.0.now
+    c.function_of.result.1.now c.args.plan c.function_of.ensures.function c.function_of.ensures.known c.requires.planned in
+    can_write _ c.requires.accepted c.requires.written c.requires.names c.requires.there
+    c.function_of.ensures.function c.function_of.ensures.known plan.formed plan.room
 
 pub write_declaration-requires-clause-start : goal.write_declaration-requires-clause-start
 write_declaration-requires-clause-start g c =
-    let plan = plan_found (annotates_types c.args.flags) c.args.module.now c.args.info.now c.args.handle c.index.result.now
-    c.index-2.result.now c.args.plan c.index.ensures c.index-2.ensures c.requires.planned in
+    let plan = plan_found (annotates_types c.args.flags) c.args.module.now c.args.info.now
+    (function_number c.args.module.now c.args.ty.now) c.function_of.result.0.now
+    c.function_of.result.1.now c.args.plan c.function_of.ensures.function c.function_of.ensures.known c.requires.planned in
     let named : ℕ → List ℕ = λ number.
     option_map_or string_bytes (slice_get c.as_slice.result.now number) [] in
     ap (λ (p : TextPoint). handles_of named p.table) c.into_parts-scope.ensures.scope
@@ -34,29 +36,24 @@ write_declaration-requires-clause-start g c =
 
 pub write_declaration-requires-clause-named : goal.write_declaration-requires-clause-named
 write_declaration-requires-clause-named g c =
-    let plan = plan_found (annotates_types c.args.flags) c.args.module.now c.args.info.now c.args.handle c.index.result.now
-    c.index-2.result.now c.args.plan c.index.ensures c.index-2.ensures c.requires.planned in
+    let plan = plan_found (annotates_types c.args.flags) c.args.module.now c.args.info.now
+    (function_number c.args.module.now c.args.ty.now) c.function_of.result.0.now
+    c.function_of.result.1.now c.args.plan c.function_of.ensures.function c.function_of.ensures.known c.requires.planned in
     ap (λ (p : TextPoint). p.named) c.into_parts-scope.ensures.scope ∙ plan.no_name
 
 pub write_declaration-requires-clause-size : goal.write_declaration-requires-clause-size
 write_declaration-requires-clause-size g c =
-    let plan = plan_found (annotates_types c.args.flags) c.args.module.now c.args.info.now c.args.handle c.index.result.now
-    c.index-2.result.now c.args.plan c.index.ensures c.index-2.ensures c.requires.planned in
+    let plan = plan_found (annotates_types c.args.flags) c.args.module.now c.args.info.now
+    (function_number c.args.module.now c.args.ty.now) c.function_of.result.0.now
+    c.function_of.result.1.now c.args.plan c.function_of.ensures.function c.function_of.ensures.known c.requires.planned in
     ap (λ (p : TextPoint). length p.table) c.into_parts-scope.ensures.scope ∙ plan.size
 
 pub write_declaration-requires-clause-room : goal.write_declaration-requires-clause-room
 write_declaration-requires-clause-room g c =
-    let plan = plan_found (annotates_types c.args.flags) c.args.module.now c.args.info.now c.args.handle c.index.result.now
-    c.index-2.result.now c.args.plan c.index.ensures c.index-2.ensures c.requires.planned in
-    subst (λ (p : TextPoint). HasRoom p (block_changes c.index.result.now.body)) (sym c.into_parts-scope.ensures.scope) plan.changes
-
-pub index-requires-2 : goal.index-requires-2
-index-requires-2 g c =
-    let m = c.args.module.now in
-    let info = c.args.info.now in
-    let same = functions_counted m info c.requires.accepted in
-    let counted : length info.functions.items ≡ info.functions.len = sym info.functions.ok.0 in
-    subst (λ n. c.args.handle < n) (same ∙ counted) c.requires.handle
+    let plan = plan_found (annotates_types c.args.flags) c.args.module.now c.args.info.now
+    (function_number c.args.module.now c.args.ty.now) c.function_of.result.0.now
+    c.function_of.result.1.now c.args.plan c.function_of.ensures.function c.function_of.ensures.known c.requires.planned in
+    subst (λ (p : TextPoint). HasRoom p (block_changes c.function_of.result.0.now.body)) (sym c.into_parts-scope.ensures.scope) plan.changes
 
 pub returns-in-Ok-clause-text_ok : goal.returns-in-Ok-clause-text_ok
 returns-in-Ok-clause-text_ok g c =
@@ -64,10 +61,11 @@ returns-in-Ok-clause-text_ok g c =
     content_whole_as _ _ _ _ _ (grind arith) (grind arith)
     (writes_as
     (sym
-    (ap (λ named. text_under c.args.module.now c.args.info.now c.args.flags named c.args.handle)
+    (ap (λ named. text_under c.args.module.now c.args.info.now c.args.flags named
+    (function_number c.args.module.now c.args.ty.now))
     (λ i number. sym (names_same c.as_slice.result.now c.into_parts-scope.result.1.items
     c.args.plan.named c.as_slice.ensures.value c.into_parts-scope.ensures.named number) i)
-    ∙ text_under_names _ c.index.ensures c.index-2.ensures))
+    ∙ text_under_names _ c.function_of.ensures.function c.function_of.ensures.known))
     c.write_declaration.ensures)
     c.new-written.ensures.want c.in-Ok.ensures.whole
 
@@ -77,10 +75,11 @@ returns-clause-text_err g c =
     content_begun_as _ _ _ _ _ _ (grind arith) (grind arith)
     (writes_as
     (sym
-    (ap (λ named. text_under c.args.module.now c.args.info.now c.args.flags named c.args.handle)
+    (ap (λ named. text_under c.args.module.now c.args.info.now c.args.flags named
+    (function_number c.args.module.now c.args.ty.now))
     (λ i number. sym (names_same c.as_slice.result.now c.into_parts-scope.result.1.items
     c.args.plan.named c.as_slice.ensures.value c.into_parts-scope.ensures.named number) i)
-    ∙ text_under_names _ c.index.ensures c.index-2.ensures))
+    ∙ text_under_names _ c.function_of.ensures.function c.function_of.ensures.known))
     c.write_declaration.ensures)
     c.new-written.ensures.want c.in-Err.ensures.wanting
 

@@ -1,5 +1,6 @@
 use Rattle.std.proofs.Common.{◌∙◌, refl, subst, sym}
-use Rattle.naga_wgsl_fns.specs.Items.{IsEntryPoint, IsFunctionOf}
+use Rattle.module_meaning.specs.FunctionNumbers.{IsFunctionOf, function_number}
+use Rattle.naga_wgsl_fns.specs.Items.{IsEntryPoint}
 use Rattle.naga_wgsl_fns.proofs.SingleFunctions.{for_part, items_named, no_entry_point, none_named, of_each}
 use Rattle.naga_wgsl_fns.proofs.SingleFunctions.{of_one, refused}
 use Rattle.naga_wgsl_fns.proofs.items.write_function.Goals as goal
@@ -24,23 +25,21 @@ pub returns-then-not-is_written_so_far-clause-entry_point :
 returns-then-not-is_written_so_far-clause-entry_point g c =
     λ entry. (c.not_yet_written.ensures, refl, refl, refl)
 
-pub write_by_plan-requires-clause-handle : goal.write_by_plan-requires-clause-handle
-write_by_plan-requires-clause-handle g c =
-    subst (λ t. IsFunctionOf t c.args.«module».now) c.in-Function.is c.requires.there
-
 pub write_by_plan-requires-clause-words : goal.write_by_plan-requires-clause-words
 write_by_plan-requires-clause-words g c = c.requires.namer.named.words
 
 pub returns-clause-function : goal.returns-clause-function
 returns-clause-function g c =
-    of_one c.args.ty c.in-Function.handle c.in-Function.is _ c.write_by_plan.ensures.function
+    of_one c.args.«module».now c.args.ty c.in-Function.0 c.in-Function.is _
+    c.write_by_plan.ensures.function
 
 pub returns-clause-entry_point : goal.returns-clause-entry_point
 returns-clause-entry_point g c = λ entry. absurd (subst IsEntryPoint c.in-Function.is entry)
 
 pub returns-clause-named : goal.returns-clause-named
 returns-clause-named g c =
-    items_named c.args.«module».now c.in-Function.handle c.args.namer.now c.write_by_plan.new.namer
+    items_named c.args.«module».now (function_number c.args.«module».now c.args.ty)
+    c.args.namer.now c.write_by_plan.new.namer
     c.requires.namer c.write_by_plan.ensures.words c.write_by_plan.result
     (λ earlier has. let w = c.write_by_plan.ensures.function earlier has in (w.named_ok, w.named_err))
 

@@ -6,7 +6,7 @@ use Rattle.naga_ir.specs.StatementViews.{tree_of}
 use Rattle.naga_scope.proofs.Logs.{extends_refl}
 use Rattle.naga_words.proofs.Writing.{writes_as}
 use Rattle.shader_runs.specs.Scope.{after_result}
-use Rattle.naga_wgsl_fns.specs.FunctionText.{AreInText, bound, handles_in, named_in, naming}
+use Rattle.naga_wgsl_fns.specs.FunctionText.{AreInText, bound, handles_in, named_in, naming, number}
 use Rattle.naga_wgsl_fns.specs.Statements.{act_text}
 use Rattle.naga_wgsl_fns.proofs.StatementRows.{act_after, act_is, act_roots}
 use Rattle.naga_wgsl_fns.proofs.TextHandles.{outcome_inside}
@@ -41,7 +41,7 @@ pub returns-in-Some-clause-after : goal.returns-in-Some-clause-after
 returns-in-Some-clause-after g c =
     let self = c.args.self.now in
     let s = handles_in self c.args.scope.now.table in
-    c.give.ensures.handles (module_names self.shader.now) self.shader.now (named_in self) self.handle
+    c.give.ensures.handles (module_names self.shader.now) self.shader.now (named_in self) (number self)
     ∙ (ap (λ o. after_result (naming self).names o s) (sym c.in-Some.is ∙ c.result.ensures)
     ∙ act_after self c.args.scope.now.named s (tree_of c.args.statement.now) c.requires.act)
 

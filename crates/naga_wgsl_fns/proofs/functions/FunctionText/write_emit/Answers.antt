@@ -6,7 +6,7 @@ use Rattle.module_meaning.specs.Names.{module_names}
 use Rattle.naga_scope.proofs.Emitting.{range_more, range_none}
 use Rattle.naga_scope.proofs.Logs.{extends_refl, extends_then}
 use Rattle.naga_words.proofs.Writing.{leaves_more, leaves_none, leaves_start, writes_as}
-use Rattle.naga_wgsl_fns.specs.FunctionText.{named_in, AreInText, AreLets, IsInText, IsLet, bound, handles_in, naming}
+use Rattle.naga_wgsl_fns.specs.FunctionText.{named_in, AreInText, AreLets, IsInText, IsLet, bound, callees, handles_in, naming, number}
 use Rattle.naga_wgsl_fns.proofs.TextHandles.{first_of, others_of}
 use Rattle.naga_wgsl_fns.proofs.StatementRows.{emit_row, emit_within, emitted_after, emitted_named, lets_more, lets_none}
 use Rattle.naga_wgsl_fns.proofs.Wanted.{named_after_one}
@@ -27,7 +27,7 @@ loop-index-init g c = record {
 pub write_emitted-requires-clause-handle : goal.write_emitted-requires-clause-handle
 write_emitted-requires-clause-handle g c =
     let self = c.args.self.now in
-    let within = emit_within self.handle (length self.function.now.expressions) c.args.range.first c.args.range.end c.requires.statement.in_range in
+    let within = emit_within (callees self) (length self.function.now.expressions) c.args.range.first c.args.range.end c.requires.statement.in_range in
     let here = c.from_index-handle.ensures in
     let more = c.loop-index-test.true in
     omega (arith, within, here, more)
@@ -69,7 +69,7 @@ loop-index-preserved g c =
     let here = c.from_index-handle.ensures in
     let k = c.loop-index.scope.named in
     let one : handles_in self c.emit.new.self.table ≡ after_one (naming self) k h (handles_in self c.loop-index.scope.table) =
-    c.emit.ensures.handles (module_names self.shader.now) self.shader.now self.module_info.now (named_in self) self.handle refl in
+    c.emit.ensures.handles (module_names self.shader.now) self.shader.now self.module_info.now (named_in self) (number self) refl in
     let given : c.emit.new.self.named ≡ named_after (naming self).function h k = c.emit.ensures.named ∙ sym (named_after_one self c.requires.can h k) in
     let log = i.counted in
     let names = i.names in

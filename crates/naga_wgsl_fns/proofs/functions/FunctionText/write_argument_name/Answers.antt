@@ -1,0 +1,19 @@
+use Rattle.std.proofs.Common.{ap, subst, sym, ◌∙◌}
+use Rattle.module_meaning.specs.Names.{module_names, name_in}
+use Rattle.naga_words.proofs.Writing.{writes_as}
+use Rattle.naga_wgsl_fns.proofs.OwnNames.{IsNamed, argument_is, argument_is_named}
+use Rattle.naga_wgsl_fns.proofs.functions.FunctionText.write_argument_name.Goals as goal
+
+pub write_name-requires : goal.write_name-requires
+write_name-requires g c =
+    let self = c.args.self.now in
+    record {
+      named = subst (IsNamed self c.requires.can) (sym c.argument_key.ensures) (argument_is_named self c.requires.can c.args.number c.requires.argument);
+    }
+
+pub returns : goal.returns
+returns g c =
+    let self = c.args.self.now in
+    writes_as
+    (ap (name_in (module_names self.shader.now)) c.argument_key.ensures ∙ argument_is self c.requires.can c.args.number)
+    c.write_name.ensures
