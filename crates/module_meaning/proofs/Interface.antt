@@ -26,7 +26,7 @@ use Rattle.module_meaning.specs.Interface.{function_interfaces, global_interface
 use Rattle.module_meaning.specs.Interface.{override_interface, struct_interface}
 use Rattle.module_meaning.specs.Interface.{global_expression_value}
 use Rattle.module_meaning.specs.Undeclared.{is_undeclared}
-use Rattle.module_meaning.specs.WrittenSoFar.{is_extended_struct, is_written_so_far, needs_nothing}
+use Rattle.module_meaning.specs.WrittenSoFar.{is_written_so_far}
 use Rattle.module_meaning.specs.WrittenSoFar.{type_is_written_so_far}
 use Rattle.module_meaning.proofs.ModuleShapes.{nothing_declared}
 use Rattle.module_meaning.proofs.WrittenSoFar.{written_so_far_parts}
@@ -38,12 +38,11 @@ none_where false y is = refl
 
 -- ---- structs
 -- such a type is no struct that a text declares
-none_declared : (it : TypeInner) (undeclared extended : Bool) →
-    (needs_nothing it || (is_struct it && (undeclared && not extended))) ≡ true →
-    (is_struct it && not undeclared) ≡ false
-none_declared (inner.Struct members span) true extended is = refl
-none_declared (inner.Struct members span) false extended is = absurd cc
-none_declared _ undeclared extended is = refl
+none_declared : (struct undeclared : Bool) → (not struct || undeclared) ≡ true →
+    (struct && not undeclared) ≡ false
+none_declared true true is = refl
+none_declared true false is = absurd cc
+none_declared false undeclared is = refl
 
 no_structs : (names : NameMap) (t : TypeNames) (m : Module) (h : ℕ) (ts : List Type_) →
     list_all (λ p. type_is_written_so_far m p.0 p.1) (enumerate_from h ts) ≡ true →
@@ -51,7 +50,7 @@ no_structs : (names : NameMap) (t : TypeNames) (m : Module) (h : ℕ) (ts : List
 no_structs names t m h [] all = refl
 no_structs names t m h (u ∷ ts) all =
     let parts = and_parts (type_is_written_so_far m h u) _ all in
-    let none = none_declared u.inner (is_undeclared m.special_types h) (is_extended_struct u.inner) parts.0 in
+    let none = none_declared (is_struct u.inner) (is_undeclared m.special_types h) parts.0 in
     ap₂ cons_option (none_where _ _ none) (no_structs names t m (h + 1) ts parts.1)
 
 -- ---- constants
