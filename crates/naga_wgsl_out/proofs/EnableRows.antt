@@ -1,6 +1,7 @@
 -- The text of enables, line by line.
 use Rattle.std.proofs.Common.{◌≡◌, ◌∙◌, ◌++◌, ℕ, Bool, true, false, List, [], ◌∷◌, ap, append-nil, append_assoc}
 use Rattle.std.proofs.Common.{codes, cond, drop, map, refl, sym}
+use Rattle.std.proofs.Math.Bool.{or-false, or_assoc}
 use Rattle.std.specs.Prelude.{◌||◌, if◌then◌else◌}
 use Rattle.std.specs.List.{filter, list_any}
 use Rattle.wgsl_text.proofs.Declarations as declarations
@@ -52,17 +53,9 @@ end_is (row ∷ rows) = by row.0 (end_is rows)
     by false is = is
 
 -- that there is some among them, asked from the left
-or_assoc : (a b c : Bool) → ((a || b) || c) ≡ (a || (b || c))
-or_assoc true b c = refl
-or_assoc false b c = refl
-
-or_false : (b : Bool) → b ≡ (b || false)
-or_false true = refl
-or_false false = refl
-
 any_is : (one : Bool) (rows : List (Bool × List ℕ)) →
     is_any_behind one rows ≡ (one || list_any (λ row. row.0) rows)
-any_is one [] = or_false one
+any_is one [] = sym (or-false one)
 any_is one (row ∷ rows) = any_is (one || row.0) rows ∙ or_assoc one row.0 (list_any (λ row. row.0) rows)
 
 pub enables_row : (e : Enables) → enables_text (words_among (words_found e)) ≡

@@ -1,6 +1,6 @@
 -- What was written is faithful to the module.
 use Rattle.std.proofs.Common.{◌≡◌, ◌<◌, ◌∙◌, ◌++◌, ℕ, Bool, false, List, [], ◌∷◌, Ok, Err}
-use Rattle.std.proofs.Common.{ap, drop, inl, inr, length, subst, sym, None, Option, Some, refl}
+use Rattle.std.proofs.Common.{ap, append-nil, drop, inl, inr, length, subst, sym, None, Option, Some, refl}
 use Rattle.std.proofs.Common.{slice_get}
 use Rattle.std.proofs.lemmas.Option.{slice_get_within}
 use Rattle.naga_ir.specs.declared.module.Function.{Function}
@@ -49,6 +49,15 @@ use Rattle.naga_wgsl_out.specs.ModuleRefusals.{ComesBeforeText, HasAllNames, IsN
 use Rattle.naga_wgsl_out.specs.ModuleRefusals.{IsRefusal, NamerIsFull, TellsOfFunction}
 use Rattle.naga_wgsl_out.proofs.ExpressionNames.{none_past}
 use Rattle.naga_wgsl_out.specs.Headline.{EachReading, FaithfulWriting}
+
+-- where nothing was written
+pub behind_nothing : (content piece : List ℕ) → IsBehind content piece content
+behind_nothing content piece = ([], piece, refl, sym (append-nil content))
+
+pub refused_behind_nothing : (r : Result Unit Error) (content piece : List ℕ) →
+    OnErr r (IsBehind content piece content)
+refused_behind_nothing (Ok x) content piece = tt
+refused_behind_nothing (Err e) content piece = behind_nothing content piece
 
 -- what stands behind the same text is the same
 same_behind : (content a b : List ℕ) → content ++ a ≡ content ++ b → a ≡ b

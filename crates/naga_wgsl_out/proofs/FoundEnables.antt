@@ -3,15 +3,12 @@
 -- Throughout, test says of an item which extensions it needs.
 use Rattle.std.proofs.Common.{◌≡◌, ◌+◌, ◌<◌, ◌∙◌, ℕ, Bool, List, [], ◌∷◌, ap, drop, false, get_or, length}
 use Rattle.std.proofs.Common.{refl, sym, true, add-one, drop-cons}
+use Rattle.std.proofs.Math.Bool.{or-false, or_assoc}
 use Rattle.std.specs.Prelude.{◌||◌}
 use Rattle.std.specs.List.{enumerate_from, list_any}
 use Rattle.module_meaning.specs.Enables.{Extension}
 use Rattle.naga_wgsl_out.specs.declared.enables.Enables.{Enables}
 use Rattle.naga_wgsl_out.specs.Enables.{either, enables_of}
-
-or_assoc : (a b c : Bool) → ((a || b) || c) ≡ (a || (b || c))
-or_assoc true b c = refl
-or_assoc false b c = refl
 
 either_assoc : (a b c : Enables) → either (either a b) c ≡ either a (either b c)
 either_assoc a b c = λ i. record {
@@ -55,28 +52,24 @@ found_at test found next one whole item items index within at is one_is holds =
     ∙ (ap (λ ys. either found (enables_among test ys)) (sym split) ∙ holds))
 
 -- behind the last
-or_false : (b : Bool) → b ≡ (b || false)
-or_false true = refl
-or_false false = refl
-
 pub found_all : {X : Type 0} (test : Extension → X → Bool) (found whole : Enables) (left : List X) →
     left ≡ [] → either found (enables_among test left) ≡ whole → found ≡ whole
 found_all test found whole left none holds =
-    both ∙ (ap (λ items. either found (enables_among test items)) (sym none) ∙ holds)
+    sym both ∙ (ap (λ items. either found (enables_among test items)) (sym none) ∙ holds)
   where
-    both : found ≡ either found (enables_of (λ x. false))
+    both : either found (enables_of (λ x. false)) ≡ found
     both = λ i. record {
-      f16 = or_false found.f16 i;
-      int16 = or_false found.int16 i;
-      dual_source_blending = or_false found.dual_source_blending i;
-      clip_distances = or_false found.clip_distances i;
-      mesh_shader = or_false found.mesh_shader i;
-      binding_array = or_false found.binding_array i;
-      draw_index = or_false found.draw_index i;
-      primitive_index = or_false found.primitive_index i;
-      cooperative_matrix = or_false found.cooperative_matrix i;
-      ray_tracing_pipeline = or_false found.ray_tracing_pipeline i;
-      per_vertex = or_false found.per_vertex i;
+      f16 = or-false found.f16 i;
+      int16 = or-false found.int16 i;
+      dual_source_blending = or-false found.dual_source_blending i;
+      clip_distances = or-false found.clip_distances i;
+      mesh_shader = or-false found.mesh_shader i;
+      binding_array = or-false found.binding_array i;
+      draw_index = or-false found.draw_index i;
+      primitive_index = or-false found.primitive_index i;
+      cooperative_matrix = or-false found.cooperative_matrix i;
+      ray_tracing_pipeline = or-false found.ray_tracing_pipeline i;
+      per_vertex = or-false found.per_vertex i;
     }
 
 -- ---- arenas, whose items come with their handles

@@ -1,7 +1,8 @@
 use Rattle.std.proofs.Common.{◌≡◌, ◌∙◌, ap, subst, sym, true}
 use Rattle.module_meaning.specs.WrittenSoFar.{is_written_so_far}
 use Rattle.naga_scope.proofs.WrittenConstants.{globals_in_order}
-use Rattle.naga_wgsl_out.proofs.Faithful.{Concludes, concludes}
+use Rattle.naga_wgsl_out.proofs.Faithful.{Concludes, behind_nothing, concludes, concludes_in_front}
+use Rattle.naga_wgsl_out.proofs.Faithful.{refused_behind_nothing}
 use Rattle.naga_wgsl_out.proofs.ReportedNames.{names_tell_of_none, not_written_tells_of_none}
 use Rattle.naga_wgsl_out.proofs.writer.Writer.write.Goals as goal
 
@@ -35,6 +36,36 @@ returns g c =
       flags = ap (λ w. w.flags) c.self.view_is;
     }
 
+pub returns-in_err-write_enables : goal.returns-in_err-write_enables
+returns-in_err-write_enables g c =
+    let m = c.args.«module».now in
+    let info = c.args.info.now in
+    let written : is_written_so_far m ≡ true =
+    sym c.is_written_so_far.ensures ∙ c.if-not-is_written_so_far.false in
+    let accepted = c.requires.accepted in
+    let r = c.from_residual-in_err-write_enables.result in
+    let now = g.W.TextSink.text c.write_enables.new.out in
+    let after = g.W.TextSink.failures c.write_enables.new.out in
+    let names = c.in_ok-names.ensures.ok in
+    let end = concludes_in_front m info c.self.inside.flags accepted written _ names
+    _ now _ after r _ c.from_residual-in_err-write_enables.ensures.1 c.in_err-write_enables.ensures in
+    let ends = subst
+    (λ w. Concludes m info w.flags accepted written _ names r
+    (g.W.TextSink.text w.sink) now (g.W.TextSink.failures w.sink) after)
+    c.self.view_is end in
+    record {
+      faithful = ends.is_faithful;
+      resolution = ends.resolved;
+      bindings = ends.binds;
+      text_ok = ends.text_ok;
+      text_err = ends.text_err;
+      failures_ok = ends.failures_ok;
+      untouched = ends.untouched;
+      written_before = ends.written_before;
+      unfailed = ends.unfailed;
+      flags = ap (λ w. w.flags) c.self.view_is;
+    }
+
 pub returns-in_err-names-clause-written_before : goal.returns-in_err-names-clause-written_before
 returns-in_err-names-clause-written_before g c =
     names_tell_of_none c.args.«module».now _ c.from_residual-in_err-names.result _
@@ -51,3 +82,14 @@ pub returns-then-not-is_written_so_far-clause-written_before :
     goal.returns-then-not-is_written_so_far-clause-written_before
 returns-then-not-is_written_so_far-clause-written_before g c =
     λ of. absurd (not_written_tells_of_none c.args.«module».now _ c.not_yet_written.ensures of)
+
+pub returns-then-not-is_written_so_far-clause-text_err :
+    goal.returns-then-not-is_written_so_far-clause-text_err
+returns-then-not-is_written_so_far-clause-text_err g c = behind_nothing _ _
+
+pub returns-in_err-globals-clause-text_err : goal.returns-in_err-globals-clause-text_err
+returns-in_err-globals-clause-text_err g c = refused_behind_nothing c.from_residual.result _ _
+
+pub returns-in_err-names-clause-text_err : goal.returns-in_err-names-clause-text_err
+returns-in_err-names-clause-text_err g c =
+    refused_behind_nothing c.from_residual-in_err-names.result _ _

@@ -1,0 +1,46 @@
+use Rattle.std.proofs.Common.{◌≡◌, ◌∙◌, Some, ap, arith, subst}
+use Rattle.module_meaning.specs.Enables.{is_needed}
+use Rattle.naga_words.proofs.Writing.{content_begun_as, content_whole_as, never_failed}
+use Rattle.naga_words.proofs.Writing.{never_formless, reason_known, same_sink, writes_as}
+use Rattle.naga_wgsl_fns.specs.Errors.{IsWant}
+use Rattle.naga_wgsl_fns.proofs.FunctionRows.{reason_reported}
+use Rattle.naga_wgsl_out.specs.Enables.{enables_text, words_among, words_found}
+use Rattle.naga_wgsl_out.proofs.EnableRows.{words_needed}
+use Rattle.naga_wgsl_out.proofs.enables.write_enables.Goals as goal
+
+pub returns-in-Ok : goal.returns-in-Ok
+returns-in-Ok g c =
+    let same : c.write.new.out.sink.ghost_name ≡ c.new-written.result.sink.ghost_name = same_sink _ _ _ c.write.ensures in
+    let text_is = ap (λ e. enables_text (words_among (words_found e))) c.of.ensures
+    ∙ ap enables_text (words_needed (is_needed c.args.«module».now)) in
+    let kept : g.W.TextSink.failures c.write.new.out.sink.now ≡ g.W.TextSink.failures c.new-written.result.sink.now =
+    never_failed _ _ _ c.write.ensures c.new-written.ensures.want c.in-Ok.ensures.whole in
+    record {
+      appended =
+          content_whole_as _ _ _ _ _ (grind arith) (grind arith) (writes_as text_is c.write.ensures)
+          c.new-written.ensures.want c.in-Ok.ensures.whole;
+      kept = grind arith;
+    }
+
+pub returns-in-Err : goal.returns-in-Err
+returns-in-Err g c =
+    let same : c.write.new.out.sink.ghost_name ≡ c.new-written.result.sink.ghost_name = same_sink _ _ _ c.write.ensures in
+    let text_is = ap (λ e. enables_text (words_among (words_found e))) c.of.ensures
+    ∙ ap enables_text (words_needed (is_needed c.args.«module».now)) in
+    let reason = reason_known _ _ _ c.in-Err.want c.write.ensures c.new-written.ensures.want c.in-Err.ensures.wanting in
+    let reported = reason_reported (g.W.TextSink.failures c.new-written.result.sink.now)
+    (g.W.TextSink.failures c.write.new.out.sink.now) c.in-Err.want
+    c.error_of_want.result reason c.error_of_want.ensures in
+    let before = ap (λ s. g.W.TextSink.failures s) c.new-written.ensures.content in
+    record {
+      behind =
+          content_begun_as _ _ _ _ _ _ (grind arith) (grind arith) (writes_as text_is c.write.ensures)
+          c.new-written.ensures.want c.in-Err.ensures.wanting;
+      reason = subst (λ n. IsWant (g.W.TextSink.failures c.args.out.now) n c.error_of_want.result) (grind arith)
+          (subst (λ n. IsWant n (g.W.TextSink.failures c.write.new.out.sink.now) c.error_of_want.result) before reported);
+    }
+
+pub error_of_want-requires : goal.error_of_want-requires
+error_of_want-requires g c is =
+    never_formless _ _ _ c.write.ensures c.new-written.ensures.want
+    (c.in-Err.ensures.wanting ∙ ap Some is)
