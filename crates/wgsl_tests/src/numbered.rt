@@ -45,7 +45,7 @@ impl<'a> NumberedTypes<'a> {
     }
 }
 
-#[tactic(auto, using(naga_words::proofs::PartWriting::begun_at_once, naga_words::proofs::PartWriting::outcomes))]
+#[tactic(auto, using(naga_words::proofs::SegmentWriting::begun_at_once, naga_words::proofs::SegmentWriting::outcomes))]
 impl TypeContext for NumberedTypes<'_> {
     ghost context = { λ c. numbered_context c.types.now };
 
