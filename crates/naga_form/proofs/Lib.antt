@@ -12,6 +12,7 @@ pub mod AlikeNumbers
 pub mod AlikeParts
 pub mod AlikeTypes
 pub mod AllowedParts
+pub mod Attributes
 pub mod Bindings
 pub mod ConsistentModules
 pub mod ConstantForms

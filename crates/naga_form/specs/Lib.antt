@@ -1,3 +1,4 @@
+pub mod Attributes
 pub mod ConstantForms
 pub mod Declarations
 pub mod Expressions
