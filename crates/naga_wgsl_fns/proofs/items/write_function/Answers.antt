@@ -30,7 +30,7 @@ write_by_plan-requires-clause-words g c = c.requires.namer.named.words
 
 pub returns-clause-function : goal.returns-clause-function
 returns-clause-function g c =
-    of_one c.args.«module».now c.args.ty c.in-Function.0 c.in-Function.is _
+    of_one c.args.«module».now c.args.ty c.in-Function.field-0 c.in-Function.is _
     c.write_by_plan.ensures.function
 
 pub returns-clause-entry_point : goal.returns-clause-entry_point
