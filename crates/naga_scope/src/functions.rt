@@ -26,7 +26,10 @@ pub fn function_of<'a>(
         FunctionType::Function(handle) => (&module.functions[handle], &info[handle]),
         FunctionType::EntryPoint(index) => {
             let index = index as usize;
-            (&module.entry_points[index].function, info.get_entry_point(index))
+            (
+                &module.entry_points[index].function,
+                info.get_entry_point(index),
+            )
         }
     }
 }
