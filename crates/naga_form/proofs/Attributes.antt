@@ -2,10 +2,10 @@
 --
 -- Throughout, b is a binding, i an interpolation, s a sampling, d are decorations, e is an entry point
 -- and names are those of its module.
-use Rattle.std.proofs.Common.{◌≡◌, ℕ, ◌<◌, ◌^◌, Bool, true, false, List, [], ◌∷◌, ◌++◌, ◌==◌, ◌&&◌, ◌||◌, Option, Some, None, length}
+use Rattle.std.proofs.Common.{◌≡◌, ℕ, ◌<◌, ◌^◌, Bool, true, false, List, [], ◌∷◌, ◌++◌, Option, Some, None}
 use Rattle.std.proofs.Common.{refl, sym, ap, subst, ◌∙◌, codes}
-use Rattle.std.specs.Prelude.{IsTrue, if◌then◌else◌, unwrap_or}
-use Rattle.std.specs.List.{list_all, list_any}
+use Rattle.std.specs.Prelude.{unwrap_or}
+use Rattle.std.specs.List.{list_any}
 use Rattle.std.specs.Option.{is_some, option_map, option_map_or}
 use Rattle.std.proofs.lemmas.Bool.{and_parts, ltb-true}
 use Rattle.std.proofs.lemmas.Option.{same_Some}
@@ -20,7 +20,6 @@ use Rattle.naga_ir.specs.declared.binding.Interpolation.TheVariants as interpola
 use Rattle.naga_ir.specs.declared.binding.ResourceBinding.{ResourceBinding}
 use Rattle.naga_ir.specs.declared.binding.Sampling.{Sampling}
 use Rattle.naga_ir.specs.declared.binding.Sampling.TheVariants as sampling
-use Rattle.naga_ir.specs.declared.flags.MemoryDecorations.{MemoryDecorations}
 use Rattle.naga_ir.specs.declared.module.EntryPoint.{EntryPoint}
 use Rattle.naga_ir.specs.declared.module.GlobalVariable.{GlobalVariable}
 use Rattle.naga_ir.specs.declared.module.MeshStageInfo.{MeshStageInfo}
@@ -32,11 +31,10 @@ use Rattle.wgsl_text.proofs.ValueWords.{value_words}
 use Rattle.wgsl_text.specs.Attributes.{Attribute, PlainAttribute, WordedAttribute, Invariant, IsAttributes, Numbered, Plain, PerPrimitive, BlendSource, Coherent, Volatile}
 use Rattle.wgsl_text.specs.Attributes.{Worded, Compute, Task, AnyHit, ClosestHit, Miss, Mesh, Payload, IncomingPayload}
 use Rattle.wgsl_text.specs.Attributes.{behind_location, is_global_binding, is_id, is_io_binding, is_member_binding, is_stage}
-use Rattle.wgsl_text.specs.Tables.{builtin_value_words, interpolation_words, sampling_words}
-use Rattle.wgsl_text.specs.Words.{stands_in, IsIdentifier}
+use Rattle.wgsl_text.specs.Words.{IsIdentifier}
 use Rattle.text_meaning.specs.Attributes.{AnyHitStage, BuiltinValue, ClosestHitStage, ComputeStage, MeshStage, MissStage, TaskStage}
 use Rattle.text_meaning.specs.Attributes.{ResourceBinding as Resource}
-use Rattle.text_meaning.specs.Attributes.{AtLocation, LocationBinding, StageBinding, alignment_read, behind_alignment, behind_location_read}
+use Rattle.text_meaning.specs.Attributes.{AtLocation, LocationBinding, alignment_read, behind_alignment, behind_location_read}
 use Rattle.text_meaning.specs.Attributes.{behind_size, default_interpolation, default_sampling, id_read, is_coherent, is_volatile}
 use Rattle.text_meaning.specs.Attributes.{plain_location, resource_binding_read, size_read, stage_binding_read, stage_read}
 use Rattle.module_meaning.specs.Interface.{stage_of}
@@ -291,11 +289,12 @@ passing_is (Some (BuiltIn value)) fits = builtin_is value (builtin_word value) r
 passing_is (Some (Location location i s source per_primitive)) fits =
     let parts = and_parts (fits_32_bits location) (option_map_or fits_32_bits source true) fits in
     let own_i = unwrap_or i interpolation.Perspective in
-    let own_s = unwrap_or s sampling.Center in
-    (plain_number location parts.0,
-    both_attributes (attribute_of (Numbered BlendSource) source) _ (source_is source parts.1)
-    (both_attributes (interpolation_attributes i s) _ (told_is (is_perspective own_i) (is_center own_s) own_i own_s)
-    (plain_if PerPrimitive per_primitive)))
+    let own_s = unwrap_or s sampling.Center in (
+      plain_number location parts.0,
+      both_attributes (attribute_of (Numbered BlendSource) source) _ (source_is source parts.1)
+          (both_attributes (interpolation_attributes i s) _ (told_is (is_perspective own_i) (is_center own_s) own_i own_s)
+          (plain_if PerPrimitive per_primitive)),
+    )
 
 -- only a position is invariant
 invariant_is : (value : builtins.BuiltIn) → is_invariant value ≡ true → builtin_word value ≡ Some (codes "position")

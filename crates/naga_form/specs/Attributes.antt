@@ -1,12 +1,12 @@
 -- The attributes that are written for what a module's declarations have: bindings of inputs and
--- outputs, ids of overrides, resources and decorations of variables, and stages of entry points. What
--- WGSL has no word for, and a stage without what it needs, is refused; here its attribute is left
--- out.
+-- outputs, ids of overrides, resources and decorations of variables, and stages of entry points.
+-- What WGSL has no word for, and a stage without what it needs, is refused; here its attribute is
+-- left out.
 --
 -- Throughout, names are those of the module, i is an interpolation, s a sampling, w a word, n a
 -- number, and d are decorations.
 use Rattle.std.specs.Prelude.{ℕ, Bool, true, false, List, [], ◌∷◌, ◌++◌, Option, Some, None}
-use Rattle.std.specs.Prelude.{if◌then◌else◌, unwrap_or}
+use Rattle.std.specs.Prelude.{unwrap_or}
 use Rattle.std.specs.Option.{option_map_or}
 use Rattle.naga_ir.specs.declared.binding.Binding.{Binding}
 use Rattle.naga_ir.specs.declared.binding.Binding.TheVariants.{BuiltIn, Location}
