@@ -2,7 +2,7 @@
 
 ghost use Rattle.std.specs.Prelude.{◌≡◌, false, slice_get};
 ghost use Rattle.std.specs.List.{list_all};
-ghost use Rattle.std.specs.Option.{is_none, option_map_or};
+ghost use Rattle.std.specs.Option.{is_none};
 ghost use Rattle.module_meaning.specs.WrittenSoFar.{declares_functions, function_is_written};
 ghost use Rattle.module_meaning.specs.WrittenSoFar.{is_unbound, is_written_so_far};
 ghost use Rattle.module_meaning.specs.WrittenSoFar.{type_is_written_so_far};

@@ -1,10 +1,9 @@
 -- The text of enables, line by line.
-use Rattle.std.proofs.Common.{◌≡◌, ◌∙◌, ◌++◌, ℕ, Bool, true, false, List, [], ◌∷◌, ap, append-nil, append_assoc}
+use Rattle.std.proofs.Common.{◌≡◌, ◌∙◌, ◌++◌, ℕ, Bool, true, false, List, [], ◌∷◌, ap, append_assoc}
 use Rattle.std.proofs.Common.{codes, cond, drop, map, refl, sym}
 use Rattle.std.proofs.Math.Bool.{or-false, or_assoc}
 use Rattle.std.specs.Prelude.{◌||◌, if◌then◌else◌}
 use Rattle.std.specs.List.{filter, list_any}
-use Rattle.wgsl_text.proofs.Declarations as declarations
 use Rattle.wgsl_text.specs.Declarations.{enables_pieces}
 use Rattle.wgsl_text.specs.Functions.{group_end}
 use Rattle.wgsl_text.specs.Text.{text}

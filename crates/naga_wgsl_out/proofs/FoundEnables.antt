@@ -2,7 +2,7 @@
 --
 -- Throughout, test says of an item which extensions it needs.
 use Rattle.std.proofs.Common.{◌≡◌, ◌+◌, ◌<◌, ◌∙◌, ℕ, Bool, List, [], ◌∷◌, ap, drop, false, get_or, length}
-use Rattle.std.proofs.Common.{refl, sym, true, add-one, drop-cons}
+use Rattle.std.proofs.Common.{refl, sym, add-one, drop-cons}
 use Rattle.std.proofs.Math.Bool.{or-false, or_assoc}
 use Rattle.std.specs.Prelude.{◌||◌}
 use Rattle.std.specs.List.{enumerate_from, list_any}

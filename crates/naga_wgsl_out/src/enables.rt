@@ -1,7 +1,7 @@
 //! The extensions that a text enables: those that the module needs, found in one pass over its types,
 //! its variables and its entry points, without memory.
 
-ghost use Rattle.std.specs.Prelude.{◌≡◌, ◌||◌, false, true};
+ghost use Rattle.std.specs.Prelude.{◌≡◌, false, true};
 ghost use Rattle.std.specs.List.{list_any};
 ghost use Rattle.std.specs.Option.{option_map_or};
 ghost use Rattle.module_meaning.specs.Enables.{entry_point_needs, is_needed, needed_enables};
