@@ -169,6 +169,9 @@ def has_parts(ty):
 def part_of(ty, index=None):
     """The type of the part at a computed index, or a known one, or of a pointer to it; none where there is none."""
     part = value_part(whole_of(ty), index)
+    # it has no spelling in the space of images and samplers, and is no pointer there
+    if part and ty[0] == "value pointer":
+        return ("value pointer", 0, part[1], space_of(ty))
     return part and (pointer_to(part, space_of(ty)) if points(ty) else part)
 
 
