@@ -4,6 +4,7 @@ pub mod AgreeingOperators
 pub mod AlikeTypes
 pub mod Bindings
 pub mod Conversions
+pub mod DeclarationForms
 pub mod DeclaredItems
 pub mod Enables
 pub mod ExpressionOperators
