@@ -37,6 +37,7 @@ use Rattle.text_meaning.specs.Attributes.{ResourceBinding as Resource}
 use Rattle.text_meaning.specs.Attributes.{AtLocation, LocationBinding, alignment_read, behind_alignment, behind_location_read}
 use Rattle.text_meaning.specs.Attributes.{behind_size, default_interpolation, default_sampling, id_read, is_coherent, is_volatile}
 use Rattle.text_meaning.specs.Attributes.{plain_location, resource_binding_read, size_read, stage_binding_read, stage_read}
+use Rattle.module_meaning.specs.DeclarationForms.{binding_has_form, stage_has_form}
 use Rattle.module_meaning.specs.Interface.{stage_of}
 use Rattle.module_meaning.specs.Names.{global_name}
 use Rattle.module_meaning.specs.Numbers.{binding_fits_32_bits, fits_32_bits, resource_fits_32_bits}
@@ -100,18 +101,13 @@ meant_sampling None = refl
 meant_sampling (Some s) = refl
 
 -- ---- bindings
--- a value of the hardware has a word
-abbrev pub has_word : Binding → Bool
-has_word (BuiltIn value) = is_some (builtin_word value)
-has_word (Location location i s source per_primitive) = true
-
 builtin_read : (w : Option (List ℕ)) (invariant : Bool) → is_some w ≡ true →
     stage_binding_read (builtin_attributes w invariant) ≡ BuiltinValue w invariant
 builtin_read None invariant is = absurd cc
 builtin_read (Some w) true is = refl
 builtin_read (Some w) false is = refl
 
-binding_read : (b : Binding) → has_word b ≡ true → stage_binding_read (binding_attributes b) ≡ binding_meant b
+binding_read : (b : Binding) → binding_has_form b ≡ true → stage_binding_read (binding_attributes b) ≡ binding_meant b
 binding_read (BuiltIn value) is = builtin_read (builtin_word value) (is_invariant value) is
 binding_read (Location location i s source per_primitive) is =
     let own_i = unwrap_or i interpolation.Perspective in
@@ -121,7 +117,7 @@ binding_read (Location location i s source per_primitive) is =
     ∙ (λ j. AtLocation (told_location location source (meant_interpolation i j) (meant_sampling s j) per_primitive))
 
 -- what is written of an argument, a result or a member says how it passes
-pub passing_read : (b : Option Binding) → option_map_or has_word b true ≡ true →
+pub passing_read : (b : Option Binding) → option_map_or binding_has_form b true ≡ true →
     stage_binding_read (passing_attributes b) ≡ stage_binding b
 passing_read None is = refl
 passing_read (Some b) is = binding_read b is
@@ -177,15 +173,6 @@ pub volatile_is_read : (g : GlobalVariable) → list_any is_volatile (global_att
 volatile_is_read g = volatile_read g.binding (is_coherent_memory g.memory_decorations) (is_volatile_memory g.memory_decorations)
 
 -- ---- entry points
--- a stage has its payload or its mesh output
-abbrev pub has_its_variables : EntryPoint → ShaderStage → Bool
-has_its_variables e stage.Mesh = is_some e.mesh_info
-has_its_variables e stage.Task = is_some e.task_payload
-has_its_variables e stage.AnyHit = is_some e.incoming_ray_payload
-has_its_variables e stage.ClosestHit = is_some e.incoming_ray_payload
-has_its_variables e stage.Miss = is_some e.incoming_ray_payload
-has_its_variables e _ = true
-
 -- with three sizes
 module _ (names : NameMap) (e : EntryPoint) (x y z : ℕ) (sizes : e.workgroup_size ≡ x ∷ y ∷ z ∷ []) where
   abbrev size : List ℕ
@@ -206,7 +193,7 @@ module _ (names : NameMap) (e : EntryPoint) (x y z : ℕ) (sizes : e.workgroup_s
   task_read (Some payload) is = refl
 
   -- what is written of an entry point says of what stage it is
-  pub stage_is_read : (s : ShaderStage) → has_its_variables e s ≡ true →
+  pub stage_is_read : (s : ShaderStage) → stage_has_form e s ≡ true →
       stage_read (stage_attributes names e s) ≡ stage_of names e s
   stage_is_read stage.Vertex is = refl
   stage_is_read stage.Fragment is = refl
@@ -389,7 +376,7 @@ module _ (names : NameMap) (e : EntryPoint) (x y z : ℕ) (sizes : e.workgroup_s
   task_stage None is = absurd cc
   task_stage (Some payload) is = refl
 
-  pub stage_is : (s : ShaderStage) → has_its_variables e s ≡ true → is_stage (stage_attributes names e s) ≡ true
+  pub stage_is : (s : ShaderStage) → stage_has_form e s ≡ true → is_stage (stage_attributes names e s) ≡ true
   stage_is stage.Vertex is = refl
   stage_is stage.Fragment is = refl
   stage_is stage.Compute is = ap (λ l. is_stage (Plain Compute ∷ size_attributes l)) sizes

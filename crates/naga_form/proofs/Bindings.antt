@@ -13,7 +13,7 @@ use Rattle.naga_ir.specs.declared.module.Module.{Module}
 use Rattle.naga_info.specs.declared.info.ExpressionInfo.{ExpressionInfo}
 use Rattle.naga_info.specs.declared.info.ModuleInfo.{ModuleInfo}
 use Rattle.module_meaning.specs.Accepted.{is_accepted}
-use Rattle.module_meaning.specs.WrittenSoFar.{is_written_so_far}
+use Rattle.module_meaning.specs.DeclarationForms.{DeclarationsHaveForms}
 use Rattle.naga_names.specs.Keys.{NameMap}
 use Rattle.naga_words.specs.Contexts.{names_of, Names as TypeNames}
 use Rattle.shader_runs.specs.Program.{binds, from}
@@ -226,7 +226,7 @@ functions_tell explicit names m info g (f ∷ fs) (es ∷ ess) =
     λ i. line i ∷ functions_tell explicit names m info (g + 1) fs ess i
 
 pub binds_as : (m : Module) (info : ModuleInfo) (explicit : Bool) → IsTrue (is_accepted m info) →
-    IsTrue (is_written_so_far m) → AllWrittenHaveForms explicit m info →
+    DeclarationsHaveForms m → AllWrittenHaveForms explicit m info →
     BindsAs m info explicit (written_program m info explicit)
 binds_as m info explicit accepted written have =
     let names = ap text_lets (reads_as_shapes m info explicit accepted written have) ∙ binds_as_meant (module_shape m info) (outer_names (module_names m) m) (namings (module_names m) m info) in

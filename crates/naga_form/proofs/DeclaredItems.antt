@@ -24,7 +24,7 @@ use Rattle.module_meaning.specs.DeclaredItems.{resolution_items, stage_variables
 use Rattle.module_meaning.specs.Resolution.{MembersResolve, TypesResolve}
 use Rattle.module_meaning.specs.Types.{type_names}
 use Rattle.module_meaning.specs.Undeclared.{is_undeclared}
-use Rattle.module_meaning.specs.WrittenSoFar.{is_written_so_far}
+use Rattle.module_meaning.specs.DeclarationForms.{DeclarationsHaveForms}
 use Rattle.module_meaning.proofs.ModuleShapes.{nothing_declared}
 use Rattle.module_meaning.proofs.WrittenSoFar.{spellable_parts, written_so_far_parts}
 use Rattle.naga_form.proofs.AlikeNumbers.{is_no}
@@ -37,7 +37,7 @@ use Rattle.naga_form.proofs.WrittenTypes.{struct_undeclared, tree_there}
 use Rattle.naga_form.specs.Declarations.{written_program}
 
 module _ (m : Module) (info : ModuleInfo) (explicit : Bool) (accepted : IsTrue (is_accepted m info))
-    (written : IsTrue (is_written_so_far m))
+    (written : DeclarationsHaveForms m)
   where
     abbrev program : Program
     program = written_program m info explicit

@@ -39,7 +39,7 @@ use Rattle.module_meaning.specs.Interface.{argument_passed, result_passed, funct
 use Rattle.module_meaning.specs.Interface.{function_interfaces}
 use Rattle.module_meaning.specs.StageBindings.{stage_binding}
 use Rattle.module_meaning.specs.Faithful.{HasInterfaceOf}
-use Rattle.module_meaning.specs.WrittenSoFar.{function_is_written, is_written_so_far}
+use Rattle.module_meaning.specs.DeclarationForms.{DeclarationsHaveForms}
 use Rattle.module_meaning.proofs.Interface.{functions_declared_alone}
 use Rattle.module_meaning.proofs.WrittenSoFar.{functions_are_written}
 
@@ -112,7 +112,7 @@ function_interfaces_form explicit names m info g (f ∷ fs) (es ∷ ess) size is
     function_interfaces_form explicit names m info (g + 1) fs ess (ap pred size) parts.1 i
 
 pub has_interface : (m : Module) (info : ModuleInfo) (explicit : Bool) →
-    IsTrue (is_written_so_far m) → length m.functions ≡ length info.functions.items →
+    DeclarationsHaveForms m → length m.functions ≡ length info.functions.items →
     HasInterfaceOf m info (written_program m info explicit)
 has_interface m info explicit written size settings fits meaning typed world =
     let functions = function_interfaces_form explicit (module_names m) m info 0 m.functions info.functions.items size (functions_are_written m written) in

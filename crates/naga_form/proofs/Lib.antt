@@ -38,6 +38,7 @@ pub mod LiteralTypes
 pub mod Literals
 pub mod Meanings
 pub mod MemberNames
+pub mod ModuleFits
 pub mod ModulePlaces
 pub mod NamedConstants
 pub mod Names

@@ -15,19 +15,20 @@ use Rattle.module_meaning.specs.Accepted.{is_accepted}
 use Rattle.module_meaning.specs.Meanings.{HasTypedWorld, IsNeverStuck}
 use Rattle.module_meaning.specs.ModuleShapes.{module_shape}
 use Rattle.module_meaning.specs.Names.{module_names, function_name}
-use Rattle.module_meaning.specs.WrittenSoFar.{is_written_so_far}
+use Rattle.module_meaning.specs.DeclarationForms.{DeclarationsHaveForms}
 use Rattle.module_meaning.specs.Premises.{ScopesHold}
 use Rattle.module_meaning.specs.Namings.{namings, outer_names}
 use Rattle.module_meaning.specs.Written.{AllWrittenHaveForms}
 use Rattle.naga_form.proofs.DistinguishedItems.{types_are_distinguished}
 use Rattle.naga_form.proofs.FreeModules as every
-use Rattle.naga_form.proofs.Runs.{module_fits, reads_as_shapes}
+use Rattle.naga_form.proofs.ModuleFits.{module_fits}
+use Rattle.naga_form.proofs.Runs.{reads_as_shapes}
 use Rattle.naga_form.proofs.ScopeRules.{scopes_are_checked}
 use Rattle.naga_form.proofs.WellFormed.{all_well_formed}
 use Rattle.naga_form.proofs.WritableModules.{no_constant_named, only_empty}
 
 module _ (m : Module) (info : ModuleInfo) (explicit : Bool) (accepted : IsTrue (is_accepted m info))
-    (written : IsTrue (is_written_so_far m)) (have : AllWrittenHaveForms explicit m info)
+    (written : DeclarationsHaveForms m) (have : AllWrittenHaveForms explicit m info)
     (scopes : ScopesHold m info) where
   pub has_world : HasTypedWorld m info
   has_world =
@@ -46,5 +47,5 @@ module _ (m : Module) (info : ModuleInfo) (explicit : Bool) (accepted : IsTrue (
       (sym (reads_as_shapes m info explicit accepted written have))
       (runs_are_not_stuck shape (outer_names (module_names m) m) (namings (module_names m) m info)
       (module_fits m info accepted written explicit have
-      ((scopes_are_checked m info accepted written).1 scopes)) (all_well_formed m info accepted)
+      ((scopes_are_checked m info accepted).1 scopes)) (all_well_formed m info accepted)
       settings fit meaning typed g f found arguments typed_arguments world turns past)

@@ -24,7 +24,7 @@ use Rattle.module_meaning.proofs.WrittenSoFar.{written_so_far_parts}
 use Rattle.module_meaning.specs.Accepted.{is_accepted}
 use Rattle.module_meaning.specs.InfoSizes.{resolution_is_fit}
 use Rattle.module_meaning.specs.Names.{HasNamesOf, module_names}
-use Rattle.module_meaning.specs.WrittenSoFar.{is_written_so_far}
+use Rattle.module_meaning.specs.DeclarationForms.{DeclarationsHaveForms}
 use Rattle.module_meaning.specs.Ranges.{parts_before}
 use Rattle.module_meaning.specs.Ranges.{numbers_in_range, parts_stand_before, resolution_fits}
 use Rattle.naga_form.proofs.AcceptedGroups.{types_are_fit, types_range}
@@ -84,7 +84,7 @@ module _ (m : Module) (info : ModuleInfo) (accepted : IsTrue (is_accepted m info
           let two = and_parts (parts_before (length m.types) it) (numbers_in_range (length m.overrides) it) one.1 in
           (and_parts (length_within (length m.overrides) it) _ two.1).0
 
-  module _ (is_supported : IsTrue (is_written_so_far m)) where
+  module _ (is_supported : DeclarationsHaveForms m) where
     pub no_overrides : length m.overrides ≡ 0
     no_overrides =
         let one = and_parts (list_all (λ c. is_none c.name) m.constants) _ (written_so_far_parts m is_supported).0 in

@@ -1,7 +1,8 @@
 -- What is written for a module is a program of the grammar.
 use Rattle.module_meaning.specs.Accepted.{is_accepted}
 use Rattle.module_meaning.specs.Enables.{Extension, extensions, is_needed}
-use Rattle.module_meaning.specs.WrittenSoFar.{is_written_so_far, types_are_written_so_far}
+use Rattle.module_meaning.specs.DeclarationForms.{DeclarationsHaveForms}
+use Rattle.module_meaning.specs.WrittenSoFar.{types_are_written_so_far}
 use Rattle.module_meaning.specs.WrittenSoFar.{constant_is_written, global_is_written}
 use Rattle.module_meaning.specs.WrittenSoFar.{is_written_literal}
 use Rattle.module_meaning.specs.Ranges.{function_in_range, local_in_range, is_below}
@@ -191,7 +192,7 @@ module _ (m : Module) (info : ModuleInfo) (g : ℕ) (f : ir_function.Function)
             f.body statements (at_start own.function) starts all_labels closed.body;
       }
 
-module _ (explicit : Bool) (m : Module) (info : ModuleInfo) (accepted : IsTrue (is_accepted m info)) (is_supported : IsTrue (is_written_so_far m)) where
+module _ (explicit : Bool) (m : Module) (info : ModuleInfo) (accepted : IsTrue (is_accepted m info)) (is_supported : DeclarationsHaveForms m) where
   types : TypesAreFit m
   types = types_are_fit m info accepted
 
@@ -262,7 +263,7 @@ enables_are needs (x ∷ xs) all = by (needs x) (enables_are needs xs all.1)
     by false more = more
 
 pub is_program : (m : Module) (info : ModuleInfo) (explicit : Bool) → IsTrue (is_accepted m info) →
-    IsTrue (is_written_so_far m) → AllWrittenHaveForms explicit m info →
+    DeclarationsHaveForms m → AllWrittenHaveForms explicit m info →
     IsTrue (handles_are_counted m) → IsProgram (written_program m info explicit)
 is_program m info explicit accepted written have few =
     record {

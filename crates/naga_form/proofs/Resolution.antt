@@ -34,7 +34,7 @@ use Rattle.module_meaning.specs.Namings.{function_naming, namings_from, namings,
 use Rattle.module_meaning.specs.ModuleShapes.{module_shape}
 use Rattle.module_meaning.specs.OperatorTable.{Operator, BinarySign, AtomicLoad}
 use Rattle.module_meaning.specs.ExpressionContexts.{declared, types_known}
-use Rattle.module_meaning.specs.WrittenSoFar.{is_written_so_far}
+use Rattle.module_meaning.specs.DeclarationForms.{DeclarationsHaveForms}
 use Rattle.naga_form.specs.Declarations.{written_program}
 use Rattle.module_meaning.specs.Premises.{ScopesHold}
 use Rattle.module_meaning.specs.Resolution.{BodiesResolve, ResolvesAs}
@@ -43,7 +43,8 @@ use Rattle.naga_form.proofs.DeclaredItems.{not_hidden, types_resolve}
 use Rattle.naga_form.proofs.Fits.{mapped_length}
 use Rattle.naga_form.proofs.WellFormed.{any_shape, applied_any}
 use Rattle.naga_form.proofs.ScopeRules.{scopes_are_checked}
-use Rattle.naga_form.proofs.Runs.{reads_as_shapes, module_fits}
+use Rattle.naga_form.proofs.ModuleFits.{module_fits}
+use Rattle.naga_form.proofs.Runs.{reads_as_shapes}
 use Rattle.module_meaning.specs.Written.{AllWrittenHaveForms}
 
 -- the arguments and locals of a function in range are its own
@@ -102,18 +103,18 @@ module _ (m : Module) (info : ModuleInfo) (accepted : IsTrue (is_accepted m info
       (leaves_are_own m info is.callees f is.ranges es, all)
 
 bodies_resolve : (m : Module) (info : ModuleInfo) (explicit : Bool) → IsTrue (is_accepted m info) →
-    IsTrue (is_written_so_far m) → AllWrittenHaveForms explicit m info → ScopesHold m info →
+    DeclarationsHaveForms m → AllWrittenHaveForms explicit m info → ScopesHold m info →
     BodiesResolve m info (written_program m info explicit)
 bodies_resolve m info explicit accepted written have scope =
     let names = module_names m in
     ap text_targets (reads_as_shapes m info explicit accepted written have)
     ∙ resolves_as_meant (module_shape m info) (outer_names names m) (namings names m info)
-    (module_fits m info accepted written explicit have ((scopes_are_checked m info accepted written).1 scope))
+    (module_fits m info accepted written explicit have ((scopes_are_checked m info accepted).1 scope))
     (leaves_stand m info accepted 0 (all_functions m) (all_infos info)
     (from_start (all_functions m)) [] tt)
 
 pub resolves : (m : Module) (info : ModuleInfo) (explicit : Bool) → IsTrue (is_accepted m info) →
-    IsTrue (is_written_so_far m) → AllWrittenHaveForms explicit m info → ScopesHold m info →
+    DeclarationsHaveForms m → AllWrittenHaveForms explicit m info → ScopesHold m info →
     ResolvesAs m info (written_program m info explicit)
 resolves m info explicit accepted written have scope = record {
   bodies = bodies_resolve m info explicit accepted written have scope;

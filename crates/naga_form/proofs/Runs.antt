@@ -10,7 +10,7 @@ use Rattle.std.proofs.lemmas.Bool.{and_from}
 use Rattle.indexmap.proofs.ReorderLemmas.{map-reverse}
 use Rattle.naga_ir.specs.declared.module.Function as ir_function
 use Rattle.naga_ir.specs.declared.module.Module.{Module}
-use Rattle.module_meaning.specs.WrittenSoFar.{is_written_so_far}
+use Rattle.module_meaning.specs.DeclarationForms.{DeclarationsHaveForms}
 use Rattle.module_meaning.specs.ModuleShapes.{module_shape}
 use Rattle.module_meaning.proofs.ModuleShapes.{declares_functions_alone, functions_alone}
 use Rattle.module_meaning.proofs.WrittenSoFar.{functions_are_written, written_so_far_parts}
@@ -59,7 +59,8 @@ use Rattle.module_meaning.specs.WrittenSoFar.{function_is_written}
 use Rattle.std.proofs.lemmas.Bool.{and_parts, eqb-true}
 use Rattle.naga_form.proofs.AcceptedGroups.{declarations_are}
 use Rattle.naga_form.proofs.AcceptedGroups.{types_are_fit}
-use Rattle.naga_form.proofs.ScopeRules.{same_functions, scopes_are_checked}
+use Rattle.naga_form.proofs.ModuleFits.{module_fits}
+use Rattle.naga_form.proofs.ScopeRules.{scopes_are_checked}
 
 pub form_functions-map : (ns : List Naming) → form_functions ns ≡ map form_function ns
 form_functions-map [] = refl
@@ -102,7 +103,7 @@ all_reversed test (x ∷ xs) behind all = and_from (test x) (list_all test xs) (
 
 -- the square: what is written of the module is read as its functions are written
 pub program_reads : (m : Module) (info : ModuleInfo) (explicit : Bool) →
-    IsTrue (is_accepted m info) → IsTrue (is_written_so_far m) →
+    IsTrue (is_accepted m info) → DeclarationsHaveForms m →
     AllWrittenHaveForms explicit m info → program_read (written_program m info explicit) ≡
     form_module (functions_alone m info) (outer_names (module_names m) m)
     (namings (module_names m) m info)
@@ -135,7 +136,7 @@ program_reads m info explicit accepted written have =
 
 -- and so as its program of shapes is
 pub reads_as_shapes : (m : Module) (info : ModuleInfo) (explicit : Bool) →
-    IsTrue (is_accepted m info) → IsTrue (is_written_so_far m) →
+    IsTrue (is_accepted m info) → DeclarationsHaveForms m →
     AllWrittenHaveForms explicit m info → program_read (written_program m info explicit) ≡
     form_module (module_shape m info) (outer_names (module_names m) m)
     (namings (module_names m) m info)
@@ -143,92 +144,12 @@ reads_as_shapes m info explicit accepted written have =
     program_reads m info explicit accepted written have
     ∙ ap (λ p. form_module p (outer_names (module_names m) m) (namings (module_names m) m info)) (sym (declares_functions_alone m info written))
 
--- ---- what the law of runs asks
--- A module that is accepted and written so far: all is said by acceptance but what the part shows.
-module _ (m : Module) (info : ModuleInfo) (accepted : IsTrue (is_accepted m info)) (written : IsTrue (is_written_so_far m)) where
-  abbrev p : shapes.Module
-  p = module_shape m info
-
-  same : p ≡ functions_alone m info
-  same = declares_functions_alone m info written
-
-  no_constant_types : p.constant_types ≡ []
-  no_constant_types = ap (λ p. p.constant_types) same
-
-  no_globals : p.globals ≡ []
-  no_globals = ap (λ p. p.globals) same
-
-  all_shaped : length p.functions ≡ length (all_functions m)
-  all_shaped =
-      length-reverse (function_shapes m info (all_functions m) (all_infos info))
-      ∙ shapes_counted m info (all_functions m) (all_infos info) (all_counted m info accepted)
-
-  module _ (explicit : Bool) (have : AllWrittenHaveForms explicit m info) where
-    -- the statements of each function that is known have forms
-    forms_at : (k : ℕ) (f : ir_function.Function) (es : List ExpressionInfo) → slice_get (functions_known m info) k ≡ Some (f, es) → block_has_forms f.body ≡ true
-    forms_at k f es at =
-        let both = zip_parts (all_functions m) (all_infos info) k (f, es) at in
-        (have k f es both.0 both.1).statements
-
-    constants_typed : (k : ℕ) (f : ir_function.Function) (es : List ExpressionInfo) → slice_get (functions_known m info) k ≡ Some (f, es) → ConstantsAreTyped m info f es
-    constants_typed k f es at = constants_are_typed m info accepted (types_are_distinguished m) f es (group_at m info accepted k f es at)
-
-    -- nothing is left of each function, behind those before it
-    all_free : (g : ℕ) (fs : List ir_function.Function) (ess : List (List ExpressionInfo)) →
-        ((i : ℕ) (f : ir_function.Function) → slice_get fs i ≡ Some f →
-        slice_get (all_functions m) (g + i) ≡ Some f) →
-        IsTrue (list_all fits_function
-        (namings_from (module_names m) m g (function_shapes m info fs ess))) →
-        (behind : List Naming) → length behind ≡ g →
-        AllBehind (IsFree false p (outer_names (module_names m) m)) behind →
-        AllBehind (IsFree false p (outer_names (module_names m) m))
-        (reverse_aux (namings_from (module_names m) m g (function_shapes m info fs ess)) behind)
-    all_free g [] ess there scoped behind at so_far = so_far
-    all_free g (f ∷ fs) [] there scoped behind at so_far = so_far
-    all_free g (f ∷ fs) (es ∷ ess) there scoped behind at so_far =
-        let here : g + 0 ≡ g = omega arith in
-        let found = subst (λ h. slice_get (all_functions m) h ≡ Some f) here (there 0 f refl) in
-        let own = function_naming (module_names m) (expression_name m g) m info g f es in
-        let scopes = and_parts (fits_function own) (list_all fits_function (namings_from (module_names m) m (g + 1) (function_shapes m info fs ess))) scoped in
-        let this = is_free m info (types_are_fit m info accepted) g f found es p no_constant_types no_globals all_shaped (functions_of behind) (length-functions_of behind ∙ at) scopes.0 in
-        all_free (g + 1) fs ess (further (all_functions m) g f fs there) scopes.1 (own ∷ behind) (ap suc at ∙ sym (add-one g)) (this, so_far)
-
-    no_constants : ConstantsFit (functions_alone m info) (outer_names (module_names m) m)
-    no_constants = record {
-      counted = omega arith;
-      rank = λ i. i;
-      initialisers = λ i e q. absurd (cc);
-      distinct = λ i k lt lk e. absurd (omega (arith, lt));
-    }
-
-    pub module_fits : IsTrue (scope_holds m info) →
-        ModuleFits (module_shape m info) (outer_names (module_names m) m) (namings (module_names m) m info)
-    module_fits scope =
-        let listed = namings_from (module_names m) m 0 (function_shapes m info (all_functions m) (all_infos info)) in
-        record {
-          functions = same_functions m info accepted written;
-          distinct = record {
-            functions = λ g k lg lk e.
-                let a = element (all_functions m) g (subst (λ n. g < n) all_shaped lg) in
-                let b = element (all_functions m) k (subst (λ n. k < n) all_shaped lk) in
-                one_function m g k a.0 b.0 a.1 b.1 e;
-          };
-          constants = subst (λ p. ConstantsFit p (outer_names (module_names m) m)) (sym same) no_constants;
-          all = all_fit_freely m info accepted (types_are_distinguished m) constants_typed
-              (λ k f es at. no_case_falls f.body (forms_at k f es at)) (outer_names (module_names m) m)
-              (namings (module_names m) m info) (same_functions m info accepted written) false forms_at
-              (all_free 0 (all_functions m) (all_infos info) (from_start (all_functions m)) (all_reversed fits_function listed [] scope) [] refl tt);
-        }
-
-    runs : IsTrue (scope_holds m info) → RunsAs m info (written_program m info explicit)
-    runs scope settings fit meaning typed g f found arguments typed_arguments world turns past keeps =
-        ap (λ (text : TextModule). follow_module text settings world meaning is_request turns (function_name m (module_names m) g) arguments past) (reads_as_shapes m info explicit accepted written have)
-        ∙ runs_alike (module_shape m info) (outer_names (module_names m) m)
-        (namings (module_names m) m info) (module_fits scope) settings fit meaning typed g f found
-        arguments typed_arguments world turns past keeps
-
+-- ---- runs
 pub runs_as : (m : Module) (info : ModuleInfo) (explicit : Bool) → IsTrue (is_accepted m info) →
-    IsTrue (is_written_so_far m) → AllWrittenHaveForms explicit m info → ScopesHold m info →
+    DeclarationsHaveForms m → AllWrittenHaveForms explicit m info → ScopesHold m info →
     RunsAs m info (written_program m info explicit)
-runs_as m info explicit accepted written have scope =
-    runs m info accepted written explicit have ((scopes_are_checked m info accepted written).1 scope)
+runs_as m info explicit accepted declarations have scope settings fit meaning typed g f found arguments typed_arguments world turns past keeps =
+    ap (λ (text : TextModule). follow_module text settings world meaning is_request turns (function_name m (module_names m) g) arguments past) (reads_as_shapes m info explicit accepted declarations have)
+    ∙ runs_alike (module_shape m info) (outer_names (module_names m) m)
+    (namings (module_names m) m info) (module_fits m info accepted declarations explicit have ((scopes_are_checked m info accepted).1 scope)) settings fit meaning typed g f found
+    arguments typed_arguments world turns past keeps

@@ -18,8 +18,6 @@ use Rattle.shader_runs.proofs.ScopeRules.{scope_check_is_the_rules}
 use Rattle.shader_runs.proofs.Update.{and_left, and_right}
 use Rattle.module_meaning.specs.FunctionNumbers.{all_functions, all_infos}
 use Rattle.module_meaning.specs.Names.{module_names}
-use Rattle.module_meaning.specs.WrittenSoFar.{is_written_so_far}
-use Rattle.module_meaning.proofs.ModuleShapes.{declares_functions_alone, functions_alone}
 use Rattle.module_meaning.specs.Premises.{scope_holds, EachScopeHolds, ScopesHold}
 use Rattle.module_meaning.specs.FunctionShapes.{function_shapes}
 use Rattle.module_meaning.specs.Namings.{namings_from, namings}
@@ -37,9 +35,9 @@ pub functions_of_namings : (names : NameMap) (m : Module) (g : ℕ) (fs : List s
 functions_of_namings names m g [] = refl
 functions_of_namings names m g (f ∷ fs) = ap (λ fs. f ∷ fs) (functions_of_namings names m (g + 1) fs)
 
--- the functions of the namings are those of the module that declares them alone
-pub namings_functions : (m : Module) (info : ModuleInfo) → functions_of (namings (module_names m) m info) ≡ (functions_alone m info).functions
-namings_functions m info =
+-- the functions of the namings are the module's
+pub same_functions : (m : Module) (info : ModuleInfo) → functions_of (namings (module_names m) m info) ≡ (module_shape m info).functions
+same_functions m info =
     let shapes = function_shapes m info (all_functions m) (all_infos info) in
     let listed = namings_from (module_names m) m 0 shapes in
     functions_of-map (reverse listed)
@@ -63,23 +61,17 @@ each_is_checked (n ∷ ns) all =
       λ r. and_from (fits_function n) (list_all fits_function ns) (here.1 r.0) (rest.1 r.1),
     )
 
-module _ (m : Module) (info : ModuleInfo) (accepted : IsTrue (is_accepted m info)) (written : IsTrue (is_written_so_far m)) where
-  -- the functions of the namings are the module's
-  pub same_functions : functions_of (namings (module_names m) m info) ≡ (module_shape m info).functions
-  same_functions =
-      namings_functions m info
-      ∙ ap (λ p. p.functions) (sym (declares_functions_alone m info written))
-
+module _ (m : Module) (info : ModuleInfo) (accepted : IsTrue (is_accepted m info)) where
   all_are_ordered : AllBehind IsOrdered (namings (module_names m) m info)
   all_are_ordered =
       all_from m info accepted (λ callees n. Unit {0}) IsOrdered
       (λ k f es at names callees number tells none.
       let is = accepted_at m info accepted k f es at in ordered m info is.callees f es is.ranges)
       (namings (module_names m) m info)
-      (subst (Tells (shape_numbered m info accepted)) (sym same_functions) (all_distinguished m info accepted))
+      (subst (Tells (shape_numbered m info accepted)) (sym (same_functions m info)) (all_distinguished m info accepted))
       (nothing_asked (namings (module_names m) m info))
 
   pub scopes_are_checked : IsTrue (scope_holds m info) ↔ ScopesHold m info
   scopes_are_checked =
-      subst (λ fs. IsTrue (scope_holds m info) ↔ EachScopeHolds fs) same_functions
+      subst (λ fs. IsTrue (scope_holds m info) ↔ EachScopeHolds fs) (same_functions m info)
       (each_is_checked (namings (module_names m) m info) all_are_ordered)

@@ -27,7 +27,7 @@ use Rattle.module_meaning.specs.Writable.{AreWrittenOut, OnlyEmptyFall, is_writt
 use Rattle.module_meaning.specs.Writable.{only_empty_fall, only_empty_fall_in}
 use Rattle.module_meaning.specs.Writable.{only_empty_cases_fall}
 use Rattle.module_meaning.specs.Written.{AllWrittenHaveForms}
-use Rattle.module_meaning.specs.WrittenSoFar.{is_written_so_far}
+use Rattle.module_meaning.specs.DeclarationForms.{DeclarationsHaveForms}
 use Rattle.module_meaning.proofs.Lists.{all_pass, list_all_at}
 use Rattle.module_meaning.proofs.WrittenSoFar.{written_so_far_parts}
 use Rattle.naga_form.proofs.AcceptedFunctions.{AsEntryPoint, AsFunction, Numbered}
@@ -94,7 +94,7 @@ none_named es (c ∷ cs) none =
     (list_all (λ c. is_none c.name || is_written_out es c.init) cs)
     (ap (λ b. b || is_written_out es c.init) both.0) (none_named es cs both.1)
 
-module _ (m : Module) (info : ModuleInfo) (accepted : IsTrue (is_accepted m info)) (written : IsTrue (is_written_so_far m)) where
+module _ (m : Module) (info : ModuleInfo) (accepted : IsTrue (is_accepted m info)) (written : DeclarationsHaveForms m) where
   pub no_constant_named : AreWrittenOut m
   no_constant_named =
       none_named m.global_expressions m.constants

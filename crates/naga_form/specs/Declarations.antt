@@ -3,7 +3,7 @@
 -- Throughout, names are those of the module m, t the names that types are spelled with, and each
 -- declaration goes by its first letter and stands beside its handle: member, type of a struct,
 -- constant, override, global variable, entry point.
-use Rattle.std.specs.Prelude.{ℕ, ◌+◌, Bool, List, [], ◌∷◌, map, Option, Some, None}
+use Rattle.std.specs.Prelude.{ℕ, ◌+◌, Bool, List, [], ◌∷◌, length, map, Option, Some, None}
 use Rattle.std.specs.Prelude.{if◌then◌else◌}
 use Rattle.std.specs.List.{enumerate_from, filter_map}
 use Rattle.std.specs.Option.{is_some, option_map}
@@ -21,7 +21,7 @@ use Rattle.naga_names.specs.Keys.{NameMap}
 use Rattle.naga_names.specs.Reset.{members_of}
 use Rattle.naga_names.specs.declared.key.NameKey.TheVariants as key
 use Rattle.naga_words.specs.Contexts.{Names as TypeNames}
-use Rattle.wgsl_text.specs.Declarations.{Program, no_declarations, StructMember, Struct}
+use Rattle.wgsl_text.specs.Declarations.{Program, StructMember, Struct}
 use Rattle.wgsl_text.specs.Declarations.{NamedConstant, Override, Global, Space, NoSpace}
 use Rattle.wgsl_text.specs.Declarations.{SpaceAlone, SpaceAndAccess}
 use Rattle.wgsl_text.specs.Functions.{EntryPoint}
@@ -29,6 +29,7 @@ use Rattle.wgsl_words.specs.Words.{space_word, space_access_word}
 use Rattle.module_meaning.specs.Enables.{needed_enables}
 use Rattle.module_meaning.specs.Names.{module_names, name_in, constant_name, expression_name}
 use Rattle.module_meaning.specs.Names.{global_name, override_name}
+use Rattle.module_meaning.specs.Types.{type_names}
 use Rattle.module_meaning.specs.Undeclared.{is_declared}
 use Rattle.naga_form.specs.Attributes.{global_attributes, id_attributes, passing_attributes}
 use Rattle.naga_form.specs.Attributes.{stage_attributes}
@@ -116,12 +117,20 @@ entry_points_form explicit names m info number (p ∷ ps) (es ∷ ess) =
 entry_points_form explicit names m info number _ _ = []
 
 -- ---- modules
--- the syntax tree that is written for a module, by what is known of it, with the types of its
--- `let`s told or not: so far the extensions that it needs and its functions
+-- the syntax tree that is written for a module, by what is known of it, with the types of its `let`s
+-- told or not
 abbrev pub written_program : Module → ModuleInfo → (explicit : Bool) → Program
 written_program m info explicit =
-    let functions = info.functions.items in
-    record no_declarations {
+    let names = module_names m in
+    let t : TypeNames = type_names m in
+    record {
       enables = needed_enables m;
-      functions = functions_form explicit (module_names m) m info 0 m.functions functions;
+      structs = filter_map (struct_form names t m) (enumerate_from 0 m.types);
+      constants = filter_map (constant_form names t m) (enumerate_from 0 m.constants);
+      overrides = map (override_form names t m) (enumerate_from 0 m.overrides);
+      globals = map (variable_form names t m) (enumerate_from 0 m.global_variables);
+      functions = functions_form explicit names m info 0 m.functions info.functions.items;
+      entry_points =
+          entry_points_form explicit names m info (length m.functions) m.entry_points.items
+          info.entry_points.items;
     }

@@ -12,6 +12,7 @@ use Rattle.naga_names.specs.Keys.{NameMap}
 use Rattle.wgsl_text.specs.Functions.{Parameter, Result, NoResult, ResultOf, Local, Function}
 use Rattle.module_meaning.specs.Names.{function_name, argument_name, expression_name}
 use Rattle.naga_words.specs.Contexts.{names_of, Names as TypeNames}
+use Rattle.naga_form.specs.Attributes.{passing_attributes}
 use Rattle.naga_form.specs.Types.{type_form, annotated_type}
 use Rattle.naga_ir.specs.declared.module.LocalVariable.{LocalVariable}
 use Rattle.naga_info.specs.declared.info.ExpressionInfo.{ExpressionInfo}
@@ -35,7 +36,7 @@ locals_form n t source l (v ∷ more) =
 abbrev pub parameter_form : NameMap → Module → ℕ → ℕ → FunctionArgument → Parameter
 parameter_form names m g number a =
     record {
-      attributes = [];
+      attributes = passing_attributes a.binding;
       name = argument_name m names g number;
       type = type_form (names_of m.types names) a.ty;
     }
@@ -48,7 +49,7 @@ parameters_form names m g number (a ∷ more) =
 
 abbrev pub result_form : TypeNames → Option FunctionResult → Result
 result_form t None = NoResult
-result_form t (Some r) = ResultOf [] (type_form t r.ty)
+result_form t (Some r) = ResultOf (passing_attributes r.binding) (type_form t r.ty)
 
 -- a function, with what is known of its expressions; given tells the names that front ends gave in it
 abbrev pub function_form :

@@ -30,6 +30,7 @@ use Rattle.text_meaning.specs.Abstraction.{function_read, program_read}
 use Rattle.module_meaning.specs.Accepted.{is_accepted}
 use Rattle.module_meaning.specs.AlikeTypes.{are_alike}
 use Rattle.module_meaning.specs.Bindings.{BindsAs}
+use Rattle.module_meaning.specs.DeclarationForms.{DeclarationsHaveForms}
 use Rattle.module_meaning.specs.Faithful.{HasInterfaceOf, RunsAs}
 use Rattle.module_meaning.specs.Written.{AllWrittenHaveForms, WrittenHaveForms}
 use Rattle.module_meaning.specs.InfoSizes.{type_is_fit, resolution_is_fit}
@@ -39,9 +40,6 @@ use Rattle.module_meaning.specs.Meanings.{IsNeverStuck, NoRunIsStuck}
 use Rattle.module_meaning.specs.Writable.{IsWritable}
 use Rattle.module_meaning.specs.Names.{ItemsAreDistinguished, module_names}
 use Rattle.module_meaning.specs.Ranges.{resolution_fits}
-use Rattle.module_meaning.specs.WrittenSoFar.{function_is_written}
-use Rattle.module_meaning.specs.WrittenSoFar.{is_written_so_far}
-use Rattle.module_meaning.specs.WrittenSoFar.{types_are_written_so_far}
 use Rattle.module_meaning.specs.Premises.{handles_are_counted, scope_holds, ScopesHold}
 use Rattle.module_meaning.specs.Resolution.{ResolvesAs}
 use Rattle.module_meaning.specs.ModuleShapes.{module_shape}
@@ -55,34 +53,31 @@ use Rattle.naga_form.specs.Readable.{AreAlike, AreNamed, ResolutionIsWithin, han
 use Rattle.naga_form.specs.Readable.{is_readable}
 use Rattle.naga_form.specs.TypeTrees.{inner_tree, resolution_tree, type_tree}
 
--- of an accepted module that is written so far, in which each written handle has a form,
--- and of what is written for it with the types of its `let`s told or not
+-- of an accepted module of which all that it declares has a form, and all that is written of its
+-- functions, and of what is written for it with the types of its `let`s told or not
 abbrev pub OfAccepted : (Module → ModuleInfo → Program → Type 0) → Type 0
 OfAccepted Holds =
     (m : Module) (info : ModuleInfo) (explicit : Bool) → IsTrue (is_accepted m info) →
-    IsTrue (is_written_so_far m) → AllWrittenHaveForms explicit m info →
+    DeclarationsHaveForms m → AllWrittenHaveForms explicit m info →
     Holds m info (written_program m info explicit)
 
 -- the same where the rules of scope hold
 abbrev pub OfAcceptedInScope : (Module → ModuleInfo → Program → Type 0) → Type 0
 OfAcceptedInScope Holds =
     (m : Module) (info : ModuleInfo) (explicit : Bool) → IsTrue (is_accepted m info) →
-    IsTrue (is_written_so_far m) → AllWrittenHaveForms explicit m info → ScopesHold m info →
+    DeclarationsHaveForms m → AllWrittenHaveForms explicit m info → ScopesHold m info →
     Holds m info (written_program m info explicit)
 
 -- the program is one of the grammar, so that its text has one reading
 abbrev pub IsAProgram : Type 0
 IsAProgram =
     (m : Module) (info : ModuleInfo) (explicit : Bool) → IsTrue (is_accepted m info) →
-    IsTrue (is_written_so_far m) → AllWrittenHaveForms explicit m info →
+    DeclarationsHaveForms m → AllWrittenHaveForms explicit m info →
     IsTrue (handles_are_counted m) → IsProgram (written_program m info explicit)
 
--- it declares what the module declares, where something is known of each function
+-- it declares what the module declares
 abbrev pub HasTheInterface : Type 0
-HasTheInterface =
-    (m : Module) (info : ModuleInfo) (explicit : Bool) → IsTrue (is_written_so_far m) →
-    length m.functions ≡ length info.functions.items →
-    HasInterfaceOf m info (written_program m info explicit)
+HasTheInterface = OfAcceptedInScope HasInterfaceOf
 
 -- each of its identifiers stands for what it was written for
 abbrev pub ResolvesAsMeant : Type 0
@@ -93,18 +88,18 @@ ResolvesAsMeant = OfAcceptedInScope ResolvesAs
 abbrev pub BindsAsCounted : Type 0
 BindsAsCounted =
     (m : Module) (info : ModuleInfo) (explicit : Bool) → IsTrue (is_accepted m info) →
-    IsTrue (is_written_so_far m) → AllWrittenHaveForms explicit m info →
+    DeclarationsHaveForms m → AllWrittenHaveForms explicit m info →
     BindsAs m info explicit (written_program m info explicit)
 
--- what is written of a function that is written so far, of which what is written has a form, in a
--- module of such types, is read as its shape is written, whatever the module declares, whatever type
--- is known of each of its expressions and of the module's, and under whatever names front ends gave
+-- what is written of a function, of which what is written has a form, is read as its shape is written,
+-- whatever the module declares, whatever type is known of each of its expressions and of the module's,
+-- and under whatever names front ends gave
 abbrev pub FunctionsAreRead : Type 0
 FunctionsAreRead =
     (explicit : Bool) (named : ℕ → List ℕ) (m : Module) (info : ModuleInfo) (g : ℕ) (f : Function) →
-    (es : List ExpressionInfo) → IsTrue (types_are_written_so_far m) →
+    (es : List ExpressionInfo) →
     length m.global_expressions ≡ length info.const_expression_types.items →
-    IsTrue (function_is_written f) → WrittenHaveForms explicit m info f es →
+    WrittenHaveForms explicit m info f es →
     length f.expressions ≡ length es →
     function_read (function_form explicit (module_names m) named m info g f es)
     ≡ form_function (function_naming (module_names m) named m info g f es)
@@ -124,11 +119,10 @@ RunsAsTheModule = OfAcceptedInScope RunsAs
 abbrev pub ScopesAreChecked : Type 0
 ScopesAreChecked =
     (m : Module) (info : ModuleInfo) → IsTrue (is_accepted m info) →
-    IsTrue (is_written_so_far m) →
     (IsTrue (scope_holds m info) ↔ ScopesHold m info)
 
--- The operators of every accepted module, written so far or not, are typed consistently, so that some
--- meaning gives each a value of its type.
+-- The operators of every accepted module are typed consistently, so that some meaning gives each a
+-- value of its type.
 abbrev pub IsConsistent : Type 0
 IsConsistent =
     (m : Module) (info : ModuleInfo) → IsTrue (is_accepted m info) → OperatorsAreConsistent m info
@@ -146,8 +140,8 @@ NamesTell = (m : Module) → ItemsAreDistinguished m
 abbrev pub HasAWorld : Type 0
 HasAWorld = OfAcceptedInScope (λ m info program. HasTypedWorld m info)
 
--- what holds of every accepted module, written so far or not, that holds nothing that no text is ever
--- written for, and in which the rules of scope hold
+-- what holds of every accepted module that holds nothing that no text is ever written for, and in
+-- which the rules of scope hold
 abbrev pub OfEveryWritable : (Module → ModuleInfo → Type 0) → Type 0
 OfEveryWritable Holds =
     (m : Module) (info : ModuleInfo) → IsTrue (is_accepted m info) → IsWritable m →

@@ -19,8 +19,7 @@ pub fn is_a_program()
     ensures { IsAProgram }
 {}
 
-/// It declares what the module declares, where the module is written so far and something is known of
-/// each function.
+/// It declares what the module declares, where the rules of scope hold in the module.
 pub fn has_the_interface()
     ensures { HasTheInterface }
 {}
@@ -37,8 +36,8 @@ pub fn binds_as_counted()
     ensures { BindsAsCounted }
 {}
 
-/// What is written of a function that is written so far, of which what is written has a form, is
-/// read as its shape is written, whatever is known of it.
+/// What is written of a function, of which what is written has a form, is read as its shape is
+/// written, whatever is known of it.
 pub fn functions_are_read()
     ensures { FunctionsAreRead }
 {}
@@ -60,8 +59,8 @@ pub fn scopes_are_checked()
     ensures { ScopesAreChecked }
 {}
 
-/// The operators of every accepted module, written so far or not, are typed consistently, so that
-/// some meaning gives each a value of its handle's type. Its structs, overrides and members are told
+/// The operators of every accepted module are typed consistently, so that some meaning gives each a
+/// value of its handle's type. Its structs, overrides and members are told
 /// apart by their names.
 pub fn has_a_typed_meaning()
     ensures consistent { IsConsistent }
@@ -70,15 +69,15 @@ pub fn has_a_typed_meaning()
 {}
 
 /// For each such meaning, one world answers by the right types in every run of an accepted module
-/// in which the rules of scope hold: of one that is written so far, of which all that is written
-/// has forms, and of every one that holds nothing that no text is ever written for.
+/// in which the rules of scope hold: of one of which all that is declared and written has forms, and
+/// of every one that holds nothing that no text is ever written for.
 pub fn has_a_typed_world()
     ensures written { HasAWorld }
     ensures every { EveryHasAWorld }
 {}
 
 /// No run of an accepted module is stuck, nor one of its program in a world that keeps the types,
-/// where the rules of scope hold in the module and it is written so far. Nor is
+/// where the rules of scope hold in the module and all that is declared and written has forms. Nor is
 /// one of any other such module that holds nothing that no text is ever written for.
 pub fn is_never_stuck()
     ensures written { IsNotStuck }

@@ -1,5 +1,0 @@
-use Rattle.naga_form.proofs.ScopeRules.{scopes_are_checked}
-use Rattle.naga_form.proofs.scopes_are_checked.Goals as goal
-
-pub returns : goal.returns
-returns c = λ m info accepted written. scopes_are_checked m info accepted written
