@@ -117,7 +117,7 @@ entry_added : (stage : List Attribute) → IsTrue (is_stage stage) → (f : Func
 entry_added [] is f p = absurd (false≢true is)
 entry_added (a ∷ more) is f p = refl
 
-entry_point_runs : (e : EntryPoint) → IsEntryPoint e → (p : Program) → Runs (entry_point_pieces e) (Want (InProgram [] p)) (Want (InProgram [] (record p { entry_points = e ∷ p.entry_points })))
+pub entry_point_runs : (e : EntryPoint) → IsEntryPoint e → (p : Program) → Runs (entry_point_pieces e) (Want (InProgram [] p)) (Want (InProgram [] (record p { entry_points = e ∷ p.entry_points })))
 entry_point_runs e is p =
     attributes_run e.stage [] p onward over_line $ to_state (function_runs e.function is.function _ p)
     (ap (λ v. Want (InProgram [] (function_added v e.function p))) (turned_back e.stage []) ∙ ap (λ v. Want (InProgram [] v)) (entry_added e.stage is.stage e.function p))
@@ -195,7 +195,7 @@ pub functions_closed : (list : List Function) → Each IsFunction list → Close
 functions_closed [] is = none
 functions_closed (f ∷ more) is = function_closed f is.0 then line $ functions_closed more is.1
 
-entry_point_closed : (e : EntryPoint) → IsEntryPoint e → Closed (entry_point_pieces e)
+pub entry_point_closed : (e : EntryPoint) → IsEntryPoint e → Closed (entry_point_pieces e)
 entry_point_closed e is = attributes_closed e.stage is.attributes then line $ function_closed e.function is.function
 
 more_entry_points_closed : (list : List EntryPoint) → Each IsEntryPoint list → Closed (more_entry_points_pieces list)

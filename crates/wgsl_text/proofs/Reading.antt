@@ -6,6 +6,7 @@ use Rattle.wgsl_text.specs.Types.{TypeSpecifier, type_pieces, IsType}
 use Rattle.wgsl_text.specs.Expressions.{Expression, expression_pieces, IsExpression}
 use Rattle.wgsl_text.specs.Statements.{Statement, NoStatements, Then, statement_pieces, IsStatement}
 use Rattle.wgsl_text.specs.Functions.{Function, function_pieces, IsFunction}
+use Rattle.wgsl_text.specs.Functions.{EntryPoint, entry_point_pieces, IsEntryPoint}
 use Rattle.wgsl_text.specs.Declarations.{Program, no_declarations, program_pieces, IsProgram}
 use Rattle.wgsl_text.proofs.Runs.{Runs}
 use Rattle.wgsl_text.proofs.Spacing.{Spaced}
@@ -14,11 +15,13 @@ use Rattle.wgsl_text.proofs.Text.{Apart, pieces_scan}
 use Rattle.wgsl_text.proofs.Types.{type_runs, type_spaced}
 use Rattle.wgsl_text.proofs.Expressions.{expression_runs, expression_spaced}
 use Rattle.wgsl_text.proofs.Statements.{statement_runs, statement_closed}
-use Rattle.wgsl_text.proofs.Functions.{function_runs, function_closed}
+use Rattle.wgsl_text.proofs.Functions.{function_runs, function_closed, entry_point_runs}
+use Rattle.wgsl_text.proofs.Functions.{entry_point_closed}
 use Rattle.wgsl_text.proofs.Declarations.{newest_first, program_runs, newest_twice, program_closed}
 use Rattle.wgsl_text.specs.Words.{is_builtin}
 use Rattle.wgsl_text.specs.Text.{text, tokens_in, tokens}
 use Rattle.wgsl_text.specs.Reading.{ReadsType, ReadsExpression, ReadsStatement, ReadsFunction}
+use Rattle.wgsl_text.specs.Reading.{ReadsEntryPoint, entry_point_layout}
 use Rattle.wgsl_text.specs.Reading.{Reads, type_layout, expression_layout, statement_layout}
 use Rattle.wgsl_text.specs.Reading.{function_layout, layout, HasOneReading}
 use Rattle.wgsl_text.proofs.Machine.{State, Want, WantType, Got, GotType, Bottom, InStatements}
@@ -55,6 +58,13 @@ only_function f = record no_declarations { functions = f ∷ [] }
 function_read : {ts : List Token} (f : Function) → ReadsFunction ts f → read ts (Want (InProgram [] no_declarations)) ≡ Want (InProgram [] (only_function f))
 function_read f r = reads_to r.tokens (function_runs f r.form [] no_declarations)
 
+-- a program of one entry point
+abbrev only_entry_point : EntryPoint → Program
+only_entry_point e = record no_declarations { entry_points = e ∷ [] }
+
+entry_point_read : {ts : List Token} (e : EntryPoint) → ReadsEntryPoint ts e → read ts (Want (InProgram [] no_declarations)) ≡ Want (InProgram [] (only_entry_point e))
+entry_point_read e r = reads_to r.tokens (entry_point_runs e r.form no_declarations)
+
 pub program_read : {ts : List Token} (p : Program) → Reads ts p → read ts (Want (InProgram [] no_declarations)) ≡ Want (InProgram [] (newest_first p))
 program_read p r = reads_to r.tokens (program_runs p r.form)
 
@@ -80,14 +90,18 @@ expression_unique ts a b ra rb = same_expression a b _ (expression_read a ra) (e
 pub statement_unique : (ts : List Token) (a b : Statement) → ReadsStatement ts a → ReadsStatement ts b → a ≡ b
 statement_unique ts a b ra rb = same_statement a b _ (statement_read a ra) (statement_read b rb)
 
--- the first function, or another where there is none
-abbrev first_or : Function → List Function → Function
+-- the first of these, or another where there is none
+abbrev first_or : {A : Type 0} → A → List A → A
 first_or f [] = f
 first_or f (g ∷ more) = g
 
 pub function_unique : (ts : List Token) (a b : Function) → ReadsFunction ts a → ReadsFunction ts b → a ≡ b
 function_unique ts a b ra rb =
     ap (λ p. first_or a p.functions) (same_program (only_function a) (only_function b) _ (function_read a ra) (function_read b rb))
+
+pub entry_point_unique : (ts : List Token) (a b : EntryPoint) → ReadsEntryPoint ts a → ReadsEntryPoint ts b → a ≡ b
+entry_point_unique ts a b ra rb =
+    ap (λ p. first_or a p.entry_points) (same_program (only_entry_point a) (only_entry_point b) _ (entry_point_read a ra) (entry_point_read b rb))
 
 pub program_unique : (ts : List Token) (a b : Program) → Reads ts a → Reads ts b → a ≡ b
 program_unique ts a b ra rb =
@@ -119,6 +133,11 @@ pub function_has_one_reading : (f : Function) → IsFunction f → HasOneReading
 function_has_one_reading f is =
     let r : ReadsFunction (tokens (function_layout f)) f = record { form = is; tokens = closed_tokens (function_pieces f) (function_closed f is) } in
     record { read = r; only = λ other o. function_unique _ other f o r }
+
+pub entry_point_has_one_reading : (e : EntryPoint) → IsEntryPoint e → HasOneReading ReadsEntryPoint (entry_point_layout e) e
+entry_point_has_one_reading e is =
+    let r : ReadsEntryPoint (tokens (entry_point_layout e)) e = record { form = is; tokens = closed_tokens (entry_point_pieces e) (entry_point_closed e is) } in
+    record { read = r; only = λ other o. entry_point_unique _ other e o r }
 
 pub program_has_one_reading : (p : Program) → IsProgram p → HasOneReading Reads (layout p) p
 program_has_one_reading p is =

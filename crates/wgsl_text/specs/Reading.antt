@@ -1,12 +1,14 @@
 -- What it is for a text to have one reading.
 --
--- Throughout, t is a type, e an expression, s a statement, f a function, and ts are tokens.
+-- Throughout, t is a type, e an expression or an entry point, s a statement, f a function, and ts are
+-- tokens.
 use Rattle.std.specs.Prelude.{◌≡◌, ℕ, List}
 use Rattle.wgsl_text.specs.Token.{Token}
 use Rattle.wgsl_text.specs.Types.{TypeSpecifier, type_pieces, IsType}
 use Rattle.wgsl_text.specs.Expressions.{Expression, expression_pieces, IsExpression}
 use Rattle.wgsl_text.specs.Statements.{Statement, statement_pieces, IsStatement}
 use Rattle.wgsl_text.specs.Functions.{Function, function_pieces, IsFunction}
+use Rattle.wgsl_text.specs.Functions.{EntryPoint, entry_point_pieces, IsEntryPoint}
 use Rattle.wgsl_text.specs.Declarations.{Program, program_pieces, IsProgram}
 use Rattle.wgsl_text.specs.Text.{text, tokens_in, tokens}
 
@@ -31,6 +33,11 @@ pub record ReadsFunction (ts : List Token) (f : Function) : Type 0 where
   pub form : IsFunction f
   pub tokens : ts ≡ tokens_in (function_pieces f)
 
+-- the same of an entry point
+pub record ReadsEntryPoint (ts : List Token) (e : EntryPoint) : Type 0 where
+  pub form : IsEntryPoint e
+  pub tokens : ts ≡ tokens_in (entry_point_pieces e)
+
 -- the same of a program
 pub record Reads (ts : List Token) (program : Program) : Type 0 where
   pub form : IsProgram program
@@ -48,6 +55,9 @@ statement_layout s level = text (statement_pieces s level)
 
 abbrev pub function_layout : Function → List ℕ
 function_layout f = text (function_pieces f)
+
+abbrev pub entry_point_layout : EntryPoint → List ℕ
+entry_point_layout e = text (entry_point_pieces e)
 
 abbrev pub layout : Program → List ℕ
 layout program = text (program_pieces program)

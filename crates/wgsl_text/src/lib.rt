@@ -9,13 +9,13 @@ ghost use Rattle.wgsl_text.specs.Token.{Token, Piece};
 ghost use Rattle.wgsl_text.specs.Types.{TypeSpecifier, IsType};
 ghost use Rattle.wgsl_text.specs.Expressions.{Expression, IsCallee, IsExpression};
 ghost use Rattle.wgsl_text.specs.Statements.{Statement, IsStatement};
-ghost use Rattle.wgsl_text.specs.Functions.{Function, IsFunction};
+ghost use Rattle.wgsl_text.specs.Functions.{EntryPoint, Function, IsEntryPoint, IsFunction};
 ghost use Rattle.wgsl_text.specs.Declarations.{Program, IsProgram};
 ghost use Rattle.wgsl_text.specs.LargeExamples.{LargePrograms};
 ghost use Rattle.wgsl_text.specs.Reading.{AreReadOnce, ReadsType, ReadsExpression, ReadsStatement};
 ghost use Rattle.wgsl_text.specs.Reading.{ReadsFunction, Reads, HasOneReading, type_layout};
 ghost use Rattle.wgsl_text.specs.Reading.{expression_layout, statement_layout, function_layout};
-ghost use Rattle.wgsl_text.specs.Reading.{layout};
+ghost use Rattle.wgsl_text.specs.Reading.{ReadsEntryPoint, entry_point_layout, layout};
 ghost use Rattle.wgsl_text.specs.Refused.{RefusedTexts};
 ghost use Rattle.wgsl_text.specs.Rows.{TypeRows, OperatorRows, AccessRows, LineRows};
 ghost use Rattle.wgsl_text.specs.Spelled.{SpelledPieces};
@@ -59,6 +59,14 @@ pub fn one_reading_of_a_function()
     ensures layout { (f : Function) → IsFunction f →
         HasOneReading ReadsFunction (function_layout f) f }
     ensures unique { AreReadOnce ReadsFunction }
+{}
+
+/// The text of an entry point is read as that entry point and no other, and no tokens are read as two
+/// entry points.
+pub fn one_reading_of_an_entry_point()
+    ensures layout { (e : EntryPoint) → IsEntryPoint e →
+        HasOneReading ReadsEntryPoint (entry_point_layout e) e }
+    ensures unique { AreReadOnce ReadsEntryPoint }
 {}
 
 /// The text of a program is read as that program and no other, and no tokens are read as two
