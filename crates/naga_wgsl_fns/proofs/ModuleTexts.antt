@@ -11,8 +11,6 @@ pub can_of : (f : FunctionText) → CanWrite f → CanWriteOf f.shader.now
 can_of f can = record {
   info = f.module_info.now;
   accepted = can.accepted;
-  is_supported =
-      can.is_supported;
 }
 
 -- a text of its module under its names

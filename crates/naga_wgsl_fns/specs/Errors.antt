@@ -39,10 +39,6 @@ IsUnimplemented text (Unimplemented message) = string_bytes message ≡ text
 IsUnimplemented text (Want e) = ⊤
 IsUnimplemented text _ = ⊥
 
--- that of what is not written so far
-abbrev pub IsNotYetWritten : Error → Type 0
-IsNotYetWritten error = IsUnimplemented (codes "not yet written") error
-
 -- the refusal with this text, or want of memory for it
 abbrev pub IsCustom : List ℕ → Error → Type 0
 IsCustom text (CustomError message) = string_bytes message ≡ text

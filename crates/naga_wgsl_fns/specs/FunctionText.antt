@@ -15,7 +15,7 @@ use Rattle.naga_scope.specs.declared.points.Availability.{Availability}
 use Rattle.naga_scope.specs.Availabilities.{handles_of}
 use Rattle.naga_ir.specs.declared.expression.Expression.{Expression}
 use Rattle.module_meaning.specs.Accepted.{is_accepted}
-use Rattle.module_meaning.specs.WrittenSoFar.{is_written_so_far}
+use Rattle.module_meaning.specs.DeclarationForms.{HeadHasForm}
 use Rattle.module_meaning.specs.Ranges.{block_in_range, cases_in_range, function_in_range}
 use Rattle.module_meaning.specs.Ranges.{statement_in_range}
 use Rattle.naga_ir.specs.StatementTree.{BlockTree, CaseTrees, StatementTree}
@@ -124,14 +124,14 @@ pub record CanWriteCases (f : FunctionText) (cases : CaseTrees) : Type 0 where
   pub roots : AreInText f (cases_roots (bound f) cases)
   pub lets : AreLets f (cases_lets (bound f) cases)
 
--- It is a function of its module, or that of an entry point, and the module is accepted and written
--- so far, and has its names. All that it names is there, if it may call the functions before it, and of
--- each of its expressions one type is known. Each expression that is written and each type that is spelled has a
--- form. Its names that front ends gave are there, in the order of the text, and told apart in 64 bits.
+-- It is a function of its module, or that of an entry point, and the module is accepted and has its
+-- names. All that it names is there, if it may call the functions before it, and of each of its
+-- expressions one type is known. Each expression that is written and each type that is spelled has a
+-- form, and so have the bindings of what it takes and gives, and its stage. Its names that front ends
+-- gave are there, in the order of the text, and told apart in 64 bits.
 pub record CanWrite (f : FunctionText) : Type 0 where
   pub named : HasNamesOf f.shader.now (names_in f.names.now)
   pub accepted : IsTrue (is_accepted f.shader.now f.module_info.now)
-  pub is_supported : IsTrue (is_written_so_far f.shader.now)
   pub there : IsFunctionOf f.ty f.shader.now
   pub function : slice_get (all_functions f.shader.now) (number f) ≡ Some f.function.now
   pub infos : slice_get (all_infos f.module_info.now) (number f) ≡ Some f.info.now
@@ -140,4 +140,5 @@ pub record CanWrite (f : FunctionText) : Type 0 where
   pub formed : WrittenHaveForms (annotates_types f.flags) f.shader.now f.module_info.now
       f.function.now
       f.info.now
+  pub head : HeadHasForm f.shader.now (number f)
   pub room : length (expression_labels f.function.now) < 2 ^ 64

@@ -1,17 +1,18 @@
 -- What is promised of a call that writes one function of a module.
 --
--- Throughout, m is the module, earlier are labels that were named before, handle is that of the
--- function, and explicit says whether `let`s tell types.
-use Rattle.std.specs.Prelude.{◌≡◌, ⊤, ℕ, ◌++◌, Bool, List, ◌⊎◌, codes, string_bytes, IfErr, IsFalse}
-use Rattle.std.specs.Prelude.{Ok, Err, OnErr, OnOk, Result}
+-- Throughout, m is the module, earlier are labels that were named before, ty says which of its functions
+-- is meant and number is that of it, and explicit says whether `let`s tell types.
+use Rattle.std.specs.Prelude.{◌≡◌, ⊤, ℕ, ◌++◌, Bool, List, ◌⊎◌, Ok, Err, IfErr, OnErr, OnOk}
+use Rattle.std.specs.Prelude.{Result}
 use Rattle.naga_ir.specs.declared.module.Module.{Module}
 use Rattle.naga_info.specs.declared.info.ModuleInfo.{ModuleInfo}
 use Rattle.naga_names.specs.Naming.{HasNamed, Names}
+use Rattle.module_meaning.specs.DeclarationForms.{HeadHasForm}
 use Rattle.module_meaning.specs.ExpressionLabels.{name_of_label}
+use Rattle.module_meaning.specs.FunctionNumbers.{function_number}
 use Rattle.module_meaning.specs.Names.{item_labels, labels_named_in, wgsl_names}
-use Rattle.module_meaning.specs.WrittenSoFar.{is_written_so_far}
-use Rattle.wgsl_text.specs.Functions.{Function}
-use Rattle.wgsl_text.specs.Reading.{HasOneReading, ReadsFunction}
+use Rattle.wgsl_text.specs.Functions.{EntryPoint, Function}
+use Rattle.wgsl_text.specs.Reading.{HasOneReading, ReadsEntryPoint, ReadsFunction}
 use Rattle.naga_back.specs.declared.context.FunctionType.{FunctionType}
 use Rattle.naga_back.specs.declared.context.FunctionType.TheVariants as item
 use Rattle.naga_back.specs.declared.flags.WriterFlags.{WriterFlags}
@@ -20,19 +21,10 @@ use Rattle.naga_words.specs.Sink.{IsBehind}
 use Rattle.naga_wgsl_fns.specs.Errors.{IsSinkWant}
 use Rattle.naga_wgsl_fns.specs.FunctionText.{annotates_types}
 use Rattle.naga_wgsl_fns.specs.Functions.{text_under}
+use Rattle.naga_wgsl_fns.specs.DeclarationRefusals.{NamesHead}
 use Rattle.naga_wgsl_fns.specs.Refusals.{HasNamedLabels, IsFault, IsWritableAt, TellsOfModule}
 use Rattle.naga_wgsl_fns.specs.declared.error.Error.{Error}
-use Rattle.naga_wgsl_fns.specs.declared.error.Error.TheVariants.{FmtError, Memory, Unimplemented}
-
--- of a function, and not of an entry point
-abbrev pub OfFunction : FunctionType → (ℕ → Type 0) → Type 0
-OfFunction (item.Function handle) Holds = Holds handle
-OfFunction (item.EntryPoint index) Holds = ⊤
-
--- it is an entry point
-abbrev pub IsEntryPoint : FunctionType → Type 0
-IsEntryPoint (item.Function handle) = ⊥
-IsEntryPoint (item.EntryPoint index) = ⊤
+use Rattle.naga_wgsl_fns.specs.declared.error.Error.TheVariants.{FmtError, Memory}
 
 -- with the words and prefixes of WGSL the namer has named the labels of the module's items, and
 -- others behind them
@@ -41,35 +33,38 @@ pub record HasNamedItemsOf (m : Module) (namer : Names) : Type 0 where
   pub named : HasNamedLabels (item_labels m ++ later) namer
 
 -- the names that front ends gave in the function, where these labels were named before
-abbrev pub named_behind : Module → (earlier : List (List ℕ)) → (handle number : ℕ) → List ℕ
-named_behind m earlier handle = name_of_label wgsl_names earlier (labels_named_in m handle)
+abbrev pub named_behind : Module → (earlier : List (List ℕ)) → (number label : ℕ) → List ℕ
+named_behind m earlier number = name_of_label wgsl_names earlier (labels_named_in m number)
 
 -- the text of the function under these names
 abbrev pub text_behind :
-    Module → ModuleInfo → WriterFlags → (earlier : List (List ℕ)) → (handle : ℕ) → List ℕ
-text_behind m info flags earlier handle =
-    text_under m info flags (named_behind m earlier handle) handle
+    Module → ModuleInfo → WriterFlags → (earlier : List (List ℕ)) → (number : ℕ) → List ℕ
+text_behind m info flags earlier number =
+    text_under m info flags (named_behind m earlier number) number
 
 -- Why the function is refused, where the sink had failed so often before and has failed so often
--- now: the sink failed, memory ran out, the function has a fault, or the module holds what is not
--- written so far.
+-- now: the sink failed, memory ran out, what it takes or gives or its stage has no form, or it has a
+-- fault.
 abbrev pub IsFunctionRefusal : (explicit : Bool) → Module → ModuleInfo →
-    (earlier : List (List ℕ)) → (handle : ℕ) → (before now : ℕ) → Error → Type 0
-IsFunctionRefusal explicit m info earlier handle before now (FmtError e) = IsSinkWant before now e
-IsFunctionRefusal explicit m info earlier handle before now (Memory e) = ⊤
-IsFunctionRefusal explicit m info earlier handle before now (Unimplemented message) =
-    ((string_bytes message ≡ codes "not yet written") × IsFalse (is_written_so_far m))
-    ⊎ IsFault explicit m info earlier handle (Unimplemented message)
-IsFunctionRefusal explicit m info earlier handle before now error =
-    IsFault explicit m info earlier handle error
+    (earlier : List (List ℕ)) → (number : ℕ) → (before now : ℕ) → Error → Type 0
+IsFunctionRefusal explicit m info earlier number before now (FmtError e) = IsSinkWant before now e
+IsFunctionRefusal explicit m info earlier number before now (Memory e) = ⊤
+IsFunctionRefusal explicit m info earlier number before now error =
+    NamesHead m number error ⊎ IsFault explicit m info earlier number error
+
+-- no reason stands in the function
+pub record IsWritableFunction (explicit : Bool) (m : Module) (info : ModuleInfo)
+    (earlier : List (List ℕ)) (number : ℕ) : Type 0 where
+  pub head : HeadHasForm m number
+  pub plan : IsWritableAt explicit m info earlier number
 
 -- an error has its reason, and where there is none no reason stands in the function
 abbrev pub RefusesFunctionOnlyFor : Result Unit Error → (explicit : Bool) → Module → ModuleInfo →
-    (earlier : List (List ℕ)) → (handle : ℕ) → (before now : ℕ) → Type 0
-RefusesFunctionOnlyFor (Ok _) explicit m info earlier handle before now =
-    IsWritableAt explicit m info earlier handle
-RefusesFunctionOnlyFor (Err error) explicit m info earlier handle before now =
-    IsFunctionRefusal explicit m info earlier handle before now error
+    (earlier : List (List ℕ)) → (number : ℕ) → (before now : ℕ) → Type 0
+RefusesFunctionOnlyFor (Ok _) explicit m info earlier number before now =
+    IsWritableFunction explicit m info earlier number
+RefusesFunctionOnlyFor (Err error) explicit m info earlier number before now =
+    IsFunctionRefusal explicit m info earlier number before now error
 
 -- a text stands behind what the sink held, and it is read as one function and as no other
 pub record AppendsOneFunction (content now : List ℕ) : Type 0 where
@@ -78,23 +73,37 @@ pub record AppendsOneFunction (content now : List ℕ) : Type 0 where
   pub function : Function
   pub reading : HasOneReading ReadsFunction text function
 
+-- the same of an entry point
+pub record AppendsOneEntryPoint (content now : List ℕ) : Type 0 where
+  pub text : List ℕ
+  pub appended : now ≡ content ++ text
+  pub entry_point : EntryPoint
+  pub reading : HasOneReading ReadsEntryPoint text entry_point
+
+abbrev pub AppendsOne : FunctionType → (content now : List ℕ) → Type 0
+AppendsOne (item.Function handle) content now = AppendsOneFunction content now
+AppendsOne (item.EntryPoint index) content now = AppendsOneEntryPoint content now
+
 -- A call was asked to write the function behind the text that its sink held; it answered, and the
 -- sink holds another text now. The sink had failed so often before, and has failed so often now.
 -- The namer is that behind the call.
 pub record FunctionWriting (m : Module) (info : ModuleInfo) (flags : WriterFlags)
-    (earlier : List (List ℕ)) (handle : ℕ) (answer : Result Unit Error) (namer : Names)
+    (earlier : List (List ℕ)) (ty : FunctionType) (answer : Result Unit Error) (namer : Names)
     (content now : List ℕ) (before after : ℕ) : Type 0 where
-  -- It refuses only for a reason that stands in the function, for what is not written so far, for
-  -- memory or the sink; and where it does not, no reason stands there.
-  pub refusals : RefusesFunctionOnlyFor answer (annotates_types flags) m info earlier handle before after
+  -- It refuses only for a reason that stands in the function, for memory or the sink; and where it does
+  -- not, no reason stands there.
+  pub refusals : RefusesFunctionOnlyFor answer (annotates_types flags) m info earlier
+      (function_number m ty) before after
   -- Otherwise it appends the function's text, which has exactly one reading.
-  pub text_ok : OnOk answer (now ≡ content ++ text_behind m info flags earlier handle)
-  pub reading : OnOk answer (AppendsOneFunction content now)
+  pub text_ok : OnOk answer (now ≡ content ++ text_behind m info flags earlier (function_number m ty))
+  pub reading : OnOk answer (AppendsOne ty content now)
   pub failures_ok : OnOk answer (after ≡ before)
   -- A call that gives up leaves a beginning of it, and nothing where it tells of the module.
-  pub text_err : OnErr answer (IsBehind content (text_behind m info flags earlier handle) now)
+  pub text_err : OnErr answer
+      (IsBehind content (text_behind m info flags earlier (function_number m ty)) now)
   pub untouched : IfErr answer (λ e. TellsOfModule e → (now ≡ content) × (after ≡ before))
   -- The namer has named the labels that front ends gave in the function; where the call gives up,
   -- some first ones of them.
-  pub named_ok : OnOk answer (HasNamed namer (earlier ++ labels_named_in m handle))
-  pub named_err : OnErr answer (HasNamedSome namer earlier (labels_named_in m handle))
+  pub named_ok : OnOk answer (HasNamed namer (earlier ++ labels_named_in m (function_number m ty)))
+  pub named_err : OnErr answer
+      (HasNamedSome namer earlier (labels_named_in m (function_number m ty)))

@@ -4,15 +4,13 @@ use Rattle.naga_ir.specs.declared.module.Module.{Module}
 use Rattle.naga_info.specs.declared.info.ModuleInfo.{ModuleInfo}
 use Rattle.module_meaning.specs.Accepted.{is_accepted}
 use Rattle.module_meaning.specs.Names.{HasNamesOf}
-use Rattle.module_meaning.specs.WrittenSoFar.{is_written_so_far}
 use Rattle.naga_names.specs.Keys.{names_in}
 use Rattle.naga_wgsl_fns.specs.declared.module_text.ModuleText.{ModuleText}
 
--- it is accepted, whatever is known of it, and written so far
+-- it is accepted, whatever is known of it
 pub record CanWriteOf (m : Module) : Type 0 where
   pub info : ModuleInfo
   pub accepted : IsTrue (is_accepted m info)
-  pub is_supported : IsTrue (is_written_so_far m)
 
 -- and its text has its names
 pub record CanWriteIn (t : ModuleText) : Type 0 where

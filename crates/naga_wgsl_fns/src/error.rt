@@ -2,7 +2,7 @@
 
 ghost use Rattle.std.specs.Prelude.{◌≡◌};
 ghost use Rattle.naga_wgsl_fns.specs.declared.error.Error.TheVariants.{Memory};
-ghost use Rattle.naga_wgsl_fns.specs.Errors.{error_of_sink, IsCustom, IsErrorOf, IsNotYetWritten};
+ghost use Rattle.naga_wgsl_fns.specs.Errors.{error_of_sink, IsCustom, IsErrorOf};
 ghost use Rattle.naga_wgsl_fns.specs.Errors.{IsUnimplemented};
 ghost use Rattle.naga_wgsl_fns.specs.Refusals.{IsErrorOfNames};
 ghost use Rattle.naga_words.specs.declared.error.TypeTextError.TheVariants as type_error;
@@ -71,14 +71,6 @@ pub fn error_of_want(want: TypeTextError) -> Error
         TypeTextError::Memory(error) => Error::Memory(error),
         TypeTextError::NoForm => unreachable!(),
     }
-}
-
-/// The refusal of a module that holds more than this writer writes so far; want of memory where
-/// there is none for its text.
-pub fn not_yet_written(alloc: Global) -> Error
-    ensures { IsNotYetWritten result }
-{
-    unimplemented(alloc, "not yet written")
 }
 
 /// The refusal of what this writer does not write, which says `text`; want of memory where there is

@@ -4,8 +4,8 @@ ghost use Rattle.std.specs.Prelude.{◌≡◌, ◌<◌, ◌++◌, IfErr, IsTrue,
 ghost use Rattle.std.specs.Prelude.{slice_get};
 ghost use Rattle.module_meaning.specs.Accepted.{is_accepted};
 ghost use Rattle.module_meaning.specs.AlikeTypes.{is_spelled};
-ghost use Rattle.module_meaning.specs.WrittenSoFar.{is_written_so_far};
 ghost use Rattle.naga_info.specs.declared.info.TypeResolution.TheVariants as resolution;
+ghost use Rattle.module_meaning.specs.DeclarationForms.{HeadHasForm, binding_has_form};
 ghost use Rattle.module_meaning.specs.FunctionNumbers.{IsFunctionOf, function_number};
 ghost use Rattle.module_meaning.specs.Names.{HasNamesOf};
 ghost use Rattle.naga_names.specs.Keys.{names_in};
@@ -17,23 +17,24 @@ ghost use Rattle.naga_words.specs.Sink.{IsBehind};
 ghost use Rattle.naga_wgsl_fns.specs.Errors.{IsWant};
 ghost use Rattle.naga_wgsl_fns.specs.FunctionText.{CanWrite};
 ghost use Rattle.naga_wgsl_fns.specs.FunctionText.{AreInText, IsInText, annotates_types};
-ghost use Rattle.naga_wgsl_fns.specs.FunctionText.{handles_in};
+ghost use Rattle.naga_wgsl_fns.specs.FunctionText.{handles_in, number};
 ghost use Rattle.naga_wgsl_fns.specs.Statements.{block_text};
-ghost use Rattle.std.specs.Option.{option_to_list};
+ghost use Rattle.std.specs.Option.{option_map_or, option_to_list};
 ghost use Rattle.naga_wgsl_fns.specs.Functions.{StartsAt, answer_text, argument_text};
 ghost use Rattle.naga_wgsl_fns.specs.Functions.{arguments_text, body_text, first_text};
 ghost use Rattle.naga_wgsl_fns.specs.Functions.{first_value_text, function_text, group_end_text};
-ghost use Rattle.naga_wgsl_fns.specs.Functions.{head_text, local_text, locals_text};
-ghost use Rattle.naga_wgsl_fns.specs.Functions.{next_argument_text, result_text};
+ghost use Rattle.naga_wgsl_fns.specs.Functions.{head_text, item_text, local_text, locals_text};
+ghost use Rattle.naga_wgsl_fns.specs.Functions.{next_argument_text, result_text, stage_text};
 ghost use Rattle.naga_wgsl_fns.specs.Functions.{names_of, text_under};
 
 use crate::Error;
+use crate::bindings::write_passing;
 use crate::error::error_of_want;
 use crate::indent::Indent;
 use naga_back::{FunctionType, WriterFlags};
 use naga_info::{FunctionInfo, ModuleInfo};
 use naga_ir::{
-    Expression, Function, FunctionArgument, Handle, LocalVariable, Module, Place, Type_,
+    Expression, Function, FunctionArgument, FunctionResult, Handle, LocalVariable, Module, Place,
 };
 use naga_names::NameKey;
 use naga_scope::{Plan, Scope, function_of};
@@ -43,10 +44,11 @@ use std::collections::HashMap;
 
 /// Writes the declaration of a function, with the line end behind its last line: the function, its
 /// arguments and its locals under their names in `names`, which has them all, and what front ends
-/// named under the names that the plan has.
+/// named under the names that the plan has. In front of an entry point stands its stage.
 ///
-/// The module is accepted with what is known of it, and is one of those that are written so far.
-/// The plan is that of the function, for `let`s that tell types where the flags ask for it.
+/// The module is accepted with what is known of it, and what the function takes and gives and its
+/// stage have forms. The plan is that of the function, for `let`s that tell types where the flags
+/// ask for it.
 ///
 /// Where the call gives up, because the sink failed or for want of memory, a beginning of the text
 /// stands behind what the sink held. Memory is taken where the sink takes it, for the blanks of a
@@ -63,8 +65,8 @@ pub fn write_planned<'a, W: TextSink>(
     out: &mut W,
 ) -> Result<(), Error>
     requires accepted { IsTrue (is_accepted «module».now info.now) }
-    requires written { IsTrue (is_written_so_far «module».now) }
     requires there { IsFunctionOf ty.now «module».now }
+    requires head { HeadHasForm «module».now (function_number «module».now ty.now) }
     requires names { HasNamesOf «module».now (names_in names.now) }
     requires planned { IsPlanOf (annotates_types flags) «module».now info.now
         (function_number «module».now ty.now) plan }
@@ -90,7 +92,7 @@ pub fn write_planned<'a, W: TextSink>(
         info: function_info,
     };
     let mut written = Output::new(out);
-    text.write_declaration(alloc, &mut scope, &mut written);
+    text.write_item(alloc, &mut scope, &mut written);
     match written.outcome() {
         Ok(()) => Ok(()),
         Err(want) => Err(error_of_want(want)),
@@ -113,7 +115,43 @@ pub(crate) struct FunctionText<'a> {
 }
 
 impl FunctionText<'_> {
-    /// The whole function. `scope` is what is in scope at its start.
+    /// The whole function, behind its stage. `scope` is what is in scope at its start.
+    #[tactic(auto, using(naga_words::proofs::Writing::writes_then, crate::proofs::FunctionRows::item_row))]
+    fn write_item<W: TextSink>(
+        &self,
+        alloc: Global,
+        scope: &mut Scope,
+        out: &mut Output<'_, W>,
+    )
+        requires can { CanWrite self.now }
+        requires start { StartsAt self.now scope.old.table }
+        requires named { scope.old.named ≡ 0 }
+        requires size { length scope.old.table ≡ length self.now.function.now.expressions }
+        requires room { HasRoom scope.old (block_changes self.now.function.now.body) }
+        ensures { Writes W.text W.failures out.old out.new (item_text self.now) }
+    {
+        self.write_stage(out);
+        self.write_declaration(alloc, scope, out);
+    }
+
+    /// The attributes of an entry point's stage, on a line of their own; nothing for a function that
+    /// others may call.
+    #[tactic(auto, using(naga_words::proofs::Writing::writes_nothing, crate::proofs::FunctionRows::stage_row))]
+    fn write_stage<W: TextSink>(&self, out: &mut Output<'_, W>)
+        requires { CanWrite self.now }
+        ensures { Writes W.text W.failures out.old out.new
+            (stage_text self.now.shader.now (number self.now)) }
+    {
+        match self.ty {
+            FunctionType::Function(_) => {}
+            FunctionType::EntryPoint(index) => {
+                let point = &self.shader.entry_points[index as usize];
+                self.of_module().write_stage(point, out);
+            }
+        }
+    }
+
+    /// The function by itself. `scope` is what is in scope at its start.
     #[tactic(auto, using(naga_words::proofs::Writing::writes_then, crate::proofs::FunctionRows::function_row))]
     fn write_declaration<W: TextSink>(
         &self,
@@ -191,6 +229,7 @@ impl FunctionText<'_> {
         ensures { Writes W.text W.failures out.old out.new
             (argument_text self.now number argument.now) }
     {
+        write_passing(argument.binding, out);
         self.write_argument_name(number as u32, out);
         out.put(": ");
         self.write_type(alloc, argument.ty, out);
@@ -202,20 +241,28 @@ impl FunctionText<'_> {
         ensures { Writes W.text W.failures out.old out.new (result_text self.now) }
     {
         match &self.function.result {
-            Some(answer) => self.write_answer(alloc, answer.ty, out),
+            Some(answer) => self.write_answer(alloc, answer, out),
             None => {}
         }
     }
 
-    /// The type of what is returned.
+    /// What is returned: how it passes, and its type.
     #[tactic(auto, using(naga_words::proofs::Writing::writes_then, crate::proofs::FunctionRows::answer_row))]
-    fn write_answer<W: TextSink>(&self, alloc: Global, ty: Handle<Type_>, out: &mut Output<'_, W>)
+    fn write_answer<W: TextSink>(
+        &self,
+        alloc: Global,
+        answer: &FunctionResult,
+        out: &mut Output<'_, W>,
+    )
         requires can { CanWrite self.now }
-        requires formed { IsTrue (is_spelled self.now.shader.now.types (resolution.Handle ty)) }
-        ensures { Writes W.text W.failures out.old out.new (answer_text self.now ty) }
+        requires passing { IsTrue (option_map_or binding_has_form answer.now.binding true) }
+        requires formed { IsTrue
+            (is_spelled self.now.shader.now.types (resolution.Handle answer.now.ty)) }
+        ensures { Writes W.text W.failures out.old out.new (answer_text self.now answer.now) }
     {
         out.put(" -> ");
-        self.write_type(alloc, ty, out);
+        write_passing(answer.binding, out);
+        self.write_type(alloc, answer.ty, out);
     }
 
     /// What stands behind the head. `scope` is what is in scope at the start.

@@ -12,10 +12,9 @@ ghost use Rattle.naga_wgsl_fns.specs.Errors.{IsWant};
 ghost use Rattle.naga_wgsl_fns.specs.GlobalExpressions.{GlobalWriting};
 ghost use Rattle.naga_wgsl_fns.specs.ModuleText.{CanWriteIn};
 
-use crate::error::{Error, error_of_want, not_yet_written};
+use crate::error::{Error, error_of_want};
 use crate::formless_constants::global_without_form;
 use crate::module_text::ModuleText;
-use naga_acceptance::is_written_so_far;
 use naga_ir::{Expression, Handle, Module};
 use naga_names::NameKey;
 use naga_scope::GlobalExpressions;
@@ -36,9 +35,6 @@ use std::collections::HashMap;
 /// without a form as `Custom`, `type without a WGSL form`; an operator as `Custom`, `operator in a
 /// constant`. Such a refusal leaves the sink as it was. After want of memory or a failure of the sink
 /// a beginning of the text may stand behind what the sink held.
-///
-/// So far a module of which not every part is written, as one whose constants have names or that
-/// declares overrides, is refused as `Unimplemented`, `not yet written`.
 pub fn write_global_expression<W: TextSink>(
     alloc: Global,
     module: &Module,
@@ -52,9 +48,6 @@ pub fn write_global_expression<W: TextSink>(
     ensures { GlobalWriting «module».now handle result (W.text out.old) (W.text out.new)
         (W.failures out.old) (W.failures out.new) }
 {
-    if !is_written_so_far(module) {
-        return Err(not_yet_written(alloc));
-    }
     let globals = GlobalExpressions::of(alloc, module)?;
     if globals.is_written(handle) {
         write_written_global(

@@ -1,44 +1,40 @@
 //! A module's functions, written one by one.
 
-ghost use Rattle.std.specs.Prelude.{◌≡◌, ℕ, List, IsErrAnd, IsTrue};
+ghost use Rattle.std.specs.Prelude.{◌≡◌, ℕ, List, IsTrue};
 ghost use Rattle.module_meaning.specs.Accepted.{is_accepted};
+ghost use Rattle.module_meaning.specs.DeclarationForms.{HeadHasForm};
 ghost use Rattle.module_meaning.specs.FunctionNumbers.{IsFunctionOf, function_number};
 ghost use Rattle.module_meaning.specs.Names.{HasNamesOf, wgsl_names};
-ghost use Rattle.module_meaning.specs.WrittenSoFar.{is_written_so_far};
 ghost use Rattle.naga_names.specs.Keys.{names_in};
 ghost use Rattle.naga_names.specs.Naming.{HasNamed};
 ghost use Rattle.naga_scope.specs.ExpressionNames.{HasOtherUses};
-ghost use Rattle.naga_wgsl_fns.specs.Errors.{IsNotYetWritten};
-ghost use Rattle.naga_wgsl_fns.specs.Items.{FunctionWriting, HasNamedItemsOf, IsEntryPoint};
-ghost use Rattle.naga_wgsl_fns.specs.Items.{OfFunction};
+ghost use Rattle.naga_wgsl_fns.specs.Items.{FunctionWriting, HasNamedItemsOf};
 
-use crate::error::{Error, not_yet_written};
+use crate::error::Error;
+use crate::formless_declarations::head_without_form;
 use crate::functions::write_planned;
 use crate::plans::plan_of;
-use naga_acceptance::is_written_so_far;
 use naga_back::{FunctionType, WriterFlags};
 use naga_info::ModuleInfo;
 use naga_ir::Module;
 use naga_names::NameKey;
 use naga_names::namer::Namer;
-use naga_scope::GlobalExpressions;
+use naga_scope::{GlobalExpressions, formless_head};
 use naga_words::TextSink;
 use std::alloc::Global;
 use std::collections::HashMap;
 
-/// Writes a function of a module behind what the sink holds, without an empty line behind it. The
-/// module is accepted with what is known of it, `names` has the names of its items in WGSL, and
-/// `namer` is the one that gave them, with any calls since.
+/// Writes a function or an entry point of a module behind what the sink holds, without an empty line
+/// behind it; in front of an entry point stands its stage. The module is accepted with what is known
+/// of it, `names` has the names of its items in WGSL, and `namer` is the one that gave them, with any
+/// calls since.
 ///
-/// The text has one reading as a function. It is that which stands in a text of the whole module,
-/// but that the labels which front ends gave in the function get the names that `namer` gives them
-/// next, in the order of the text. The function is looked at before its text: for what stands in
-/// it, it is refused as a module is that has it. Such a refusal leaves the sink as it was, and
-/// `namer` has named some first ones of these labels. After want of memory or a failure of the sink
-/// a beginning of the text may stand behind what the sink held.
-///
-/// So far a module of which not every part is written is refused as `Unimplemented`, `not yet
-/// written`, and so each entry point.
+/// The text has one reading, as a function or as an entry point. It is that which stands in a text of
+/// the whole module, but that the labels which front ends gave in the function get the names that
+/// `namer` gives them next, in the order of the text. The function is looked at before its text: for
+/// what stands in it, it is refused as a module is that has it. Such a refusal leaves the sink as it
+/// was, and `namer` has named some first ones of these labels. After want of memory or a failure of the
+/// sink a beginning of the text may stand behind what the sink held.
 pub fn write_function<W: TextSink>(
     alloc: Global,
     module: &Module,
@@ -54,29 +50,20 @@ pub fn write_function<W: TextSink>(
     requires names { HasNamesOf «module».now (names_in names.now) }
     requires namer { HasNamedItemsOf «module».now namer.old }
     // Whatever labels it has named, as those of one `reset` and of calls since.
-    ensures function { OfFunction ty (λ handle. (earlier : List (List ℕ)) →
-        HasNamed namer.old earlier →
-        FunctionWriting «module».now info.now flags earlier handle result namer.new
-        (W.text out.old) (W.text out.new) (W.failures out.old) (W.failures out.new)) }
-    ensures entry_point { IsEntryPoint ty → IsErrAnd result IsNotYetWritten
-        × (W.text out.new ≡ W.text out.old) × (W.failures out.new ≡ W.failures out.old)
-        × (namer.new ≡ namer.old) }
+    ensures function { (earlier : List (List ℕ)) → HasNamed namer.old earlier →
+        FunctionWriting «module».now info.now flags earlier ty result namer.new
+        (W.text out.old) (W.text out.new) (W.failures out.old) (W.failures out.new) }
     ensures words { HasOtherUses namer.old namer.new }
     // So that the next function may be written.
     ensures named { HasNamedItemsOf «module».now namer.new }
 {
-    if !is_written_so_far(module) {
-        return Err(not_yet_written(alloc));
-    }
-    match ty {
-        FunctionType::Function(_) => {
-            write_by_plan(alloc, module, info, &ty, names, namer, flags, out)
-        }
-        FunctionType::EntryPoint(_) => unreachable!(),
+    match formless_head(module, ty) {
+        Some(head) => Err(head_without_form(alloc, head)),
+        None => write_by_plan(alloc, module, info, &ty, names, namer, flags, out),
     }
 }
 
-/// The same of a function in a module that is written so far.
+/// The same of a function of which what it takes and gives and its stage have forms.
 fn write_by_plan<W: TextSink>(
     alloc: Global,
     module: &Module,
@@ -88,13 +75,12 @@ fn write_by_plan<W: TextSink>(
     out: &mut W,
 ) -> Result<(), Error>
     requires accepted { IsTrue (is_accepted «module».now info.now) }
-    requires written { IsTrue (is_written_so_far «module».now) }
     requires there { IsFunctionOf ty.now «module».now }
+    requires head { HeadHasForm «module».now (function_number «module».now ty.now) }
     requires names { HasNamesOf «module».now (names_in names.now) }
     requires words { HasOtherUses wgsl_names namer.old }
     ensures function { (earlier : List (List ℕ)) → HasNamed namer.old earlier →
-        FunctionWriting «module».now info.now flags earlier (function_number «module».now ty.now)
-        result namer.new
+        FunctionWriting «module».now info.now flags earlier ty.now result namer.new
         (W.text out.old) (W.text out.new) (W.failures out.old) (W.failures out.new) }
     ensures words { HasOtherUses namer.old namer.new }
 {

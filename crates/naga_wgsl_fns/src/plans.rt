@@ -5,7 +5,6 @@ ghost use Rattle.std.specs.Prelude.{slice_get};
 ghost use Rattle.module_meaning.specs.Accepted.{is_accepted};
 ghost use Rattle.module_meaning.specs.FunctionNumbers.{IsFunctionOf, function_number};
 ghost use Rattle.module_meaning.specs.Names.{HasNamesOf, labels_named_in, wgsl_names};
-ghost use Rattle.module_meaning.specs.WrittenSoFar.{is_written_so_far};
 ghost use Rattle.naga_ir.specs.declared.expression.Expression.{Expression};
 ghost use Rattle.naga_names.specs.Keys.{names_in};
 ghost use Rattle.naga_names.specs.Naming.{HasNamed};
@@ -29,8 +28,8 @@ use naga_scope::{GlobalExpressions, Plan, PlanError, function_of};
 use std::alloc::Global;
 use std::collections::HashMap;
 
-/// The plan of a function of an accepted module that is written so far, by the marks of the
-/// module's own expressions and the names of its items: the rules of scope hold in the function,
+/// The plan of a function of an accepted module, by the marks of the module's own expressions and
+/// the names of its items: the rules of scope hold in the function,
 /// each statement and each written expression has a form, each type that its text spells can be
 /// spelled, and the labels that front ends gave in it have names, which `namer` has given them in
 /// the order of the text. Its words and prefixes are those of WGSL.
@@ -48,7 +47,6 @@ pub fn plan_of<'a>(
     namer: &mut Namer,
 ) -> Result<Plan, Error>
     requires accepted { IsTrue (is_accepted «module».now info.now) }
-    requires written { IsTrue (is_written_so_far «module».now) }
     requires there { IsFunctionOf ty.now «module».now }
     requires globals { MarksGlobals «module».now globals.now }
     requires names { HasNamesOf «module».now (names_in names.now) }

@@ -1,11 +1,10 @@
 -- Why a module is refused, each reason with what it says.
 --
 -- Throughout, m is the module, e an error of memory, and explicit says whether `let`s tell types.
-use Rattle.std.specs.Prelude.{◌≡◌, ⊤, ℕ, List, ◌⊎◌, codes, string_bytes, IsTrue, IsFalse, Result}
-use Rattle.std.specs.Prelude.{Ok, Err, Bool}
+use Rattle.std.specs.Prelude.{◌≡◌, ⊤, ℕ, List, ◌⊎◌, codes, string_bytes, Result, Ok, Err, Bool}
 use Rattle.naga_ir.specs.declared.module.Module.{Module}
 use Rattle.naga_info.specs.declared.info.ModuleInfo.{ModuleInfo}
-use Rattle.module_meaning.specs.WrittenSoFar.{is_written_so_far}
+use Rattle.module_meaning.specs.DeclarationForms.{DeclarationsHaveForms}
 use Rattle.module_meaning.specs.Written.{AllWrittenHaveForms}
 use Rattle.module_meaning.specs.Names.{HasNamesOf, labels_before, wgsl_names}
 use Rattle.module_meaning.specs.Premises.{ScopesHold}
@@ -13,12 +12,12 @@ use Rattle.naga_names.specs.Keys.{NameMap}
 use Rattle.naga_names.specs.Naming.{Names}
 use Rattle.naga_names.specs.Refusal.{SomeNameIsFull, SomeKeyIsFull}
 use Rattle.naga_names.specs.Reset.{labelled_items}
+use Rattle.naga_wgsl_fns.specs.DeclarationRefusals.{NamesDeclaration}
 use Rattle.naga_wgsl_fns.specs.Errors.{IsSinkWant}
 use Rattle.naga_wgsl_fns.specs.Refusals.{ExpressionNamesAreFullIn, HasFormlessIn, HasNamedLabels}
 use Rattle.naga_wgsl_fns.specs.Refusals.{TellsOfForm, TellsOfFullNamer, TellsOfModule, TellsOfScope}
 use Rattle.naga_wgsl_fns.specs.declared.error.Error.{Error}
-use Rattle.naga_wgsl_fns.specs.declared.error.Error.TheVariants.{FmtError, Custom, Unimplemented}
-use Rattle.naga_wgsl_fns.specs.declared.error.Error.TheVariants.{Memory}
+use Rattle.naga_wgsl_fns.specs.declared.error.Error.TheVariants.{FmtError, Custom, Memory}
 
 -- the names of some items of the module can't be told, since so many of them have one base; or
 -- those of some labels that front ends gave in a function, behind all labels in front of them; or,
@@ -51,9 +50,11 @@ IsNamesRefusal m (Custom message) = IsReportedOfItems m (string_bytes message)
 IsNamesRefusal m (Memory e) = ⊤
 IsNamesRefusal m _ = ⊥
 
--- an expression, a type or a statement without a form stands in some function, and is named
+-- a declaration without a form stands in the module, and is named, or an expression, a type or a
+-- statement without one in some function
 abbrev pub HasFormless : (explicit : Bool) → Module → ModuleInfo → Error → Type 0
-HasFormless explicit m info error = (handle : ℕ) × HasFormlessIn explicit m info handle error
+HasFormless explicit m info error =
+    NamesDeclaration m error ⊎ ((number : ℕ) × HasFormlessIn explicit m info number error)
 
 -- ---- refusals
 -- the rules of scope don't hold in some function: an operand is used where it is out of scope, or
@@ -63,25 +64,23 @@ IsOutOfScope m info message = (message ≡ codes "operand out of scope") × (Sco
 
 -- Why a module is refused, of which this is known, where the sink had failed so often before and
 -- has failed so often now: the sink failed, memory ran out, the names can't be told, an operand is
--- out of scope, an expression without a form is written, a type without one spelled or a statement
--- without one stands there, or the module holds what is not written so far.
+-- out of scope, or a declaration without a form stands there, an expression without one is written, a
+-- type without one spelled or a statement without one stands there.
 abbrev pub IsRefusal : (explicit : Bool) → Module → ModuleInfo → (before now : ℕ) → Error → Type 0
 IsRefusal explicit m info before now (FmtError e) = IsSinkWant before now e
 IsRefusal explicit m info before now (Memory e) = ⊤
 IsRefusal explicit m info before now (Custom message) =
     IsReportedOf m (string_bytes message)
     ⊎ (IsOutOfScope m info (string_bytes message) ⊎ HasFormless explicit m info (Custom message))
-IsRefusal explicit m info before now (Unimplemented message) =
-    ((string_bytes message ≡ codes "not yet written") × IsFalse (is_written_so_far m))
-    ⊎ HasFormless explicit m info (Unimplemented message)
 IsRefusal explicit m info before now error = HasFormless explicit m info error
 
--- The error tells of one of the functions, of which each is looked at before its text. That a name
--- can't be told, it tells of a function where the items of the module can all be named.
-abbrev pub TellsOfFunction : Module → Error → Type 0
-TellsOfFunction m error =
-    TellsOfScope error
-    ⊎ (TellsOfForm error ⊎ (TellsOfFullNamer error × (ItemsAreFull m → ⊥)))
+-- The error tells of one of the functions, of which each is looked at before its text: all that the
+-- module declares has a form. That a name can't be told, it tells of a function where the items of the
+-- module can all be named.
+pub record TellsOfFunction (m : Module) (error : Error) : Type 0 where
+  pub declarations : DeclarationsHaveForms m
+  pub tells : TellsOfScope error
+      ⊎ (TellsOfForm error ⊎ (TellsOfFullNamer error × (ItemsAreFull m → ⊥)))
 
 -- the error comes before any text: it tells of the module, and not of one of its functions
 abbrev pub ComesBeforeText : Module → Error → Type 0
@@ -89,7 +88,7 @@ ComesBeforeText m error = TellsOfModule error × (TellsOfFunction m error → �
 
 -- no reason stands in the module
 pub record IsWritable (explicit : Bool) (m : Module) (info : ModuleInfo) : Type 0 where
-  pub written : IsTrue (is_written_so_far m)
+  pub declarations : DeclarationsHaveForms m
   pub in_scope : ScopesHold m info
   pub formed : AllWrittenHaveForms explicit m info
   pub nameable : NamerIsFull m → ⊥

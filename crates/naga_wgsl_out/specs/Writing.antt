@@ -1,26 +1,28 @@
 -- What contracts see of a writer, and the text that it writes.
 --
--- Throughout, m is the module, p a handle with its function, and explicit says whether `let`s tell
--- types.
-use Rattle.std.specs.Prelude.{◌≡◌, ◌+◌, ◌<◌, ◌++◌, ◌⊎◌, ℕ, Bool, List, Result, Ok, Err, codes, length, take}
+-- Throughout, m is the module, p the number of a function or an entry point with that function, and
+-- explicit says whether `let`s tell types.
+use Rattle.std.specs.Prelude.{◌≡◌, ◌+◌, ◌<◌, ◌++◌, ◌⊎◌, ℕ, Bool, List, [], Result, Ok, Err, codes}
+use Rattle.std.specs.Prelude.{if◌then◌else◌, length, nat_lt, take}
 use Rattle.std.specs.List.{enumerate_from, flat_map}
 use Rattle.naga_ir.specs.declared.module.Function.{Function}
 use Rattle.naga_ir.specs.declared.module.Module.{Module}
 use Rattle.naga_info.specs.declared.info.ModuleInfo.{ModuleInfo}
 use Rattle.naga_scope.specs.Plans.{AreExpressionNames, IsPlanOf, Planned}
-use Rattle.wgsl_text.specs.Functions.{function_pieces}
-use Rattle.naga_form.specs.Functions.{function_form}
 use Rattle.naga_form.specs.Declarations.{written_program}
-use Rattle.module_meaning.specs.Names.{expression_name, labels_before, module_names}
+use Rattle.module_meaning.specs.Enables.{needed_enables}
+use Rattle.module_meaning.specs.FunctionNumbers.{all_functions}
+use Rattle.module_meaning.specs.Names.{expression_name, labels_before}
 use Rattle.naga_names.specs.Naming.{Names}
-use Rattle.wgsl_text.specs.Text.{text}
 use Rattle.wgsl_text.specs.Reading.{layout}
 use Rattle.naga_wgsl_fns.specs.Appends.{StoppedWithin, Wrote}
 use Rattle.naga_wgsl_fns.specs.FunctionText.{annotates_types}
-use Rattle.naga_wgsl_fns.specs.Functions.{known_of}
+use Rattle.naga_wgsl_fns.specs.Functions.{known_of, text_of}
 use Rattle.naga_wgsl_fns.specs.declared.error.Error.{Error}
 use Rattle.naga_wgsl_fns.specs.Refusals.{ExpressionNamesAreFullIn, IsFault, IsWritableAt}
 use Rattle.naga_wgsl_fns.specs.Refusals.{TellsOfModule}
+use Rattle.naga_wgsl_out.specs.Declarations.{declarations_text}
+use Rattle.naga_wgsl_out.specs.Enables.{enables_text}
 use Rattle.naga_wgsl_out.specs.ModuleRefusals.{HasNamedBefore}
 use Rattle.naga_back.specs.declared.flags.WriterFlags.{WriterFlags}
 
@@ -32,28 +34,36 @@ pub record Writing (W : Type 0) : Type 0 where
 abbrev pub written_text : Module → ModuleInfo → WriterFlags → List ℕ
 written_text m info flags = layout (written_program m info (annotates_types flags))
 
--- the text of a function, and an empty line behind it
+-- what stands in front of the functions: what the text enables, and the other declarations
+abbrev pub front_text : Module → List ℕ
+front_text m = enables_text (needed_enables m) ++ declarations_text m
+
+-- an empty line stands between two entry points, and behind each function that others may call
+abbrev pub line_before : Module → (number : ℕ) → List ℕ
+line_before m number = if nat_lt (length m.functions) number then codes "\n" else []
+
+abbrev pub line_behind : Module → (number : ℕ) → List ℕ
+line_behind m number = if nat_lt number (length m.functions) then codes "\n" else []
+
+-- the text of a function or of an entry point, with these empty lines
 abbrev pub line_of : Module → ModuleInfo → WriterFlags → ℕ × Function → List ℕ
 line_of m info flags p =
-    let known = known_of info p.0 in
-    let explicit = annotates_types flags in
-    let named = expression_name m p.0 in
-    let form = function_form explicit (module_names m) named m info p.0 p.1 known in
-    text (function_pieces form) ++ codes "\n"
+    let own = text_of m info flags (expression_name m p.0) p.0 p.1 (known_of info p.0) in
+    line_before m p.0 ++ (own ++ line_behind m p.0)
 
 -- those of these functions, of the module, and of it in front of this function
 abbrev pub lines_of : Module → ModuleInfo → WriterFlags → List (ℕ × Function) → List ℕ
 lines_of m info flags functions = flat_map (line_of m info flags) functions
 
 abbrev pub module_lines : Module → ModuleInfo → WriterFlags → List ℕ
-module_lines m info flags = lines_of m info flags (enumerate_from 0 m.functions)
+module_lines m info flags = lines_of m info flags (enumerate_from 0 (all_functions m))
 
-abbrev pub lines_before : Module → ModuleInfo → WriterFlags → (handle : ℕ) → List ℕ
-lines_before m info flags handle =
-    lines_of m info flags (take handle (enumerate_from 0 m.functions))
+abbrev pub lines_before : Module → ModuleInfo → WriterFlags → (number : ℕ) → List ℕ
+lines_before m info flags number =
+    lines_of m info flags (take number (enumerate_from 0 (all_functions m)))
 
--- Behind what the sink held stand the functions in front of the first one that can't be written,
--- an empty line behind each, and nothing else.
+-- Behind what the sink held stand the functions and entry points in front of the first one that can't
+-- be written, with their empty lines, and nothing else.
 pub record WroteFunctionsBefore (m : Module) (info : ModuleInfo) (flags : WriterFlags)
     (content now : List ℕ) : Type 0 where
   -- that function
@@ -81,7 +91,7 @@ pub record IsNamedPlan (explicit : Bool) (m : Module) (info : ModuleInfo) (handl
 pub record WroteFunctions (m : Module) (info : ModuleInfo) (flags : WriterFlags) (content : List ℕ)
     (failed : ℕ) (now : List ℕ) (failures : ℕ) : Type 0 where
   pub wrote : Wrote content failed (module_lines m info flags) now failures
-  pub planned : (i : ℕ) → i < length m.functions → HasPlan (annotates_types flags) m info i
+  pub planned : (i : ℕ) → i < length (all_functions m) → HasPlan (annotates_types flags) m info i
 
 -- the first one without a plan was met, and told
 pub record MetNoPlan (m : Module) (info : ModuleInfo) (flags : WriterFlags) (content : List ℕ)

@@ -3,8 +3,8 @@
 ghost use Rattle.std.specs.Prelude.{◌≡◌, ◌<◌, ◌++◌, [], IfErr, IfOk, IsTrue, OnErr, OnOk};
 ghost use Rattle.std.specs.Prelude.{codes, length, string_bytes};
 ghost use Rattle.module_meaning.specs.Accepted.{is_accepted};
-ghost use Rattle.module_meaning.specs.Enables.{needed_enables};
-ghost use Rattle.module_meaning.specs.WrittenSoFar.{is_written_so_far};
+ghost use Rattle.module_meaning.specs.DeclarationForms.{DeclarationsHaveForms};
+ghost use Rattle.module_meaning.specs.FunctionNumbers.{all_functions, function_type};
 ghost use Rattle.naga_names.specs.Keys.{names_in};
 ghost use Rattle.naga_words.specs.Sink.{IsBehind};
 ghost use Rattle.naga_names.specs.Refusal.{IsResetRefusal};
@@ -16,29 +16,27 @@ ghost use Rattle.naga_scope.specs.Plans.{AreExpressionNames, IsPlanOf};
 ghost use Rattle.naga_wgsl_fns.specs.Appends.{Appends};
 ghost use Rattle.naga_wgsl_fns.specs.FunctionText.{annotates_types};
 ghost use Rattle.naga_wgsl_fns.specs.Functions.{text_of_function};
-ghost use Rattle.naga_wgsl_out.specs.Enables.{enables_text};
 ghost use Rattle.naga_wgsl_out.specs.Headline.{EachReading, FaithfulWriting, answer_of, text_of};
 ghost use Rattle.naga_wgsl_fns.specs.Items.{HasNamedItemsOf};
 ghost use Rattle.naga_wgsl_fns.specs.Refusals.{TellsOfModule};
 ghost use Rattle.naga_wgsl_out.specs.ModuleRefusals.{ComesBeforeText, HasAllNames};
 ghost use Rattle.naga_wgsl_out.specs.ModuleRefusals.{HasNamedBefore, IsNamesRefusal};
 ghost use Rattle.naga_wgsl_out.specs.ModuleRefusals.{TellsOfFunction};
-ghost use Rattle.naga_wgsl_out.specs.Writing.{WritesFunctions, Writing};
-ghost use Rattle.naga_wgsl_out.specs.Writing.{WroteFunctionsBefore};
-ghost use Rattle.naga_wgsl_out.specs.Writing.{written_text};
+ghost use Rattle.naga_wgsl_out.specs.Writing.{WritesFunctions, Writing, WroteFunctionsBefore};
+ghost use Rattle.naga_wgsl_out.specs.Writing.{front_text, line_before, line_behind, written_text};
 
+use crate::declarations::write_declarations;
 use crate::enables::write_enables;
-use naga_acceptance::is_written_so_far;
 use naga_back::{FunctionType, WriterFlags};
 use naga_info::ModuleInfo;
-use naga_ir::{Function, Handle, Module, Place};
+use naga_ir::{Module, Place};
 use naga_names::by_bytes::{builtin_words, reserved_words};
 use naga_names::keyword_set::CaseInsensitiveKeywordSet;
 use naga_names::keywords::RESERVED_PREFIXES;
 use naga_names::namer::{NameKey, Namer, NamerError};
-use naga_scope::{GlobalExpressions, Plan};
-use naga_wgsl_fns::error::{names_error, not_yet_written};
-use naga_wgsl_fns::{Error, plan_of, put, write_planned};
+use naga_scope::{GlobalExpressions, Plan, formless_declaration};
+use naga_wgsl_fns::error::names_error;
+use naga_wgsl_fns::{Error, declaration_without_form, plan_of, put, write_planned};
 use naga_words::TextSink;
 use std::alloc::Global;
 use std::collections::HashMap;
@@ -95,12 +93,10 @@ impl<W: TextSink> Writer<W> {
     /// at an index, that is used twice or more. `EXPLICIT_TYPES` has each `let` tell its type.
     ///
     /// A module is refused for a construct in it without a form, an operand out of scope or a name
-    /// that can't be told, by the errors that `docs/REFUSALS.md` lists, and so far as
-    /// `Unimplemented`, `not yet written`, where it has more than types, constants without names,
-    /// and functions. Where a function is refused, what the text enables and the functions in front
-    /// of it stand in the sink, whole, an empty line behind each. Behind want of memory or a failure
-    /// of the sink a beginning of the text stands there, and behind any other refusal what stood
-    /// there before.
+    /// that can't be told, by the errors that `docs/REFUSALS.md` lists. Where a function or an entry
+    /// point is refused, what the text enables, the other declarations, and the functions and entry
+    /// points in front of it stand in the sink, whole. Behind want of memory or a failure of the sink a
+    /// beginning of the text stands there, and behind any other refusal what stood there before.
     ///
     /// ```text
     /// match writer.write(&shader.module, &shader.info) {
@@ -131,18 +127,18 @@ impl<W: TextSink> Writer<W> {
         // What stands in front of the function that is refused.
         ensures written_before { IfErr result (λ e. TellsOfFunction «module».now e →
             WroteFunctionsBefore «module».now info.now self.old.flags
-            (W.text self.old.sink ++ enables_text (needed_enables «module».now))
+            (W.text self.old.sink ++ front_text «module».now)
             (W.text self.new.sink)) }
         ensures unfailed { IfErr result (λ e. TellsOfModule e →
             W.failures self.new.sink ≡ W.failures self.old.sink) }
         ensures flags { self.new.flags ≡ self.old.flags }
     {
-        if !is_written_so_far(module) {
-            return Err(not_yet_written(self.alloc));
-        }
         let globals = GlobalExpressions::of(self.alloc, module)?;
+        if let Some(declaration) = formless_declaration(module, &globals) {
+            return Err(declaration_without_form(self.alloc, module, &globals, declaration));
+        }
         let (names, mut namer) = names_of(self.alloc, module)?;
-        write_enables(module, &mut self.out)?;
+        write_front(self.alloc, module, &names, &mut self.out)?;
         write_functions(
             self.alloc,
             module,
@@ -156,10 +152,27 @@ impl<W: TextSink> Writer<W> {
     }
 }
 
-/// Writes the functions of the module, an empty line behind each, up to the first in which an
-/// operand is out of scope, a statement has no form, an expression without one is written or a type
-/// without one spelled, or a label gets no name. The namer has named the items of the module, and
-/// goes on with what front ends named.
+/// Writes what the text enables, and the declarations in front of the functions.
+fn write_front<W: TextSink>(
+    alloc: Global,
+    module: &Module,
+    names: &HashMap<NameKey, String>,
+    out: &mut W,
+) -> Result<(), Error>
+    requires accepted { (info : ModuleInfo) × IsTrue (is_accepted «module».now info) }
+    requires declared { DeclarationsHaveForms «module».now }
+    requires names { HasNamesOf «module».now (names_in names.now) }
+    ensures { Appends result (W.text out.old) (W.failures out.old) (front_text «module».now)
+        (W.text out.new) (W.failures out.new) }
+{
+    write_enables(module, out)?;
+    write_declarations(alloc, module, names, out)
+}
+
+/// Writes the functions of the module and then its entry points, up to the first in which an operand
+/// is out of scope, a statement has no form, an expression without one is written or a type without
+/// one spelled, or a label gets no name. The namer has named the items of the module, and goes on
+/// with what front ends named.
 fn write_functions<W: TextSink>(
     alloc: Global,
     module: &Module,
@@ -171,45 +184,85 @@ fn write_functions<W: TextSink>(
     out: &mut W,
 ) -> Result<(), Error>
     requires accepted { IsTrue (is_accepted «module».now info.now) }
-    requires written { IsTrue (is_written_so_far «module».now) }
+    requires declared { DeclarationsHaveForms «module».now }
     requires globals { MarksGlobals «module».now globals.now }
-    requires names { HasNamesOf «module».now (names_in names.now) }
+    requires names { HasAllNames «module».now (names_in names.now) }
     requires namer { HasNamedBefore «module».now 0 namer.old }
     ensures { WritesFunctions «module».now info.now flags result (W.text out.old)
         (W.failures out.old) (W.text out.new) (W.failures out.new) }
 {
-    for index in 0..module.functions.len() {
-        let handle = Place::from_index(index);
-        let ty = FunctionType::Function(handle);
+    for number in 0..module.functions.len() + module.entry_points.len() {
+        let ty = function_numbered(module, number);
         let plan = plan_of(alloc, module, info, &ty, globals, names, flags, namer)?;
-        write_function_line(alloc, module, info, names, flags, handle, plan, out)?;
+        write_function_line(alloc, module, info, names, flags, number, &ty, plan, out)?;
     }
     Ok(())
 }
 
+/// The function with this number: behind those that others may call stand those of entry points.
+fn function_numbered(module: &Module, number: usize) -> FunctionType
+    requires counted { vec_len «module».now.entry_points ≤ 2 ^ 16 }
+    requires there { number < length (all_functions «module».now) }
+    ensures { result ≡ function_type «module».now number }
+{
+    if number < module.functions.len() {
+        FunctionType::Function(Place::from_index(number))
+    } else {
+        FunctionType::EntryPoint((number - module.functions.len()) as u16)
+    }
+}
+
+/// A function or an entry point, by its number, with its empty lines.
 fn write_function_line<W: TextSink>(
     alloc: Global,
     module: &Module,
     info: &ModuleInfo,
     names: &HashMap<NameKey, String>,
     flags: WriterFlags,
-    handle: Handle<Function>,
+    number: usize,
+    ty: &FunctionType,
     plan: Plan,
     out: &mut W,
 ) -> Result<(), Error>
     requires accepted { IsTrue (is_accepted «module».now info.now) }
-    requires written { IsTrue (is_written_so_far «module».now) }
-    requires handle { handle < length «module».now.functions }
+    requires declared { DeclarationsHaveForms «module».now }
+    requires there { number < length (all_functions «module».now) }
+    requires ty { ty.now ≡ function_type «module».now number }
     requires names { HasNamesOf «module».now (names_in names.now) }
-    requires planned { IsPlanOf (annotates_types flags) «module».now info.now handle plan }
-    requires named { AreExpressionNames «module».now handle plan.named }
+    requires planned { IsPlanOf (annotates_types flags) «module».now info.now number plan }
+    requires named { AreExpressionNames «module».now number plan.named }
     ensures { Appends result (W.text out.old) (W.failures out.old)
-        (text_of_function «module».now info.now flags handle ++ codes "\n")
+        (line_before «module».now number
+        ++ (text_of_function «module».now info.now flags number ++ line_behind «module».now number))
         (W.text out.new) (W.failures out.new) }
 {
-    let ty = FunctionType::Function(handle);
-    write_planned(alloc, module, info, names, flags, &ty, plan, out)?;
-    put("\n", out)
+    write_line_before(module, number, out)?;
+    write_planned(alloc, module, info, names, flags, ty, plan, out)?;
+    write_line_behind(module, number, out)
+}
+
+/// The empty line between two entry points.
+fn write_line_before<W: TextSink>(module: &Module, number: usize, out: &mut W) -> Result<(), Error>
+    ensures { Appends result (W.text out.old) (W.failures out.old)
+        (line_before «module».now number) (W.text out.new) (W.failures out.new) }
+{
+    if module.functions.len() < number {
+        put("\n", out)
+    } else {
+        Ok(())
+    }
+}
+
+/// The empty line behind a function that others may call.
+fn write_line_behind<W: TextSink>(module: &Module, number: usize, out: &mut W) -> Result<(), Error>
+    ensures { Appends result (W.text out.old) (W.failures out.old)
+        (line_behind «module».now number) (W.text out.new) (W.failures out.new) }
+{
+    if number < module.functions.len() {
+        put("\n", out)
+    } else {
+        Ok(())
+    }
 }
 
 /// The names of a module's items in WGSL, as [`Writer`] gives them, and the namer that gave them, which
