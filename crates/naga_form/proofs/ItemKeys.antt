@@ -1,15 +1,15 @@
--- The items of a module by the keys of their names: functions, constants, overrides and variables have
--- names of their own, and none that stands free of items.
+-- The items of a module by the keys of their names: no two with different keys have one name, and none
+-- has a word of WGSL's own, or no word at all, for its name.
 use Rattle.std.proofs.Common.{◌≡◌, ◌≢◌, ℕ, ◌+◌, ◌-◌, ◌<◌, Bool, true, false, List, [], ◌∷◌, length}
-use Rattle.std.proofs.Common.{Option, Some, None, refl, sym, ap, ◌∙◌, subst, take}
+use Rattle.std.proofs.Common.{Option, Some, None, nat_eq, refl, sym, ap, ◌∙◌, subst, take}
 use Rattle.std.specs.Prelude.{not, slice_get, ◌&&◌, ◌||◌}
 use Rattle.std.specs.Option.{option_map_or}
 use Rattle.std.proofs.lemmas.Bool.{and_parts, true≢false}
-use Rattle.std.proofs.Common.{nat_eq}
 use Rattle.naga_back.specs.FunctionContext.{function_key}
 use Rattle.naga_back.specs.declared.context.FunctionType.{FunctionType}
 use Rattle.naga_back.specs.declared.context.FunctionType.TheVariants as function
 use Rattle.naga_ir.specs.declared.module.Module.{Module}
+use Rattle.naga_ir.specs.declared.module.Override.{Override}
 use Rattle.naga_ir.specs.declared.types.Type_.{Type_}
 use Rattle.naga_keywords.specs.Plain.{is_word}
 use Rattle.naga_names.specs.Reset.{labelled_items, labels_of}
@@ -27,6 +27,7 @@ use Rattle.shader_runs.specs.Program as shapes
 use Rattle.wgsl_text.specs.Words.{is_builtin}
 use Rattle.naga_form.proofs.NamedConstants.{IsNumberedIn, OfConstant, OfOverride, which_constant}
 use Rattle.naga_form.proofs.Names.{function_there, item_is_identifier, items_tell, name_is}
+use Rattle.naga_form.proofs.Names.{names_another}
 use Rattle.naga_form.proofs.OperatingWords.{is_signed, names_no_item}
 
 -- A program of shapes has as many functions, constants with overrides, and variables as the module.
@@ -46,7 +47,7 @@ function_of_no_type (function.Function h) = refl
 function_of_no_type (function.EntryPoint j) = refl
 
 -- none that has a number among the constants of the runs is one
-pub numbered_of_no_type : (m : Module) (i : ℕ) → is_of_type (numbered_key m i) ≡ false
+numbered_of_no_type : (m : Module) (i : ℕ) → is_of_type (numbered_key m i) ≡ false
 numbered_of_no_type m i =
     by (slice_get (named_handles 0 m.constants) i) (key.Override (i - named_count m.constants)) refl
   where
@@ -55,7 +56,7 @@ numbered_of_no_type m i =
     by (Some h) other is = refl
     by None other is = is
 
--- what is no item is no word of WGSL's own
+-- what names no item is no word, or one of WGSL's own
 pub no_word_of_item : (w : List ℕ) → names_no_item w ≡ true → (not (is_word w) || is_builtin w) ≡ true
 no_word_of_item [] free = absurd cc
 no_word_of_item (c ∷ rest) free =
@@ -86,6 +87,10 @@ module _ (m : Module) where
   pub type_has : (h : ℕ) (t : Type_) → slice_get m.types h ≡ Some t → HasItem (key.Type_ h)
   type_has h t at = (_, type_stands wgsl_names m h t at)
 
+  pub override_has : (h : ℕ) (o : Override) → slice_get m.overrides h ≡ Some o →
+      HasItem (key.Override h)
+  override_has h o at = (_, override_stands wgsl_names m h o at)
+
   pub numbered_has : (i : ℕ) → i < named_count m.constants + length m.overrides →
       HasItem (numbered_key m i)
   numbered_has i lt = by (which_constant m i lt)
@@ -93,27 +98,18 @@ module _ (m : Module) where
       by : IsNumberedIn m i → HasItem (numbered_key m i)
       by (OfConstant h c there count is) =
           subst HasItem (sym is) (_, constant_stands wgsl_names m h c there)
-      by (OfOverride h o there count is) =
-          subst HasItem (sym is) (_, override_stands wgsl_names m h o there)
+      by (OfOverride h o there count is) = subst HasItem (sym is) (override_has h o there)
 
   -- ---- words
-  -- no item has a word of WGSL's own, or no word at all, for its name
+  -- an item's name is no such word
   pub item_is_no_word : (w : List ℕ) → (not (is_word w) || is_builtin w) ≡ true → (k : NameKey) →
       HasItem k → name_in (module_names m) k ≢ w
-  item_is_no_word w other k has e =
-      by (is_word w) (is_builtin w) (sym (ap is_word e) ∙ word)
-      (sym (ap is_builtin e) ∙ (item_is_identifier m (k, has.0) has.1).own) other
-    where
-      word : is_word (name_in (module_names m) k) ≡ true
-      word =
-          ap is_word (name_is m (k, has.0) has.1) ∙
-          name_after_is_word wgsl_names
-          (labels_of (take has.1.place (labelled_items wgsl_names m))) has.0
-
-      by : (a b : Bool) → a ≡ true → b ≡ false → (not a || b) ≡ true → ⊥
-      by true false one two other = absurd (cc)
-      by true true one two other = absurd (cc)
-      by false b one two other = absurd (cc)
+  item_is_no_word w other k has =
+      names_another (name_in (module_names m) k) w
+      (ap is_word (name_is m (k, has.0) has.1) ∙
+      name_after_is_word wgsl_names (labels_of (take has.1.place (labelled_items wgsl_names m)))
+      has.0)
+      (item_is_identifier m (k, has.0) has.1).own other
 
   -- the word is the name of no item but of a type
   abbrev pub IsNoItem : List ℕ → Type 0
@@ -128,7 +124,8 @@ module _ (m : Module) where
       true≢false
       (sym (ap is_of_type (keys_tell k (key.Type_ h) has (type_has h t at) e)) ∙ other)
 
-  -- ---- such a word is none that runs know
+  -- ---- what runs know
+  -- such a word names no function, constant, override or variable
   module _ (p : shapes.Module) (counts : CountsItems m p) (w : List ℕ) (none : IsNoItem w) where
     pub no_function_is : (g : ℕ) → g < length p.functions → function_name m (module_names m) g ≢ w
     no_function_is g lt =

@@ -60,6 +60,7 @@ use Rattle.naga_form.proofs.OutsideWords.{initialiser_words_outside}
 use Rattle.naga_form.proofs.WrittenOut.{are_written_out}
 
 -- ---- lists
+-- there are as many shapes as functions
 pub shapes_counted : (m : Module) (info : ModuleInfo) (fs : List ir_function.Function)
     (ess : List (List ExpressionInfo)) → length fs ≡ length ess →
     length (function_shapes m info fs ess) ≡ length fs
@@ -96,6 +97,7 @@ module _ (m : Module) (info : ModuleInfo) (accepted : IsTrue (is_accepted m info
       length-reverse (function_shapes m info (all_functions m) (all_infos info))
       ∙ shapes_counted m info (all_functions m) (all_infos info) (all_counted m info accepted)
 
+  -- its program of shapes has what it declares
   counts : CountsItems m p
   counts = record {
     functions = functions_shaped;

@@ -1,7 +1,7 @@
 -- Each constant of an accepted module has a tree. Where the initialisers of those with a name are
 -- written out, as a literal, another constant, an override, a zero value, a composition or a splat
--- of such, these have trees too. Acceptance doesn't ask that they are: a negation of a literal is
--- not.
+-- of such, these have trees too, and so it is where all that a module declares has a form. Acceptance
+-- doesn't ask that they are: a negation of a literal is not.
 use Rattle.module_meaning.specs.Writable.{AreWrittenOut, is_written_out, written_out_within, written_out_over}
 use Rattle.module_meaning.specs.Names.{TypesAreDistinguished}
 use Rattle.std.proofs.Common.{◌≡◌, ℕ, zero, suc, ◌<◌, ◌+◌, Bool, true, false, List, [], ◌∷◌, refl, sym, ap, ◌∙◌, length}
