@@ -49,7 +49,6 @@ use Rattle.module_meaning.specs.StatementForms.{block_has_forms}
 use Rattle.module_meaning.specs.Written.{AllWrittenHaveForms, WrittenHaveForms}
 use Rattle.naga_form.proofs.Facts.{further, from_start}
 use Rattle.naga_form.proofs.WritableModules.{no_case_falls, no_further_functions, no_further_infos}
-use Rattle.naga_form.proofs.WrittenSoFarFits.{is_free}
 use Rattle.naga_form.proofs.ConstantsFit.{constants_are_typed}
 use Rattle.naga_form.proofs.FunctionsFit.{IsFree, AllBehind, all_fit_freely}
 use Rattle.naga_form.proofs.AcceptedFunctions.{all_counted, functions_known, group_at}
@@ -65,11 +64,6 @@ use Rattle.naga_form.proofs.ScopeRules.{scopes_are_checked}
 pub form_functions-map : (ns : List Naming) → form_functions ns ≡ map form_function ns
 form_functions-map [] = refl
 form_functions-map (n ∷ ns) = ap (λ fs. form_function n ∷ fs) (form_functions-map ns)
-
-pub shapes_counted : (m : Module) (info : ModuleInfo) (fs : List ir_function.Function) (ess : List (List ExpressionInfo)) → length fs ≡ length ess → length (function_shapes m info fs ess) ≡ length fs
-shapes_counted m info [] ess paired = refl
-shapes_counted m info (f ∷ fs) [] paired = absurd (omega (arith, paired))
-shapes_counted m info (f ∷ fs) (es ∷ ess) paired = ap suc (shapes_counted m info fs ess (omega (arith, paired)))
 
 functions_read : (explicit : Bool) (m : Module) (info : ModuleInfo) →
     IsTrue (types_are_written_so_far m) →
@@ -91,15 +85,6 @@ functions_read explicit m info values own g (f ∷ fs) (es ∷ ess) is have size
     (have 0 f es refl refl) size i ∷ functions_read explicit m info values own
     (g + 1) fs ess all.1 (λ i f es here known. have (suc i) f es here known)
     (λ i f es here known. sizes (suc i) f es here known) i
-
--- what holds of all of a list that is turned round onto another holds of all of both
-behind_all : {X : Type 0} (test : X → Bool) (xs behind : List X) → IsTrue (list_all test (reverse_aux xs behind)) → IsTrue (list_all test behind)
-behind_all test [] behind all = all
-behind_all test (x ∷ xs) behind all = and_right (test x) (list_all test behind) (behind_all test xs (x ∷ behind) all)
-
-all_reversed : {X : Type 0} (test : X → Bool) (xs behind : List X) → IsTrue (list_all test (reverse_aux xs behind)) → IsTrue (list_all test xs)
-all_reversed test [] behind all = refl
-all_reversed test (x ∷ xs) behind all = and_from (test x) (list_all test xs) (and_left (test x) (list_all test behind) (behind_all test xs (x ∷ behind) all)) (all_reversed test xs (x ∷ behind) all)
 
 -- the square: what is written of the module is read as its functions are written
 pub program_reads : (m : Module) (info : ModuleInfo) (explicit : Bool) →
