@@ -4,10 +4,10 @@
 -- and names are those of its module.
 use Rattle.std.proofs.Common.{◌≡◌, ℕ, ◌<◌, ◌^◌, Bool, true, false, List, [], ◌∷◌, ◌++◌, Option, Some, None}
 use Rattle.std.proofs.Common.{refl, sym, ap, subst, ◌∙◌, arith, codes}
-use Rattle.std.specs.Prelude.{unwrap_or}
-use Rattle.std.specs.List.{list_any}
+use Rattle.std.specs.Prelude.{length, unwrap_or, ◌==◌}
+use Rattle.std.specs.List.{list_all, list_any}
 use Rattle.std.specs.Option.{is_some, option_map, option_map_or}
-use Rattle.std.proofs.lemmas.Bool.{and_parts, ltb-true}
+use Rattle.std.proofs.lemmas.Bool.{and_parts, eqb-true, ltb-true}
 use Rattle.std.proofs.lemmas.Option.{same_Some}
 use Rattle.std.specs.Str.{bytes_eq}
 use Rattle.wgsl_text.specs.Literals.{IsPlainNumber}
@@ -389,9 +389,12 @@ three_sizes (x ∷ y ∷ z ∷ []) fits =
       y = y;
       z = z;
       are = refl;
-      fit = (plain_number x one.0, (plain_number y two.0, plain_number z three.0));
+      fit = (plain_number x one.0, plain_number y two.0, plain_number z three.0);
     }
-three_sizes (x ∷ y ∷ z ∷ w ∷ more) fits = absurd cc
+three_sizes (x ∷ y ∷ z ∷ w ∷ more) fits =
+    let counted = eqb-true (length (x ∷ y ∷ z ∷ w ∷ more)) 3
+    (and_parts (length (x ∷ y ∷ z ∷ w ∷ more) == 3) (list_all fits_32_bits (x ∷ y ∷ z ∷ w ∷ more)) fits).0 in
+    absurd (omega (arith, counted))
 
 module _ (names : NameMap) (e : EntryPoint) (x y z : ℕ) (sizes : e.workgroup_size ≡ x ∷ y ∷ z ∷ []) where
   mesh_stage : (output : Option MeshStageInfo) (payload : Option ℕ) → is_some output ≡ true →
