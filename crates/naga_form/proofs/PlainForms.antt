@@ -34,7 +34,7 @@ use Rattle.wgsl_text.specs.Functions.{Each}
 use Rattle.wgsl_text.specs.Statements.{is_reference}
 use Rattle.wgsl_text.specs.Types.{TypeSpecifier}
 use Rattle.naga_names.proofs.Refusal.{element}
-use Rattle.module_meaning.specs.Names.{global_name, module_names, wgsl_names}
+use Rattle.module_meaning.specs.Names.{global_name, module_names}
 use Rattle.module_meaning.specs.Types.{type_names}
 use Rattle.naga_form.proofs.SameValues.{IsFit, TypesAreFit, global_identifier, override_identifier}
 use Rattle.naga_form.proofs.SameValues.{tree_is}

@@ -42,7 +42,7 @@ use Rattle.naga_form.specs.Expressions.{function_source}
 use Rattle.naga_form.specs.Functions.{locals_form, parameters_form, result_form, function_form}
 use Rattle.naga_form.specs.Functions.{functions_form}
 use Rattle.module_meaning.specs.Premises.{handles_are_counted}
-use Rattle.module_meaning.specs.Names.{module_names, wgsl_names, numbered_name, expression_name}
+use Rattle.module_meaning.specs.Names.{module_names, numbered_name, expression_name}
 use Rattle.module_meaning.specs.Names.{function_name}
 use Rattle.module_meaning.specs.Types.{type_names}
 use Rattle.naga_form.specs.Types.{annotated_type}
