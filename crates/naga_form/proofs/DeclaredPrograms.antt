@@ -1,8 +1,9 @@
 -- What is written for a module's declarations is of the grammar: structs, constants, overrides,
 -- variables, and the attributes of entry points.
 --
--- Throughout, h is the handle of a type t, s a member, c the handle of a constant, o that of an override,
--- v that of a variable, j the index of an entry point p, k is what stands at a handle, and i is an index.
+-- Throughout, m is a module, h the handle of a type t, s a member, c the handle of a constant, o that of
+-- an override, v that of a variable, k what stands there, j the index of an entry point p, and i an
+-- index.
 use Rattle.std.proofs.Common.{◌≡◌, ℕ, suc, ◌+◌, ◌-◌, ◌≤◌, Bool, true, false, List, [], ◌∷◌, length, map}
 use Rattle.std.proofs.Common.{refl, sym, ap, subst, ◌∙◌, arith, zero-add, codes, Option, Some, None}
 use Rattle.std.specs.Prelude.{IsTrue, slice_get, nat_lt, if◌then◌else◌}
@@ -25,8 +26,10 @@ use Rattle.naga_ir.specs.declared.types.TypeInner.TheVariants as inner
 use Rattle.naga_info.specs.declared.info.ModuleInfo.{ModuleInfo}
 use Rattle.naga_info.specs.declared.info.TypeResolution.TheVariants.{Handle}
 use Rattle.naga_names.proofs.NamedItems.{constant_stands, global_stands, override_stands, type_stands}
+use Rattle.naga_names.specs.Keys.{NameMap}
 use Rattle.naga_names.specs.Reset.{members_of}
 use Rattle.naga_names.specs.declared.key.NameKey.TheVariants as key
+use Rattle.naga_words.specs.Contexts.{Names as TypeNames}
 use Rattle.module_meaning.specs.Accepted.{is_accepted}
 use Rattle.module_meaning.specs.AlikeTypes.{is_spelled}
 use Rattle.module_meaning.specs.DeclarationForms.{DeclarationsHaveForms, IsDeclaredType}
@@ -76,7 +79,7 @@ use Rattle.naga_form.specs.Literals.{literal_form}
 use Rattle.naga_form.specs.Types.{type_form}
 
 -- ---- lists
--- of items beside their places
+-- items beside their places, from this one on or from the first
 placed_from : {X : Type 0} (Holds : ℕ × X → Type 0) (n : ℕ) (xs : List X) →
     ((i : ℕ) (x : X) → slice_get xs i ≡ Some x → Holds (n + i, x)) → Each Holds (enumerate_from n xs)
 placed_from Holds n [] each = tt
@@ -91,23 +94,37 @@ placed_from Holds n (x ∷ xs) each =
 placed : {X : Type 0} (Holds : ℕ × X → Type 0) (xs : List X) →
     ((i : ℕ) (x : X) → slice_get xs i ≡ Some x → Holds (i, x)) → Each Holds (enumerate_from 0 xs)
 placed Holds xs each =
-    placed_from Holds 0 xs (λ i x there. subst (λ k. Holds (k, x)) (sym (zero-add i)) (each i x there))
+    placed_from Holds 0 xs
+    (λ i x there. subst (λ k. Holds (k, x)) (sym (zero-add i)) (each i x there))
 
--- of the forms of items, of all or of those that have one
-each_map : {X Y : Type 0} (Holds : Y → Type 0) (form : X → Y) (xs : List X) →
-    Each (λ x. Holds (form x)) xs → Each Holds (map form xs)
-each_map Holds form [] all = tt
-each_map Holds form (x ∷ xs) all = (all.0, each_map Holds form xs all.1)
+-- the forms of these, of all or of those that have one
+module _ {X Y : Type 0} (Holds : Y → Type 0) where
+  of_all : (form : ℕ × X → Y) (ps : List (ℕ × X)) → Each (λ p. Holds (form p)) ps →
+      Each Holds (map form ps)
+  of_all form [] each = tt
+  of_all form (p ∷ ps) each = (each.0, of_all form ps each.1)
 
-each_kept : {X Y : Type 0} (Holds : Y → Type 0) (form : X → Option Y) (xs : List X) →
-    Each (λ x. (y : Y) → form x ≡ Some y → Holds y) xs → Each Holds (filter_map form xs)
-each_kept Holds form [] all = tt
-each_kept {X} {Y} Holds form (x ∷ xs) all = by (form x) all.0 (each_kept Holds form xs all.1)
-  where
-    by : (o : Option Y) → ((y : Y) → o ≡ Some y → Holds y) → Each Holds (filter_map form xs) →
-        Each Holds (cons_option o (filter_map form xs))
-    by None one more = more
-    by (Some y) one more = (one y refl, more)
+  of_some : (form : ℕ × X → Option Y) (ps : List (ℕ × X)) →
+      Each (λ p. (y : Y) → form p ≡ Some y → Holds y) ps → Each Holds (filter_map form ps)
+  of_some form [] each = tt
+  of_some form (p ∷ ps) each = by (form p) each.0 (of_some form ps each.1)
+    where
+      by : (o : Option Y) → ((y : Y) → o ≡ Some y → Holds y) → Each Holds (filter_map form ps) →
+          Each Holds (cons_option o (filter_map form ps))
+      by None one more = more
+      by (Some y) one more = (one y refl, more)
+
+  each_form : (form : ℕ × X → Y) (xs : List X) →
+      ((i : ℕ) (x : X) → slice_get xs i ≡ Some x → Holds (form (i, x))) →
+      Each Holds (map form (enumerate_from 0 xs))
+  each_form form xs each = of_all form (enumerate_from 0 xs) (placed (λ p. Holds (form p)) xs each)
+
+  each_kept : (form : ℕ × X → Option Y) (xs : List X) →
+      ((i : ℕ) (x : X) → slice_get xs i ≡ Some x → (y : Y) → form (i, x) ≡ Some y → Holds y) →
+      Each Holds (filter_map form (enumerate_from 0 xs))
+  each_kept form xs each =
+      of_some form (enumerate_from 0 xs)
+      (placed (λ p. (y : Y) → form p ≡ Some y → Holds y) xs each)
 
 -- what has a form where a test passes
 kept_if : {Y : Type 0} (Holds : Y → Type 0) (test : Bool) (form : Y) →
@@ -165,42 +182,51 @@ module _ (m : Module) (info : ModuleInfo) (accepted : IsTrue (is_accepted m info
 
   -- ---- numbers
   -- those of overrides and of what variables are bound to
-  items_in_range : (list_all (override_in_range (length m.types) (length m.global_expressions)) m.overrides ≡ true) ×
-      (list_all (global_in_range (length m.types) (length m.global_expressions)) m.global_variables ≡ true)
+  items_in_range :
+      (list_all (override_in_range (length m.types) (length m.global_expressions)) m.overrides ≡ true) ×
+      (list_all (global_in_range (length m.types) (length m.global_expressions)) m.global_variables ≡
+      true)
   items_in_range =
-      let own = length m.global_expressions in
-      let declared = and_parts (types_in_range (length m.overrides) m.types) _ (declared_in_range m info accepted) in
-      let one = and_parts (special_types_fit (length m.types) m.special_types) _ declared.1 in
-      let two = and_parts (list_all (constant_in_range (length m.types) own) m.constants) _ one.1 in
-      let three = and_parts (list_all (override_in_range (length m.types) own) m.overrides) _ two.1 in
-      (three.0, (and_parts (list_all (global_in_range (length m.types) own) m.global_variables) _ three.1).0)
+      let types = length m.types in let own = length m.global_expressions in
+      let zero = and_parts (types_in_range (length m.overrides) m.types) _
+      (declared_in_range m info accepted) in
+      let one = and_parts (special_types_fit types m.special_types) _ zero.1 in
+      let two = and_parts (list_all (constant_in_range types own) m.constants) _ one.1 in
+      let three = and_parts (list_all (override_in_range types own) m.overrides) _ two.1 in
+      let four = and_parts (list_all (global_in_range types own) m.global_variables) _ three.1 in
+      (three.0, four.0)
 
   module _ (declarations : DeclarationsHaveForms m) where
+    abbrev names : NameMap
+    names = module_names m
+
+    abbrev spelled : TypeNames
+    spelled = type_names m
+
     -- a type that is told
-    declared_type : (ty : ℕ) → IsDeclaredType m ty → IsType (type_form (type_names m) ty)
+    declared_type : (ty : ℕ) → IsDeclaredType m ty → IsType (type_form spelled ty)
     declared_type ty is =
         is_type_at m types ty (spelled_of_spellable m (Handle ty) (declarations.types ty is))
 
     -- an initialiser, if there is one
     value_is : (o : Option ℕ) → ((handle : ℕ) → o ≡ Some handle → IsInitialiser m handle) →
-        IsValue (option_map (global_form m (type_names m)) o)
+        IsValue (option_map (global_form m spelled) o)
     value_is None is = tt
     value_is (Some handle) is = written_global handle (declarations.initialisers handle (is handle refl))
 
     -- ---- structs
     struct_is : (h : ℕ) (t : Type_) → slice_get m.types h ≡ Some t →
         is_declared m.special_types h t.inner ≡ true → IsStruct (record {
-          name = name_in (module_names m) (key.Type_ h);
-          members = map (member_form (module_names m) (type_names m) h) (enumerate_from 0 (members_of t.inner));
+          name = name_in names (key.Type_ h);
+          members = map (member_form names spelled h) (enumerate_from 0 (members_of t.inner));
         })
     struct_is h t at declared = record {
       name = item_is_identifier m (key.Type_ h, _) (type_stands wgsl_names m h t at);
-      members = each_map IsMember (member_form (module_names m) (type_names m) h) _
-          (placed (λ p. IsMember (member_form (module_names m) (type_names m) h p)) (members_of t.inner) member_is);
+      members = each_form IsMember (member_form names spelled h) (members_of t.inner) member_is;
     }
       where
         member_is : (i : ℕ) (s : ir_member.StructMember) → slice_get (members_of t.inner) i ≡ Some s →
-            IsMember (member_form (module_names m) (type_names m) h (i, s))
+            IsMember (member_form names spelled h (i, s))
         member_is i s there = record {
           attributes = passing_is s.binding
               (member_fits t.inner (numbers_at m info accepted h t at).1 i s there);
@@ -209,27 +235,29 @@ module _ (m : Module) (info : ModuleInfo) (accepted : IsTrue (is_accepted m info
           type = declared_type s.ty (IsDeclaredType.OfMember h i t s at declared there);
         }
 
-    pub structs_are : Each IsStruct (filter_map (struct_form (module_names m) (type_names m) m) (enumerate_from 0 m.types))
+    pub structs_are :
+        Each IsStruct (filter_map (struct_form names spelled m) (enumerate_from 0 m.types))
     structs_are =
-        each_kept IsStruct (struct_form (module_names m) (type_names m) m) (enumerate_from 0 m.types)
-        (placed (λ p. (y : _) → struct_form (module_names m) (type_names m) m p ≡ Some y → IsStruct y) m.types
-        (λ h t at. kept_if IsStruct (is_declared m.special_types h t.inner) _ (struct_is h t at)))
+        each_kept IsStruct (struct_form names spelled m) m.types
+        (λ h t at. kept_if IsStruct (is_declared m.special_types h t.inner) _ (struct_is h t at))
 
     -- ---- constants, overrides and variables
-    pub constants_are : Each IsNamedConstant (filter_map (constant_form (module_names m) (type_names m) m) (enumerate_from 0 m.constants))
+    pub constants_are :
+        Each IsNamedConstant (filter_map (constant_form names spelled m) (enumerate_from 0 m.constants))
     constants_are =
-        each_kept IsNamedConstant (constant_form (module_names m) (type_names m) m) (enumerate_from 0 m.constants)
-        (placed (λ p. (y : _) → constant_form (module_names m) (type_names m) m p ≡ Some y → IsNamedConstant y) m.constants
+        each_kept IsNamedConstant (constant_form names spelled m) m.constants
         (λ c k at. kept_if IsNamedConstant (is_some k.name) _ (λ named. record {
           name = item_is_identifier m (key.Constant c, _) (constant_stands wgsl_names m c k at);
           type = declared_type k.ty (IsDeclaredType.OfConstant c k at named);
-          value = written_global k.init (declarations.initialisers k.init (IsInitialiser.OfConstant c k at named));
-        })))
+          value = written_global k.init
+              (declarations.initialisers k.init (IsInitialiser.OfConstant c k at named));
+        }))
 
     override_is : (o : ℕ) (k : ir_override.Override) → slice_get m.overrides o ≡ Some k →
-        IsOverride (override_form (module_names m) (type_names m) m (o, k))
+        IsOverride (override_form names spelled m (o, k))
     override_is o k at =
-        let fits = list_all_at (override_in_range (length m.types) (length m.global_expressions)) m.overrides o k items_in_range.0 at in
+        let fits = list_all_at (override_in_range (length m.types) (length m.global_expressions))
+        m.overrides o k items_in_range.0 at in
         let one = and_parts (nat_lt k.ty (length m.types)) _ fits in
         record {
           attributes = id_attributes_are k.id
@@ -240,15 +268,16 @@ module _ (m : Module) (info : ModuleInfo) (accepted : IsTrue (is_accepted m info
           value = value_is k.init (λ handle is. IsInitialiser.OfOverride o k handle at is);
         }
 
-    pub overrides_are : Each IsOverride (map (override_form (module_names m) (type_names m) m) (enumerate_from 0 m.overrides))
+    pub overrides_are :
+        Each IsOverride (map (override_form names spelled m) (enumerate_from 0 m.overrides))
     overrides_are =
-        each_map IsOverride (override_form (module_names m) (type_names m) m) (enumerate_from 0 m.overrides)
-        (placed (λ p. IsOverride (override_form (module_names m) (type_names m) m p)) m.overrides override_is)
+        each_form IsOverride (override_form names spelled m) m.overrides override_is
 
     variable_is : (v : ℕ) (k : GlobalVariable) → slice_get m.global_variables v ≡ Some k →
-        IsGlobal (variable_form (module_names m) (type_names m) m (v, k))
+        IsGlobal (variable_form names spelled m (v, k))
     variable_is v k at =
-        let fits = list_all_at (global_in_range (length m.types) (length m.global_expressions)) m.global_variables v k items_in_range.1 at in
+        let fits = list_all_at (global_in_range (length m.types) (length m.global_expressions))
+        m.global_variables v k items_in_range.1 at in
         let one = and_parts (nat_lt k.ty (length m.types)) _ fits in
         record {
           attributes = global_attributes_are k
@@ -260,33 +289,38 @@ module _ (m : Module) (info : ModuleInfo) (accepted : IsTrue (is_accepted m info
           value = value_is k.init (λ handle is. IsInitialiser.OfVariable v k handle at is);
         }
 
-    pub variables_are : Each IsGlobal (map (variable_form (module_names m) (type_names m) m) (enumerate_from 0 m.global_variables))
+    pub variables_are :
+        Each IsGlobal (map (variable_form names spelled m) (enumerate_from 0 m.global_variables))
     variables_are =
-        each_map IsGlobal (variable_form (module_names m) (type_names m) m) (enumerate_from 0 m.global_variables)
-        (placed (λ p. IsGlobal (variable_form (module_names m) (type_names m) m p)) m.global_variables variable_is)
+        each_form IsGlobal (variable_form names spelled m) m.global_variables variable_is
 
     -- ---- entry points
     -- the one with this index has this number
-    entry_point_there : (j : ℕ) → entry_point_numbered m (length m.functions + j) ≡ slice_get m.entry_points.items j
+    entry_point_there : (j : ℕ) →
+        entry_point_numbered m (length m.functions + j) ≡ slice_get m.entry_points.items j
     entry_point_there j =
         let behind : length m.functions ≤ length m.functions + j = omega arith in
         let rest : (length m.functions + j) - length m.functions ≡ j = omega arith in
-        ap (λ b. if b then None else slice_get m.entry_points.items ((length m.functions + j) - length m.functions))
+        ap (λ b. if b then None
+        else slice_get m.entry_points.items ((length m.functions + j) - length m.functions))
         (le-ltb (length m.functions + j) (length m.functions) behind)
         ∙ ap (slice_get m.entry_points.items) rest
 
-    pub stage_there : (j : ℕ) (p : ir_entry_point.EntryPoint) → slice_get m.entry_points.items j ≡ Some p →
-        IsAttributes (stage_attributes (module_names m) p p.stage) ×
-        (is_stage (stage_attributes (module_names m) p p.stage) ≡ true)
+    pub stage_there : (j : ℕ) (p : ir_entry_point.EntryPoint) →
+        slice_get m.entry_points.items j ≡ Some p →
+        IsAttributes (stage_attributes names p p.stage) ×
+        (is_stage (stage_attributes names p p.stage) ≡ true)
     stage_there j p at =
         let count = length m.global_variables in
-        let one = and_parts (is_below count (option_map (λ k. k.output_variable) p.mesh_info)) _ (entry_point_is_in_range m info accepted j p at) in
+        let one = and_parts (is_below count (option_map (λ k. k.output_variable) p.mesh_info)) _
+        (entry_point_is_in_range m info accepted j p at) in
         let two = and_parts (is_below count p.task_payload) _ one.1 in
         let three = and_parts (is_below count p.incoming_ray_payload) _ two.1 in
-        let four = and_parts (workgroup_fits_32_bits p.workgroup_size) (function_in_range m (length m.functions) p.function) three.1 in
+        let four = and_parts (workgroup_fits_32_bits p.workgroup_size)
+        (function_in_range m (length m.functions) p.function) three.1 in
         let sizes = three_sizes p.workgroup_size four.0 in (
-          stage_attributes_are (module_names m) p sizes.x sizes.y sizes.z sizes.are count (global_identifier m)
+          stage_attributes_are names p sizes.x sizes.y sizes.z sizes.are count (global_identifier m)
               one.0 two.0 three.0 sizes.fit p.stage,
-          stage_is (module_names m) p sizes.x sizes.y sizes.z sizes.are p.stage
+          stage_is names p sizes.x sizes.y sizes.z sizes.are p.stage
               ((declarations.heads (length m.functions + j)).stage p (entry_point_there j ∙ at)),
         )
