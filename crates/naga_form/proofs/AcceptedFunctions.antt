@@ -3,7 +3,7 @@
 use Rattle.naga_ir.specs.Operands.{expression_operands}
 use Rattle.naga_ir.specs.declared.expression.Expression.{Expression}
 use Rattle.module_meaning.specs.Ranges.{expression_in_range, names_in_range, all_below}
-use Rattle.module_meaning.proofs.FunctionNumbers.{in_append, which_function, IsNumbered}
+use Rattle.module_meaning.proofs.FunctionNumbers.{behind_left, in_append, which_function, IsNumbered}
 use Rattle.module_meaning.proofs.FunctionNumbers.{OfEntryPoint, OfFunction}
 use Rattle.module_meaning.proofs.SideBySide.{paired_at, zip_at, zip_parts}
 use Rattle.module_meaning.specs.FunctionNumbers.{IsFunctionOf, all_functions, all_infos}
@@ -27,9 +27,10 @@ use Rattle.naga_info.specs.declared.info.ModuleInfo.{ModuleInfo}
 use Rattle.module_meaning.specs.Accepted.{is_accepted}
 use Rattle.module_meaning.specs.AgreeingOperators.{module_operators_agree, function_group}
 use Rattle.module_meaning.specs.InfoSizes.{all_paired, function_size_fits, sizes_fit}
-use Rattle.module_meaning.specs.Numbers.{workgroup_fits_32_bits}
+use Rattle.module_meaning.specs.Numbers.{signature_fits_32_bits, workgroup_fits_32_bits}
 use Rattle.module_meaning.specs.Ranges.{module_ranges_fit, module_in_range, is_below}
 use Rattle.module_meaning.specs.Ranges.{function_in_range, entry_point_in_range, signature_fits}
+use Rattle.module_meaning.specs.Ranges.{signature_types_fit}
 use Rattle.module_meaning.specs.Ranges.{names_fit, local_in_range, expressions_in_range}
 use Rattle.module_meaning.specs.Ranges.{block_in_range}
 use Rattle.module_meaning.specs.Initialisers.{locals_are_sound}
@@ -87,7 +88,14 @@ locals_are_in_range m callees f ranges =
     (and_parts (list_all (local_in_range (length m.types) (length f.expressions)) f.local_variables)
     _ two.1).0
 
--- so is what an expression names
+-- the numbers of what its arguments and its result are bound to have 32 bits
+pub bindings_are_in_range : (m : Module) (callees : ℕ) (f : Function) →
+    function_in_range m callees f ≡ true → signature_fits_32_bits f ≡ true
+bindings_are_in_range m callees f ranges =
+    let one = and_parts (signature_fits (length m.types) f) _ ranges in
+    (and_parts (signature_types_fit (length m.types) f) (signature_fits_32_bits f) one.0).1
+
+-- what an expression names is in range
 pub names_are_in_range : (m : Module) (callees : ℕ) (f : Function) →
     function_in_range m callees f ≡ true → (h : ℕ) (e : Expression) →
     slice_get f.expressions h ≡ Some e →
@@ -150,12 +158,17 @@ module _ (m : Module) (info : ModuleInfo) (accepted : IsTrue (is_accepted m info
       sym (ap (λ n. function_in_range m n f) from) ∙
       placed_at (function_in_range m) 0 m.functions k f functions.0 here
 
+  -- all that an entry point names is there
+  pub entry_point_is_in_range : (j : ℕ) (p : EntryPoint) → slice_get m.entry_points.items j ≡ Some p →
+      entry_point_in_range m p ≡ true
+  entry_point_is_in_range j p here =
+      let range = and_parts _ _ ranges_parts.1 in let functions = and_parts _ _ range.1 in
+      list_all_at (entry_point_in_range m) m.entry_points.items j p functions.1 here
+
   entry_point_range : (j : ℕ) (p : EntryPoint) → slice_get m.entry_points.items j ≡ Some p →
       function_in_range m (length m.functions) p.function ≡ true
   entry_point_range j p here =
-      let range = and_parts _ _ ranges_parts.1 in let functions = and_parts _ _ range.1 in
-      let own =
-      list_all_at (entry_point_in_range m) m.entry_points.items j p functions.1 here in
+      let own = entry_point_is_in_range j p here in
       let count = length m.global_variables in
       let one = and_parts (is_below count (option_map (λ k. k.output_variable) p.mesh_info)) _ own in
       let two = and_parts (is_below count p.task_payload) _ one.1 in
@@ -260,6 +273,14 @@ module _ (m : Module) (info : ModuleInfo) (accepted : IsTrue (is_accepted m info
       let two = length-append info.functions.items info.entry_points.items in
       let mapped = length-map m.entry_points.items (λ p. p.function) in
       omega (arith, functions, entry_points, one, two, mapped)
+
+  -- what is known of that of an entry point stands behind what is known of the functions
+  pub entry_info_among : (j : ℕ) (es : List ExpressionInfo) →
+      slice_get info.entry_points.items j ≡ Some es →
+      slice_get (all_infos info) (length m.functions + j) ≡ Some es
+  entry_info_among j es there =
+      ap (λ n. slice_get (all_infos info) (n + j)) functions_counted
+      ∙ behind_left info.functions.items info.entry_points.items j es there
 
   -- of each something is known
   pub known_there : (g : ℕ) (f : Function) → slice_get (all_functions m) g ≡ Some f →

@@ -129,7 +129,7 @@ module _ (m : Module) (info : ModuleInfo) where
     types_range = let one = and_parts _ _ ranges_parts.2 in let two = and_parts _ _ one.0 in two.0
 
     -- the numbers of each type
-    numbers_at : (h : ℕ) (t : Type_) → slice_get m.types h ≡ Some t → (length_within (length m.overrides) t.inner ≡ true) × (type_fits_32_bits t.inner ≡ true)
+    pub numbers_at : (h : ℕ) (t : Type_) → slice_get m.types h ≡ Some t → (length_within (length m.overrides) t.inner ≡ true) × (type_fits_32_bits t.inner ≡ true)
     numbers_at h t at =
         and_parts (length_within (length m.overrides) t.inner) (type_fits_32_bits t.inner)
         (list_all_at (λ t. numbers_in_range (length m.overrides) t.inner) m.types h t (and_parts _ _ types_range).1 at)

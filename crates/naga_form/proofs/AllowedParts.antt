@@ -2,8 +2,8 @@
 -- and a conversion is to a type that has a form.
 use Rattle.std.proofs.Common.{◌≡◌, ℕ, Bool, true, false, List, Option, Some, None, refl, sym}
 use Rattle.std.proofs.Common.{ap, ◌∙◌, suc, zero, subst, ◌<◌, ◌^◌}
-use Rattle.std.specs.Prelude.{slice_get, ◌||◌, ◌&&◌, not, [], nat_lt, length}
-use Rattle.std.proofs.lemmas.Bool.{and_parts}
+use Rattle.std.specs.Prelude.{slice_get, [], nat_lt, length, map}
+use Rattle.std.proofs.lemmas.Bool.{and_parts, ltb-true}
 use Rattle.std.proofs.lemmas.Option.{same_Some, slice_get-map}
 use Rattle.naga_ir.specs.declared.expression.SwizzleComponent.TheVariants as component
 use Rattle.naga_ir.specs.declared.types.Type_.{Type_}
@@ -12,21 +12,21 @@ use Rattle.module_meaning.specs.WrittenSoFar.{converts, expression_is_written, k
 use Rattle.module_meaning.specs.WrittenSoFar.{loads_matrix}
 use Rattle.module_meaning.specs.InfoSizes.{resolution_is_fit}
 use Rattle.module_meaning.specs.Names.{module_names, name_in}
-use Rattle.module_meaning.specs.WrittenSoFar.{types_are_written_so_far}
-use Rattle.module_meaning.specs.Undeclared.{is_undeclared, member_is_written, member_words}
-use Rattle.module_meaning.specs.Undeclared.{part_is_written_at, whole_known, whole_of}
+use Rattle.module_meaning.specs.OperandDemands.{operands_fit}
+use Rattle.module_meaning.specs.TypeParts.{is_part_number, value_part_count}
+use Rattle.module_meaning.specs.Undeclared.{whole_known, whole_of}
 use Rattle.module_meaning.specs.Types.{type_names}
 use Rattle.naga_info.specs.declared.info.TypeResolution.{TypeResolution}
 use Rattle.naga_info.specs.declared.info.TypeResolution.TheVariants.{Handle, Value}
+use Rattle.naga_names.proofs.Refusal.{element}
 use Rattle.naga_names.specs.Reset.{members_of}
 use Rattle.naga_names.specs.declared.key.NameKey.TheVariants as key
 use Rattle.naga_words.specs.Spelling.{is_struct}
 use Rattle.wgsl_text.specs.Types.{TypeSpecifier}
 use Rattle.wgsl_text.specs.Literals.{IsPlainNumber}
-use Rattle.wgsl_text.proofs.Words.{passes}
-use Rattle.wgsl_text.specs.Keywords.{reserved_words}
-use Rattle.wgsl_text.specs.Words.{IsWord, is_reserved, is_word_text, stands_in}
+use Rattle.wgsl_text.specs.Words.{IsWord}
 use Rattle.naga_form.proofs.Letters.{letter_is_a_word}
+use Rattle.naga_form.proofs.MemberNames.{member_is_word}
 use Rattle.std.specs.Option.{option_and_then, option_map, option_map_or}
 use Rattle.naga_info.specs.Resolution.{inner_of, handle_of}
 use Rattle.naga_info.specs.declared.info.ExpressionInfo.{ExpressionInfo}
@@ -41,8 +41,7 @@ use Rattle.naga_ir.specs.declared.types.ScalarKind.{ScalarKind}
 use Rattle.module_meaning.specs.Conversions.{conversion_target}
 use Rattle.module_meaning.specs.ExpressionOperators.{ExpressionContext, scalar_behind, type_known}
 use Rattle.naga_form.proofs.SameValues.{IsFit}
-use Rattle.naga_form.proofs.AlikeNumbers.{is_no}
-use Rattle.naga_form.proofs.WrittenTypes.{struct_undeclared, tree_there}
+use Rattle.naga_form.proofs.WrittenTypes.{tree_there}
 use Rattle.naga_form.specs.Expressions.{scalar_pointed}
 use Rattle.naga_form.specs.TypeTrees.{inner_tree}
 use Rattle.naga_ir.specs.declared.module.Module.{Module}
@@ -186,33 +185,49 @@ known_base m es base index may =
     known_operand m es (has_parts m.types) base
     (and_parts (known_passes m.types es (has_parts m.types) base) _ may).0
 
--- a member of a struct of the part that is written is named by a word
-member_well : (m : Module) → types_are_written_so_far m ≡ true → (h index : ℕ) (t : Type_) →
-    slice_get m.types h ≡ Some t → is_struct t.inner ≡ true →
-    part_is_written_at m index h ≡ true → IsWord (name_in (module_names m) (key.StructMember h index))
-unfolding is_reserved reserved_words
-member_well m part h index t at is written =
-    let name = name_in (module_names m) (key.StructMember h index) in
-    let stands = by (is_undeclared m.special_types h) (struct_undeclared m part h t at is)
-    (is_struct t.inner) is
+-- ---- members
+-- the type of which a part is taken is one of the module's, or what one points to
+whole_inner : (types : List Type_) (r : TypeResolution) (it : TypeInner) →
+    inner_of r types ≡ Some it → (h : ℕ) (t : Type_) → slice_get types h ≡ Some t →
+    handle_of r ≡ Some h → t.inner ≡ it
+whole_inner types (Handle k) it is h t at whole =
+    same_Some t.inner it
+    (sym (ap (option_map (λ t. t.inner)) (ap (slice_get types) (same_Some k h whole) ∙ at)) ∙ is)
+whole_inner types (Value own) it is h t at whole = absurd cc
+
+-- an index below the number of a struct's parts is that of a member
+struct_within : (it : TypeInner) (index : ℕ) → is_struct it ≡ true →
+    option_map_or (λ count. nat_lt index count) (value_part_count it) true ≡ true →
+    index < length (members_of it)
+struct_within (inner.Struct members span) index is part = ltb-true index (length members.items) part
+struct_within _ index is part = absurd cc
+
+-- so it is of the struct of which a part is taken where an expression's index is in range
+pub member_within : (types : List Type_) (r : TypeResolution) (it : TypeInner) (index : ℕ) →
+    inner_of r types ≡ Some it → is_part_number types it index ≡ true →
+    (h : ℕ) (t : Type_) → slice_get types h ≡ Some t → is_struct t.inner ≡ true →
+    whole_of r it ≡ Some h → index < length (members_of t.inner)
+member_within types r (inner.Pointer base space) index is part h t at struct whole =
+    let there = ap (slice_get types) (same_Some base h whole) ∙ at in
+    struct_within t.inner index struct
     (sym (ap
-    (λ o. option_map_or
-    (λ t. not (is_struct t.inner) || member_is_written m h (members_of t.inner) index) o true) at)
-    ∙ written) in
-    record {
-      text = passes is_word_text member_words name refl stands;
-      free = is_no (is_reserved name) (passes (λ w. not (is_reserved w)) member_words name refl stands);
-    }
-  where
-    by : (undeclared : Bool) → undeclared ≡ true → (struct : Bool) → struct ≡ true →
-        (not struct || (not undeclared || (nat_lt index (length (members_of t.inner)) &&
-        stands_in member_words (name_in (module_names m) (key.StructMember h index))))) ≡ true →
-        stands_in member_words (name_in (module_names m) (key.StructMember h index)) ≡ true
-    by true one true two written =
-        (and_parts (nat_lt index (length (members_of t.inner)))
-        (stands_in member_words (name_in (module_names m) (key.StructMember h index))) written).1
-    by true one false two written = absurd cc
-    by false one struct two written = absurd cc
+    (λ o. option_map_or (λ count. nat_lt index count)
+    (option_and_then value_part_count (option_map (λ t. t.inner) o)) true) there) ∙ part)
+member_within types r (inner.Struct members span) index is part h t at struct whole =
+    let same = whole_inner types r (inner.Struct members span) is h t at whole in
+    subst (λ it. index < length (members_of it)) (sym same)
+    (struct_within (inner.Struct members span) index refl part)
+member_within types r it index is part h t at struct whole =
+    let none : is_struct it ≡ true = sym (ap is_struct (whole_inner types r it is h t at whole)) ∙ struct in
+    absurd cc
+
+-- and it is named by a word
+member_well : (m : Module) (h index : ℕ) (t : Type_) → slice_get m.types h ≡ Some t →
+    index < length (members_of t.inner) →
+    IsWord (name_in (module_names m) (key.StructMember h index))
+member_well m h index t at lt =
+    let member = element (members_of t.inner) index lt in
+    member_is_word m h t at index member.0 member.1
 
 -- what a conversion that is written takes, and what it gives, which has a form
 pub record Conversion (m : Module) (a : ExpressionContext) (operand : ℕ) (kind : ScalarKind) (convert : Option ℕ) : Type 0 where
@@ -321,16 +336,24 @@ module _ (m : Module) (info : ModuleInfo) (es : List ExpressionInfo) where
       ap (option_and_then (λ k. option_and_then (whole_of k.ty) (inner_of k.ty m.types))) b.there
       ∙ ap (option_and_then (whole_of b.known.ty)) b.is
 
+  -- its index is in range
+  part_is_there : (base index : ℕ) → (b : KnownBase m es base) →
+      operands_fit m.types (map (λ k. k.ty) es) (AccessIndex base index) ≡ true →
+      is_part_number m.types b.type index ≡ true
+  part_is_there base index b part =
+      sym (ap (λ o. option_map_or (λ it. is_part_number m.types it index) o false)
+      (type_known_is base b.known b.there ∙ b.is)) ∙ part
+
   -- by a word or a number of the grammar
   pub selected_well : (base index : ℕ) → expression_is_written m es (AccessIndex base index) ≡ true →
-      types_are_written_so_far m ≡ true →
+      operands_fit m.types (map (λ k. k.ty) es) (AccessIndex base index) ≡ true →
       ((h : ℕ) (k : ExpressionInfo) → slice_get es h ≡ Some k → IsFit m k.ty) → index < 2 ^ 32 →
       (x : Selector) → part_selector d base index ≡ Some x → IsWellSelected x
   selected_well base index may part fits lt x e =
       let b = known_base m es base index may in
       inner_well m d refl b.known.ty (fits base b.known b.there) b.type index b.is
       (λ h t at is whole.
-      member_well m part h index t at is
-      (sym (ap (λ o. option_map_or (part_is_written_at m index) o true) (whole_is base b ∙ whole))
-      ∙ (and_parts (known_passes m.types es (has_parts m.types) base) _ may).1))
+      member_well m h index t at
+      (member_within m.types b.known.ty b.type index b.is (part_is_there base index b part) h t at is
+      whole))
       lt x (sym (selector_is base index b) ∙ e)

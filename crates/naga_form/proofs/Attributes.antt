@@ -3,11 +3,11 @@
 -- Throughout, b is a binding, i an interpolation, s a sampling, d are decorations, e is an entry point
 -- and names are those of its module.
 use Rattle.std.proofs.Common.{◌≡◌, ℕ, ◌<◌, ◌^◌, Bool, true, false, List, [], ◌∷◌, ◌++◌, Option, Some, None}
-use Rattle.std.proofs.Common.{refl, sym, ap, subst, ◌∙◌, codes}
-use Rattle.std.specs.Prelude.{unwrap_or}
-use Rattle.std.specs.List.{list_any}
+use Rattle.std.proofs.Common.{refl, sym, ap, subst, ◌∙◌, arith, codes}
+use Rattle.std.specs.Prelude.{length, unwrap_or, ◌==◌}
+use Rattle.std.specs.List.{list_all, list_any}
 use Rattle.std.specs.Option.{is_some, option_map, option_map_or}
-use Rattle.std.proofs.lemmas.Bool.{and_parts, ltb-true}
+use Rattle.std.proofs.lemmas.Bool.{and_parts, eqb-true, ltb-true}
 use Rattle.std.proofs.lemmas.Option.{same_Some}
 use Rattle.std.specs.Str.{bytes_eq}
 use Rattle.wgsl_text.specs.Literals.{IsPlainNumber}
@@ -40,7 +40,8 @@ use Rattle.text_meaning.specs.Attributes.{plain_location, resource_binding_read,
 use Rattle.module_meaning.specs.DeclarationForms.{binding_has_form, stage_has_form}
 use Rattle.module_meaning.specs.Interface.{stage_of}
 use Rattle.module_meaning.specs.Names.{global_name}
-use Rattle.module_meaning.specs.Numbers.{binding_fits_32_bits, fits_32_bits, resource_fits_32_bits}
+use Rattle.module_meaning.specs.Numbers.{binding_fits_32_bits, fits_16_bits, fits_32_bits, resource_fits_32_bits}
+use Rattle.module_meaning.specs.Numbers.{workgroup_fits_32_bits}
 use Rattle.module_meaning.specs.Ranges.{is_below}
 use Rattle.module_meaning.specs.StageBindings.{binding_meant, is_coherent_memory, is_invariant, is_volatile_memory, stage_binding}
 use Rattle.naga_form.specs.Attributes.{attribute_if, attribute_of, binding_attributes, builtin_attributes, decoration_attributes}
@@ -336,6 +337,10 @@ pub id_is : (id : Option ℕ) → is_id (id_attributes id) ≡ true
 id_is None = refl
 id_is (Some n) = refl
 
+pub id_attributes_are : (id : Option ℕ) → option_map_or fits_16_bits id true ≡ true → IsAttributes (id_attributes id)
+id_attributes_are None fits = tt
+id_attributes_are (Some n) fits = let lt = ltb-true n (2 ^ 16) fits in (omega (arith, lt), tt)
+
 global_io : (b : Option ResourceBinding) (coherent volatile : Bool) →
     is_global_binding (resource_attributes b ++ (attribute_if (Plain Coherent) coherent ++ attribute_if (Plain Volatile) volatile)) ≡ true
 global_io None true true = refl
@@ -363,6 +368,34 @@ global_attributes_are g fits =
     (plain_if Volatile (is_volatile_memory g.memory_decorations)))
 
 -- entry points
+-- three sizes of 32 bits
+pub record ThreeSizes (sizes : List ℕ) : Type 0 where
+  pub x : ℕ
+  pub y : ℕ
+  pub z : ℕ
+  pub are : sizes ≡ x ∷ y ∷ z ∷ []
+  pub fit : (x < 2 ^ 32) × (y < 2 ^ 32) × (z < 2 ^ 32)
+
+pub three_sizes : (sizes : List ℕ) → workgroup_fits_32_bits sizes ≡ true → ThreeSizes sizes
+three_sizes [] fits = absurd cc
+three_sizes (x ∷ []) fits = absurd cc
+three_sizes (x ∷ y ∷ []) fits = absurd cc
+three_sizes (x ∷ y ∷ z ∷ []) fits =
+    let one = and_parts (fits_32_bits x) _ fits in
+    let two = and_parts (fits_32_bits y) _ one.1 in
+    let three = and_parts (fits_32_bits z) true two.1 in
+    record {
+      x = x;
+      y = y;
+      z = z;
+      are = refl;
+      fit = (plain_number x one.0, plain_number y two.0, plain_number z three.0);
+    }
+three_sizes (x ∷ y ∷ z ∷ w ∷ more) fits =
+    let counted = eqb-true (length (x ∷ y ∷ z ∷ w ∷ more)) 3
+    (and_parts (length (x ∷ y ∷ z ∷ w ∷ more) == 3) (list_all fits_32_bits (x ∷ y ∷ z ∷ w ∷ more)) fits).0 in
+    absurd (omega (arith, counted))
+
 module _ (names : NameMap) (e : EntryPoint) (x y z : ℕ) (sizes : e.workgroup_size ≡ x ∷ y ∷ z ∷ []) where
   mesh_stage : (output : Option MeshStageInfo) (payload : Option ℕ) → is_some output ≡ true →
       is_stage (attribute_of (λ i. Worded Mesh (global_name names i.output_variable)) output ++

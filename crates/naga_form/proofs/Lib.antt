@@ -20,6 +20,7 @@ pub mod ConstantInitialisers
 pub mod ConstantOrder
 pub mod ConstantTrees
 pub mod ConstantsFit
+pub mod DeclaredPrograms
 pub mod Facts
 pub mod Fits
 pub mod FittingStatements

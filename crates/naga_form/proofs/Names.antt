@@ -14,8 +14,8 @@ use Rattle.std.proofs.lemmas.Slice.Eq.{bytes_eq-Decides}
 use Rattle.naga_ir.specs.declared.module.Function as ir_function
 use Rattle.naga_ir.specs.declared.module.FunctionArgument.{FunctionArgument}
 use Rattle.naga_ir.specs.declared.module.Module.{Module}
-use Rattle.naga_names.specs.Naming.{label_or, name_after}
-use Rattle.naga_keywords.specs.Plain.{is_identifier_char, is_word}
+use Rattle.naga_names.specs.Naming.{Names as NamerNames, label_or, name_after}
+use Rattle.naga_keywords.specs.Plain.{HasPlainEnds, is_identifier_char, is_word}
 use Rattle.naga_names.specs.Reset.{LabelledItem, labelled_items, labels_of, named_items, PutsInto}
 use Rattle.naga_keywords.specs.declared.keywords.TheConstants.{RESERVED, BUILTIN_IDENTIFIERS}
 use Rattle.naga_names.specs.declared.key.NameKey.TheVariants as key
@@ -28,7 +28,7 @@ use Rattle.naga_names.proofs.NamedItems.{Stands, put_at, item_names_tell, functi
 use Rattle.naga_names.proofs.NamedItems.{argument_stands, entry_argument_stands}
 use Rattle.naga_names.proofs.NamedItems.{entry_local_stands, entry_point_stands, local_stands}
 use Rattle.wgsl_text.specs.Keywords.{builtin_words, reserved_words}
-use Rattle.wgsl_text.specs.Words.{stands_in, is_builtin, IsIdentifier, is_letter, is_word_byte}
+use Rattle.wgsl_text.specs.Words.{stands_in, is_builtin, IsIdentifier, IsWord, is_letter, is_word_byte}
 use Rattle.wgsl_text.specs.Words.{all_word_bytes, is_word_text, is_reserved}
 use Rattle.shader_runs.proofs.Update.{and_left, and_right}
 use Rattle.module_meaning.specs.FunctionNumbers.{all_functions, function_number, function_type}
@@ -86,11 +86,15 @@ stands_as_any read (k ∷ ks) w = λ i. same_either_way w (read k) i || stands_a
 contains_words : {K : Type 0} (read : K → List ℕ) (ks : List K) (w : List ℕ) → set.contains (texts_of read ks) w ≡ stands_in (map read ks) w
 contains_words read ks w = contains-texts_of read ks w ∙ stands_as_any read ks w
 
-keeps_off_reserved : (earlier : List (List ℕ)) (label : List ℕ) → is_reserved (name_after wgsl_names earlier label) ≡ false
+-- names that keep off these words do, of items and of members
+keeps_off_reserved : (start : NamerNames) → start.keywords ≡ wgsl_names.keywords →
+    (earlier : List (List ℕ)) (label : List ℕ) → is_reserved (name_after start earlier label) ≡ false
 unfolding wgsl_names reserved_words is_reserved
-keeps_off_reserved earlier label =
-    sym (contains_words (λ word. word.now) RESERVED.now (name_after wgsl_names earlier label))
-    ∙ name_after_no_keyword wgsl_names earlier label (plain_ends (map (λ word. word.now) RESERVED.now) (words_are (map (λ word. word.now) RESERVED.now) refl))
+keeps_off_reserved start same earlier label =
+    let plain = plain_ends (map (λ word. word.now) RESERVED.now) (words_are (map (λ word. word.now) RESERVED.now) refl) in
+    sym (contains_words (λ word. word.now) RESERVED.now (name_after start earlier label))
+    ∙ ap (λ words. set.contains words (name_after start earlier label)) (sym same)
+    ∙ name_after_no_keyword start earlier label (subst HasPlainEnds (sym same) plain)
 
 keeps_off_builtin : (earlier : List (List ℕ)) (label : List ℕ) → is_builtin (name_after wgsl_names earlier label) ≡ false
 unfolding wgsl_names builtin_words is_builtin
@@ -98,9 +102,17 @@ keeps_off_builtin earlier label =
     sym (contains_words (λ word. word.now) BUILTIN_IDENTIFIERS.now (name_after wgsl_names earlier label))
     ∙ name_after_no_builtin wgsl_names earlier label (plain_ends (map (λ word. word.now) BUILTIN_IDENTIFIERS.now) (words_are (map (λ word. word.now) BUILTIN_IDENTIFIERS.now) refl))
 
+-- they are words of the grammar
+pub is_word_after : (start : NamerNames) → start.keywords ≡ wgsl_names.keywords →
+    (earlier : List (List ℕ)) (label : List ℕ) → IsWord (name_after start earlier label)
+is_word_after start same earlier label = record {
+  text = word_text (name_after start earlier label) (name_after_is_word start earlier label);
+  free = keeps_off_reserved start same earlier label;
+}
+
 pub is_identifier : (earlier : List (List ℕ)) (label : List ℕ) → IsIdentifier (name_after wgsl_names earlier label)
 is_identifier earlier label = record {
-  word = record { text = word_text (name_after wgsl_names earlier label) (name_after_is_word wgsl_names earlier label); free = keeps_off_reserved earlier label };
+  word = is_word_after wgsl_names refl earlier label;
   own = keeps_off_builtin earlier label;
 }
 

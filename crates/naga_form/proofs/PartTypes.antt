@@ -1,11 +1,10 @@
--- The types of an accepted module that is written so far: their parts stand before them, they name no override,
--- and structs by the module's names.
+-- The types of an accepted module: their parts stand before them, and they name structs and overrides
+-- by the module's names.
 use Rattle.std.proofs.Common.{◌≡◌, ℕ, ◌≤◌, ◌+◌, true, length, Option}
 use Rattle.std.proofs.Common.{Some, None, refl, sym, ap, subst, ◌∙◌, slice_get, arith}
-use Rattle.std.specs.Prelude.{IsTrue, ◌==◌}
-use Rattle.std.specs.List.{list_all}
-use Rattle.std.specs.Option.{is_none, option_map}
-use Rattle.std.proofs.lemmas.Bool.{and_parts, eqb-true, ltb-true}
+use Rattle.std.specs.Prelude.{IsTrue}
+use Rattle.std.specs.Option.{option_map}
+use Rattle.std.proofs.lemmas.Bool.{and_parts, ltb-true}
 use Rattle.std.proofs.lemmas.Option.{same_Some}
 use Rattle.naga_info.specs.Resolution.{inner_of}
 use Rattle.naga_info.specs.declared.info.ModuleInfo.{ModuleInfo}
@@ -20,11 +19,9 @@ use Rattle.naga_names.specs.declared.key.NameKey.TheVariants as key
 use Rattle.naga_words.specs.Contexts.{name_or_nothing}
 use Rattle.naga_words.specs.Spelling.{end_of_base, length_within}
 use Rattle.module_meaning.proofs.Lists.{placed_at}
-use Rattle.module_meaning.proofs.WrittenSoFar.{written_so_far_parts}
 use Rattle.module_meaning.specs.Accepted.{is_accepted}
 use Rattle.module_meaning.specs.InfoSizes.{resolution_is_fit}
 use Rattle.module_meaning.specs.Names.{HasNamesOf, module_names}
-use Rattle.module_meaning.specs.DeclarationForms.{DeclarationsHaveForms}
 use Rattle.module_meaning.specs.Ranges.{parts_before}
 use Rattle.module_meaning.specs.Ranges.{numbers_in_range, parts_stand_before, resolution_fits}
 use Rattle.naga_form.proofs.AcceptedGroups.{types_are_fit, types_range}
@@ -84,20 +81,13 @@ module _ (m : Module) (info : ModuleInfo) (accepted : IsTrue (is_accepted m info
           let two = and_parts (parts_before (length m.types) it) (numbers_in_range (length m.overrides) it) one.1 in
           (and_parts (length_within (length m.overrides) it) _ two.1).0
 
-  module _ (is_supported : DeclarationsHaveForms m) where
-    pub no_overrides : length m.overrides ≡ 0
-    no_overrides =
-        let one = and_parts (list_all (λ c. is_none c.name) m.constants) _ (written_so_far_parts m is_supported).0 in
-        let two = and_parts (length m.overrides == 0) _ one.1 in
-        eqb-true (length m.overrides) 0 two.0
-
-    -- names that the map of a module has are the module's own
-    pub named_alike : (names : NameMap) → HasNamesOf m names →
-        AreNamedAlike m.types names (module_names m)
-    named_alike names has = record {
-      names = λ h t at.
-          ap name_or_nothing (has.types h t at) ∙ sym (or_nothing (module_names m (key.Type_ h)));
-      lengths = λ h t at.
-          subst (λ n. length_within n t.inner ≡ true) no_overrides
-          ((types_are_fit m info accepted).within h t at);
-    }
+  -- names that the map of a module has are the module's own
+  pub named_alike : (names : NameMap) → HasNamesOf m names →
+      AreNamedAlike m.types (length m.overrides) names (module_names m)
+  named_alike names has = record {
+    names = λ h t at.
+        ap name_or_nothing (has.types h t at) ∙ sym (or_nothing (module_names m (key.Type_ h)));
+    told = λ o lt.
+        ap name_or_nothing (has.overrides o lt) ∙ sym (or_nothing (module_names m (key.Override o)));
+    lengths = (types_are_fit m info accepted).within;
+  }

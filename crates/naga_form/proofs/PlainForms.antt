@@ -1,7 +1,7 @@
 -- The plain forms of handles that are written are of the grammar, where the names in scope are
 -- identifiers.
-use Rattle.module_meaning.specs.WrittenSoFar.{expression_is_written, types_are_written_so_far}
-use Rattle.module_meaning.specs.WrittenSoFar.{constant_is_written}
+use Rattle.module_meaning.specs.OperandDemands.{are_operands_fit, operands_fit}
+use Rattle.module_meaning.specs.WrittenSoFar.{constant_is_written, expression_is_written}
 use Rattle.module_meaning.specs.ExpressionShapes.{part_selector, Declared}
 use Rattle.module_meaning.specs.OperatorTable.{WithoutForm, PartAt, Operator}
 use Rattle.naga_form.proofs.AllowedParts.{IsWellSelected, selected, selected_well, conversion}
@@ -26,6 +26,7 @@ use Rattle.naga_ir.specs.declared.module.Function as ir_function
 use Rattle.naga_ir.specs.declared.module.Module.{Module}
 use Rattle.naga_info.specs.declared.info.ExpressionInfo.{ExpressionInfo}
 use Rattle.naga_info.specs.declared.info.ModuleInfo.{ModuleInfo}
+use Rattle.module_meaning.proofs.Lists.{list_all_at}
 use Rattle.module_meaning.proofs.WrittenSoFar.{spelled_of_spellable, has_form_parts}
 use Rattle.wgsl_text.specs.Words.{IsIdentifier}
 use Rattle.wgsl_text.specs.Expressions as tree_expressions
@@ -33,7 +34,7 @@ use Rattle.wgsl_text.specs.Functions.{Each}
 use Rattle.wgsl_text.specs.Statements.{is_reference}
 use Rattle.wgsl_text.specs.Types.{TypeSpecifier}
 use Rattle.naga_names.proofs.Refusal.{element}
-use Rattle.module_meaning.specs.Names.{global_name, module_names, wgsl_names}
+use Rattle.module_meaning.specs.Names.{global_name, module_names}
 use Rattle.module_meaning.specs.Types.{type_names}
 use Rattle.naga_form.proofs.SameValues.{IsFit, TypesAreFit, global_identifier, override_identifier}
 use Rattle.naga_form.proofs.SameValues.{tree_is}
@@ -120,7 +121,8 @@ module _ (m : Module) (info : ModuleInfo) (g : ℕ) (f : ir_function.Function)
     (ranges : function_in_range m callees f ≡ true) (W : ℕ → Type 0)
     (closed : AreClosed W (binds (function_shape m info f es)) f) (written : AreWritten W m f es)
     (types : TypesAreFit m) (fits : (h : ℕ) (k : ExpressionInfo) → slice_get es h ≡ Some k →
-    IsFit m k.ty) (values : types_are_written_so_far m ≡ true) (named : ℕ → List ℕ)
+    IsFit m k.ty)
+    (demands : are_operands_fit m.types (map (λ e. e.ty) es) f.expressions ≡ true) (named : ℕ → List ℕ)
     (constants : (c : ℕ) → constant_is_written m c ≡ true →
     IsExpression (written_constant_form m (type_names m) c)) where
   abbrev own : Naming
@@ -260,13 +262,14 @@ module _ (m : Module) (info : ModuleInfo) (g : ℕ) (f : ir_function.Function)
           IsPlainForm (own_plain own source operand (expression.AccessIndex base index))
       by s =
           let lt = ltb-true index (2 ^ 32) (names_are_in_range m callees f ranges h (expression.AccessIndex base index) at) in
+          let part = list_all_at (operands_fit m.types (map (λ e. e.ty) es)) f.expressions h (expression.AccessIndex base index) demands at in
           subst
           (λ o. IsPlainForm
           (option_map_or
           (λ x. part_plain (points d.context base) (selected_part x) (operand base)) o
           (applied_plain no_form None operand (base ∷ []) (Some (WithoutForm (PartAt index))))))
           (sym s.1)
-          (selected_is (points d.context base) s.0 (selected_well m info es base index is.0 values fits lt s.0 s.1) (operand base) all.0)
+          (selected_is (points d.context base) s.0 (selected_well m info es base index is.0 part fits lt s.0 s.1) (operand base) all.0)
   own_is operand h (expression.Swizzle size v pattern) at is all =
       let whole =
       names_are_in_range m callees f ranges h (expression.Swizzle size v pattern) at in

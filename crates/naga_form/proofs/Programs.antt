@@ -2,20 +2,27 @@
 use Rattle.module_meaning.specs.Accepted.{is_accepted}
 use Rattle.module_meaning.specs.Enables.{Extension, extensions, is_needed}
 use Rattle.module_meaning.specs.DeclarationForms.{DeclarationsHaveForms}
-use Rattle.module_meaning.specs.WrittenSoFar.{types_are_written_so_far}
-use Rattle.module_meaning.specs.WrittenSoFar.{constant_is_written, global_is_written}
-use Rattle.module_meaning.specs.WrittenSoFar.{is_written_literal}
+use Rattle.module_meaning.specs.ExpressionTypes.{have_their_types}
+use Rattle.module_meaning.specs.Numbers.{binding_fits_32_bits}
+use Rattle.module_meaning.specs.OperandDemands.{are_operands_fit}
+use Rattle.module_meaning.specs.WrittenSoFar.{constant_is_written}
 use Rattle.module_meaning.specs.Ranges.{function_in_range, local_in_range, is_below}
-use Rattle.module_meaning.proofs.WrittenSoFar.{written_so_far_parts, spelled_of_spellable}
+use Rattle.module_meaning.proofs.Lists.{list_all_at}
+use Rattle.module_meaning.proofs.WrittenSoFar.{spelled_of_spellable}
+use Rattle.naga_form.proofs.AcceptedFunctions.{bindings_are_in_range, entry_info_among}
 use Rattle.naga_form.proofs.AcceptedFunctions.{locals_are_in_range, of_number, ranges_are}
 use Rattle.naga_form.proofs.AcceptedFunctions.{soundness_is}
+use Rattle.naga_form.proofs.Attributes.{passing_io, passing_is}
+use Rattle.naga_form.proofs.DeclaredPrograms.{constants_are, overrides_are, stage_there, structs_are}
+use Rattle.naga_form.proofs.DeclaredPrograms.{variables_are, written_constants}
 use Rattle.std.proofs.Common.{◌≡◌, ℕ, ◌<◌, ◌≤◌, suc, Bool, true, false, List, [], ◌∷◌, length, refl, sym}
-use Rattle.std.proofs.Common.{ap, subst, ◌∙◌, arith, nat_lt, ◌+◌, Option, Some, None, ◌^◌, map}
+use Rattle.std.proofs.Common.{ap, ◌∙◌, arith, nat_lt, ◌+◌, Option, Some, None, ◌^◌, map}
 use Rattle.std.proofs.Common.{nat_le, add-zero, zero-add, cond}
 use Rattle.std.specs.Prelude.{IsTrue, slice_get}
 use Rattle.std.specs.List.{list_all, AllByRecursion, filter}
-use Rattle.std.specs.Option.{option_map, option_to_list}
-use Rattle.std.proofs.lemmas.Bool.{ltb-true, leb-true, and_parts}
+use Rattle.std.specs.Option.{option_map, option_map_or, option_to_list}
+use Rattle.std.proofs.lemmas.Bool.{leb-true, and_parts}
+use Rattle.naga_ir.specs.declared.module.EntryPoint as ir_entry_point
 use Rattle.naga_ir.specs.declared.module.Function as ir_function
 use Rattle.naga_ir.specs.declared.module.FunctionArgument.{FunctionArgument}
 use Rattle.naga_ir.specs.declared.module.FunctionResult.{FunctionResult}
@@ -26,30 +33,24 @@ use Rattle.module_meaning.specs.Undeclared.{is_spellable}
 use Rattle.wgsl_text.specs.Words.{IsIdentifier}
 use Rattle.wgsl_text.specs.Declarations.{IsEnable, IsProgram}
 use Rattle.wgsl_text.specs.Expressions.{IsExpression}
-use Rattle.wgsl_text.specs.Expressions as tree_expressions
-use Rattle.wgsl_text.specs.Functions.{IsValue, IsParameter, IsResult, IsLocal, Each, IsFunction}
+use Rattle.wgsl_text.specs.Functions.{IsValue, IsParameter, IsResult, IsLocal, Each, IsEntryPoint}
+use Rattle.wgsl_text.specs.Functions.{IsFunction}
 use Rattle.naga_names.proofs.Refusal.{element}
-use Rattle.naga_form.specs.Declarations.{written_program}
+use Rattle.naga_form.specs.Declarations.{entry_points_form, written_program}
 use Rattle.naga_form.specs.Expressions.{plain_form, value_form, unnamed_form, Source}
 use Rattle.naga_form.specs.Expressions.{function_source}
 use Rattle.naga_form.specs.Functions.{locals_form, parameters_form, result_form, function_form}
 use Rattle.naga_form.specs.Functions.{functions_form}
 use Rattle.module_meaning.specs.Premises.{handles_are_counted}
-use Rattle.module_meaning.specs.Names.{module_names, wgsl_names, numbered_name, expression_name}
+use Rattle.module_meaning.specs.Names.{module_names, numbered_name, expression_name}
 use Rattle.module_meaning.specs.Names.{function_name}
 use Rattle.module_meaning.specs.Types.{type_names}
 use Rattle.naga_form.specs.Types.{annotated_type}
 use Rattle.naga_form.proofs.AcceptedGroups.{known_fits, types_are_fit}
-use Rattle.naga_form.proofs.SameValues.{IsFit, TypesAreFit, constant_identifier}
-use Rattle.naga_form.proofs.SameValues.{override_identifier, tree_is}
-use Rattle.naga_form.proofs.WrittenTypes.{is_type_at, distinguished_is, tree_there}
+use Rattle.naga_form.proofs.SameValues.{IsFit, TypesAreFit}
+use Rattle.naga_form.proofs.WrittenTypes.{is_type_at, distinguished_is}
 use Rattle.module_meaning.specs.ExpressionShapes.{Declared}
-use Rattle.naga_form.proofs.Operators.{HasFormAt}
-use Rattle.module_meaning.specs.AlikeTypes.{is_spelled as type_has_form}
-use Rattle.naga_form.proofs.ConstantForms.{constant_is, global_is}
-use Rattle.naga_form.proofs.WrittenOut.{global_names_in_range}
-use Rattle.naga_form.specs.ConstantForms.{global_form, written_constant_form}
-use Rattle.naga_form.specs.Literals.{literal_form}
+use Rattle.naga_form.specs.ConstantForms.{written_constant_form}
 use Rattle.naga_form.proofs.Abstraction.{AreWritten}
 use Rattle.module_meaning.specs.FunctionShapes.{function_shape}
 use Rattle.naga_form.proofs.WrittenHandles.{AreClosed, written_are_closed}
@@ -58,14 +59,11 @@ use Rattle.module_meaning.specs.Written.{OfLocal, OfResult, WrittenHaveForms}
 use Rattle.naga_info.specs.declared.info.TypeResolution.TheVariants.{Handle}
 use Rattle.naga_info.specs.declared.info.TypeResolution.{TypeResolution}
 use Rattle.naga_form.proofs.Facts.{further, from_start}
-use Rattle.naga_form.proofs.Literals.{literal_is}
 use Rattle.naga_form.proofs.Names.{item_is_identifier, function_item, argument_item, function_there}
 use Rattle.naga_form.proofs.Names.{argument_there, local_item, local_there}
 use Rattle.naga_form.proofs.NumberedNames.{numbered_is}
-use Rattle.module_meaning.proofs.FunctionNumbers.{function_among, info_among}
+use Rattle.module_meaning.proofs.FunctionNumbers.{entry_point_among, function_among, info_among}
 use Rattle.module_meaning.specs.FunctionNumbers.{all_functions, all_infos}
-use Rattle.naga_form.proofs.WritableModules.{no_further_functions}
-use Rattle.naga_ir.specs.declared.expression.Expression.TheVariants as expression
 use Rattle.naga_ir.specs.declared.module.LocalVariable.{LocalVariable}
 use Rattle.shader_runs.specs.Program.{binds}
 use Rattle.shader_runs.specs.Scope.{Handles, Naming, at_start}
@@ -85,7 +83,7 @@ module _ (m : Module) (info : ModuleInfo) (g : ℕ) (f : ir_function.Function)
     (sound : body_is_sound m f (map (λ e. e.ty) es) ≡ true) (W : ℕ → Type 0)
     (closed : AreClosed W (binds (function_shape m info f es)) f) (written : AreWritten W m f es)
     (types : TypesAreFit m) (fits : (h : ℕ) (k : ExpressionInfo) → slice_get es h ≡ Some k →
-    IsFit m k.ty) (values : types_are_written_so_far m ≡ true) (explicit : Bool)
+    IsFit m k.ty) (demands : are_operands_fit m.types (map (λ e. e.ty) es) f.expressions ≡ true) (explicit : Bool)
     (spelled : (r : TypeResolution) → IsSpelledIn explicit m info f es r → is_spellable m r ≡ true)
     (few : length f.expressions ≤ 2 ^ 64) (named : ℕ → List ℕ) (identifiers : (k : ℕ) →
     k < length (expression_labels f) → IsIdentifier (named k)) (constants : (c : ℕ) →
@@ -100,10 +98,10 @@ module _ (m : Module) (info : ModuleInfo) (g : ℕ) (f : ir_function.Function)
   d = source.declared
 
   formed : (s : Handles) → NamesAre s → (h : ℕ) → W h → IsPlainForm (plain_form own source s h)
-  formed = plain_is m info g f found es callees ranges W closed written types fits values named constants
+  formed = plain_is m info g f found es callees ranges W closed written types fits demands named constants
 
   unnamed_formed : (s : Handles) → NamesAre s → (h : ℕ) → W h → IsPlainForm (unnamed_form own source s h)
-  unnamed_formed = unnamed_is m info g f found es callees ranges W closed written types fits values named constants
+  unnamed_formed = unnamed_is m info g f found es callees ranges W closed written types fits demands named constants
 
   starts : NamesAre (at_start own.function)
   starts = start_is m info g f es named identifiers few
@@ -136,6 +134,11 @@ module _ (m : Module) (info : ModuleInfo) (g : ℕ) (f : ir_function.Function)
       first_is None w = tt
       first_is (Some h) w = value_is_one (plain_form own source (at_start own.function) h) (formed (at_start own.function) starts h w.0)
 
+  -- the numbers of what parameters and result are bound to
+  bindings : (list_all (λ a. option_map_or binding_fits_32_bits a.binding true) f.arguments.items ≡ true) ×
+      (option_map_or (λ r. option_map_or binding_fits_32_bits r.binding true) f.result true ≡ true)
+  bindings = and_parts (list_all (λ a. option_map_or binding_fits_32_bits a.binding true) f.arguments.items) _ (bindings_are_in_range m callees f ranges)
+
   parameters_are : (n : ℕ) (args : List FunctionArgument) →
       n + length args ≡ length f.arguments.items →
       ((k : ℕ) → slice_get args k ≡ slice_get f.arguments.items (k + n)) →
@@ -145,8 +148,8 @@ module _ (m : Module) (info : ModuleInfo) (g : ℕ) (f : ir_function.Function)
       let next : (n + 1) + length args ≡ length f.arguments.items = omega (arith, size) in
       let here : slice_get f.arguments.items n ≡ Some a = ap (slice_get f.arguments.items) (sym (zero-add n)) ∙ sym (at 0) in (
         record {
-          attributes = tt;
-          binding = refl;
+          attributes = passing_is a.binding (list_all_at (λ a. option_map_or binding_fits_32_bits a.binding true) f.arguments.items n a bindings.0 here);
+          binding = passing_io a.binding;
           name =
               item_is_identifier m (argument_item m g n a) (argument_there m g f n a found here);
           type = is_type_at m types a.ty
@@ -162,7 +165,11 @@ module _ (m : Module) (info : ModuleInfo) (g : ℕ) (f : ir_function.Function)
 
   result_is : (r : Option FunctionResult) → f.result ≡ r → IsResult (result_form (type_names m) r)
   result_is None at = tt
-  result_is (Some r) at = (tt, refl, is_type_at m types r.ty (spelled_of_spellable m (Handle r.ty) (spelled (Handle r.ty) (OfResult r at))))
+  result_is (Some r) at = (
+    passing_is r.binding (sym (ap (λ o. option_map_or (λ r. option_map_or binding_fits_32_bits r.binding true) o true) at) ∙ bindings.1),
+    passing_io r.binding,
+    is_type_at m types r.ty (spelled_of_spellable m (Handle r.ty) (spelled (Handle r.ty) (OfResult r at))),
+  )
 
   -- functions that it calls and results have identifiers
   callee_is : (h : ℕ) → h < callees → IsIdentifier (function_name m (module_names m) h)
@@ -192,30 +199,8 @@ module _ (m : Module) (info : ModuleInfo) (g : ℕ) (f : ir_function.Function)
             f.body statements (at_start own.function) starts all_labels closed.body;
       }
 
-module _ (explicit : Bool) (m : Module) (info : ModuleInfo) (accepted : IsTrue (is_accepted m info)) (is_supported : DeclarationsHaveForms m) where
-  types : TypesAreFit m
-  types = types_are_fit m info accepted
-
-  -- literals and types that are written are of the grammar
-  literal_there : (h : ℕ) (value : _) →
-      slice_get m.global_expressions h ≡ Some (expression.Literal value) →
-      is_written_literal value ≡ true →
-      IsExpression (tree_expressions.Constant (literal_form value))
-  literal_there h value at is = literal_is value is (global_names_in_range m info accepted h (expression.Literal value) at)
-
-  formed_there : (ty : ℕ) → type_has_form m.types (Handle ty) ≡ true → HasFormAt (type_names m) ty
-  formed_there ty is = let t = tree_there (type_names m) (Handle ty) is in (t.0, t.1, tree_is m types (Handle ty) tt t.0 t.1)
-
-  override_there : (h o : ℕ) → slice_get m.global_expressions h ≡ Some (expression.Override o) → IsIdentifier ((type_names m).override_name o)
-  override_there h o at = override_identifier m o (ltb-true o (length m.overrides) (global_names_in_range m info accepted h (expression.Override o) at))
-
-  -- each of the module's own expressions that is written is of the grammar, and so each constant
-  pub written_global : (h : ℕ) → global_is_written m h ≡ true → IsExpression (global_form m (type_names m) h)
-  written_global h is = global_is m (type_names m) literal_there (constant_identifier m) override_there formed_there (suc h) h is
-
-  written_constants : (c : ℕ) → constant_is_written m c ≡ true → IsExpression (written_constant_form m (type_names m) c)
-  written_constants = constant_is m (type_names m) literal_there (constant_identifier m) override_there formed_there
-
+-- ---- modules
+module _ (explicit : Bool) (m : Module) (info : ModuleInfo) (accepted : IsTrue (is_accepted m info)) where
   -- a function, under names of front ends that are identifiers
   pub one_is : (named : ℕ → List ℕ) (g : ℕ) (f : ir_function.Function)
       (found : slice_get (all_functions m) g ≡ Some f) (es : List ExpressionInfo) →
@@ -225,31 +210,67 @@ module _ (explicit : Bool) (m : Module) (info : ModuleInfo) (accepted : IsTrue (
       IsFunction (function_form explicit (module_names m) named m info g f es)
   one_is named g f found es here named_are have few =
       let is = of_number m info accepted g f es found here in
-      function_is m info g f found es is.callees is.there is.ranges
-      (soundness_is m f es is.sound).1 (IsWrittenIn m info f es)
-      (written_are_closed m info f es) have.expressions
-      types (known_fits m info accepted g es here) (written_so_far_parts m is_supported).1 explicit
-      have.types few named named_are written_constants have.statements
+      let sound = soundness_is m f es is.sound in
+      let known = map (λ e. e.ty) es in
+      let demands = (and_parts (have_their_types m (Some f) known f.expressions) (are_operands_fit m.types known f.expressions) sound.0).1 in
+      function_is m info g f found es is.callees is.there is.ranges sound.1 (IsWrittenIn m info f es)
+      (written_are_closed m info f es) have.expressions (types_are_fit m info accepted)
+      (known_fits m info accepted g es here) demands explicit have.types few named named_are
+      (written_constants m info accepted) have.statements
 
-  functions_are : (g : ℕ) (fs : List ir_function.Function) (ess : List (List ExpressionInfo)) →
-      ((i : ℕ) (f : ir_function.Function) → slice_get fs i ≡ Some f →
-      slice_get (all_functions m) (g + i) ≡ Some f) →
-      ((i : ℕ) (es : List ExpressionInfo) → slice_get ess i ≡ Some es →
-      slice_get (all_infos info) (g + i) ≡ Some es) →
-      ((i : ℕ) (f : ir_function.Function) (es : List ExpressionInfo) → slice_get fs i ≡ Some f →
-      slice_get ess i ≡ Some es → WrittenHaveForms explicit m info f es) →
-      IsTrue (list_all (λ f. nat_le (length f.expressions) (2 ^ 64)) fs) → Each IsFunction (functions_form explicit (module_names m) m info g fs ess)
-  functions_are g [] [] there known have few = tt
-  functions_are g [] (es ∷ ess) there known have few = tt
-  functions_are g (f ∷ fs) [] there known have few = tt
-  functions_are g (f ∷ fs) (es ∷ ess) there known have few =
-      let here : g + 0 ≡ g = omega arith in
-      let found = subst (λ h. slice_get (all_functions m) h ≡ Some f) here (there 0 f refl) in
-      let own = subst (λ h. slice_get (all_infos info) h ≡ Some es) here (known 0 es refl) in
-      let counted = and_parts (nat_le (length f.expressions) (2 ^ 64)) (list_all (λ f. nat_le (length f.expressions) (2 ^ 64)) fs) few in (
-        one_is (expression_name m g) g f found es own (named_is_identifier m g f found) (have 0 f es refl refl) (leb-true (length f.expressions) (2 ^ 64) counted.0),
-        functions_are (g + 1) fs ess (further (all_functions m) g f fs there) (further (all_infos info) g es ess known) (λ i f es here known. have (suc i) f es here known) counted.1,
-      )
+  module _ (have : AllWrittenHaveForms explicit m info) (few : IsTrue (handles_are_counted m)) where
+    -- one in a text of the whole module
+    one_there : (g : ℕ) (f : ir_function.Function) (es : List ExpressionInfo) →
+        slice_get (all_functions m) g ≡ Some f → slice_get (all_infos info) g ≡ Some es →
+        IsFunction (function_form explicit (module_names m) (expression_name m g) m info g f es)
+    one_there g f es found known =
+        one_is (expression_name m g) g f found es known (named_is_identifier m g f found)
+        (have g f es found known)
+        (leb-true (length f.expressions) (2 ^ 64)
+        (list_all_at (λ f. nat_le (length f.expressions) (2 ^ 64)) (all_functions m) g f few found))
+
+    functions_are : (g : ℕ) (fs : List ir_function.Function) (ess : List (List ExpressionInfo)) →
+        ((i : ℕ) (f : ir_function.Function) → slice_get fs i ≡ Some f →
+        slice_get m.functions (g + i) ≡ Some f) →
+        ((i : ℕ) (es : List ExpressionInfo) → slice_get ess i ≡ Some es →
+        slice_get info.functions.items (g + i) ≡ Some es) →
+        Each IsFunction (functions_form explicit (module_names m) m info g fs ess)
+    functions_are g [] [] there known = tt
+    functions_are g [] (es ∷ ess) there known = tt
+    functions_are g (f ∷ fs) [] there known = tt
+    functions_are g (f ∷ fs) (es ∷ ess) there known = (
+      one_there g f es (function_among m g f (ap (slice_get m.functions) (sym (add-zero g)) ∙ there 0 f refl))
+          (info_among info g es (ap (slice_get info.functions.items) (sym (add-zero g)) ∙ known 0 es refl)),
+      functions_are (g + 1) fs ess (further m.functions g f fs there)
+          (further info.functions.items g es ess known),
+    )
+
+    entry_points_are : DeclarationsHaveForms m → (g j : ℕ) → g ≡ length m.functions + j →
+        (ps : List ir_entry_point.EntryPoint) (ess : List (List ExpressionInfo)) →
+        ((i : ℕ) (p : ir_entry_point.EntryPoint) → slice_get ps i ≡ Some p →
+        slice_get m.entry_points.items (j + i) ≡ Some p) →
+        ((i : ℕ) (es : List ExpressionInfo) → slice_get ess i ≡ Some es →
+        slice_get info.entry_points.items (j + i) ≡ Some es) →
+        Each IsEntryPoint (entry_points_form explicit (module_names m) m info g ps ess)
+    entry_points_are declarations g j at [] [] there known = tt
+    entry_points_are declarations g j at [] (es ∷ ess) there known = tt
+    entry_points_are declarations g j at (p ∷ ps) [] there known = tt
+    entry_points_are declarations g j at (p ∷ ps) (es ∷ ess) there known =
+        let here = ap (slice_get m.entry_points.items) (sym (add-zero j)) ∙ there 0 p refl in
+        let own = ap (slice_get info.entry_points.items) (sym (add-zero j)) ∙ known 0 es refl in
+        let next : g + 1 ≡ length m.functions + (j + 1) = omega (arith, at) in
+        let stage = stage_there m info accepted declarations j p here in (
+          record {
+            attributes = stage.0;
+            stage = stage.1;
+            function = one_there g p.function es
+                (ap (slice_get (all_functions m)) at ∙ entry_point_among m j p here)
+                (ap (slice_get (all_infos info)) at ∙ entry_info_among m info accepted j es own);
+          },
+          entry_points_are declarations (g + 1) (j + 1) next ps ess
+              (further m.entry_points.items j p ps there)
+              (further info.entry_points.items j es ess known),
+        )
 
 -- each extension that is enabled is one that the grammar has
 enables_are : (needs : Extension → Bool) (xs : List Extension) →
@@ -265,19 +286,18 @@ enables_are needs (x ∷ xs) all = by (needs x) (enables_are needs xs all.1)
 pub is_program : (m : Module) (info : ModuleInfo) (explicit : Bool) → IsTrue (is_accepted m info) →
     DeclarationsHaveForms m → AllWrittenHaveForms explicit m info →
     IsTrue (handles_are_counted m) → IsProgram (written_program m info explicit)
-is_program m info explicit accepted written have few =
+is_program m info explicit accepted declarations have few =
+    let first : length m.functions ≡ length m.functions + 0 = omega arith in
     record {
       enables = enables_are (is_needed m) extensions
           (refl, (refl, (refl, (refl, (refl, (refl, (refl, (refl, (refl, (refl, (refl, tt)))))))))));
-      structs = tt;
-      constants = tt;
-      overrides = tt;
-      globals = tt;
-      functions = functions_are explicit m info accepted written 0 m.functions info.functions.items
-          (λ i f here. from_start (all_functions m) i f (function_among m i f here))
-          (λ i es known. from_start (all_infos info) i es (info_among info i es known))
-          (λ i f es here known. have i f es (function_among m i f here) (info_among info i es known))
-          (subst (λ fs. IsTrue (list_all (λ f. nat_le (length f.expressions) (2 ^ 64)) fs))
-          (no_further_functions m info accepted written) few);
-      entry_points = tt;
+      structs = structs_are m info accepted declarations;
+      constants = constants_are m info accepted declarations;
+      overrides = overrides_are m info accepted declarations;
+      globals = variables_are m info accepted declarations;
+      functions = functions_are explicit m info accepted have few 0 m.functions info.functions.items
+          (from_start m.functions) (from_start info.functions.items);
+      entry_points = entry_points_are explicit m info accepted have few declarations
+          (length m.functions) 0 first m.entry_points.items info.entry_points.items
+          (from_start m.entry_points.items) (from_start info.entry_points.items);
     }

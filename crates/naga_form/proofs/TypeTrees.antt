@@ -356,7 +356,7 @@ access_is false true m e = let same : codes "read_write" ≡ m = cc in rw (← s
 access_is false false m e = absurd (cc)
 
 -- what may be done has a word in storage alone
-storage_is : (a : AddressSpace) (w m : List ℕ) → space_word a ≡ Some w → space_access_word a ≡ Some m → (codes "storage" ≡ w) × (stands_in access_words m ≡ true)
+pub storage_is : (a : AddressSpace) (w m : List ℕ) → space_word a ≡ Some w → space_access_word a ≡ Some m → (codes "storage" ≡ w) × (stands_in access_words m ≡ true)
 storage_is (space.Storage access) w m e f = (let same : codes "storage" ≡ w = cc in same, access_is (has atomic_bit access) (has store_bit access) m f)
 storage_is _ w m e f = absurd (cc)
 

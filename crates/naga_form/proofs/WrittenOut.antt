@@ -151,9 +151,9 @@ module _ (m : Module) (info : ModuleInfo) where
     unfolding is_accepted
     ranges = (and_parts (module_ranges_fit m info) (module_is_sound m info && module_operators_agree m info) accepted).0
 
-    range : declarations_in_range m ≡ true
+    pub declared_in_range : declarations_in_range m ≡ true
     unfolding module_ranges_fit
-    range =
+    declared_in_range =
         let one = and_parts (sizes_fit m info) _ ranges in
         let two = and_parts (list_all type_is_fit m.types) _ one.1 in
         let three = and_parts (module_in_range m) (all_known (resolution_fits (length m.overrides) (length m.types)) info) two.1 in
@@ -168,7 +168,7 @@ module _ (m : Module) (info : ModuleInfo) where
     own_parts : (list_all (constant_in_range (length m.types) (length m.global_expressions)) m.constants ≡ true) × (all_placed (global_expression_in_range m) m.global_expressions ≡ true)
     own_parts =
         let types = length m.types in let own = length m.global_expressions in
-        let declared = and_parts (types_in_range (length m.overrides) m.types) _ range in
+        let declared = and_parts (types_in_range (length m.overrides) m.types) _ declared_in_range in
         let d1 = and_parts (special_types_fit types m.special_types) _ declared.1 in
         let d2 = and_parts (list_all (constant_in_range types own) m.constants) _ d1.1 in
         let d3 = and_parts (list_all (override_in_range types own) m.overrides) _ d2.1 in

@@ -1,7 +1,7 @@
 -- The types that have a form: their trees, which are types of the grammar and are spelled as no name
 -- is.
 use Rattle.std.proofs.Common.{[], ◌≡◌, ℕ, zero, suc, ◌<◌, Bool, true, false, List, ◌∷◌, ◌++◌}
-use Rattle.std.proofs.Common.{Option, Some, None, refl, sym, ap, subst, slice_get, arith}
+use Rattle.std.proofs.Common.{Option, Some, None, refl, sym, ap, subst, slice_get}
 use Rattle.std.proofs.Common.{codes}
 use Rattle.std.specs.Prelude.{if◌then◌else◌, unwrap_or, ◌⊎◌, ◌||◌, not}
 use mathlib.Core.Logic.{inl, inr}
@@ -26,7 +26,7 @@ use Rattle.naga_ir.specs.declared.types.TypeInner.TheVariants as inner
 use Rattle.naga_ir.specs.declared.types.VectorSize.{VectorSize}
 use Rattle.naga_names.specs.Keys.{NameMap}
 use Rattle.naga_words.specs.Contexts.{Names, names_of}
-use Rattle.naga_words.specs.Spelling.{is_struct, length_within}
+use Rattle.naga_words.specs.Spelling.{is_struct, length_within, size_within}
 use Rattle.naga_words.specs.Words.{sampler_word}
 use Rattle.module_meaning.specs.AlikeTypes.{is_spelled, type_key as form_numbers}
 use Rattle.module_meaning.proofs.WrittenSoFar.{type_of_part}
@@ -40,7 +40,7 @@ use Rattle.wgsl_text.specs.Reading.{type_layout}
 use Rattle.wgsl_text.specs.Tables.{depth_image_words, ray_words, sampler_words, scalar_words}
 use Rattle.wgsl_text.specs.Types.{IsType, Named, TemplateRule, Template, TemplateArguments, TypeSpecifier, fits}
 use Rattle.wgsl_text.specs.Text.{text}
-use Rattle.wgsl_text.specs.Types.{has_gaps, of_one, template_pieces, plain_type_words, pointer_tree}
+use Rattle.wgsl_text.specs.Types.{has_gaps, of_one, of_two, template_pieces, plain_type_words, pointer_tree}
 use Rattle.wgsl_text.specs.Types.{rule_among, type_templates}
 use Rattle.wgsl_text.specs.Words.{stands_in}
 use Rattle.wgsl_words.specs.Words.{scalar_word, scalar_word_of, space_word, space_access_word}
@@ -66,35 +66,45 @@ tree_there n r is = by (form_numbers n.types r) is (form_is_read n r)
     by (Some numbers) is read = (form_read n numbers, read)
     by None is read = absurd cc
 
--- ---- names that do not matter
--- an array whose length is told by no override
-array_same : (n k : Names) (word : List ℕ) (l : ArraySize) → length_within 0 (inner.Array 0 l 0) ≡ true →
+-- ---- names that are the same
+-- an array whose length is told by an override of one name
+array_same : (n k : Names) (overrides : ℕ) →
+    ((o : ℕ) → o < overrides → n.override_name o ≡ k.override_name o) → (word : List ℕ)
+    (l : ArraySize) → size_within overrides l ≡ true →
     (o p : Option TypeSpecifier) → o ≡ p →
     option_map (array_tree n word l) o ≡ option_map (array_tree k word l) p
-array_same n k word (size.Constant number) within o p e =
+array_same n k overrides named word (size.Constant number) within o p e =
     ap (option_map (array_tree n word (size.Constant number))) e
-array_same n k word (size.Pending o) within p q e =
-    let lt : o < 0 = ltb-true o 0 within in absurd (omega (arith, lt))
-array_same n k word size.Dynamic within o p e = ap (option_map (array_tree n word size.Dynamic)) e
+array_same n k overrides named word (size.Pending override_handle) within o p e =
+    let name = named override_handle (ltb-true override_handle overrides within) in
+    λ i. option_map (λ element. of_two word element (Named (name i))) (e i)
+array_same n k overrides named word size.Dynamic within o p e =
+    ap (option_map (array_tree n word size.Dynamic)) e
 
-inner_same : (n k : Names) (f g : ℕ → Option TypeSpecifier) → ((b : ℕ) → f b ≡ g b) →
-    (it : TypeInner) → length_within 0 it ≡ true → inner_tree_by n f it ≡ inner_tree_by k g it
-inner_same n k f g same (inner.Pointer base space) within =
+inner_same : (n k : Names) (overrides : ℕ) →
+    ((o : ℕ) → o < overrides → n.override_name o ≡ k.override_name o) →
+    (f g : ℕ → Option TypeSpecifier) → ((b : ℕ) → f b ≡ g b) →
+    (it : TypeInner) → length_within overrides it ≡ true → inner_tree_by n f it ≡ inner_tree_by k g it
+inner_same n k overrides named f g same (inner.Pointer base space) within =
     ap (pointer_tree_in (space_word space) (space_access_word space)) (same base)
-inner_same n k f g same (inner.Array base l stride) within =
-    array_same n k _ l within (f base) (g base) (same base)
-inner_same n k f g same (inner.BindingArray base l) within =
-    array_same n k _ l within (f base) (g base) (same base)
-inner_same n k f g same _ within = refl
+inner_same n k overrides named f g same (inner.Array base l stride) within =
+    array_same n k overrides named _ l within (f base) (g base) (same base)
+inner_same n k overrides named f g same (inner.BindingArray base l) within =
+    array_same n k overrides named _ l within (f base) (g base) (same base)
+inner_same n k overrides named f g same _ within = refl
 
--- types that name no override, and whose names are the same
-pub record AreNamedAlike (types : List Type_) (a b : NameMap) : Type 0 where
+-- types whose names are the same under both maps, and so are those of the first so many overrides, of
+-- which one tells a length
+pub record AreNamedAlike (types : List Type_) (overrides : ℕ) (a b : NameMap) : Type 0 where
   pub names : (h : ℕ) (t : Type_) → slice_get types h ≡ Some t →
       (names_of types a).struct_name h ≡ (names_of types b).struct_name h
-  pub lengths : (h : ℕ) (t : Type_) → slice_get types h ≡ Some t → length_within 0 t.inner ≡ true
+  pub told : (o : ℕ) → o < overrides →
+      (names_of types a).override_name o ≡ (names_of types b).override_name o
+  pub lengths : (h : ℕ) (t : Type_) → slice_get types h ≡ Some t →
+      length_within overrides t.inner ≡ true
 
 -- have one tree each
-module _ (types : List Type_) (a b : NameMap) (are : AreNamedAlike types a b) where
+module _ (types : List Type_) (overrides : ℕ) (a b : NameMap) (are : AreNamedAlike types overrides a b) where
   abbrev n : Names
   n = names_of types a
 
@@ -111,7 +121,7 @@ module _ (types : List Type_) (a b : NameMap) (are : AreNamedAlike types a b) wh
   found_same f g same h None at = refl
   found_same f g same h (Some t) at =
       either_same (is_struct t.inner) _ _ (are.names h t at) _ _
-      (inner_same n k f g same t.inner (are.lengths h t at))
+      (inner_same n k overrides are.told f g same t.inner (are.lengths h t at))
 
   within_same : (levels h : ℕ) → tree_within levels n h ≡ tree_within levels k h
   within_same zero h = refl
@@ -123,13 +133,13 @@ module _ (types : List Type_) (a b : NameMap) (are : AreNamedAlike types a b) wh
   unfolding type_tree
   type_same h = within_same (suc h) h
 
-  -- a type by itself whose length names no override
+  -- a type by itself whose length is told by one of these overrides, if by one
   pub resolution_same : (r : TypeResolution) →
-      ((it : TypeInner) → r ≡ Value it → length_within 0 it ≡ true) →
+      ((it : TypeInner) → r ≡ Value it → length_within overrides it ≡ true) →
       resolution_tree n r ≡ resolution_tree k r
   resolution_same (Handle h) within = type_same h
   resolution_same (Value it) within =
-      inner_same n k (type_tree n) (type_tree k) type_same it (within it refl)
+      inner_same n k overrides are.told (type_tree n) (type_tree k) type_same it (within it refl)
 
 -- ---- trees that are spelled as no name is
 -- a word of the table of types, or a word with parts

@@ -6,7 +6,7 @@ use Rattle.naga_info.specs.declared.info.ModuleInfo.{ModuleInfo}
 use Rattle.module_meaning.specs.Accepted.{is_accepted}
 use Rattle.module_meaning.specs.WrittenSoFar.{global_is_written, is_written_so_far}
 use Rattle.module_meaning.specs.Types.{type_names}
-use Rattle.naga_form.proofs.Programs.{written_global}
+use Rattle.naga_form.proofs.DeclaredPrograms.{written_global}
 use Rattle.naga_form.specs.ConstantForms.{global_form}
 use Rattle.naga_words.specs.Sink.{IsBehind}
 use Rattle.wgsl_text.specs.Reading.{HasOneReading, ReadsExpression}
@@ -61,7 +61,7 @@ module _ (m : Module) (handle : ℕ) where
     unfolding global_text
     one_expression =
         expression_has_one_reading (global_form m (type_names m) handle)
-        (written_global false m info accepted written handle formed)
+        (written_global m info accepted handle formed)
 
     pub global_writes : (r : Result Unit Error) (content now : List ℕ) (before after : ℕ) →
         OnOk r (now ≡ content ++ global_text m handle) →

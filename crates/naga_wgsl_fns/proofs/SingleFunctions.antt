@@ -200,7 +200,7 @@ module _ (m : Module) (info : ModuleInfo) (flags : WriterFlags) (earlier : List 
         (λ es. IsFunction (function_form explicit (module_names m) (named_behind m earlier handle) m info
         handle f es))
         (sym same)
-        (one_is explicit m info accepted written (named_behind m earlier handle) handle f stands known.0
+        (one_is explicit m info accepted (named_behind m earlier handle) handle f stands known.0
         known.1 (identifiers f stands) here.formed (leb-true (length f.expressions) (2 ^ 64) here.counted))
 
     one_reading : HasOneReading ReadsFunction whole form

@@ -34,7 +34,7 @@ use Rattle.naga_wgsl_fns.proofs.ModuleTexts.{can_of}
 use Rattle.module_meaning.specs.AlikeTypes.{key_within, found_key_by, handle_key, is_spelled}
 use Rattle.module_meaning.specs.Ranges.{resolution_fits}
 use Rattle.module_meaning.specs.Types.{type_names}
-use Rattle.naga_form.proofs.PartTypes.{known_before, known_within, named_alike, no_overrides}
+use Rattle.naga_form.proofs.PartTypes.{known_before, known_within, named_alike}
 use Rattle.naga_form.proofs.PartTypes.{type_before}
 use Rattle.naga_form.proofs.WrittenTypes.{resolution_same, tree_there}
 use Rattle.naga_ir.specs.declared.module.Module.{Module}
@@ -136,13 +136,13 @@ module _ (m : Module) (can : CanWriteOf m) (names : NameMap) where
   module _ (named : HasNamesOf m names) where
     -- the spelling of a type that has a form, under the map's names, which are the module's
     formed_known : (r : TypeResolution) → IsTrue (is_spelled m.types r) →
-        ((it : TypeInner) → r ≡ resolution.Value it → length_within 0 it ≡ true) →
+        ((it : TypeInner) → r ≡ resolution.Value it → length_within (length m.overrides) it ≡ true) →
         known_text (resolution_segments (names_context m.types names) r) ≡
         Some (type_layout (unwrap_or (resolution_tree (type_names m) r) (Named [])))
     formed_known r formed within =
         let t = tree_there (type_names m) r formed in
-        let same = resolution_same m.types names (module_names m)
-        (named_alike m can.info can.accepted can.is_supported names named) r within in
+        let same = resolution_same m.types (length m.overrides) names (module_names m)
+        (named_alike m can.info can.accepted names named) r within in
         row_of m.types names r ∙ ap (option_map type_layout) (same ∙ t.1)
         ∙ ap (λ o. Some (type_layout (unwrap_or o (Named [])))) (sym t.1)
 
@@ -155,9 +155,7 @@ module _ (m : Module) (can : CanWriteOf m) (names : NameMap) where
         known_text (resolution_segments (names_context m.types names) r) ≡
         Some (type_layout (unwrap_or (resolution_tree (type_names m) r) (Named [])))
     resolution_spelled r formed fits =
-        formed_known r formed
-        (λ it is. subst (λ n. length_within n it ≡ true) (no_overrides m can.info can.accepted can.is_supported)
-        (known_within m can.info can.accepted r fits it is))
+        formed_known r formed (λ it is. known_within m can.info can.accepted r fits it is)
 
 -- ---- of a function's module
 pub type_same : (f : FunctionText) (ty : ℕ) → spelled_text f.shader.now ty ≡ type_text f ty
