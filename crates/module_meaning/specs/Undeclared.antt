@@ -71,12 +71,12 @@ abbrev pub member_words : List (List ℕ)
 member_words =
     codes "fract" ∷ codes "whole" ∷ codes "exp" ∷ codes "old_value" ∷ codes "exchanged" ∷ []
 
--- A struct's member is written: a text declares the struct, or the member is there and has one of these
--- words for its name.
+-- A struct's member is written: it is there, and a text declares the struct, or the member has one of
+-- these words for its name.
 abbrev pub member_is_written : Module → (h : ℕ) → List StructMember → (index : ℕ) → Bool
 member_is_written m h members index =
-    not (is_undeclared m.special_types h) ||
-    (nat_lt index (length members) &&
+    nat_lt index (length members) &&
+    (not (is_undeclared m.special_types h) ||
     stands_in member_words (name_in (module_names m) (key.StructMember h index)))
 
 -- the part with this number of the type at a handle is no member of a struct, or is written

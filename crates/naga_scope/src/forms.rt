@@ -193,9 +193,9 @@ fn part_is_written_at(
     }
     match &module.types[whole].inner {
         TypeInner::Struct { members, .. } => {
-            !is_undeclared(&module.special_types, whole)
-                || ((index as usize) < members.len()
-                    && has_member_word(module, names, whole, index))
+            (index as usize) < members.len()
+                && (!is_undeclared(&module.special_types, whole)
+                    || has_member_word(module, names, whole, index))
         }
         _ => true,
     }

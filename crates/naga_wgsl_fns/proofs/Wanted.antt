@@ -30,7 +30,6 @@ use Rattle.naga_ir.specs.declared.types.VectorSize.{VectorSize}
 use Rattle.naga_info.specs.declared.info.ExpressionInfo.{ExpressionInfo}
 use Rattle.module_meaning.proofs.Lists.{list_all_at}
 use Rattle.module_meaning.proofs.WrittenSoFar.{spelled_of_spellable, has_form_parts}
-use Rattle.module_meaning.proofs.WrittenSoFar.{written_so_far_parts}
 use Rattle.module_meaning.specs.Sampling.{own_offset_is_written}
 use Rattle.naga_ir.specs.declared.expression.ImageQuery.{ImageQuery}
 use Rattle.naga_ir.specs.declared.expression.SampleLevel.{SampleLevel}
@@ -65,8 +64,8 @@ use Rattle.naga_names.proofs.Refusal.{element}
 use Rattle.naga_names.specs.Keys.{names_in}
 use Rattle.naga_names.specs.Reset.{members_of}
 use Rattle.naga_names.specs.declared.key.NameKey.TheVariants as key
-use Rattle.module_meaning.specs.Undeclared.{is_spellable, is_undeclared, member_is_written}
-use Rattle.module_meaning.specs.Undeclared.{member_words, names_undeclared, part_is_written_at}
+use Rattle.module_meaning.specs.Undeclared.{is_spellable, member_is_written, names_undeclared}
+use Rattle.module_meaning.specs.Undeclared.{part_is_written_at}
 use Rattle.module_meaning.specs.Undeclared.{whole_known, whole_of}
 use Rattle.shader_runs.specs.Value.{MemberNamed}
 use Rattle.wgsl_text.specs.Words.{stands_in}
@@ -86,7 +85,7 @@ use Rattle.module_meaning.specs.ExpressionLabels.{label_of, labels_in}
 use Rattle.naga_scope.specs.Availabilities.{name_of_bound, next_name}
 use Rattle.naga_wgsl_fns.specs.Names.{bound_text, next_name_text}
 use Rattle.naga_form.proofs.Ordered.{operands_stand_before}
-use Rattle.naga_form.proofs.WrittenTypes.{struct_undeclared, tree_there}
+use Rattle.naga_form.proofs.WrittenTypes.{tree_there}
 use Rattle.naga_wgsl_fns.proofs.Members.{found_none, found_struct, member_selected, no_struct}
 use Rattle.naga_form.specs.TypeTrees.{resolution_tree}
 use Rattle.naga_form.specs.Types.{annotated_type}
@@ -286,7 +285,6 @@ module _ (t : FunctionText) (can : CanWrite t) where
       let written = (and_parts (known_passes m.types es (has_parts m.types) base) _ may).1 in
       let lt =
       by s.type.inner s.is whole.0
-      (struct_undeclared m (written_so_far_parts m can.is_supported).1 whole.0 s.type s.there s.is)
       (sym
       (ap (λ o. option_map_or
       (λ ty. not (is_struct ty.inner) || member_is_written m whole.0 (members_of ty.inner) index) o
@@ -298,20 +296,12 @@ module _ (t : FunctionText) (can : CanWrite t) where
       Some (name_in (module_names m) (key.StructMember k index)))
       s.same (can.named.members whole.0 s.type s.there index a.0 a.1)
     where
-      inside : (undeclared : Bool) → undeclared ≡ true → (count : Bool) (word : Bool) →
-          (not undeclared || (count && word)) ≡ true → count ≡ true
-      inside true one count word written = (and_parts count word written).0
-      inside false one count word written = absurd cc
-
       by : (it : TypeInner) → is_struct it ≡ true → (k : ℕ) →
-          is_undeclared m.special_types k ≡ true →
           (not (is_struct it) || member_is_written m k (members_of it) index) ≡ true →
           nat_lt index (length (members_of it)) ≡ true
-      by (inner.Struct members span) is k undeclared written =
-          inside (is_undeclared m.special_types k) undeclared
-          (nat_lt index (length members.items))
-          (stands_in member_words (name_in (module_names m) (key.StructMember k index))) written
-      by _ is k undeclared written = absurd cc
+      by (inner.Struct members span) is k written =
+          (and_parts (nat_lt index (length members.items)) _ written).0
+      by _ is k written = absurd cc
 
   -- the letter of a component, where a vector has it or one that is pointed at
   letter_of : (d : Declared) (whole : Option ℕ) (it : TypeInner) (index : ℕ) →
