@@ -137,13 +137,13 @@ module _ (m : Module) where
       either false b one two other = absurd cc
 
       by : (w : List ℕ) → names_no_item w ≡ true → is_word w ≡ true → is_builtin w ≡ false → ⊥
-      by [] free is no = absurd cc
-      by (b ∷ rest) free is no =
+      by [] free is builtin = absurd cc
+      by (b ∷ rest) free is builtin =
           let v = b ∷ rest in
           let one =
           and_parts (not (nat_eq b 95)) (is_signed v && (not (is_word v) || is_builtin v)) free in
           let two = and_parts (is_signed v) (not (is_word v) || is_builtin v) one.1 in
-          either (is_word v) (is_builtin v) is no two.1
+          either (is_word v) (is_builtin v) is builtin two.1
 
 module _ (m : Module) (info : ModuleInfo) where
   abbrev p : shapes.Module

@@ -28,13 +28,19 @@ pub mod FreeNames
 pub mod FreeWords
 pub mod FunctionsFit
 pub mod DeclaredItems
+pub mod DeclaredStructs
 pub mod ExpressionNames
+pub mod GivenNames
+pub mod HiddenNames
 pub mod Images
 pub mod Interface
+pub mod ItemNames
+pub mod ItemTargets
 mod LeafExamples
 pub mod Leaves
 pub mod Letters
 pub mod LiteralTypes
+pub mod ListPlaces
 pub mod Literals
 pub mod Meanings
 pub mod MemberNames
@@ -49,6 +55,7 @@ pub mod OperatorTable
 pub mod OperatingWords
 pub mod Operators
 pub mod Ordered
+pub mod OutsideWords
 pub mod PartTypes
 pub mod WrittenSoFarFits
 pub mod PartsFit
@@ -68,6 +75,8 @@ pub mod SimpleShapes
 pub mod SoundGroups
 pub mod SoundOperators
 pub mod SpelledSignatures
+pub mod SpelledWords
+pub mod StageTargets
 pub mod StatementPrograms
 pub mod Switches
 pub mod TakenParts

@@ -48,25 +48,38 @@ place_none w (x ∷ xs) none =
 
 -- ---- items with their numbers
 module _ {X : Type 0} where
-  pub numbered_at : (n : ℕ) (xs : List X) (i : ℕ) (x : X) → slice_get xs i ≡ Some x →
+  counted_at : (n : ℕ) (xs : List X) (i : ℕ) (x : X) → slice_get xs i ≡ Some x →
       slice_get (enumerate_from n xs) i ≡ Some (n + i, x)
-  numbered_at n [] i x at = absurd cc
-  numbered_at n (y ∷ xs) zero x at =
+  counted_at n [] i x at = absurd cc
+  counted_at n (y ∷ xs) zero x at =
       let here : n ≡ n + 0 = omega arith in λ k. Some (here k, same_Some y x at k)
-  numbered_at n (y ∷ xs) (suc i) x at =
+  counted_at n (y ∷ xs) (suc i) x at =
       let next : n + 1 + i ≡ n + suc i = omega arith in
-      numbered_at (n + 1) xs i x at ∙ ap (λ k. Some (k, x)) next
+      counted_at (n + 1) xs i x at ∙ ap (λ k. Some (k, x)) next
 
-  pub numbered_from : (n : ℕ) (xs : List X) (i : ℕ) (p : ℕ × X) →
+  counted_from : (n : ℕ) (xs : List X) (i : ℕ) (p : ℕ × X) →
       slice_get (enumerate_from n xs) i ≡ Some p → (slice_get xs i ≡ Some p.1) × (p.0 ≡ n + i)
-  numbered_from n [] i p at = absurd cc
-  numbered_from n (y ∷ xs) zero p at =
+  counted_from n [] i p at = absurd cc
+  counted_from n (y ∷ xs) zero p at =
       let here : n ≡ n + 0 = omega arith in
       (ap (option_map (λ q. q.1)) at, sym (ap (λ q. q.0) (same_Some (n, y) p at)) ∙ here)
-  numbered_from n (y ∷ xs) (suc i) p at =
+  counted_from n (y ∷ xs) (suc i) p at =
       let next : n + 1 + i ≡ n + suc i = omega arith in
-      let rest = numbered_from (n + 1) xs i p at in
+      let rest = counted_from (n + 1) xs i p at in
       (rest.0, rest.1 ∙ next)
+
+  -- each has its place for a number
+  pub numbered_at : (xs : List X) (i : ℕ) (x : X) → slice_get xs i ≡ Some x →
+      slice_get (enumerate_from 0 xs) i ≡ Some (i, x)
+  numbered_at xs i x at =
+      let here : 0 + i ≡ i = omega arith in
+      counted_at 0 xs i x at ∙ ap (λ k. Some (k, x)) here
+
+  pub numbered_from : (xs : List X) (i : ℕ) (p : ℕ × X) →
+      slice_get (enumerate_from 0 xs) i ≡ Some p → (slice_get xs i ≡ Some p.1) × (p.0 ≡ i)
+  numbered_from xs i p at =
+      let own = counted_from 0 xs i p at in
+      let here : 0 + i ≡ i = omega arith in (own.0, own.1 ∙ here)
 
   pub numbered_taken : (n k : ℕ) (xs : List X) →
       take k (enumerate_from n xs) ≡ enumerate_from n (take k xs)
@@ -74,7 +87,12 @@ module _ {X : Type 0} where
   numbered_taken n (suc k) [] = refl
   numbered_taken n (suc k) (x ∷ xs) = ap (λ ps. (n, x) ∷ ps) (numbered_taken (n + 1) k xs)
 
--- the item that something in a list made from numbered ones was made of
+-- what is made of each, with its number
+pub made_at : {X Y : Type 0} (form : ℕ × X → Y) (xs : List X) (i : ℕ) (x : X) →
+    slice_get xs i ≡ Some x → slice_get (map form (enumerate_from 0 xs)) i ≡ Some (form (i, x))
+made_at form xs i x at =
+    slice_get-map form (enumerate_from 0 xs) i ∙ ap (option_map form) (numbered_at xs i x at)
+
 pub made_from : {X Y : Type 0} (form : ℕ × X → Y) (xs : List X) (i : ℕ) (y : Y) →
     slice_get (map form (enumerate_from 0 xs)) i ≡ Some y →
     (x : X) × (slice_get xs i ≡ Some x) × (form (i, x) ≡ y)
@@ -82,16 +100,8 @@ made_from form xs i y at =
     let p =
     map_some form (slice_get (enumerate_from 0 xs) i) y
     (sym (slice_get-map form (enumerate_from 0 xs) i) ∙ at) in
-    let own = numbered_from 0 xs i p.0 p.1 in
-    let here : p.0.0 ≡ i = omega (arith, own.1) in
-    (p.0.1, own.0, ap (λ k. form (k, p.0.1)) (sym here) ∙ p.2)
-
-pub made_at : {X Y : Type 0} (form : ℕ × X → Y) (xs : List X) (i : ℕ) (x : X) →
-    slice_get xs i ≡ Some x → slice_get (map form (enumerate_from 0 xs)) i ≡ Some (form (i, x))
-made_at form xs i x at =
-    let here : 0 + i ≡ i = omega arith in
-    slice_get-map form (enumerate_from 0 xs) i
-    ∙ (ap (option_map form) (numbered_at 0 xs i x at) ∙ ap (λ k. Some (form (k, x))) here)
+    let own = numbered_from xs i p.0 p.1 in
+    (p.0.1, own.0, ap (λ k. form (k, p.0.1)) (sym own.1) ∙ p.2)
 
 -- ---- items that pass a test
 module _ {X Y : Type 0} (test : X → Bool) (form : X → Y) where
@@ -132,7 +142,7 @@ module _ {X Y : Type 0} (test : X → Bool) (form : X → Y) where
   formed_from [] j y at = absurd cc
   formed_from (x ∷ xs) j y at = by (test x) refl (formed_from xs) at
     where
-      abbrev before : Bool → ℕ → ℕ
+      before : Bool → ℕ → ℕ
       before b k = length (if b then x ∷ filter test (take k xs) else filter test (take k xs))
 
       further : (b : Bool) → test x ≡ b → (i : ℕ) → IsFormed xs i y →

@@ -1,7 +1,7 @@
 -- The variables that the attributes of an entry point name are those that the module has there.
 --
 -- Throughout, names are those of the module, find tells what each name stands for, count is how many
--- variables there are, e is an entry point, v a variable, and as and bs are attributes.
+-- variables there are, e is an entry point, v a variable, and first and second are attributes.
 use Rattle.std.proofs.Common.{◌≡◌, ℕ, ◌+◌, ◌<◌, Bool, true, List, [], ◌∷◌, ◌++◌, Option, Some, None}
 use Rattle.std.proofs.Common.{refl, sym, ap, subst, ◌∙◌, arith, append-nil, length, map, slice_get}
 use Rattle.std.proofs.Common.{suc}
@@ -32,13 +32,13 @@ module _ (names : NameMap) (find : Lookup) (count : ℕ) (found : (v : ℕ) → 
     find (global_name names v) ≡ Some (GlobalTarget v)) where
   -- the attributes name these variables
   abbrev pub AreNamed : List Attribute → List ℕ → Type 0
-  AreNamed as vs = map find (filter_map variable_named as) ≡ map Some (map GlobalTarget vs)
+  AreNamed first vs = map find (filter_map variable_named first) ≡ map Some (map GlobalTarget vs)
 
-  joined : (as bs : List Attribute) (us vs : List ℕ) → AreNamed as us → AreNamed bs vs →
-      AreNamed (as ++ bs) (us ++ vs)
-  joined as bs us vs a b =
-      ap (map find) (filter_map-append variable_named as bs)
-      ∙ (map-append find (filter_map variable_named as) (filter_map variable_named bs)
+  joined : (first second : List Attribute) (us vs : List ℕ) → AreNamed first us →
+      AreNamed second vs → AreNamed (first ++ second) (us ++ vs)
+  joined first second us vs a b =
+      ap (map find) (filter_map-append variable_named first second)
+      ∙ (map-append find (filter_map variable_named first) (filter_map variable_named second)
       ∙ ((λ i. a i ++ b i)
       ∙ (sym (map-append Some (map GlobalTarget us) (map GlobalTarget vs))
       ∙ ap (map Some) (sym (map-append GlobalTarget us vs)))))
@@ -85,7 +85,8 @@ module _ (names : NameMap) (find : Lookup) (count : ℕ) (found : (v : ℕ) → 
   stage_named e within stage.Fragment = refl
   stage_named e within stage.Compute = sizes_named e.workgroup_size
   stage_named e within stage.Mesh =
-      joined _ (size_attributes e.workgroup_size ++ payload_attributes names e)
+      joined (attribute_of (λ k. Worded Mesh (global_name names k.output_variable)) e.mesh_info)
+      (size_attributes e.workgroup_size ++ payload_attributes names e)
       (map (λ k. k.output_variable) (option_to_list e.mesh_info)) (option_to_list e.task_payload)
       (mesh_named e.mesh_info within.0)
       (joined (size_attributes e.workgroup_size) (payload_attributes names e) []
