@@ -1,65 +1,59 @@
 -- The names of the declarations that are written for a module stand for what they were written for.
-use Rattle.std.proofs.Common.{◌≡◌, ℕ, Bool, true, List, [], ◌∷◌, ◌++◌, Option, Some, None, refl, sym}
-use Rattle.std.proofs.Common.{ap, ◌∙◌, map, slice_get, suc, ◌+◌, length}
+use Rattle.std.proofs.Common.{◌≡◌, ℕ, Bool, true, List, [], ◌∷◌, ◌++◌, Option, Some, None, refl}
+use Rattle.std.proofs.Common.{sym, ap, ◌∙◌, map, slice_get, suc, ◌+◌, length, not, subst}
+use Rattle.std.specs.List.{enumerate_from, list_all}
+use Rattle.std.specs.Option.{option_map, option_or}
 use Rattle.std.specs.Prelude.{IsTrue}
-use Rattle.std.specs.List.{enumerate_from}
-use Rattle.std.specs.Option.{option_map}
+use Rattle.std.proofs.lemmas.Bool.{and_from, and_parts, false_from_ne_true}
 use Rattle.std.proofs.lemmas.List.{map-append}
+use Rattle.std.proofs.lemmas.Option.{same_Some}
 use Rattle.naga_info.specs.declared.info.ModuleInfo.{ModuleInfo}
 use Rattle.naga_ir.specs.declared.module.Module.{Module}
-use Rattle.module_meaning.specs.Accepted.{is_accepted}
-use Rattle.module_meaning.specs.DeclarationForms.{DeclarationsHaveForms, OfOverride, OfVariable}
-use Rattle.module_meaning.specs.DeclaredItems.{initialiser_meant, module_initialiser_targets}
-use Rattle.module_meaning.specs.DeclaredItems.{module_stage_targets}
-use Rattle.module_meaning.specs.Names.{module_names}
-use Rattle.module_meaning.specs.Premises.{ScopesHold}
-use Rattle.module_meaning.specs.Types.{type_names}
-use Rattle.module_meaning.specs.Written.{AllWrittenHaveForms}
-use Rattle.module_meaning.specs.WrittenSoFar.{global_is_written}
-use Rattle.shader_runs.specs.Resolution.{Lookup, text_names}
-use Rattle.text_meaning.specs.Abstraction.{program_read}
-use Rattle.text_meaning.specs.Resolution.{initialiser_targets, program_initialiser_targets}
-use Rattle.module_meaning.specs.Resolution.{MembersResolve, TypesResolve}
-use Rattle.text_meaning.specs.Resolution.{stage_targets, types_are_not_hidden}
-use Rattle.wgsl_text.specs.Declarations.{Program}
-use Rattle.wgsl_text.specs.Expressions.{Expression}
-use Rattle.std.proofs.Common.{not, subst}
-use Rattle.std.specs.List.{list_all}
-use Rattle.std.specs.Option.{option_or}
-use Rattle.std.proofs.lemmas.Bool.{and_from, and_parts, false_from_ne_true}
-use Rattle.std.proofs.lemmas.Option.{same_Some}
 use Rattle.naga_names.proofs.NamedItems.{type_stands}
 use Rattle.naga_names.specs.Reset.{type_label}
 use Rattle.naga_names.specs.declared.key.NameKey.TheVariants as key
 use Rattle.naga_words.specs.Spelling.{is_struct}
-use Rattle.module_meaning.specs.DeclaredItems.{resolution_items}
+use Rattle.module_meaning.specs.Accepted.{is_accepted}
+use Rattle.module_meaning.specs.DeclarationForms.{DeclarationsHaveForms, OfOverride, OfVariable}
+use Rattle.module_meaning.specs.DeclaredItems.{initialiser_meant, module_initialiser_targets}
+use Rattle.module_meaning.specs.DeclaredItems.{module_stage_targets, resolution_items}
 use Rattle.module_meaning.specs.FunctionNumbers.{all_functions, all_infos}
-use Rattle.module_meaning.specs.Names.{wgsl_names}
+use Rattle.module_meaning.specs.Names.{module_names, wgsl_names}
+use Rattle.module_meaning.specs.Premises.{ScopesHold}
+use Rattle.module_meaning.specs.Resolution.{MembersResolve, TypesResolve}
+use Rattle.module_meaning.specs.Types.{type_names}
 use Rattle.module_meaning.specs.Undeclared.{is_declared, is_undeclared}
+use Rattle.module_meaning.specs.Written.{AllWrittenHaveForms}
+use Rattle.module_meaning.specs.WrittenSoFar.{global_is_written}
 use Rattle.module_meaning.proofs.WrittenSoFar.{spellable_parts}
-use Rattle.text_meaning.specs.Resolution.{StructItem, ValueItem, item_named, struct_named, type_items}
+use Rattle.shader_runs.specs.Resolution.{Lookup, text_names}
+use Rattle.text_meaning.specs.Abstraction.{program_read}
+use Rattle.text_meaning.specs.Resolution.{initialiser_targets, item_named}
+use Rattle.text_meaning.specs.Resolution.{program_initialiser_targets, stage_targets, struct_named}
+use Rattle.text_meaning.specs.Resolution.{StructItem, type_items, types_are_not_hidden, ValueItem}
 use Rattle.wgsl_text.proofs.Types.{named_text}
 use Rattle.wgsl_text.proofs.Words.{passes}
+use Rattle.wgsl_text.specs.Declarations.{Program}
+use Rattle.wgsl_text.specs.Expressions.{Expression}
 use Rattle.wgsl_text.specs.Reading.{type_layout}
 use Rattle.wgsl_text.specs.Requests.{is_request}
 use Rattle.wgsl_text.specs.Types.{Named, plain_type_words}
 use Rattle.wgsl_text.specs.Words.{stands_in}
+use Rattle.naga_form.proofs.AcceptedFunctions.{entry_points_counted, stage_variables_within}
 use Rattle.naga_form.proofs.AcceptedGroups.{fit_of, types_are_counted, types_are_fit}
-use Rattle.naga_form.proofs.DeclaredStructs.{override_not_found, struct_found}
+use Rattle.naga_form.proofs.DeclaredStructs.{members_found, override_not_found, struct_found}
 use Rattle.naga_form.proofs.DistinguishedItems.{types_are_distinguished}
 use Rattle.naga_form.proofs.Facts.{from_start}
 use Rattle.naga_form.proofs.HiddenNames.{functions_hide_none, hides_none}
 use Rattle.naga_form.proofs.ItemNames.{no_word}
-use Rattle.naga_form.proofs.ItemTargets.{program_reads}
+use Rattle.naga_form.proofs.ItemTargets.{initialiser_found, override_found, program_reads}
+use Rattle.naga_form.proofs.ItemTargets.{variable_found}
 use Rattle.naga_form.proofs.OperatingWords.{names_no_item, operates_freely, plain_types_free}
 use Rattle.naga_form.proofs.PartTypes.{known_within}
 use Rattle.naga_form.proofs.SameValues.{one_layout, or_nothing, spelling_of, tree_is}
+use Rattle.naga_form.proofs.StageTargets.{stages_named}
 use Rattle.naga_form.proofs.TypeItems.{ItemsAreNamed, resolution_named}
 use Rattle.naga_form.proofs.WrittenTypes.{tree_there}
-use Rattle.naga_form.proofs.AcceptedFunctions.{entry_points_counted, stage_variables_within}
-use Rattle.naga_form.proofs.DeclaredStructs.{members_found}
-use Rattle.naga_form.proofs.ItemTargets.{initialiser_found, override_found, variable_found}
-use Rattle.naga_form.proofs.StageTargets.{stages_named}
 use Rattle.naga_form.specs.ConstantForms.{global_form}
 use Rattle.naga_form.specs.Declarations.{override_form, variable_form, written_program}
 

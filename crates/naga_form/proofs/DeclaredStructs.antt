@@ -2,33 +2,29 @@
 --
 -- Throughout, m is a module, of which info is known, h and k are handles of types, t and u types, s is
 -- a struct that is written, i and j are places, o is an override, and w a word.
-use Rattle.std.proofs.Common.{◌≡◌, ℕ, ◌<◌, Bool, true, false, List, Option, Some, None, refl, sym, ap, ◌∙◌}
-use Rattle.std.proofs.Common.{arith, length, map, not, slice_get, take}
-use Rattle.std.specs.Prelude.{◌&&◌}
+use Rattle.std.proofs.Common.{◌≡◌, ℕ, ◌<◌, Bool, true, List, Some, None, sym, ap, ◌∙◌, length, map}
+use Rattle.std.proofs.Common.{not, slice_get, take}
 use Rattle.std.specs.List.{enumerate_from, filter}
 use Rattle.std.specs.Option.{option_and_then, option_map}
-use Rattle.std.proofs.lemmas.Bool.{and_from, and_parts}
-use Rattle.std.proofs.lemmas.Option.{same_Some, slice_get-map}
+use Rattle.std.proofs.lemmas.Bool.{and_parts}
+use Rattle.std.proofs.lemmas.Option.{slice_get-map}
 use Rattle.naga_info.proofs.Options.{map_some}
 use Rattle.naga_info.specs.declared.info.ModuleInfo.{ModuleInfo}
 use Rattle.naga_ir.specs.declared.module.Module.{Module}
-use Rattle.naga_ir.specs.declared.types.StructMember as ir_member
 use Rattle.naga_ir.specs.declared.types.Type_.{Type_}
 use Rattle.naga_names.specs.Reset.{members_of}
 use Rattle.naga_names.specs.declared.key.NameKey.TheVariants as key
-use Rattle.naga_words.specs.Contexts.{Names as TypeNames}
 use Rattle.naga_words.specs.Spelling.{is_struct}
 use Rattle.module_meaning.specs.DeclaredItems.{struct_number}
-use Rattle.module_meaning.specs.Names.{ItemsAreDistinguished, module_names, name_in, override_name}
+use Rattle.module_meaning.specs.Names.{module_names, name_in, override_name}
 use Rattle.module_meaning.specs.Resolution.{MembersResolve}
 use Rattle.module_meaning.specs.Types.{type_names}
 use Rattle.module_meaning.specs.Undeclared.{is_declared, is_undeclared}
 use Rattle.text_meaning.specs.Resolution.{place_among, struct_named}
 use Rattle.wgsl_text.specs.Declarations.{Program, Struct, StructMember}
 use Rattle.naga_form.proofs.DistinguishedItems.{items_are_distinguished}
-use Rattle.naga_form.proofs.ListPlaces.{IsFormed, formed_at, formed_from, made_at, made_from}
-use Rattle.naga_form.proofs.ListPlaces.{numbered_at, numbered_from, numbered_taken, place_found}
-use Rattle.naga_form.proofs.ListPlaces.{place_none}
+use Rattle.naga_form.proofs.ListPlaces.{formed_at, formed_from, made_at, made_from, numbered_at}
+use Rattle.naga_form.proofs.ListPlaces.{numbered_from, numbered_taken, place_found, place_none}
 use Rattle.naga_form.specs.Declarations.{member_form, written_program}
 
 module _ (m : Module) (info : ModuleInfo) (explicit : Bool) where

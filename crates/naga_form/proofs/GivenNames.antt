@@ -4,9 +4,8 @@
 -- Throughout, f is a function with its names, i an index, h a handle, k is how many names front ends
 -- gave before a point, and bs are handles that are bound.
 use Rattle.std.proofs.Common.{◌≡◌, ℕ, zero, suc, ◌+◌, ◌<◌, ◌≤◌, Bool, true, false, cond, List, []}
-use Rattle.std.proofs.Common.{◌∷◌, ◌++◌, Option, Some, None, refl, sym, ap, ◌∙◌, arith, length, map}
+use Rattle.std.proofs.Common.{◌∷◌, ◌++◌, Option, Some, None, refl, ap, ◌∙◌, arith, length, map}
 use Rattle.std.proofs.Common.{get_or}
-use Rattle.std.specs.Prelude.{IsTrue}
 use Rattle.std.specs.List.{list_all}
 use Rattle.std.proofs.lemmas.Bool.{and_from}
 use Rattle.std.proofs.lemmas.List.{map-append}
@@ -15,14 +14,14 @@ use Rattle.shader_runs.specs.Bindings.{Binding, bound_names, cases_bindings, emi
 use Rattle.shader_runs.specs.Bindings.{lines_lets, result_bindings, statement_bindings}
 use Rattle.shader_runs.specs.Bindings.{statements_bindings}
 use Rattle.shader_runs.specs.Form.{form_all, form_function, names_from, variables_from}
-use Rattle.shader_runs.specs.Program.{Act, Block, Cases, Emit, If, Loop, Module, Statement, Statements}
-use Rattle.shader_runs.specs.Program.{Switch, argument_count, binds, case, end, from, is_named}
-use Rattle.shader_runs.specs.Program.{local_count, no_case, then}
-use Rattle.shader_runs.specs.Scope.{ModuleNames, Naming, at_start, bound_name, named_after}
-use Rattle.shader_runs.specs.Scope.{named_after_all, named_by, named_by_all, named_by_cases}
+use Rattle.shader_runs.specs.Program.{Act, argument_count, binds, Block, case, Cases, Emit, end}
+use Rattle.shader_runs.specs.Program.{from, If, is_named, local_count, Loop, Module, no_case}
+use Rattle.shader_runs.specs.Program.{Statement, Statements, Switch, then}
+use Rattle.shader_runs.specs.Scope.{at_start, bound_name, ModuleNames, named_after, named_after_all}
+use Rattle.shader_runs.specs.Scope.{named_by, named_by_all, named_by_cases, Naming}
 use Rattle.shader_runs.specs.Value.{Bytes}
 use Rattle.shader_runs.proofs.Bindings.{binds_as_meant}
-use Rattle.shader_runs.proofs.Sources.{cases_more, list_more, named_all_more, named_by_more}
+use Rattle.shader_runs.proofs.Sources.{cases_more, list_more, named_all_more}
 use Rattle.text_meaning.specs.Resolution.{own_names}
 
 -- the names of variables in their order

@@ -3,13 +3,12 @@
 --
 -- Throughout, m is a module, of which info is known, w is a word, f a function with the number g, of
 -- whose expressions es is known, i an index, and behind are functions.
-use Rattle.std.proofs.Common.{◌≡◌, ◌≢◌, ⊎_elim, ℕ, suc, ◌+◌, ◌<◌, Bool, true, false, List, [], ◌∷◌}
-use Rattle.std.proofs.Common.{◌++◌, Some, refl, sym, ap, subst, ◌∙◌, arith, length, map, slice_get}
+use Rattle.std.proofs.Common.{◌≡◌, ◌≢◌, ⊎_elim, ℕ, ◌+◌, ◌<◌, Bool, true, false, List, [], ◌∷◌, ◌++◌}
+use Rattle.std.proofs.Common.{Some, refl, sym, ap, subst, ◌∙◌, arith, length, map, slice_get}
 use Rattle.std.proofs.Common.{true≢false}
-use Rattle.std.specs.Prelude.{IsTrue}
-use mathlib.Core.List.{reverse_aux}
-use Rattle.std.specs.List.{enumerate_from, list_all}
+use Rattle.std.specs.List.{list_all}
 use Rattle.std.specs.Option.{is_none}
+use mathlib.Core.List.{reverse_aux}
 use Rattle.std.proofs.lemmas.Bool.{and_from}
 use Rattle.std.proofs.lemmas.Option.{slice_get-map}
 use Rattle.naga_back.specs.FunctionContext.{argument_key, local_key}
@@ -20,23 +19,23 @@ use Rattle.naga_info.specs.declared.info.ExpressionInfo.{ExpressionInfo}
 use Rattle.naga_info.specs.declared.info.ModuleInfo.{ModuleInfo}
 use Rattle.naga_ir.specs.declared.module.Function as ir_function
 use Rattle.naga_ir.specs.declared.module.Module.{Module}
-use Rattle.naga_names.proofs.NamedItems.{Stands, override_stands, type_stands}
+use Rattle.naga_names.proofs.NamedItems.{override_stands, Stands, type_stands}
 use Rattle.naga_names.proofs.Refusal.{element}
-use Rattle.naga_names.specs.Reset.{LabelledItem, labelled_items}
+use Rattle.naga_names.specs.Reset.{labelled_items, LabelledItem}
 use Rattle.naga_names.specs.declared.key.NameKey.{NameKey}
 use Rattle.naga_names.specs.declared.key.NameKey.TheVariants as key
 use Rattle.module_meaning.specs.ExpressionLabels.{expression_labels}
 use Rattle.module_meaning.specs.FunctionNumbers.{all_functions, function_type}
 use Rattle.module_meaning.specs.FunctionShapes.{function_shapes}
-use Rattle.module_meaning.specs.Names.{argument_name, expression_name, local_name, module_names}
-use Rattle.module_meaning.specs.Names.{name_in, numbered_name, override_name, wgsl_names}
-use Rattle.module_meaning.specs.Namings.{function_naming, namings_from, outer_names}
 use Rattle.module_meaning.specs.ModuleShapes.{module_shape}
+use Rattle.module_meaning.specs.Names.{argument_name, expression_name, local_name, module_names}
+use Rattle.module_meaning.specs.Names.{name_in, numbered_name, wgsl_names}
+use Rattle.module_meaning.specs.Namings.{function_naming, namings_from, outer_names}
 use Rattle.module_meaning.specs.Types.{declared_type, type_names}
 use Rattle.module_meaning.proofs.FunctionNumbers.{in_append}
 use Rattle.shader_runs.specs.Form.{form_function, form_functions}
 use Rattle.shader_runs.specs.Program.{argument_count, local_count}
-use Rattle.shader_runs.specs.Scope.{Naming, named_by_all}
+use Rattle.shader_runs.specs.Scope.{named_by_all, Naming}
 use Rattle.shader_runs.specs.Text.{TextFunction}
 use Rattle.text_meaning.specs.Resolution.{is_in_no_type, own_names}
 use Rattle.wgsl_text.specs.Declarations.{Program}

@@ -3,24 +3,24 @@
 --
 -- Throughout, m is a module, of which info is known, c is a constant, i the number of one or of an
 -- override, o that of an override alone, v a variable, h the handle of a type t, and w a word.
-use Rattle.std.proofs.Common.{◌≡◌, ◌≢◌, ℕ, zero, suc, ◌+◌, ◌-◌, ◌<◌, ◌≤◌, Bool, true, false, List, []}
-use Rattle.std.proofs.Common.{◌∷◌, ◌⊎◌, inl, inr, Some, None, refl, sym, ap, subst, ◌∙◌}
-use Rattle.std.proofs.Common.{arith, codes, length, not, take, true≢false}
-use Rattle.std.specs.Prelude.{◌&&◌, ◌||◌, if◌then◌else◌, nat_eq, slice_get}
+use Rattle.std.proofs.Common.{◌≡◌, ◌≢◌, ℕ, zero, suc, ◌+◌, ◌-◌, ◌<◌, ◌≤◌, Bool, true, false, List}
+use Rattle.std.proofs.Common.{[], ◌∷◌, ◌⊎◌, inl, inr, Some, None, refl, sym, ap, subst, ◌∙◌, arith}
+use Rattle.std.proofs.Common.{codes, length, not, take, true≢false}
 use Rattle.std.specs.Option.{is_some, option_map_or}
+use Rattle.std.specs.Prelude.{if◌then◌else◌, nat_eq, slice_get, ◌&&◌, ◌||◌}
 use Rattle.std.proofs.lemmas.Bool.{and_parts}
 use Rattle.std.proofs.lemmas.List.{length-map}
 use Rattle.naga_info.specs.declared.info.ModuleInfo.{ModuleInfo}
 use Rattle.naga_ir.specs.declared.module.Constant.{Constant}
 use Rattle.naga_ir.specs.declared.module.Module.{Module}
 use Rattle.naga_keywords.specs.Plain.{is_word}
+use Rattle.naga_names.proofs.NameShapes.{name_after_is_word}
+use Rattle.naga_names.proofs.NamedItems.{constant_stands, global_stands, override_stands, Stands}
+use Rattle.naga_names.proofs.Refusal.{element}
 use Rattle.naga_names.specs.Naming.{label_or}
-use Rattle.naga_names.specs.Reset.{LabelledItem, labelled_items, labels_of, type_name, value_label}
+use Rattle.naga_names.specs.Reset.{labelled_items, LabelledItem, labels_of, type_name, value_label}
 use Rattle.naga_names.specs.declared.key.NameKey.{NameKey}
 use Rattle.naga_names.specs.declared.key.NameKey.TheVariants as key
-use Rattle.naga_names.proofs.NameShapes.{name_after_is_word}
-use Rattle.naga_names.proofs.NamedItems.{Stands, constant_stands, global_stands, override_stands}
-use Rattle.naga_names.proofs.Refusal.{element}
 use Rattle.module_meaning.specs.ExpressionContexts.{named_count}
 use Rattle.module_meaning.specs.ModuleShapes.{module_shape, named_constants, variable_shape}
 use Rattle.module_meaning.specs.Names.{global_name, module_names, name_in, wgsl_names}

@@ -5,14 +5,15 @@
 -- that of an override alone, v a variable, and h the handle of one of the module's own expressions.
 use Rattle.std.proofs.Common.{◌≡◌, ℕ, ◌<◌, Bool, true, [], None, Some, suc, sym, ap, subst, ◌∙◌}
 use Rattle.std.proofs.Common.{List, length, map}
-use Rattle.std.specs.Prelude.{IsTrue}
 use Rattle.std.specs.Option.{option_map_or}
+use Rattle.std.specs.Prelude.{IsTrue}
 use Rattle.naga_info.specs.declared.info.ModuleInfo.{ModuleInfo}
 use Rattle.naga_ir.specs.declared.module.Module.{Module}
 use Rattle.naga_names.proofs.Refusal.{element}
 use Rattle.module_meaning.specs.Accepted.{is_accepted}
 use Rattle.module_meaning.specs.DeclarationForms.{DeclarationsHaveForms}
-use Rattle.module_meaning.specs.ExpressionContexts.{expression_context, global_tree, override_number}
+use Rattle.module_meaning.specs.ExpressionContexts.{expression_context, global_tree}
+use Rattle.module_meaning.specs.ExpressionContexts.{override_number}
 use Rattle.module_meaning.specs.ModuleShapes.{module_shape, variable_shape}
 use Rattle.module_meaning.specs.Names.{global_name, module_names}
 use Rattle.module_meaning.specs.Namings.{namings, outer_names}
@@ -23,7 +24,7 @@ use Rattle.module_meaning.specs.WrittenSoFar.{global_is_written}
 use Rattle.shader_runs.specs.Correct.{ModuleFits}
 use Rattle.shader_runs.specs.Form.{constant_form, form_module}
 use Rattle.shader_runs.specs.Program as shapes
-use Rattle.shader_runs.specs.Resolution.{ConstantTarget, GlobalTarget, Lookup, constant_targets}
+use Rattle.shader_runs.specs.Resolution.{constant_targets, ConstantTarget, GlobalTarget, Lookup}
 use Rattle.shader_runs.specs.Resolution.{text_names, tree_targets}
 use Rattle.shader_runs.specs.Scope.{ModuleNames, Naming}
 use Rattle.shader_runs.proofs.Resolution.{constant_stands, global_stands, tree_resolves}

@@ -2,9 +2,8 @@
 --
 -- Throughout, m is a module, of which info is known, h is a handle, t a type or a tree of constants,
 -- and w a word.
-use Rattle.std.proofs.Common.{[], ◌≡◌, ℕ, suc, ◌<◌, true, false, List, ◌∷◌, None, Some, refl, sym}
-use Rattle.std.proofs.Common.{ap, subst, ◌∙◌}
-use Rattle.std.proofs.Common.{arith, length, not, slice_get}
+use Rattle.std.proofs.Common.{[], ◌≡◌, ℕ, suc, ◌<◌, true, List, ◌∷◌, None, Some, refl, sym, ap}
+use Rattle.std.proofs.Common.{subst, ◌∙◌, arith, length, not, slice_get}
 use Rattle.std.specs.Prelude.{IsTrue}
 use Rattle.std.proofs.lemmas.Bool.{and_parts}
 use Rattle.std.proofs.lemmas.List.{length-reverse}
@@ -16,7 +15,7 @@ use Rattle.naga_ir.specs.declared.module.Module.{Module}
 use Rattle.naga_ir.specs.declared.types.Type_.{Type_}
 use Rattle.naga_names.proofs.NamedItems.{Stands, type_stands}
 use Rattle.naga_names.proofs.Refusal.{element}
-use Rattle.naga_names.specs.Reset.{LabelledItem, labelled_items, type_label}
+use Rattle.naga_names.specs.Reset.{labelled_items, LabelledItem, type_label}
 use Rattle.naga_names.specs.declared.key.NameKey.TheVariants as key
 use Rattle.module_meaning.specs.Accepted.{is_accepted}
 use Rattle.module_meaning.specs.ExpressionContexts.{global_tree}
@@ -25,11 +24,11 @@ use Rattle.module_meaning.specs.FunctionShapes.{function_shapes}
 use Rattle.module_meaning.specs.ModuleShapes.{module_shape}
 use Rattle.module_meaning.specs.Names.{module_names, name_in, wgsl_names}
 use Rattle.module_meaning.specs.Namings.{outer_names}
-use Rattle.module_meaning.specs.OperatorTable.{Splat, run_word}
+use Rattle.module_meaning.specs.OperatorTable.{run_word, Splat}
 use Rattle.module_meaning.proofs.FunctionNumbers.{no_function_is_type}
 use Rattle.shader_runs.specs.Premises.{EachWord, OperatesOutside}
-use Rattle.shader_runs.specs.Program as shapes
 use Rattle.shader_runs.specs.Program.{ConstantTree}
+use Rattle.shader_runs.specs.Program as shapes
 use Rattle.shader_runs.specs.Scope.{ModuleNames}
 use Rattle.wgsl_text.specs.Requests.{is_request}
 use Rattle.naga_form.proofs.AcceptedFunctions.{all_counted}

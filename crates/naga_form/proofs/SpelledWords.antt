@@ -3,28 +3,28 @@
 --
 -- Throughout, m is a module, h the handle of a type t, r a type, w a word, and components is how many
 -- parts a value is made of.
-use Rattle.std.proofs.Common.{◌≡◌, ℕ, true, List, Option, Some, None, sym, ap, subst, ◌∙◌}
-use Rattle.std.proofs.Common.{refl, slice_get}
+use Rattle.std.proofs.Common.{◌≡◌, ℕ, true, List, Option, Some, None, sym, ap, subst, ◌∙◌, refl}
+use Rattle.std.proofs.Common.{slice_get}
+use Rattle.std.specs.Option.{option_map, option_map_or}
 use Rattle.std.specs.Prelude.{◌⊎◌}
 use mathlib.Core.Logic.{inl, inr}
-use Rattle.std.specs.Option.{option_map, option_map_or}
 use Rattle.naga_info.specs.declared.info.TypeResolution.{TypeResolution}
 use Rattle.naga_ir.specs.declared.module.Module.{Module}
 use Rattle.naga_ir.specs.declared.types.Type_.{Type_}
 use Rattle.naga_names.specs.declared.key.NameKey.TheVariants as key
 use Rattle.module_meaning.specs.ExpressionContexts.{expression_context}
-use Rattle.module_meaning.specs.ExpressionOperators.{ExpressionContext, constructor}
+use Rattle.module_meaning.specs.ExpressionOperators.{constructor, ExpressionContext}
 use Rattle.module_meaning.specs.Names.{module_names, name_in}
-use Rattle.module_meaning.specs.OperatorTable.{Construct, Operator, ValueOf, WithoutForm, run_word}
+use Rattle.module_meaning.specs.OperatorTable.{Construct, Operator, run_word, ValueOf, WithoutForm}
 use Rattle.module_meaning.specs.Types.{spelled_resolution, type_names}
 use Rattle.wgsl_text.proofs.Text.{text-append}
 use Rattle.wgsl_text.proofs.Types.{named_text}
 use Rattle.wgsl_text.specs.Reading.{type_layout}
 use Rattle.wgsl_text.specs.Types.{Named, TypeSpecifier}
 use Rattle.naga_form.proofs.OperatingWords.{formless_free, operates_freely}
-use Rattle.naga_form.proofs.SameValues.{IsFit, TypesAreFit, or_nothing}
+use Rattle.naga_form.proofs.SameValues.{IsFit, or_nothing, TypesAreFit}
 use Rattle.naga_form.proofs.TypeTrees.{resolution_row}
-use Rattle.naga_form.proofs.WrittenTypes.{IsStructNamed, free_form}
+use Rattle.naga_form.proofs.WrittenTypes.{free_form, IsStructNamed}
 use Rattle.naga_form.specs.TypeTrees.{resolution_tree}
 
 module _ (m : Module) (types : TypesAreFit m) (P : List ℕ → Type 0)

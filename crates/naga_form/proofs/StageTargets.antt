@@ -21,11 +21,11 @@ use Rattle.naga_names.specs.Keys.{NameMap}
 use Rattle.module_meaning.specs.DeclaredItems.{stage_variables}
 use Rattle.module_meaning.specs.Names.{global_name}
 use Rattle.module_meaning.specs.Ranges.{is_below}
-use Rattle.shader_runs.specs.Resolution.{GlobalTarget, Lookup, Target}
+use Rattle.shader_runs.specs.Resolution.{GlobalTarget, Lookup}
 use Rattle.text_meaning.specs.Resolution.{variable_named}
 use Rattle.wgsl_text.specs.Attributes.{Attribute, IncomingPayload, Mesh, Payload, Worded}
-use Rattle.naga_form.specs.Attributes.{attribute_of, incoming_attributes, payload_attributes}
-use Rattle.naga_form.specs.Attributes.{size_attributes, stage_attributes}
+use Rattle.naga_form.specs.Attributes.{attribute_of, payload_attributes, size_attributes}
+use Rattle.naga_form.specs.Attributes.{stage_attributes}
 use Rattle.naga_form.specs.Declarations.{entry_points_form}
 
 module _ (names : NameMap) (find : Lookup) (count : ℕ) (found : (v : ℕ) → v < count →
