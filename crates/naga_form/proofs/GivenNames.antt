@@ -1,5 +1,5 @@
--- What passes of the names that a function's text gives: of its arguments, its variables and its
--- `let`s.
+-- The names that a function's text gives pass a test where each kind of them does: those of arguments,
+-- of variables, and of `let`s, which front ends gave or handles have.
 --
 -- Throughout, f is a function with its names, i an index, h a handle, k is how many names front ends
 -- gave before a point, and bs are handles that are bound.

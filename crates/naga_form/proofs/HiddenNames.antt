@@ -140,7 +140,7 @@ module _ (m : Module) (info : ModuleInfo) (explicit : Bool) where
         free_if (expression_name m g k)
         (λ item s is. named_no_item m g f found k within item s)
 
-    pub function_hides_none : hides_none (form_function own) ≡ true
+    function_hides_none : hides_none (form_function own) ≡ true
     function_hides_none =
         own_names_pass (module_shape m info) (outer_names (module_names m) m) own
         (is_in_no_type program) arguments locals

@@ -35,9 +35,9 @@ use Rattle.naga_form.proofs.Names.{item_is_identifier, items_tell, name_is}
 use Rattle.naga_form.proofs.OperatingWords.{is_signed, names_no_item}
 
 -- ---- numbers
--- What has a number among these handles is one of these constants, of which the first has the handle
--- k.
-pub record IsConstant (k : ℕ) (cs : List Constant) (handles : List ℕ) (i : ℕ) : Type 0 where
+-- What has a number among these handles is one of these constants, of which the first has the
+-- handle k,
+record IsConstant (k : ℕ) (cs : List Constant) (handles : List ℕ) (i : ℕ) : Type 0 where
   pub handle : ℕ
   pub place : ℕ
   pub constant : Constant
