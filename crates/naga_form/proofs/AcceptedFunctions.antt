@@ -176,6 +176,19 @@ module _ (m : Module) (info : ModuleInfo) (accepted : IsTrue (is_accepted m info
       (and_parts (workgroup_fits_32_bits p.workgroup_size)
       (function_in_range m (length m.functions) p.function) three.1).1
 
+  -- the variables that an entry point names are there: a mesh's output and payloads
+  pub stage_variables_within : (j : ℕ) (p : EntryPoint) → slice_get m.entry_points.items j ≡ Some p →
+      (is_below (length m.global_variables) (option_map (λ k. k.output_variable) p.mesh_info) ≡ true)
+      × (is_below (length m.global_variables) p.task_payload ≡ true)
+      × (is_below (length m.global_variables) p.incoming_ray_payload ≡ true)
+  stage_variables_within j p here =
+      let own = entry_point_is_in_range j p here in
+      let count = length m.global_variables in
+      let one = and_parts (is_below count (option_map (λ k. k.output_variable) p.mesh_info)) _ own in
+      let two = and_parts (is_below count p.task_payload) _ one.1 in
+      let three = and_parts (is_below count p.incoming_ray_payload) _ two.1 in
+      (one.0, two.0, three.0)
+
   pub of_function : (k : ℕ) (f : Function) (es : List ExpressionInfo) →
       slice_get m.functions k ≡ Some f → slice_get info.functions.items k ≡ Some es →
       IsAccepted m k f es

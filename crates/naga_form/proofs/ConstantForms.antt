@@ -280,7 +280,7 @@ module _ (outer : ModuleNames) (m : Module) (info : ModuleInfo) (t : TypeNames)
       by None at is = absurd cc
       by (Some k) at is = by_name k (is_some k.name) refl (named.constants c k at) is
 
-  global_read : (levels h : ℕ) → global_is_written_within levels m h ≡ true →
+  pub global_read : (levels h : ℕ) → global_is_written_within levels m h ≡ true →
       IsReadAs outer (global_tree_within levels m info h) (global_form_within levels m t h)
   global_read zero h is = absurd cc
   global_read (suc levels) h is = by (slice_get m.global_expressions h) refl is (global_read levels)

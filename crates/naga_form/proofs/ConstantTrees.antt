@@ -286,7 +286,7 @@ module _ (m : Module) (info : ModuleInfo) where
     availability_tree global h c = if is_some c.name then NamedConstant (constant_number m h) else unwrap_or (global c.init) (zero_of_type m c.ty)
 
     -- each of the module's own expressions has a tree of its type, where it has one
-    abbrev GlobalsAre : (ℕ → Option ConstantTree) → Type 0
+    abbrev pub GlobalsAre : (ℕ → Option ConstantTree) → Type 0
     GlobalsAre global = (h : ℕ) (t : ConstantTree) → global h ≡ Some t → IsTreeOf (value_at m info own h) t
 
     constants_over : (global : ℕ → Option ConstantTree) → GlobalsAre global → ConstantsAre (constant_over m global)
@@ -315,7 +315,7 @@ module _ (m : Module) (info : ModuleInfo) where
         (globals_within levels) h parts.0 parts.1 t parts.2
 
     -- ---- what is said of constant trees
-    globals_are : GlobalsAre (global_tree m info)
+    pub globals_are : GlobalsAre (global_tree m info)
     globals_are h t found = globals_within (suc h) h t found
 
     pub global_tree_in_range : (h : ℕ) (t : ConstantTree) → global_tree m info h ≡ Some t →

@@ -1,72 +1,149 @@
 -- The names of the declarations that are written for a module stand for what they were written for.
--- So far there are none.
-use Rattle.std.proofs.Common.{◌≡◌, ℕ, Bool, true, false, ◌++◌, Some, not}
-use Rattle.std.proofs.Common.{map, length, slice_get, refl, sym, ap, subst, ◌∙◌, arith}
+use Rattle.std.proofs.Common.{◌≡◌, ℕ, Bool, true, List, [], ◌∷◌, ◌++◌, Option, Some, None, refl}
+use Rattle.std.proofs.Common.{sym, ap, ◌∙◌, map, slice_get, suc, ◌+◌, length, not, subst}
+use Rattle.std.specs.List.{enumerate_from, list_all}
+use Rattle.std.specs.Option.{option_map, option_or}
 use Rattle.std.specs.Prelude.{IsTrue}
-use Rattle.std.specs.Option.{option_map}
-use Rattle.std.proofs.lemmas.Bool.{and_parts}
+use Rattle.std.proofs.lemmas.Bool.{and_from, and_parts, false_from_ne_true}
+use Rattle.std.proofs.lemmas.List.{map-append}
 use Rattle.std.proofs.lemmas.Option.{same_Some}
 use Rattle.naga_info.specs.declared.info.ModuleInfo.{ModuleInfo}
 use Rattle.naga_ir.specs.declared.module.Module.{Module}
-use Rattle.naga_ir.specs.declared.types.Type_.{Type_}
+use Rattle.naga_names.proofs.NamedItems.{type_stands}
+use Rattle.naga_names.specs.Reset.{type_label}
+use Rattle.naga_names.specs.declared.key.NameKey.TheVariants as key
 use Rattle.naga_words.specs.Spelling.{is_struct}
-use Rattle.wgsl_text.specs.Declarations.{Program}
-use Rattle.wgsl_text.specs.Reading.{type_layout}
-use Rattle.shader_runs.specs.Resolution.{GlobalTarget}
-use Rattle.text_meaning.specs.Abstraction.{program_read}
-use Rattle.text_meaning.specs.Resolution.{is_in_no_type, item_named, own_names, program_initialiser_targets}
-use Rattle.text_meaning.specs.Resolution.{stage_targets, type_items, types_are_not_hidden}
-use Rattle.std.specs.List.{list_all}
-use Rattle.module_meaning.proofs.Lists.{all_pass}
 use Rattle.module_meaning.specs.Accepted.{is_accepted}
-use Rattle.module_meaning.specs.DeclaredItems.{initialiser_meant, module_initialiser_targets, module_stage_targets}
-use Rattle.module_meaning.specs.DeclaredItems.{resolution_items, stage_variables}
+use Rattle.module_meaning.specs.DeclarationForms.{DeclarationsHaveForms, OfOverride, OfVariable}
+use Rattle.module_meaning.specs.DeclaredItems.{initialiser_meant, module_initialiser_targets}
+use Rattle.module_meaning.specs.DeclaredItems.{module_stage_targets, resolution_items}
+use Rattle.module_meaning.specs.FunctionNumbers.{all_functions, all_infos}
+use Rattle.module_meaning.specs.Names.{module_names, wgsl_names}
+use Rattle.module_meaning.specs.Premises.{ScopesHold}
 use Rattle.module_meaning.specs.Resolution.{MembersResolve, TypesResolve}
 use Rattle.module_meaning.specs.Types.{type_names}
-use Rattle.module_meaning.specs.Undeclared.{is_undeclared}
-use Rattle.module_meaning.specs.DeclarationForms.{DeclarationsHaveForms}
-use Rattle.module_meaning.proofs.ModuleShapes.{nothing_declared}
-use Rattle.module_meaning.proofs.WrittenSoFar.{spellable_parts, written_so_far_parts}
-use Rattle.naga_form.proofs.AlikeNumbers.{is_no}
+use Rattle.module_meaning.specs.Undeclared.{is_declared, is_undeclared}
+use Rattle.module_meaning.specs.Written.{AllWrittenHaveForms}
+use Rattle.module_meaning.specs.WrittenSoFar.{global_is_written}
+use Rattle.module_meaning.proofs.WrittenSoFar.{spellable_parts}
+use Rattle.shader_runs.specs.Resolution.{Lookup, text_names}
+use Rattle.text_meaning.specs.Abstraction.{program_read}
+use Rattle.text_meaning.specs.Resolution.{initialiser_targets, item_named}
+use Rattle.text_meaning.specs.Resolution.{program_initialiser_targets, stage_targets, struct_named}
+use Rattle.text_meaning.specs.Resolution.{StructItem, type_items, types_are_not_hidden, ValueItem}
+use Rattle.wgsl_text.proofs.Types.{named_text}
+use Rattle.wgsl_text.proofs.Words.{passes}
+use Rattle.wgsl_text.specs.Declarations.{Program}
+use Rattle.wgsl_text.specs.Expressions.{Expression}
+use Rattle.wgsl_text.specs.Reading.{type_layout}
+use Rattle.wgsl_text.specs.Requests.{is_request}
+use Rattle.wgsl_text.specs.Types.{Named, plain_type_words}
+use Rattle.wgsl_text.specs.Words.{stands_in}
+use Rattle.naga_form.proofs.AcceptedFunctions.{entry_points_counted, stage_variables_within}
 use Rattle.naga_form.proofs.AcceptedGroups.{fit_of, types_are_counted, types_are_fit}
+use Rattle.naga_form.proofs.DeclaredStructs.{members_found, override_not_found, struct_found}
 use Rattle.naga_form.proofs.DistinguishedItems.{types_are_distinguished}
+use Rattle.naga_form.proofs.Facts.{from_start}
+use Rattle.naga_form.proofs.HiddenNames.{functions_hide_none, hides_none}
+use Rattle.naga_form.proofs.ItemNames.{no_word}
+use Rattle.naga_form.proofs.ItemTargets.{initialiser_found, override_found, program_reads}
+use Rattle.naga_form.proofs.ItemTargets.{variable_found}
+use Rattle.naga_form.proofs.OperatingWords.{names_no_item, operates_freely, plain_types_free}
 use Rattle.naga_form.proofs.PartTypes.{known_within}
-use Rattle.naga_form.proofs.SameValues.{one_layout, spelling_of, tree_is}
+use Rattle.naga_form.proofs.SameValues.{one_layout, or_nothing, spelling_of, tree_is}
+use Rattle.naga_form.proofs.StageTargets.{stages_named}
 use Rattle.naga_form.proofs.TypeItems.{ItemsAreNamed, resolution_named}
-use Rattle.naga_form.proofs.WrittenTypes.{struct_undeclared, tree_there}
-use Rattle.naga_form.specs.Declarations.{written_program}
+use Rattle.naga_form.proofs.WrittenTypes.{tree_there}
+use Rattle.naga_form.specs.ConstantForms.{global_form}
+use Rattle.naga_form.specs.Declarations.{override_form, variable_form, written_program}
+
+-- a word of the table of types names no item
+plain_names_no_item : (w : List ℕ) → stands_in plain_type_words w ≡ true → names_no_item w ≡ true
+plain_names_no_item w plain =
+    let free = passes (λ v. operates_freely (type_layout (Named v))) plain_type_words w
+    plain_types_free plain in
+    ap names_no_item (sym (named_text w))
+    ∙ (and_parts (not (is_request (type_layout (Named w)))) (names_no_item (type_layout (Named w)))
+    free).1
 
 module _ (m : Module) (info : ModuleInfo) (explicit : Bool) (accepted : IsTrue (is_accepted m info))
-    (written : DeclarationsHaveForms m)
+    (declarations : DeclarationsHaveForms m) (have : AllWrittenHaveForms explicit m info)
+    (scope : ScopesHold m info)
   where
     abbrev program : Program
     program = written_program m info explicit
 
-    -- no struct is declared
-    no_struct : (h : ℕ) (t : Type_) → slice_get m.types h ≡ Some t → is_struct t.inner ≡ true →
-        is_undeclared m.special_types h ≡ false → ⊥
-    no_struct h t at is declared =
-        let clash : true ≡ false =
-        sym (struct_undeclared m (written_so_far_parts m written).1 h t at is) ∙ declared in
-        cc
+    abbrev names : Lookup
+    names = text_names (program_read program)
 
-    named : ItemsAreNamed m (item_named program)
-    named = record {
-      structs = λ h t at is declared. absurd (no_struct h t at is declared);
-      overrides = λ o lt. let none = ap length (nothing_declared m written).0 in absurd (omega (arith, lt, none));
-    }
+    -- ---- initialisers
+    one_resolves : (o : Option ℕ) → ((h : ℕ) → o ≡ Some h → global_is_written m h ≡ true) →
+        initialiser_targets names (option_map (global_form m (type_names m)) o)
+        ≡ map Some (initialiser_meant m info o)
+    one_resolves None is = refl
+    one_resolves (Some h) is =
+        initialiser_found m info explicit accepted declarations have scope h (is h refl)
 
-    pub initialisers_resolve : program_initialiser_targets program ≡ map (map Some) (module_initialiser_targets m info)
+    -- those of declarations in their order, each made of an item by a form that has its initialiser
+    each_resolves : {X Y : Type 0} (form : ℕ × X → Y) (value : Y → Option Expression)
+        (init : X → Option ℕ) → ((k : ℕ) (x : X) →
+        value (form (k, x)) ≡ option_map (global_form m (type_names m)) (init x)) → (k : ℕ)
+        (xs : List X) → ((i : ℕ) (x : X) → slice_get xs i ≡ Some x → (h : ℕ) → init x ≡ Some h →
+        global_is_written m h ≡ true) →
+        map (λ y. initialiser_targets names (value y)) (map form (enumerate_from k xs))
+        ≡ map (map Some) (map (λ x. initialiser_meant m info (init x)) xs)
+    each_resolves form value init same k [] is = refl
+    each_resolves form value init same k (x ∷ xs) is =
+        let here = ap (initialiser_targets names) (same k x) ∙ one_resolves (init x) (is 0 x refl) in
+        let rest = each_resolves form value init same (k + 1) xs (λ i y at. is (suc i) y at) in
+        λ i. here i ∷ rest i
+
+    pub initialisers_resolve : program_initialiser_targets program
+        ≡ map (map Some) (module_initialiser_targets m info)
     initialisers_resolve =
-        let none = nothing_declared m written in
-        λ i. map (map Some)
-        (map (λ o. initialiser_meant m info o.init) (sym none.0 i) ++
-        map (λ g. initialiser_meant m info g.init) (sym none.1 i))
+        let overrides = each_resolves (override_form (module_names m) (type_names m) m)
+        (λ o. o.value) (λ o. o.init) (λ k o. refl) 0 m.overrides
+        (λ i o at h init. declarations.initialisers h (OfOverride i o h at init)) in
+        let variables = each_resolves (variable_form (module_names m) (type_names m) m)
+        (λ v. v.value) (λ v. v.init) (λ k v. refl) 0 m.global_variables
+        (λ i v at h init. declarations.initialisers h (OfVariable i v h at init)) in
+        (λ i. overrides i ++ variables i)
+        ∙ sym (map-append (map Some) (map (λ o. initialiser_meant m info o.init) m.overrides)
+        (map (λ v. initialiser_meant m info v.init) m.global_variables))
 
+    -- ---- stages
     pub stages_resolve : stage_targets program ≡ map (map Some) (module_stage_targets m)
     stages_resolve =
-        let none = nothing_declared m written in
-        λ i. map (map Some) (map (λ e. map GlobalTarget (stage_variables e e.stage)) (sym none.2 i))
+        stages_named (module_names m) names (length m.global_variables)
+        (variable_found m info explicit accepted declarations have scope) explicit m info
+        (length m.functions) m.entry_points.items info.entry_points.items
+        (entry_points_counted m info accepted) (stage_variables_within m info accepted)
+
+    -- ---- types
+    -- a struct and an override are what their names stand for
+    named : ItemsAreNamed m (item_named program)
+    named = record {
+      structs = λ h t at is declared.
+          let name = or_nothing (module_names m (key.Type_ h)) in
+          let both : is_declared m.special_types h t.inner ≡ true =
+          and_from (is_struct t.inner) (not (is_undeclared m.special_types h)) is
+          (ap not declared) in
+          let w = (type_names m).struct_name h in (
+            ap (λ o. option_or (option_map StructItem o) (option_map ValueItem (names w)))
+                (ap (struct_named program.structs) name
+                ∙ struct_found m info explicit h t at both),
+            false_from_ne_true (stands_in plain_type_words w)
+                (λ plain. no_word m (key.Type_ h, type_label m.entry_points.items h t) w
+                (type_stands wgsl_names m h t at) (plain_names_no_item w plain) (sym name)),
+          );
+      overrides = λ o lt.
+          let name = or_nothing (module_names m (key.Override o)) in
+          let w = (type_names m).override_name o in
+          ap (λ k. option_or (option_map StructItem k) (option_map ValueItem (names w)))
+          (ap (struct_named program.structs) name ∙ override_not_found m info explicit o lt)
+          ∙ ap (option_map ValueItem)
+          (override_found m info explicit accepted declarations have scope o lt);
+    }
 
     pub types_resolve : TypesResolve m program
     types_resolve r fits spellable t is e =
@@ -84,10 +161,11 @@ module _ (m : Module) (info : ModuleInfo) (explicit : Bool) (accepted : IsTrue (
 
     pub not_hidden : IsTrue (types_are_not_hidden program)
     not_hidden =
-        all_pass (λ f. list_all (is_in_no_type program) (own_names f)) (program_read program).functions
-        (λ i f at. all_pass (is_in_no_type program) (own_names f) (λ j w there. refl))
+        ap (λ t. list_all (hides_none m info explicit) t.functions)
+        (program_reads m info explicit accepted declarations have scope)
+        ∙ functions_hide_none m info explicit 0 (all_functions m) (all_infos info)
+        (from_start (all_functions m)) [] refl
 
+    -- ---- members
     pub members_resolve : MembersResolve m program
-    members_resolve h t at declared i member there =
-        let parts = and_parts (is_struct t.inner) (not (is_undeclared m.special_types h)) declared in
-        absurd (no_struct h t at parts.0 (is_no (is_undeclared m.special_types h) parts.1))
+    members_resolve = members_found m info explicit

@@ -30,14 +30,20 @@ pub mod FreeNames
 pub mod FreeWords
 pub mod FunctionsFit
 pub mod DeclaredItems
+pub mod DeclaredStructs
 pub mod ExpressionNames
+pub mod GivenNames
+pub mod HiddenNames
 pub mod Images
 pub mod Interface
 pub mod ItemKeys
+pub mod ItemNames
+pub mod ItemTargets
 mod LeafExamples
 pub mod Leaves
 pub mod Letters
 pub mod LiteralTypes
+pub mod ListPlaces
 pub mod Literals
 pub mod Meanings
 pub mod MemberNames
@@ -73,6 +79,7 @@ pub mod SoundGroups
 pub mod SoundOperators
 pub mod SpelledSignatures
 pub mod SpelledWords
+pub mod StageTargets
 pub mod StatementPrograms
 pub mod Switches
 pub mod TakenParts

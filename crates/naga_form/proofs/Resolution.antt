@@ -105,22 +105,22 @@ module _ (m : Module) (info : ModuleInfo) (accepted : IsTrue (is_accepted m info
 bodies_resolve : (m : Module) (info : ModuleInfo) (explicit : Bool) → IsTrue (is_accepted m info) →
     DeclarationsHaveForms m → AllWrittenHaveForms explicit m info → ScopesHold m info →
     BodiesResolve m info (written_program m info explicit)
-bodies_resolve m info explicit accepted written have scope =
+bodies_resolve m info explicit accepted declarations have scope =
     let names = module_names m in
-    ap text_targets (reads_as_shapes m info explicit accepted written have)
+    ap text_targets (reads_as_shapes m info explicit accepted declarations have)
     ∙ resolves_as_meant (module_shape m info) (outer_names names m) (namings names m info)
-    (module_fits m info accepted written explicit have ((scopes_are_checked m info accepted).1 scope))
+    (module_fits m info accepted declarations explicit have ((scopes_are_checked m info accepted).1 scope))
     (leaves_stand m info accepted 0 (all_functions m) (all_infos info)
     (from_start (all_functions m)) [] tt)
 
 pub resolves : (m : Module) (info : ModuleInfo) (explicit : Bool) → IsTrue (is_accepted m info) →
     DeclarationsHaveForms m → AllWrittenHaveForms explicit m info → ScopesHold m info →
     ResolvesAs m info (written_program m info explicit)
-resolves m info explicit accepted written have scope = record {
-  bodies = bodies_resolve m info explicit accepted written have scope;
-  initialisers = initialisers_resolve m info explicit accepted written;
-  stages = stages_resolve m info explicit accepted written;
-  types = types_resolve m info explicit accepted written;
-  not_hidden = not_hidden m info explicit accepted written;
-  members = members_resolve m info explicit accepted written;
+resolves m info explicit accepted declarations have scope = record {
+  bodies = bodies_resolve m info explicit accepted declarations have scope;
+  initialisers = initialisers_resolve m info explicit accepted declarations have scope;
+  stages = stages_resolve m info explicit accepted declarations have scope;
+  types = types_resolve m info explicit accepted declarations have scope;
+  not_hidden = not_hidden m info explicit accepted declarations have scope;
+  members = members_resolve m info explicit accepted declarations have scope;
 }

@@ -90,7 +90,7 @@ module _ (m : Module) (info : ModuleInfo) (P : List ℕ → Type 0)
   or_zero_words ty (Some t) all = all t refl
 
   -- of each tree of the module's own expressions
-  abbrev GlobalWords : (ℕ → Option ConstantTree) → Type 0
+  abbrev pub GlobalWords : (ℕ → Option ConstantTree) → Type 0
   GlobalWords global = (h : ℕ) (t : ConstantTree) → global h ≡ Some t → EachWord P t
 
   constant_words_over : (global : ℕ → Option ConstantTree) → GlobalWords global → (c : ℕ) (t : ConstantTree) → constant_over m global c ≡ Some t → EachWord P t

@@ -24,12 +24,13 @@ use Rattle.shader_runs.specs.Form.{let_if}
 use Rattle.shader_runs.specs.Form.{lets, word_of, act_line, perform_each, form, form_all}
 use Rattle.shader_runs.specs.Form.{form_cases, names_from, variables_from, constants_from}
 use Rattle.shader_runs.specs.Form.{globals_from, functions_of, form_function, form_functions}
-use Rattle.shader_runs.specs.Form.{form_module}
+use Rattle.shader_runs.specs.Form.{constant_form, form_module}
 use Rattle.shader_runs.specs.Premises.{FixedName, ArgumentName, LocalName, ConstantName, GlobalName}
 use Rattle.shader_runs.specs.Premises.{FixedKey, fixed_name, IsFixedName, IsNoName, EachAsks}
 use Rattle.shader_runs.specs.Premises.{WordFits, LeafFits, ActionFits, IsRegular, AreRegular}
 use Rattle.shader_runs.specs.Premises.{CasesAreRegular, AreDistinct, FunctionFits, AllFit}
 use Rattle.shader_runs.specs.Premises.{InitialiserFits, OperatesOutside, ModuleNamesAreDistinct}
+use Rattle.shader_runs.specs.Premises.{ConstantInRange, EachWord}
 use Rattle.shader_runs.specs.Correct.{ModuleFits}
 use Rattle.shader_runs.specs.Resolution.{Target, ConstantTarget, GlobalTarget, FunctionTarget}
 use Rattle.shader_runs.specs.Resolution.{ArgumentTarget, LocalTarget, LetTarget, Lookup}
@@ -440,6 +441,14 @@ module _ (p : Module) (n : ModuleNames) (fs : List Naming) (fits : ModuleFits p 
       let rest = functions_resolve gs fit.1 stand.1 (omega (arith, within)) in
       λ i. here i ∷ rest i
 
+  -- a tree over constants whose words are operators
+  outside_resolves : (e : ConstantTree) → ConstantInRange p e → EachWord (OperatesOutside p n) e →
+      tree_targets (items_of p n fs) (constant_form n e) ≡ map Some (constant_targets e)
+  outside_resolves =
+      constant_resolves n (items_of p n fs) (length p.constant_types) constant_found
+      (OperatesOutside p n) (λ w o. among_functions w o.constants o.globals
+      ∙ function_none p n fits.distinct fs fits.all (omega (arith, counted_functions)) w o.functions)
+
   initialisers_resolve : (j : ℕ) (es : List ConstantTree) →
       ((i : ℕ) (e : ConstantTree) → slice_get es i ≡ Some e →
       InitialiserFits p n fits.constants.rank (j + i) e) →
@@ -448,10 +457,7 @@ module _ (p : Module) (n : ModuleNames) (fs : List Naming) (fits : ModuleFits p 
   initialisers_resolve j [] each = refl
   initialisers_resolve j (e ∷ es) each =
       let own = each 0 e refl in
-      let here = constant_resolves n (items_of p n fs) (length p.constant_types) constant_found
-      (OperatesOutside p n) (λ w o. among_functions w o.constants o.globals
-      ∙ function_none p n fits.distinct fs fits.all (omega (arith, counted_functions)) w
-      o.functions) e own.range own.words in
+      let here = outside_resolves e own.range own.words in
       let rest = initialisers_resolve (suc j) es (λ i x at. subst (λ k. InitialiserFits p n fits.constants.rank k x) (moved i) (each (suc i) x at)) in
       λ i. here i ∷ rest i
     where
@@ -471,6 +477,32 @@ module _ (p : Module) (n : ModuleNames) (fs : List Naming) (fits : ModuleFits p 
           (λ i. constants_named_from n 0 p.initialisers i ++ names_from n.constant (constant_count p) (length (override_types p)))
           ∙ (names_joined n.constant 0 (constant_count p) (length (override_types p)) (constant_count p) (omega arith)
           ∙ ap (names_from n.constant 0) overrides_counted)
+
+  -- ---- outside of functions
+  -- such a tree, where the names of the text's items are in scope
+  pub tree_resolves : (e : ConstantTree) → ConstantInRange p e → EachWord (OperatesOutside p n) e →
+      tree_targets (text_names (form_module p n fs)) (constant_form n e)
+      ≡ map Some (constant_targets e)
+  tree_resolves e range words =
+      ap (λ names. tree_targets names (constant_form n e)) names_are ∙ outside_resolves e range words
+
+  -- a constant or an override
+  pub constant_stands : (i : ℕ) → i < length p.constant_types →
+      text_names (form_module p n fs) (n.constant i) ≡ Some (ConstantTarget i)
+  constant_stands i lt = ap (λ names. names (n.constant i)) names_are ∙ constant_found i lt
+
+  -- a variable, where variables have names of their own
+  pub global_stands : ((i k : ℕ) → i < length p.globals → k < length p.globals →
+      n.global i ≡ n.global k → i ≡ k) → (i : ℕ) → i < length p.globals →
+      ((j : ℕ) → j < length p.constant_types → n.constant j ≢ n.global i) →
+      text_names (form_module p n fs) (n.global i) ≡ Some (GlobalTarget i)
+  global_stands distinct i lt apart =
+      ap (λ names. names (n.global i)) names_are
+      ∙ (family_other ConstantTarget n.constant (n.global i) (length p.constant_types) 0
+      (λ j le lj. apart j (omega (arith, lj))) _
+      ∙ family_found GlobalTarget n.global (length p.globals) 0
+      (λ a b la lb e. distinct a b (omega (arith, la)) (omega (arith, lb)) e) _ i
+      (omega arith) (omega (arith, lt)))
 
 pub resolves_as_meant : ResolvesAsMeant
 resolves_as_meant p n fs fits stand =
