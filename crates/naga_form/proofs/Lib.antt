@@ -55,6 +55,7 @@ pub mod PartsFit
 pub mod PlainForms
 pub mod PointerParts
 pub mod Programs
+pub mod ReadDeclarations
 pub mod ReadExpressions
 pub mod Readable
 pub mod Regular
@@ -80,6 +81,7 @@ pub mod TypedWords
 pub mod WellFormed
 pub mod Worded
 pub mod WritableModules
+pub mod WrittenFunctions
 pub mod WrittenHandles
 pub mod WrittenOut
 pub mod WrittenTypes
