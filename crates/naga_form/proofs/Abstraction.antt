@@ -47,7 +47,6 @@ use Rattle.naga_form.proofs.WrittenHandles.{AreClosed, all_front, all_map, writt
 use Rattle.module_meaning.specs.Written.{IsWrittenIn, OfLocal, WrittenHaveForms}
 use Rattle.naga_form.proofs.WrittenHandles.{all_rest}
 use Rattle.module_meaning.specs.WrittenSoFar.{expression_has_form}
-use Rattle.module_meaning.specs.WrittenSoFar.{function_is_written, types_are_written_so_far}
 use Rattle.module_meaning.specs.WrittenSoFar.{constant_is_written}
 use Rattle.module_meaning.specs.ExpressionContexts.{written_constant}
 use Rattle.naga_names.specs.Keys.{NameMap}
@@ -158,8 +157,7 @@ availability_reads (Bound x) p q e = refl
 availability_reads _ p q e = e
 
 module _ (named : ℕ → List ℕ) (m : Module) (info : ModuleInfo) (g : ℕ) (f : ir_function.Function)
-    (es : List ExpressionInfo) (values : IsTrue (types_are_written_so_far m))
-    (size : length f.expressions ≡ length es) (W : ℕ → Type 0)
+    (es : List ExpressionInfo) (size : length f.expressions ≡ length es) (W : ℕ → Type 0)
     (closed : AreClosed W (binds (function_shape m info f es)) f) (written : AreWritten W m f es)
     (constants : ConstantsAreRead m info) where
   abbrev own : Naming
@@ -438,8 +436,7 @@ pointer_reads m ty t at =
     ∙ ap (λ o. option_map type_layout (option_map (pointer_tree (codes "function") None) o)) at))
 
 module _ (named : ℕ → List ℕ) (m : Module) (info : ModuleInfo) (g : ℕ) (f : ir_function.Function)
-    (es : List ExpressionInfo) (values : IsTrue (types_are_written_so_far m))
-    (size : length f.expressions ≡ length es) (W : ℕ → Type 0)
+    (es : List ExpressionInfo) (size : length f.expressions ≡ length es) (W : ℕ → Type 0)
     (closed : AreClosed W (binds (function_shape m info f es)) f) (written : AreWritten W m f es)
     (constants : ConstantsAreRead m info) where
   abbrev own_names : Naming
@@ -461,7 +458,7 @@ module _ (named : ℕ → List ℕ) (m : Module) (info : ModuleInfo) (g : ℕ) (
         name = own_names.names.local_ l;
         pointer = pointer i;
         first_value =
-            value_if_reads named m info g f es values size W closed written constants
+            value_if_reads named m info g f es size W closed written constants
             (at_start own_names.function) v.init (closed.firsts l v here) i;
       }
       ∷ (rest ∙ ap (λ k. variables_from own_names k (map (λ v. v.init) vs)) (add-one l)) i
@@ -479,34 +476,33 @@ locals_have_forms explicit m info f es have l v at = tree_there (type_names m) (
 
 -- whatever is written of a function is read as its shape is
 pub written_reads : (explicit : Bool) (named : ℕ → List ℕ) (m : Module) (info : ModuleInfo) (g : ℕ)
-    (f : ir_function.Function) (es : List ExpressionInfo) → IsTrue (types_are_written_so_far m) →
-    length f.expressions ≡ length es →
+    (f : ir_function.Function) (es : List ExpressionInfo) → length f.expressions ≡ length es →
     LocalsHaveForms (type_names m) f.local_variables →
     (W : ℕ → Type 0) → AreClosed W (binds (function_shape m info f es)) f → AreWritten W m f es →
     ConstantsAreRead m info →
     function_read (function_form explicit (module_names m) named m info g f es) ≡ form_function
     (function_naming (module_names m) named m info g f es)
-written_reads explicit named m info g f es values size formed W closed written constants =
+written_reads explicit named m info g f es size formed W closed written constants =
     let names = module_names m in
-    let locals = locals_read named m info g f es values size W closed written constants formed 0 f.local_variables (λ k. ap (slice_get f.local_variables) (sym (add-zero k))) in
+    let locals = locals_read named m info g f es size W closed written constants formed 0 f.local_variables (λ k. ap (slice_get f.local_variables) (sym (add-zero k))) in
     λ i. record {
       name = function_name m names g;
       parameters = (names_counted names m g 0 f.arguments.items ∙ ap (names_from (argument_name m names g) 0) (sym (mapped_length (λ a. declared_type m a.ty) f.arguments.items))) i;
       variables = locals i;
-      lines = lines_read named m info g f es values size W closed written constants
+      lines = lines_read named m info g f es size W closed written constants
           (annotated_type explicit m (type_names m) es) 0 f.body
           (at_start (function_shape m info f es)) closed.body i;
     }
 
 pub function_reads : (explicit : Bool) (named : ℕ → List ℕ) (m : Module) (info : ModuleInfo) (g : ℕ)
-    (f : ir_function.Function) (es : List ExpressionInfo) → IsTrue (types_are_written_so_far m) →
+    (f : ir_function.Function) (es : List ExpressionInfo) →
     length m.global_expressions ≡ length info.const_expression_types.items →
-    IsTrue (function_is_written f) → WrittenHaveForms explicit m info f es →
+    WrittenHaveForms explicit m info f es →
     length f.expressions ≡ length es →
     function_read (function_form explicit (module_names m) named m info g f es) ≡ form_function
     (function_naming (module_names m) named m info g f es)
-function_reads explicit named m info g f es values own_size written have size =
-    written_reads explicit named m info g f es values size
+function_reads explicit named m info g f es own_size have size =
+    written_reads explicit named m info g f es size
     (locals_have_forms explicit m info f es have)
     (IsWrittenIn m info f es) (written_are_closed m info f es) have.expressions
     (constants_read (outer_names (module_names m) m) m info (type_names m)

@@ -3,7 +3,7 @@ use Rattle.std.proofs.Common.{◌≡◌, ℕ, ◌+◌, Bool, true, false, List, 
 use Rattle.std.proofs.Common.{Some, None, refl, sym, ap, ◌∙◌}
 use Rattle.std.specs.Prelude.{IsTrue, slice_get, cond, if◌then◌else◌}
 use Rattle.module_meaning.specs.Undeclared.{names_undeclared}
-use Rattle.std.proofs.lemmas.List.{append-nil, map-append}
+use Rattle.std.proofs.lemmas.List.{map-append}
 use Rattle.naga_ir.specs.StatementTree.{StatementTree, simple}
 use Rattle.naga_ir.specs.StatementTree.{block}
 use Rattle.naga_ir.specs.StatementTree.{branch, switch, loop, BlockTree, no_statements, statement}
@@ -56,10 +56,10 @@ use Rattle.module_meaning.specs.StatementShapes.{simple_shape}
 use Rattle.text_meaning.specs.Bindings.{statement_annotations, statements_annotations, optional_annotations}
 use Rattle.text_meaning.specs.Bindings.{cases_annotations}
 use Rattle.module_meaning.specs.Bindings.{module_annotations, BindsAs}
-use Rattle.module_meaning.specs.FunctionNumbers.{all_infos}
-use Rattle.module_meaning.specs.Types.{type_names}
+use Rattle.module_meaning.specs.FunctionNumbers.{all_functions, all_infos}
+use Rattle.naga_form.proofs.AcceptedFunctions.{functions_counted}
 use Rattle.naga_form.proofs.Runs.{reads_as_shapes}
-use Rattle.naga_form.proofs.WritableModules.{no_further_functions, no_further_infos}
+use Rattle.naga_form.proofs.WrittenFunctions.{all_functions_form}
 use Rattle.module_meaning.specs.Written.{AllWrittenHaveForms}
 
 module _ (n : Naming) (annotated : ℕ → Option TypeSpecifier) (source : Source) where
@@ -228,14 +228,13 @@ functions_tell explicit names m info g (f ∷ fs) (es ∷ ess) =
 pub binds_as : (m : Module) (info : ModuleInfo) (explicit : Bool) → IsTrue (is_accepted m info) →
     DeclarationsHaveForms m → AllWrittenHaveForms explicit m info →
     BindsAs m info explicit (written_program m info explicit)
-binds_as m info explicit accepted written have =
-    let names = ap text_lets (reads_as_shapes m info explicit accepted written have) ∙ binds_as_meant (module_shape m info) (outer_names (module_names m) m) (namings (module_names m) m info) in
-    let form = functions_form explicit (module_names m) m info 0 m.functions info.functions.items in
-    let told : List ir_function.Function → List (List ExpressionInfo) → List (List (Option (List ℕ))) = λ fs ess.
-    module_annotations explicit m (type_names m) (namings_from (module_names m) m 0 (function_shapes m info fs ess)) ess in
+binds_as m info explicit accepted declarations have =
+    let names =
+    ap text_lets (reads_as_shapes m info explicit accepted declarations have)
+    ∙ binds_as_meant (module_shape m info) (outer_names (module_names m) m)
+    (namings (module_names m) m info) in
     let annotations =
-    ap (map (λ (f : tree_functions.Function). statements_annotations f.body)) (append-nil form)
-    ∙ (functions_tell explicit (module_names m) m info 0 m.functions info.functions.items
-    ∙ sym (ap (λ fs. told fs (all_infos info)) (no_further_functions m info accepted written)
-    ∙ ap (told m.functions) (no_further_infos m info accepted written))) in
+    ap (map (λ (f : tree_functions.Function). statements_annotations f.body))
+    (all_functions_form m info explicit (functions_counted m info accepted))
+    ∙ functions_tell explicit (module_names m) m info 0 (all_functions m) (all_infos info) in
     λ i. record { names = names i; annotations = annotations i }

@@ -337,12 +337,16 @@ module _ (outer : ModuleNames) (m : Module) (info : ModuleInfo) (t : TypeNames)
           over_read outer m (constant_over m tree_of) (global_types_known info) (λ h. None) t spells
           tree_of part (constant_form_by m part) h (known e at) e (out_of each e is)
 
-  -- a constant that is written is read as its tree
+  -- what is written of the module's own expressions is read as its tree
+  pub globals_read : (h : ℕ) → global_is_written m h ≡ true →
+      IsReadAs outer (global_tree m info h) (global_form m t h)
+  globals_read h is = global_read (suc h) h is
+
+  -- and so is a constant
   pub constants_read : (c : ℕ) → constant_is_written m c ≡ true →
       IsReadAs outer (written_constant m info c) (written_constant_form m t c)
   constants_read c is =
-      constant_read (global_is_written m) (global_tree m info) (global_form m t)
-      (λ x is. global_read (suc x) x is) c is
+      constant_read (global_is_written m) (global_tree m info) (global_form m t) globals_read c is
 
 -- ---- what is of the grammar
 module _ (a : ExpressionContext) (t : TypeNames) (constant part : ℕ → Expression) where

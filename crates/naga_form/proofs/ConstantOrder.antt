@@ -29,7 +29,7 @@ use Rattle.module_meaning.specs.ExpressionContexts.{constant_over, declared_over
 use Rattle.module_meaning.specs.ExpressionContexts.{global_types_known, named_count, zero_of_type}
 use Rattle.naga_form.proofs.ConstantInitialisers.{initialiser_of}
 use Rattle.naga_form.proofs.ConstantTrees.{availability_tree}
-use Rattle.naga_form.proofs.NamedConstants.{named_at, count_is, types_count, types_of_constants}
+use Rattle.naga_form.proofs.NamedConstants.{constants_counted, named_at, types_count, types_of_constants}
 use Rattle.naga_form.proofs.WrittenOut.{Own, own_is, constant_named, initialiser_stands_before}
 
 abbrev AnyValue : Value → Type 0
@@ -72,9 +72,6 @@ module _ (m : Module) (info : ModuleInfo) where
   abbrev Before : ℕ → ℕ → Type 0
   Before bound k = k < constant_count shape → constant_rank k < bound
 
-  constants_counted : constant_count shape ≡ named_count m.constants
-  constants_counted = length-map (named_constants m) (initialiser m info) ∙ count_is m.constants
-
   pub constants_within_types : constant_count shape ≤ length shape.constant_types
   constants_within_types =
       let own = length-map (named_constants m) (initialiser m info) in
@@ -83,7 +80,7 @@ module _ (m : Module) (info : ModuleInfo) where
       omega (arith, own, named, all)
 
   override_before : (bound o : ℕ) → Before bound (override_number m o)
-  override_before bound o lt = let count = constants_counted in absurd (omega (arith, lt, count))
+  override_before bound o lt = let count = constants_counted m info in absurd (omega (arith, lt, count))
 
   before_more : (a b : ℕ) → a ≤ b → (t : ConstantTree) → EachLeaf AnyValue (Before a) t → EachLeaf AnyValue (Before b) t
   before_more a b le t are = leaves_follow (Before a) (Before b) (λ k before lt. let low = before lt in omega (arith, le, low)) t are

@@ -65,6 +65,7 @@ pub mod PartsFit
 pub mod PlainForms
 pub mod PointerParts
 pub mod Programs
+pub mod ReadDeclarations
 pub mod ReadExpressions
 pub mod Readable
 pub mod Regular
@@ -92,6 +93,7 @@ pub mod TypedWords
 pub mod WellFormed
 pub mod Worded
 pub mod WritableModules
+pub mod WrittenFunctions
 pub mod WrittenHandles
 pub mod WrittenOut
 pub mod WrittenTypes

@@ -1,5 +1,5 @@
--- A module that is written so far, of which all that is written has forms, and in which the rules of
--- scope hold, has a world that keeps the types, and no run of it is stuck.
+-- A module of which all that is declared and written has forms, and in which the rules of scope hold,
+-- has a world that keeps the types, and no run of it is stuck.
 use Rattle.std.proofs.Common.{Bool, sym, subst}
 use Rattle.std.specs.Prelude.{IsTrue}
 use Rattle.naga_ir.specs.declared.module.Module.{Module}
@@ -25,16 +25,15 @@ use Rattle.naga_form.proofs.ModuleFits.{module_fits}
 use Rattle.naga_form.proofs.Runs.{reads_as_shapes}
 use Rattle.naga_form.proofs.ScopeRules.{scopes_are_checked}
 use Rattle.naga_form.proofs.WellFormed.{all_well_formed}
-use Rattle.naga_form.proofs.WritableModules.{no_constant_named, only_empty}
+use Rattle.naga_form.proofs.WritableModules.{are_written_out, only_empty}
 
 module _ (m : Module) (info : ModuleInfo) (explicit : Bool) (accepted : IsTrue (is_accepted m info))
-    (written : DeclarationsHaveForms m) (have : AllWrittenHaveForms explicit m info)
+    (declarations : DeclarationsHaveForms m) (have : AllWrittenHaveForms explicit m info)
     (scopes : ScopesHold m info) where
   pub has_world : HasTypedWorld m info
   has_world =
       every.has_world m info accepted (types_are_distinguished m)
-      (no_constant_named m info accepted written)
-      (only_empty m info accepted written explicit have) scopes
+      (are_written_out m declarations) (only_empty m info accepted explicit have) scopes
 
   pub never_stuck : IsNeverStuck m info (written_program m info explicit)
   never_stuck settings fit meaning typed g f found arguments typed_arguments world turns past =
@@ -44,8 +43,8 @@ module _ (m : Module) (info : ModuleInfo) (explicit : Bool) (accepted : IsTrue (
       (KeepsTypes (run_module shape settings world meaning turns g arguments past) →
       IsNotStuck (follow_module text settings world meaning is_request turns
       (function_name m (module_names m) g) arguments past)))
-      (sym (reads_as_shapes m info explicit accepted written have))
+      (sym (reads_as_shapes m info explicit accepted declarations have))
       (runs_are_not_stuck shape (outer_names (module_names m) m) (namings (module_names m) m info)
-      (module_fits m info accepted written explicit have
+      (module_fits m info accepted declarations explicit have
       ((scopes_are_checked m info accepted).1 scopes)) (all_well_formed m info accepted)
       settings fit meaning typed g f found arguments typed_arguments world turns past)

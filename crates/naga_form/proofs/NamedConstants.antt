@@ -6,7 +6,7 @@ use Rattle.std.specs.Prelude.{if◌then◌else◌}
 use Rattle.std.specs.List.{filter}
 use Rattle.std.specs.Option.{option_map, option_map_or, is_some}
 use Rattle.std.proofs.lemmas.Bool.{ltb-true, ltb-false}
-use Rattle.std.proofs.lemmas.List.{length-map, length-append, get_or_append_left, get_or-append-add}
+use Rattle.std.proofs.lemmas.List.{length-drop, length-map, length-append, get_or_append_left, get_or-append-add}
 use Rattle.std.proofs.lemmas.Option.{slice_get-map, slice_get_past, slice_get_within, get_or_from_slice_get}
 use Rattle.std.proofs.lemmas.Option.{same_Some}
 use Rattle.naga_ir.specs.declared.module.Constant.{Constant}
@@ -17,12 +17,13 @@ use Rattle.naga_info.specs.declared.info.TypeResolution.TheVariants.{Handle}
 use Rattle.naga_names.proofs.Refusal.{element}
 use Rattle.naga_names.specs.Keys.{NameMap}
 use Rattle.naga_names.specs.declared.key.NameKey.TheVariants as key
-use Rattle.module_meaning.specs.ModuleShapes.{module_shape, named_constants}
+use Rattle.module_meaning.specs.ModuleShapes.{initialiser, module_shape, named_constants}
 use Rattle.module_meaning.specs.Names.{constant_name, name_in, override_name}
 use Rattle.module_meaning.specs.Namings.{named_handles, numbered_key, outer_names}
 use Rattle.module_meaning.specs.OperatorTable.{if_there}
 use Rattle.module_meaning.specs.ExpressionContexts.{named_count, constant_number, override_number}
 use Rattle.module_meaning.specs.Types.{type_of_values}
+use Rattle.shader_runs.specs.Program.{constant_count, override_types}
 use Rattle.shader_runs.specs.Value.{ValueType, BooleanType, type_at}
 
 abbrev pub is_named : Constant → Bool
@@ -217,6 +218,18 @@ module _ (m : Module) (info : ModuleInfo) where
   -- of named constants and overrides
   pub constants_length : length (module_shape m info).constant_types ≡ named_count m.constants + length m.overrides
   constants_length = types_count ∙ ap (λ k. k + length m.overrides) constants_count
+
+  -- the runs have as many named constants and overrides as the module
+  pub constants_counted : constant_count (module_shape m info) ≡ named_count m.constants
+  constants_counted = length-map (named_constants m) (initialiser m info) ∙ count_is m.constants
+
+  pub overrides_counted : length (override_types (module_shape m info)) ≡ length m.overrides
+  overrides_counted =
+      let own = constants_counted in
+      let named = constants_count in
+      let all = types_count in
+      let left = length-drop (constant_count (module_shape m info)) (types_of_constants ++ types_of_overrides) in
+      omega (arith, own, named, all, left)
 
   -- the type of a named constant, by its place
   pub place_typed : (i : ℕ) (c : Constant) → slice_get (named_constants m) i ≡ Some c →

@@ -1,38 +1,37 @@
--- A module that is written so far, and of which all that is written has forms, holds nothing that no
--- text is ever written for: no constant has a name, and only empty cases fall through.
-use Rattle.std.proofs.Common.{◌≡◌, ℕ, Bool, true, not, ◌&&◌, ◌||◌, List, [], ◌∷◌, Some, refl, ap}
-use Rattle.std.proofs.Common.{slice_get, subst, arith, length, ◌++◌, ◌∙◌}
-use Rattle.std.specs.Prelude.{IsTrue, ◌==◌}
+-- A module of which all that is declared and written has forms holds nothing that no text is ever
+-- written for: the constants with a name are written out, and only empty cases fall through.
+use Rattle.std.proofs.Common.{◌≡◌, ℕ, zero, suc, ◌+◌, Bool, true, false, not, ◌&&◌, ◌||◌, List, []}
+use Rattle.std.proofs.Common.{◌∷◌, Option, Some, None, refl, slice_get, subst, length}
+use Rattle.std.specs.Prelude.{IsTrue}
 use Rattle.std.specs.List.{list_all}
-use Rattle.std.specs.Option.{is_none}
-use Rattle.std.proofs.lemmas.Bool.{and_from, and_parts, eqb-true}
-use Rattle.std.proofs.lemmas.List.{append-nil, nil_from_length}
-use Rattle.std.proofs.lemmas.Option.{slice_get_within}
+use Rattle.std.specs.Option.{is_none, is_some, option_map_or}
+use Rattle.std.proofs.lemmas.Bool.{and_from, and_parts}
 use Rattle.naga_ir.specs.StatementTree.{StatementTree, simple, block, branch, switch, loop}
 use Rattle.naga_ir.specs.StatementTree.{BlockTree, no_statements, statement, has_no_statements}
 use Rattle.naga_ir.specs.StatementTree.{CaseTrees, no_cases, case}
 use Rattle.naga_ir.specs.declared.expression.Expression.{Expression}
-use Rattle.naga_ir.specs.declared.module.Constant.{Constant}
+use Rattle.naga_ir.specs.declared.expression.Expression.TheVariants as expression
 use Rattle.naga_ir.specs.declared.module.Function.{Function}
 use Rattle.naga_ir.specs.declared.module.Module.{Module}
 use Rattle.naga_info.specs.declared.info.ExpressionInfo.{ExpressionInfo}
 use Rattle.naga_info.specs.declared.info.ModuleInfo.{ModuleInfo}
-use Rattle.naga_names.proofs.Refusal.{element}
+use Rattle.naga_info.specs.declared.info.TypeResolution.TheVariants.{Handle}
 use Rattle.module_meaning.specs.Accepted.{is_accepted}
-use Rattle.module_meaning.specs.FunctionNumbers.{all_functions, all_infos, entry_functions}
-use Rattle.module_meaning.proofs.FunctionNumbers.{function_among, info_among}
+use Rattle.module_meaning.specs.DeclarationForms.{DeclarationsHaveForms, IsInitialiser}
+use Rattle.module_meaning.specs.FunctionNumbers.{all_functions}
 use Rattle.module_meaning.specs.StatementForms.{statement_has_form, block_has_forms}
 use Rattle.module_meaning.specs.StatementForms.{cases_have_forms}
+use Rattle.module_meaning.specs.Undeclared.{is_spellable}
 use Rattle.module_meaning.specs.Writable.{AreWrittenOut, OnlyEmptyFall, is_written_out}
 use Rattle.module_meaning.specs.Writable.{only_empty_fall, only_empty_fall_in}
 use Rattle.module_meaning.specs.Writable.{only_empty_cases_fall}
+use Rattle.module_meaning.specs.Writable.{written_out_over, written_out_within}
 use Rattle.module_meaning.specs.Written.{AllWrittenHaveForms}
-use Rattle.module_meaning.specs.DeclarationForms.{DeclarationsHaveForms}
+use Rattle.module_meaning.specs.WrittenSoFar.{global_is_written_over, global_is_written_within}
+use Rattle.module_meaning.proofs.FunctionNumbers.{entry_point_among, function_among}
 use Rattle.module_meaning.proofs.Lists.{all_pass, list_all_at}
-use Rattle.module_meaning.proofs.WrittenSoFar.{written_so_far_parts}
 use Rattle.naga_form.proofs.AcceptedFunctions.{AsEntryPoint, AsFunction, Numbered}
-use Rattle.naga_form.proofs.AcceptedFunctions.{entry_points_counted, functions_counted}
-use Rattle.naga_form.proofs.AcceptedFunctions.{functions_known, numbered}
+use Rattle.naga_form.proofs.AcceptedFunctions.{functions_known, known_there, numbered}
 
 -- ---- cases
 -- what has a form holds no other case that falls through
@@ -82,57 +81,71 @@ only_at m info accepted only k f es at = by (numbered m info accepted k f es at)
         (list_all_at (λ p. only_empty_fall p.function.body) m.entry_points.items j p
         only.entry_points here)
 
+-- ---- constants
+-- what is written of the module's own expressions is written out
+over_out : (m : Module) (own out : ℕ → Bool) → ((h : ℕ) → own h ≡ true → out h ≡ true) →
+    (e : Expression) → global_is_written_over m own e ≡ true → written_out_over out e ≡ true
+over_out m own out each (expression.Literal value) is = refl
+over_out m own out each (expression.Constant handle) is = refl
+over_out m own out each (expression.Override handle) is = refl
+over_out m own out each (expression.ZeroValue ty) is = refl
+over_out m own out each (expression.Compose ty components) is =
+    all components.items
+    (and_parts (is_spellable m (Handle ty)) (list_all own components.items) is).1
+  where
+    all : (hs : List ℕ) → list_all own hs ≡ true → list_all out hs ≡ true
+    all [] is = refl
+    all (h ∷ hs) is =
+        let both = and_parts (own h) (list_all own hs) is in
+        and_from (out h) (list_all out hs) (each h both.0) (all hs both.1)
+over_out m own out each (expression.Splat size value) is = each value is
+over_out m own out each _ is = absurd cc
+
+out_within : (m : Module) (levels h : ℕ) → global_is_written_within levels m h ≡ true →
+    written_out_within levels m.global_expressions h ≡ true
+out_within m zero h is = absurd cc
+out_within m (suc levels) h is = by (slice_get m.global_expressions h) is (out_within m levels)
+  where
+    own : ℕ → Bool
+    own = global_is_written_within levels m
+
+    out : ℕ → Bool
+    out = written_out_within levels m.global_expressions
+
+    by : (o : Option Expression) → option_map_or (global_is_written_over m own) o false ≡ true →
+        ((k : ℕ) → own k ≡ true → out k ≡ true) →
+        option_map_or (written_out_over out) o false ≡ true
+    by None is each = absurd cc
+    by (Some e) is each = over_out m own out each e is
+
+-- so is the initialiser of each constant with a name
+pub are_written_out : (m : Module) → DeclarationsHaveForms m → AreWrittenOut m
+are_written_out m declarations =
+    all_pass (λ c. is_none c.name || is_written_out m.global_expressions c.init) m.constants
+    (λ i c at. by c.name (λ named.
+    out_within m (suc c.init) c.init
+    (declarations.initialisers c.init (IsInitialiser.OfConstant i c at named))))
+  where
+    by : {X : Type 0} {out : Bool} (name : Option X) → (is_some name ≡ true → out ≡ true) →
+        (is_none name || out) ≡ true
+    by None is = refl
+    by (Some name) is = is refl
+
 -- ---- modules
--- constants without names are left out
-none_named : (es : List Expression) (cs : List Constant) →
-    list_all (λ c. is_none c.name) cs ≡ true →
-    list_all (λ c. is_none c.name || is_written_out es c.init) cs ≡ true
-none_named es [] none = refl
-none_named es (c ∷ cs) none =
-    let both = and_parts (is_none c.name) (list_all (λ c. is_none c.name) cs) none in
-    and_from (is_none c.name || is_written_out es c.init)
-    (list_all (λ c. is_none c.name || is_written_out es c.init) cs)
-    (ap (λ b. b || is_written_out es c.init) both.0) (none_named es cs both.1)
+module _ (m : Module) (info : ModuleInfo) (accepted : IsTrue (is_accepted m info)) (explicit : Bool)
+    (have : AllWrittenHaveForms explicit m info) where
+  -- only empty cases fall through where all that is written has forms
+  only_among : (g : ℕ) (f : Function) → slice_get (all_functions m) g ≡ Some f →
+      only_empty_fall f.body ≡ true
+  only_among g f here =
+      let known = known_there m info accepted g f here in
+      no_case_falls f.body (have g f known.0 here known.1).statements
 
-module _ (m : Module) (info : ModuleInfo) (accepted : IsTrue (is_accepted m info)) (written : DeclarationsHaveForms m) where
-  pub no_constant_named : AreWrittenOut m
-  no_constant_named =
-      none_named m.global_expressions m.constants
-      (and_parts (list_all (λ c. is_none c.name) m.constants) _ (written_so_far_parts m written).0).0
-
-  pub no_entry_points : m.entry_points.items ≡ []
-  no_entry_points =
-      let one =
-      and_parts (list_all (λ c. is_none c.name) m.constants) _ (written_so_far_parts m written).0 in
-      let two = and_parts (length m.overrides == 0) _ one.1 in
-      let three =
-      and_parts (length m.global_variables == 0) (length m.entry_points.items == 0) two.1 in
-      nil_from_length m.entry_points.items (eqb-true (length m.entry_points.items) 0 three.1)
-
-  -- all functions are those that others may call
-  pub no_further_functions : all_functions m ≡ m.functions
-  no_further_functions =
-      ap (λ ps. m.functions ++ entry_functions ps) no_entry_points ∙ append-nil m.functions
-
-  pub no_further_infos : all_infos info ≡ info.functions.items
-  no_further_infos =
-      let counted = entry_points_counted m info accepted in
-      let none = ap length no_entry_points in
-      ap (λ ess. info.functions.items ++ ess)
-      (nil_from_length info.entry_points.items (omega (arith, counted, none)))
-      ∙ append-nil info.functions.items
-
-  pub only_empty : (explicit : Bool) → AllWrittenHaveForms explicit m info → OnlyEmptyFall m
-  only_empty explicit have =
-      record {
-        functions = all_pass (λ f. only_empty_fall f.body) m.functions by;
-        entry_points = ap (list_all (λ p. only_empty_fall p.function.body)) no_entry_points;
-      }
-    where
-      by : (g : ℕ) (f : Function) → slice_get m.functions g ≡ Some f → only_empty_fall f.body ≡ true
-      by g f here =
-          let within = slice_get_within m.functions g f here in
-          let counted = functions_counted m info accepted in
-          let known = element info.functions.items g (omega (arith, within, counted)) in
-          no_case_falls f.body
-          (have g f known.0 (function_among m g f here) (info_among info g known.0 known.1)).statements
+  pub only_empty : OnlyEmptyFall m
+  only_empty = record {
+    functions = all_pass (λ f. only_empty_fall f.body) m.functions
+        (λ g f here. only_among g f (function_among m g f here));
+    entry_points = all_pass (λ p. only_empty_fall p.function.body) m.entry_points.items
+        (λ j p here.
+        only_among (length m.functions + j) p.function (entry_point_among m j p here));
+  }
