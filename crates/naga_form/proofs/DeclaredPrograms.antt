@@ -32,7 +32,7 @@ use Rattle.naga_names.specs.declared.key.NameKey.TheVariants as key
 use Rattle.naga_words.specs.Contexts.{Names as TypeNames}
 use Rattle.module_meaning.specs.Accepted.{is_accepted}
 use Rattle.module_meaning.specs.AlikeTypes.{is_spelled}
-use Rattle.module_meaning.specs.DeclarationForms.{DeclarationsHaveForms, IsDeclaredType}
+use Rattle.module_meaning.specs.DeclarationForms.{stage_has_form, DeclarationsHaveForms, IsDeclaredType}
 use Rattle.module_meaning.specs.DeclarationForms.{IsInitialiser, entry_point_numbered}
 use Rattle.module_meaning.specs.Names.{module_names, name_in, wgsl_names}
 use Rattle.module_meaning.specs.Numbers.{binding_fits_32_bits, fits_32_bits, member_fits_32_bits}
@@ -196,13 +196,13 @@ module _ (m : Module) (info : ModuleInfo) (accepted : IsTrue (is_accepted m info
       let four = and_parts (list_all (global_in_range types own) m.global_variables) _ three.1 in
       (three.0, four.0)
 
+  abbrev names : NameMap
+  names = module_names m
+
+  abbrev spelled : TypeNames
+  spelled = type_names m
+
   module _ (declarations : DeclarationsHaveForms m) where
-    abbrev names : NameMap
-    names = module_names m
-
-    abbrev spelled : TypeNames
-    spelled = type_names m
-
     -- a type that is told
     declared_type : (ty : ℕ) → IsDeclaredType m ty → IsType (type_form spelled ty)
     declared_type ty is =
@@ -294,33 +294,41 @@ module _ (m : Module) (info : ModuleInfo) (accepted : IsTrue (is_accepted m info
     variables_are =
         each_form IsGlobal (variable_form names spelled m) m.global_variables variable_is
 
-    -- ---- entry points
-    -- the one with this index has this number
-    entry_point_there : (j : ℕ) →
-        entry_point_numbered m (length m.functions + j) ≡ slice_get m.entry_points.items j
-    entry_point_there j =
-        let behind : length m.functions ≤ length m.functions + j = omega arith in
-        let rest : (length m.functions + j) - length m.functions ≡ j = omega arith in
-        ap (λ b. if b then None
-        else slice_get m.entry_points.items ((length m.functions + j) - length m.functions))
-        (le-ltb (length m.functions + j) (length m.functions) behind)
-        ∙ ap (slice_get m.entry_points.items) rest
+  -- ---- entry points
+  -- the one with this index has this number
+  pub entry_point_there : (j : ℕ) →
+      entry_point_numbered m (length m.functions + j) ≡ slice_get m.entry_points.items j
+  entry_point_there j =
+      let behind : length m.functions ≤ length m.functions + j = omega arith in
+      let rest : (length m.functions + j) - length m.functions ≡ j = omega arith in
+      ap (λ b. if b then None
+      else slice_get m.entry_points.items ((length m.functions + j) - length m.functions))
+      (le-ltb (length m.functions + j) (length m.functions) behind)
+      ∙ ap (slice_get m.entry_points.items) rest
 
-    pub stage_there : (j : ℕ) (p : ir_entry_point.EntryPoint) →
-        slice_get m.entry_points.items j ≡ Some p →
-        IsAttributes (stage_attributes names p p.stage) ×
-        (is_stage (stage_attributes names p p.stage) ≡ true)
-    stage_there j p at =
-        let count = length m.global_variables in
-        let one = and_parts (is_below count (option_map (λ k. k.output_variable) p.mesh_info)) _
-        (entry_point_is_in_range m info accepted j p at) in
-        let two = and_parts (is_below count p.task_payload) _ one.1 in
-        let three = and_parts (is_below count p.incoming_ray_payload) _ two.1 in
-        let four = and_parts (workgroup_fits_32_bits p.workgroup_size)
-        (function_in_range m (length m.functions) p.function) three.1 in
-        let sizes = three_sizes p.workgroup_size four.0 in (
-          stage_attributes_are names p sizes.x sizes.y sizes.z sizes.are count (global_identifier m)
-              one.0 two.0 three.0 sizes.fit p.stage,
-          stage_is names p sizes.x sizes.y sizes.z sizes.are p.stage
-              ((declarations.heads (length m.functions + j)).stage p (entry_point_there j ∙ at)),
-        )
+  -- its stage, where that has a form
+  pub stage_written : (j : ℕ) (p : ir_entry_point.EntryPoint) →
+      slice_get m.entry_points.items j ≡ Some p → stage_has_form p p.stage ≡ true →
+      IsAttributes (stage_attributes names p p.stage) ×
+      (is_stage (stage_attributes names p p.stage) ≡ true)
+  stage_written j p at has =
+      let count = length m.global_variables in
+      let one = and_parts (is_below count (option_map (λ k. k.output_variable) p.mesh_info)) _
+      (entry_point_is_in_range m info accepted j p at) in
+      let two = and_parts (is_below count p.task_payload) _ one.1 in
+      let three = and_parts (is_below count p.incoming_ray_payload) _ two.1 in
+      let four = and_parts (workgroup_fits_32_bits p.workgroup_size)
+      (function_in_range m (length m.functions) p.function) three.1 in
+      let sizes = three_sizes p.workgroup_size four.0 in (
+        stage_attributes_are names p sizes.x sizes.y sizes.z sizes.are count (global_identifier m)
+            one.0 two.0 three.0 sizes.fit p.stage,
+        stage_is names p sizes.x sizes.y sizes.z sizes.are p.stage has,
+      )
+
+  pub stage_there : DeclarationsHaveForms m → (j : ℕ) (p : ir_entry_point.EntryPoint) →
+      slice_get m.entry_points.items j ≡ Some p →
+      IsAttributes (stage_attributes names p p.stage) ×
+      (is_stage (stage_attributes names p p.stage) ≡ true)
+  stage_there declarations j p at =
+      stage_written j p at
+      ((declarations.heads (length m.functions + j)).stage p (entry_point_there j ∙ at))

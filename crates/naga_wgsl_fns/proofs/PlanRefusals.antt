@@ -27,10 +27,8 @@ use Rattle.naga_info.specs.declared.info.ModuleInfo.{ModuleInfo}
 use Rattle.shader_runs.specs.Program.{Function}
 use Rattle.shader_runs.specs.ScopeRules.{ScopeHolds}
 use Rattle.module_meaning.specs.Accepted.{is_accepted}
-use Rattle.module_meaning.specs.WrittenSoFar.{expression_has_form, function_is_written}
-use Rattle.module_meaning.specs.WrittenSoFar.{is_written_so_far}
+use Rattle.module_meaning.specs.WrittenSoFar.{expression_has_form}
 use Rattle.module_meaning.proofs.Lists.{list_all_at}
-use Rattle.module_meaning.proofs.WrittenSoFar.{functions_are_written}
 use Rattle.module_meaning.specs.LackingScalars.{lacking_scalar}
 use Rattle.module_meaning.specs.Written.{IsSpelledIn}
 use Rattle.module_meaning.specs.FunctionNumbers.{all_functions, all_infos}
@@ -58,6 +56,9 @@ use Rattle.naga_scope.proofs.Planned.{shape_found}
 use Rattle.naga_wgsl_fns.specs.declared.error.Error.{Error}
 use Rattle.naga_wgsl_fns.specs.declared.error.Error.TheVariants.{Custom, FmtError, Memory}
 use Rattle.naga_words.specs.declared.sink.SinkError.{SinkError}
+use Rattle.naga_wgsl_fns.specs.DeclarationRefusals.{NamesDeclaration, NamesHead, OfBinding, OfHead}
+use Rattle.naga_wgsl_fns.specs.DeclarationRefusals.{OfInitialiser, OfMember, OfStage}
+use Rattle.naga_wgsl_fns.specs.DeclarationRefusals.TheConstructors as declaration
 use Rattle.naga_wgsl_fns.specs.Errors.{IsCustom}
 use Rattle.naga_wgsl_fns.specs.Refusals.{ExpressionNamesAreFullIn, IsErrorOfNames, IsFault}
 use Rattle.naga_wgsl_fns.specs.Refusals.{IsWritableAt}
@@ -182,6 +183,21 @@ no_global_sink m reason h (OfOperation _ e at is named) = named
 no_global_sink m reason h (OfOperand _ x e at among inside) = no_global_sink m reason x inside
 no_global_sink m reason h (OfConstant _ c k at there inside) = no_global_sink m reason k.init inside
 
+-- nor is one of those of what a function takes and gives, and of its stage,
+pub head_is_no_sink : (m : Module) (number : ℕ) (reason : SinkError) →
+    NamesHead m number (FmtError reason) → ⊥
+head_is_no_sink m number reason (OfBinding f b at is formless named) = named
+head_is_no_sink m number reason (OfStage p at formless named) = named
+
+-- and of those of a declaration
+pub declaration_is_no_sink : (m : Module) (reason : SinkError) → NamesDeclaration m (FmtError reason) → ⊥
+declaration_is_no_sink m reason (OfType ty is formless named) =
+    no_type_sink m (Handle ty) reason named
+declaration_is_no_sink m reason (OfInitialiser h is formless named) = no_global_sink m reason h named
+declaration_is_no_sink m reason (OfMember b is formless named) = named
+declaration_is_no_sink m reason (OfHead number head) = head_is_no_sink m number reason head
+
+
 -- nor is one that names an expression
 names_no_sink : (m : Module) (known : List ExpressionInfo) (es : List Expression)
     (e : Expression) (reason : SinkError) → NamesExpression m known es e (FmtError reason) → ⊥
@@ -228,7 +244,7 @@ names_no_sink m known es (AccessIndex base index) reason named =
 names_no_sink m known es _ reason named = named
 
 module _ (explicit : Bool) (m : Module) (info : ModuleInfo) (accepted : IsTrue (is_accepted m info))
-    (written : IsTrue (is_written_so_far m)) (i : ℕ) (f : ir_function.Function)
+    (i : ℕ) (f : ir_function.Function)
     (stands : slice_get (all_functions m) i ≡ Some f) where
   counted : length (all_functions m) ≡ length (all_infos info)
   counted = all_counted m info accepted

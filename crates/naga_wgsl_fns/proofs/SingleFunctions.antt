@@ -16,8 +16,7 @@ use Rattle.naga_names.proofs.Refusal.{element}
 use Rattle.module_meaning.specs.Accepted.{is_accepted}
 use Rattle.module_meaning.specs.ExpressionLabels.{expression_labels, name_of_label}
 use Rattle.module_meaning.specs.Names.{item_labels, labels_named_in, module_names, wgsl_names}
-use Rattle.module_meaning.specs.WrittenSoFar.{is_written_so_far}
-use Rattle.module_meaning.proofs.WrittenSoFar.{written_so_far_parts}
+use Rattle.module_meaning.specs.DeclarationForms.{HeadHasForm, entry_point_numbered}
 use Rattle.module_meaning.specs.FunctionNumbers.{all_functions, all_infos, function_number}
 use Rattle.naga_form.proofs.AcceptedFunctions.{all_counted}
 use Rattle.naga_form.proofs.Names.{is_identifier}
@@ -44,35 +43,12 @@ use Rattle.naga_wgsl_fns.specs.declared.error.Error.TheVariants.{FmtError, Memor
 use Rattle.naga_wgsl_fns.proofs.ExpressionNames.{named_are, none_full}
 use Rattle.naga_wgsl_fns.proofs.PlanRefusals.{planned_holds}
 
--- a module that is written so far has no entry points
-pub no_entry_point : (m : Module) → IsTrue (is_written_so_far m) → (index : ℕ) →
-    index < vec_len m.entry_points → ⊥
-no_entry_point m written index lt =
-    let declares = (written_so_far_parts m written).0 in
-    let one = and_parts (list_all (λ c. is_none c.name) m.constants) _ declares in
-    let two = and_parts (length m.overrides == 0) _ one.1 in
-    let three = and_parts (length m.global_variables == 0) (length m.entry_points.items == 0) two.1 in
-    let none : length m.entry_points.items ≡ 0 = eqb-true (length m.entry_points.items) 0 three.1 in
-    let counted : m.entry_points.len ≡ length m.entry_points.items = m.entry_points.ok.0 in
-    absurd (omega (arith, lt, none, counted))
-
 -- what comes from the sink or from memory tells of no module
 pub want_tells_nothing : (before after : ℕ) (error : Error) → IsWant before after error →
     TellsOfModule error → ⊥
 want_tells_nothing before after (FmtError e) is tells = tells
 want_tells_nothing before after (Memory e) is tells = tells
 want_tells_nothing before after _ is tells = is
-
--- ---- functions and entry points
-pub of_each : (ty : FunctionType) (Holds : ℕ → Type 0) → ((handle : ℕ) → Holds handle) →
-    OfFunction ty Holds
-of_each (item.Function handle) Holds all = all handle
-of_each (item.EntryPoint index) Holds all = tt
-
-pub of_one : (m : Module) (ty : FunctionType) (handle : ℕ) → ty ≡ item.Function handle →
-    (Holds : ℕ → Type 0) → Holds (function_number m ty) → OfFunction ty Holds
-of_one m ty handle is Holds holds =
-    subst (λ t. OfFunction t Holds) (sym is) (subst Holds (ap (function_number m) is) holds)
 
 -- a namer that has named some first labels of a function has named the items in front of them
 pub items_named : (m : Module) (handle : ℕ) (old new : Names) → HasNamedItemsOf m old →
@@ -101,16 +77,20 @@ items_named m handle old new items same r named =
     by (Ok _) has = with_more (labels_named_in m handle) has.0
     by (Err e) has = with_more has.1.named has.1.has
 
+-- ---- one function
 module _ (m : Module) (info : ModuleInfo) (flags : WriterFlags) (earlier : List (List ℕ))
-    (handle : ℕ) where
+    (ty : FunctionType) where
   abbrev explicit : Bool
   explicit = annotates_types flags
 
+  abbrev g : ℕ
+  g = function_number m ty
+
   abbrev labels : List (List ℕ)
-  labels = labels_named_in m handle
+  labels = labels_named_in m g
 
   abbrev whole : List ℕ
-  whole = text_behind m info flags earlier handle
+  whole = text_behind m info flags earlier g
 
   -- ---- in front of the text
   -- no label was named
@@ -129,12 +109,12 @@ module _ (m : Module) (info : ModuleInfo) (flags : WriterFlags) (earlier : List 
   module _ (content : List ℕ) (before : ℕ) where
     pub refused : (r : Result Unit Error) (error : Error) (namer : Names) →
         IsErrAnd r (λ e. e ≡ error) →
-        IsFunctionRefusal explicit m info earlier handle before before error →
+        IsFunctionRefusal explicit m info earlier g before before error →
         HasNamedSome namer earlier labels →
-        FunctionWriting m info flags earlier handle r namer content content before before
+        FunctionWriting m info flags earlier ty r namer content content before before
     refused (Ok _) error namer reported refusal some = absurd reported
     refused (Err e) error namer reported refusal some = record {
-      refusals = subst (IsFunctionRefusal explicit m info earlier handle before before) (sym reported) refusal;
+      refusals = subst (IsFunctionRefusal explicit m info earlier g before before) (sym reported) refusal;
       text_ok = tt;
       reading = tt;
       failures_ok = tt;
@@ -144,28 +124,27 @@ module _ (m : Module) (info : ModuleInfo) (flags : WriterFlags) (earlier : List 
       named_err = some;
     }
 
-    pub for_plan : (error : Error) → IsPlanRefusal explicit m info earlier handle error →
-        IsFunctionRefusal explicit m info earlier handle before before error
+    pub for_plan : (error : Error) → IsPlanRefusal explicit m info earlier g error →
+        IsFunctionRefusal explicit m info earlier g before before error
     for_plan (FmtError e) refusal = absurd refusal.0
     for_plan (Memory e) refusal = tt
-    for_plan (Unimplemented message) refusal = inr refusal.1
-    for_plan _ refusal = refusal.1
+    for_plan _ refusal = inr refusal.1
 
-    pub for_part : (error : Error) → IsNotYetWritten error → IsFalse (is_written_so_far m) →
-        IsFunctionRefusal explicit m info earlier handle before before error
-    for_part (Unimplemented message) is part = inl (is, part)
-    for_part (Memory e) is part = tt
-    for_part _ is part = absurd is
+    pub for_head : (error : Error) → NamesHead m g error →
+        IsFunctionRefusal explicit m info earlier g before before error
+    for_head (FmtError e) named = absurd (head_is_no_sink m g e named)
+    for_head (Memory e) named = tt
+    for_head _ named = inl named
 
   -- ---- the text
   for_want : (before after : ℕ) (error : Error) → IsWant before after error →
-      IsFunctionRefusal explicit m info earlier handle before after error
+      IsFunctionRefusal explicit m info earlier g before after error
   for_want before after (FmtError e) is = is
   for_want before after (Memory e) is = tt
   for_want before after _ is = absurd is
 
-  identifiers : (f : ir_function.Function) → slice_get (all_functions m) handle ≡ Some f → (k : ℕ) →
-      k < length (expression_labels f) → IsIdentifier (named_behind m earlier handle k)
+  identifiers : (f : ir_function.Function) → slice_get (all_functions m) g ≡ Some f → (k : ℕ) →
+      k < length (expression_labels f) → IsIdentifier (named_behind m earlier g k)
   identifiers f stands k lt =
       let label = element (expression_labels f) k lt in
       let same = ap (λ o. name_of_label wgsl_names earlier (option_map_or expression_labels o []) k) stands in
@@ -173,50 +152,84 @@ module _ (m : Module) (info : ModuleInfo) (flags : WriterFlags) (earlier : List 
       label.1 in
       subst IsIdentifier (sym (same ∙ name)) (is_identifier (earlier ++ take k (expression_labels f)) label.0)
 
-  module _ (accepted : IsTrue (is_accepted m info)) (written : IsTrue (is_written_so_far m))
-      (there : handle < length (all_functions m)) (old new : Names) (words : HasOtherUses wgsl_names old)
-      (has : HasNamed old earlier) (planned : Planned) (plan : IsPlanOf explicit m info handle planned)
+  module _ (accepted : IsTrue (is_accepted m info)) (head : HeadHasForm m g)
+      (there : IsFunctionOf ty m) (old new : Names) (words : HasOtherUses wgsl_names old)
+      (has : HasNamed old earlier) (planned : Planned) (plan : IsPlanOf explicit m info g planned)
       (named : NamesLabels old [] labels new planned.named) where
+    within : g < length (all_functions m)
+    within = number_within m ty there
+
     abbrev f : ir_function.Function
-    f = (element (all_functions m) handle there).0
+    f = (element (all_functions m) g within).0
 
-    stands : slice_get (all_functions m) handle ≡ Some f
-    stands = (element (all_functions m) handle there).1
+    stands : slice_get (all_functions m) g ≡ Some f
+    stands = (element (all_functions m) g within).1
 
-    known : (es : List ExpressionInfo) × (slice_get (all_infos info) handle ≡ Some es)
+    known : (es : List ExpressionInfo) × (slice_get (all_infos info) g ≡ Some es)
     known =
         let counted = all_counted m info accepted in
-        element (all_infos info) handle (omega (arith, there, counted))
+        element (all_infos info) g (omega (arith, within, counted))
 
     abbrev form : Function
-    form = function_form explicit (module_names m) (named_behind m earlier handle) m info handle f
-        (known_of info handle)
+    form = function_form explicit (module_names m) (named_behind m earlier g) m info g f
+        (known_of info g)
 
     is_function : IsFunction form
     is_function =
         let here = plan f known.0 stands known.1 in
-        let same : known_of info handle ≡ known.0 = ap (λ o. unwrap_or o []) known.1 in
+        let same : known_of info g ≡ known.0 = ap (λ o. unwrap_or o []) known.1 in
         subst
-        (λ es. IsFunction (function_form explicit (module_names m) (named_behind m earlier handle) m info
-        handle f es))
+        (λ es. IsFunction (function_form explicit (module_names m) (named_behind m earlier g) m info
+        g f es))
         (sym same)
-        (one_is explicit m info accepted (named_behind m earlier handle) handle f stands known.0
+        (one_is explicit m info accepted (named_behind m earlier g) g f stands known.0
         known.1 (identifiers f stands) here.formed (leb-true (length f.expressions) (2 ^ 64) here.counted))
 
-    one_reading : HasOneReading ReadsFunction whole form
-    one_reading =
-        subst (λ t. HasOneReading ReadsFunction t form)
-        (sym (ap
+    -- its text, behind that of its stage
+    whole_is : whole ≡ stage_before m g ++ function_layout form
+    whole_is =
+        ap
         (λ o. option_map_or
-        (λ f. text_of m info flags (named_behind m earlier handle) handle f (known_of info handle)) o [])
-        stands))
-        (function_has_one_reading form is_function)
+        (λ f. text_of m info flags (named_behind m earlier g) g f (known_of info g)) o [])
+        stands
+
+    -- one reading, as what it is
+    reads_one : (content now : List ℕ) → now ≡ content ++ whole → AppendsOne ty content now
+    reads_one content now appended = by ty there refl
+      where
+        by : (t : FunctionType) → IsFunctionOf t m → ty ≡ t → AppendsOne t content now
+        by (item.Function h) lt is = record {
+          text = whole;
+          appended = appended;
+          function = form;
+          reading = subst (λ t. HasOneReading ReadsFunction t form)
+              (sym (whole_is ∙ ap (λ t. t ++ function_layout form)
+              (ap (λ o. option_map_or (stage_text m) o [])
+              (ap (entry_point_numbered m) (ap (function_number m) is) ∙ no_entry_point m h lt))))
+              (function_has_one_reading form is_function);
+        }
+        by (item.EntryPoint j) lt is =
+            let p = element m.entry_points.items j (entry_point_within m j lt) in
+            let point : EntryPoint = record { stage = stage_attributes (module_names m) p.0 p.0.stage; function = form } in
+            let found = ap (entry_point_numbered m) (ap (function_number m) is) ∙ entry_point_there m j p.0 p.1 in
+            let stage = stage_there m info accepted j p.0 p.1 (head.stage p.0 found) in
+            record {
+              text = whole;
+              appended = appended;
+              entry_point = point;
+              reading = subst (λ t. HasOneReading ReadsEntryPoint t point)
+                  (sym (whole_is
+                  ∙ ap (λ o. option_map_or (stage_text m) o [] ++ function_layout form) found
+                  ∙ sym (point_layout m p.0 form)))
+                  (entry_point_has_one_reading point
+                  (record { attributes = stage.0; stage = stage.1; function = is_function }));
+            }
 
     -- the names of the plan are those behind the earlier labels
-    text_same : text_under m info flags (names_of planned) handle ≡ whole
+    text_same : text_under m info flags (names_of planned) g ≡ whole
     text_same =
-        ap (λ names. text_under m info flags names handle)
-        (λ i number. named_are m handle earlier old words planned.named (named.names earlier has) number i)
+        ap (λ names. text_under m info flags names g)
+        (λ i number. named_are m g earlier old words planned.named (named.names earlier has) number i)
 
     new_words : HasOtherUses wgsl_names new
     new_words = named.words ∙ ap (λ (o : Names). record o { uses = new.uses }) words
@@ -225,22 +238,20 @@ module _ (m : Module) (info : ModuleInfo) (flags : WriterFlags) (earlier : List 
     new_named = named.labels_named earlier has
 
     pub writes : (r : Result Unit Error) (content now : List ℕ) (before after : ℕ) →
-        OnOk r (now ≡ content ++ text_under m info flags (names_of planned) handle) →
-        OnErr r (IsBehind content (text_under m info flags (names_of planned) handle) now) →
+        OnOk r (now ≡ content ++ text_under m info flags (names_of planned) g) →
+        OnErr r (IsBehind content (text_under m info flags (names_of planned) g) now) →
         OnOk r (after ≡ before) → IfErr r (IsWant before after) →
-        FunctionWriting m info flags earlier handle r new content now before after
+        FunctionWriting m info flags earlier ty r new content now before after
     writes (Ok _) content now before after text_ok text_err kept reason =
         let appended = text_ok ∙ ap (λ t. content ++ t) text_same in
         record {
-          refusals = planned_holds explicit m info earlier handle planned plan
-              (none_full m handle earlier new new_words new_named);
-          text_ok = appended;
-          reading = record {
-            text = whole;
-            appended = appended;
-            function = form;
-            reading = one_reading;
+          refusals = record {
+            head = head;
+            plan = planned_holds explicit m info earlier g planned plan
+                (none_full m g earlier new new_words new_named);
           };
+          text_ok = appended;
+          reading = reads_one content now appended;
           failures_ok = kept;
           text_err = tt;
           untouched = tt;

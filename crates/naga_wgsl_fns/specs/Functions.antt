@@ -3,7 +3,6 @@ use Rattle.std.specs.Prelude.{◌≡◌, ℕ, Bool, List, [], ◌∷◌, ◌++�
 use Rattle.std.specs.Prelude.{get_or, unwrap_or, ◌==◌, if◌then◌else◌}
 use Rattle.std.specs.Option.{option_map, option_map_or}
 use Rattle.naga_ir.specs.declared.module.Function as ir
-use Rattle.naga_ir.specs.declared.module.EntryPoint.{EntryPoint}
 use Rattle.naga_ir.specs.declared.module.FunctionArgument.{FunctionArgument}
 use Rattle.naga_ir.specs.declared.module.FunctionResult.{FunctionResult}
 use Rattle.naga_ir.specs.declared.module.LocalVariable.{LocalVariable}
@@ -13,25 +12,25 @@ use Rattle.naga_info.specs.declared.info.ModuleInfo.{ModuleInfo}
 use Rattle.shader_runs.specs.Scope.{at_start}
 use Rattle.module_meaning.specs.DeclarationForms.{entry_point_numbered}
 use Rattle.module_meaning.specs.Names.{expression_name, module_names}
-use Rattle.wgsl_text.specs.Attributes.{attributes_pieces}
 use Rattle.wgsl_text.specs.Expressions.{Expression}
 use Rattle.naga_form.specs.Expressions.{value_form}
 use Rattle.wgsl_text.specs.Functions.{Local, Function, value_pieces, parameter_pieces}
 use Rattle.wgsl_text.specs.Functions.{parameters_pieces, result_pieces, locals_pieces, group_end}
 use Rattle.wgsl_text.specs.Functions.{function_pieces}
-use Rattle.naga_form.specs.Attributes.{passing_attributes, stage_attributes}
+use Rattle.naga_form.specs.Attributes.{passing_attributes}
 use Rattle.naga_form.specs.Functions.{parameter_form, function_form}
 use Rattle.naga_form.specs.Types.{type_form}
 use Rattle.naga_scope.specs.Plans.{Planned}
 use Rattle.naga_scope.specs.declared.points.Availability.{Availability}
 use Rattle.wgsl_text.specs.Text.{text}
-use Rattle.wgsl_text.specs.Token.{LineEnd}
 use Rattle.naga_back.specs.declared.flags.WriterFlags.{WriterFlags}
 use Rattle.naga_wgsl_fns.specs.declared.functions.FunctionText.{FunctionText}
 use Rattle.naga_wgsl_fns.specs.FunctionText.{named_in, handles_in, source, naming}
 use Rattle.naga_wgsl_fns.specs.FunctionText.{annotates_types, number, type_names_of}
 use Rattle.module_meaning.specs.FunctionNumbers.{all_functions, all_infos}
+use Rattle.naga_wgsl_fns.specs.Attributes.{attributes_text}
 use Rattle.naga_wgsl_fns.specs.Names.{name_of_function}
+use Rattle.naga_wgsl_fns.specs.Stages.{stage_text}
 use Rattle.naga_wgsl_fns.specs.Statements.{lines_text}
 use Rattle.naga_wgsl_fns.specs.Types.{type_text}
 
@@ -43,14 +42,9 @@ known_of info number = unwrap_or (slice_get (all_infos info) number) []
 abbrev pub names_of : Planned → (number : ℕ) → List ℕ
 names_of plan number = get_or plan.named number []
 
--- the attributes of an entry point's stage, on a line of their own
-abbrev pub stage_line : Module → EntryPoint → List ℕ
-stage_line m p =
-    text (attributes_pieces (stage_attributes (module_names m) p p.stage) ++ (LineEnd ∷ []))
-
--- those of the entry point with this number; nothing in front of a function that others may call
-abbrev pub stage_text : Module → (number : ℕ) → List ℕ
-stage_text m number = option_map_or (stage_line m) (entry_point_numbered m number) []
+-- the stage of the entry point with this number; nothing in front of a function that others may call
+abbrev pub stage_before : Module → (number : ℕ) → List ℕ
+stage_before m number = option_map_or (stage_text m) (entry_point_numbered m number) []
 
 -- the text of a function of the module, behind that of its stage, with what is known of its
 -- expressions and the names that front ends gave in it
@@ -59,7 +53,7 @@ abbrev pub text_of :
     List ExpressionInfo → List ℕ
 text_of m info flags named number f known =
     let form = function_form (annotates_types flags) (module_names m) named m info number f known in
-    stage_text m number ++ text (function_pieces form)
+    stage_before m number ++ text (function_pieces form)
 
 -- the same of the module's function with this number; nothing, where there is none
 abbrev pub text_under :
@@ -86,7 +80,7 @@ function_text f = text (function_pieces (form_of f))
 
 -- with its stage
 unfoldable pub item_text : FunctionText → List ℕ
-item_text f = stage_text f.shader.now (number f) ++ function_text f
+item_text f = stage_before f.shader.now (number f) ++ function_text f
 
 -- ---- the head
 unfoldable pub arguments_text : FunctionText → List ℕ
@@ -117,7 +111,7 @@ next_argument_text f n argument = separator n ++ argument_text f n argument
 -- what is returned: how it passes, and its type
 unfoldable pub answer_text : FunctionText → FunctionResult → List ℕ
 answer_text f answer =
-    codes " -> " ++ (text (attributes_pieces (passing_attributes answer.binding)) ++ type_text f answer.ty)
+    codes " -> " ++ (attributes_text (passing_attributes answer.binding) ++ type_text f answer.ty)
 
 -- ---- the body
 -- the table has what is in scope at the start

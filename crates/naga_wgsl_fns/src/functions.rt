@@ -24,7 +24,7 @@ ghost use Rattle.naga_wgsl_fns.specs.Functions.{StartsAt, answer_text, argument_
 ghost use Rattle.naga_wgsl_fns.specs.Functions.{arguments_text, body_text, first_text};
 ghost use Rattle.naga_wgsl_fns.specs.Functions.{first_value_text, function_text, group_end_text};
 ghost use Rattle.naga_wgsl_fns.specs.Functions.{head_text, item_text, local_text, locals_text};
-ghost use Rattle.naga_wgsl_fns.specs.Functions.{next_argument_text, result_text, stage_text};
+ghost use Rattle.naga_wgsl_fns.specs.Functions.{next_argument_text, result_text, stage_before};
 ghost use Rattle.naga_wgsl_fns.specs.Functions.{names_of, text_under};
 
 use crate::Error;
@@ -130,17 +130,17 @@ impl FunctionText<'_> {
         requires room { HasRoom scope.old (block_changes self.now.function.now.body) }
         ensures { Writes W.text W.failures out.old out.new (item_text self.now) }
     {
-        self.write_stage(out);
+        self.write_own_stage(out);
         self.write_declaration(alloc, scope, out);
     }
 
     /// The attributes of an entry point's stage, on a line of their own; nothing for a function that
     /// others may call.
     #[tactic(auto, using(naga_words::proofs::Writing::writes_nothing, crate::proofs::FunctionRows::stage_row))]
-    fn write_stage<W: TextSink>(&self, out: &mut Output<'_, W>)
+    fn write_own_stage<W: TextSink>(&self, out: &mut Output<'_, W>)
         requires { CanWrite self.now }
         ensures { Writes W.text W.failures out.old out.new
-            (stage_text self.now.shader.now (number self.now)) }
+            (stage_before self.now.shader.now (number self.now)) }
     {
         match self.ty {
             FunctionType::Function(_) => {}

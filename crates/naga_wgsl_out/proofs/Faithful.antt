@@ -4,19 +4,16 @@ use Rattle.std.proofs.Common.{ap, append-nil, drop, inl, inr, length, subst, sym
 use Rattle.std.proofs.Common.{slice_get}
 use Rattle.std.proofs.lemmas.Option.{slice_get_within}
 use Rattle.naga_ir.specs.declared.module.Function.{Function}
-use Rattle.std.specs.Prelude.{IfErr, IsErrAnd, IsTrue, OnErr, OnOk, Result}
+use Rattle.std.specs.Prelude.{◌⊎◌, IfErr, IsErrAnd, IsTrue, OnErr, OnOk, Result}
 use Rattle.naga_ir.specs.declared.module.Module.{Module}
 use Rattle.module_meaning.specs.Accepted.{is_accepted}
-use Rattle.module_meaning.specs.Enables.{needed_enables}
-use Rattle.module_meaning.specs.WrittenSoFar.{is_written_so_far}
+use Rattle.module_meaning.specs.DeclarationForms.{DeclarationsHaveForms}
 use Rattle.wgsl_text.specs.Declarations.{Program}
 use Rattle.naga_form.specs.Declarations.{written_program}
 use Rattle.module_meaning.specs.FunctionNumbers.{all_functions}
-use Rattle.naga_form.proofs.WritableModules.{no_further_functions}
 use Rattle.naga_form.proofs.Resolution.{resolves}
 use Rattle.naga_form.proofs.Interface.{has_interface}
 use Rattle.naga_form.proofs.Programs.{is_program}
-use Rattle.naga_form.proofs.AcceptedFunctions.{functions_counted}
 use Rattle.naga_info.specs.declared.info.ModuleInfo.{ModuleInfo}
 use Rattle.naga_names.specs.Keys.{NameMap}
 use Rattle.wgsl_text.specs.Reading.{Reads, HasOneReading}
@@ -31,21 +28,20 @@ use Rattle.naga_words.specs.Sink.{IsBehind}
 use Rattle.naga_words.proofs.Writing.{behind_then}
 use Rattle.naga_wgsl_fns.proofs.Appending.{stopped_first, stopped_then, wrote_then}
 use Rattle.naga_wgsl_fns.specs.Appends.{StoppedWithin, Wrote}
-use Rattle.naga_wgsl_fns.specs.Errors.{IsWant, IsNotYetWritten}
+use Rattle.naga_wgsl_fns.specs.Errors.{IsWant}
 use Rattle.naga_wgsl_fns.specs.declared.error.Error.{Error}
-use Rattle.naga_wgsl_fns.specs.declared.error.Error.TheVariants.{FmtError, Custom, Unimplemented}
-use Rattle.naga_wgsl_fns.specs.declared.error.Error.TheVariants.{Memory}
+use Rattle.naga_wgsl_fns.specs.declared.error.Error.TheVariants.{FmtError, Custom, Memory}
 use Rattle.naga_back.specs.declared.flags.WriterFlags.{WriterFlags}
 use Rattle.naga_wgsl_fns.specs.FunctionText.{annotates_types}
-use Rattle.naga_wgsl_out.specs.Enables.{enables_text}
 use Rattle.naga_wgsl_out.specs.Writing.{HasPlan, MetNoPlan, WritesFunctions, WroteFunctions}
-use Rattle.naga_wgsl_out.specs.Writing.{WroteFunctionsBefore, lines_before, module_lines}
+use Rattle.naga_wgsl_out.specs.Writing.{WroteFunctionsBefore, front_text, lines_before, module_lines}
 use Rattle.naga_wgsl_out.specs.Writing.{written_text}
 use Rattle.naga_wgsl_out.proofs.Functions.{lines_behind, lines_split, written_lines}
 use Rattle.naga_wgsl_out.proofs.ModuleScopes.{all_planned_counted, all_planned_formed, all_planned_hold}
 use Rattle.naga_wgsl_out.proofs.ModuleScopes.{fault_refuses, fault_reported}
-use Rattle.naga_wgsl_fns.specs.Refusals.{TellsOfModule}
+use Rattle.naga_wgsl_fns.specs.Refusals.{TellsOfForm, TellsOfFullNamer, TellsOfModule, TellsOfScope}
 use Rattle.naga_wgsl_out.specs.ModuleRefusals.{ComesBeforeText, HasAllNames, IsNamesRefusal}
+use Rattle.naga_wgsl_out.specs.ModuleRefusals.{ItemsAreFull}
 use Rattle.naga_wgsl_out.specs.ModuleRefusals.{IsRefusal, NamerIsFull, TellsOfFunction}
 use Rattle.naga_wgsl_out.proofs.ExpressionNames.{none_past}
 use Rattle.naga_wgsl_out.specs.Headline.{EachReading, FaithfulWriting}
@@ -83,14 +79,6 @@ for_want explicit m info (FmtError e) before after is = is
 for_want explicit m info (Memory e) before after is = tt
 for_want explicit m info _ before after is = absurd is
 
--- and so is what is not written so far
-pub for_part : (explicit : Bool) (m : Module) (info : ModuleInfo) (error : Error)
-    (before after : ℕ) → IsNotYetWritten error → is_written_so_far m ≡ false →
-    IsRefusal explicit m info before after error
-for_part explicit m info (Unimplemented message) before after is part = inl (is, part)
-for_part explicit m info (Memory e) before after is part = tt
-for_part explicit m info _ before after is part = absurd is
-
 -- ---- what errors tell
 -- what comes from the sink or from memory tells of no module
 pub want_tells_nothing : (error : Error) (before after : ℕ) → IsWant before after error →
@@ -100,14 +88,19 @@ want_tells_nothing (Memory e) before after is tells = tells
 want_tells_nothing _ before after is tells = is
 
 pub function_tells_of_module : (m : Module) (error : Error) → TellsOfFunction m error → TellsOfModule error
-function_tells_of_module m (Custom message) reported = tt
-function_tells_of_module m error (inr (inl reported)) = reported.0
-function_tells_of_module m _ (inr (inr reported)) = absurd reported.0
-function_tells_of_module m _ (inl reported) = absurd reported
+function_tells_of_module m error reported = by error reported.tells
+  where
+    by : (error : Error) →
+        (TellsOfScope error ⊎ (TellsOfForm error ⊎ (TellsOfFullNamer error × (ItemsAreFull m → ⊥)))) →
+        TellsOfModule error
+    by (Custom message) tells = tt
+    by error (inr (inl tells)) = tells.0
+    by _ (inr (inr tells)) = absurd tells.0
+    by _ (inl tells) = absurd tells
 
 -- a text that was appended
 module _ (m : Module) (info : ModuleInfo) (flags : WriterFlags)
-    (accepted : IsTrue (is_accepted m info)) (written : IsTrue (is_written_so_far m))
+    (accepted : IsTrue (is_accepted m info)) (declarations : DeclarationsHaveForms m)
     (names : NameMap) (has : HasAllNames m names) where
   abbrev explicit : Bool
   explicit = annotates_types flags
@@ -116,22 +109,17 @@ module _ (m : Module) (info : ModuleInfo) (flags : WriterFlags)
   abbrev AllPlanned : Type 0
   AllPlanned = (i : ℕ) → i < length (all_functions m) → HasPlan explicit m info i
 
-  -- so it is where those that others may call have one, since there are no others so far
-  all_planned : ((i : ℕ) → i < length m.functions → HasPlan explicit m info i) → AllPlanned
-  all_planned planned i lt =
-      planned i (subst (λ fs. i < length fs) (no_further_functions m info accepted written) lt)
-
   abbrev program : Program
   program = written_program m info explicit
 
   -- what stands in front of its functions
   abbrev front : List ℕ
-  front = enables_text (needed_enables m)
+  front = front_text m
 
   one : AllPlanned → HasOneReading Reads (written_text m info flags) program
   one planned =
       program_has_one_reading program (is_program m info explicit accepted
-      written (all_planned_formed explicit m info planned) (all_planned_counted explicit m info accepted planned))
+      declarations (all_planned_formed explicit m info planned) (all_planned_counted explicit m info accepted planned))
 
   each : AllPlanned → (content now : List ℕ) → now ≡ content ++ written_text m info flags →
       (Q : Program → Type 0) → Q program → EachReading content now Q
@@ -200,14 +188,14 @@ module _ (m : Module) (info : ModuleInfo) (flags : WriterFlags)
       wrote w =
           let whole = wrote_then stands w.wrote in
           let appended = whole.appended ∙ ap (λ t. content ++ t) same_text in
-          let planned = all_planned w.planned in
-          let rules = all_planned_hold explicit m info written planned in
+          let planned = w.planned in
+          let rules = all_planned_hold explicit m info planned in
           let have = all_planned_formed explicit m info planned in
           let reading = each planned content now appended in
           record {
             is_faithful = record {
               refusals = record {
-                written = written;
+                declarations = declarations;
                 in_scope = rules;
                 formed = have;
                 nameable = none_reported planned;
@@ -219,13 +207,14 @@ module _ (m : Module) (info : ModuleInfo) (flags : WriterFlags)
                 program = program;
                 reading = one planned;
               };
-              interface = reading (HasInterfaceOf m info) (has_interface m info explicit written (functions_counted m info accepted));
+              interface = reading (HasInterfaceOf m info)
+                  (has_interface m info explicit accepted declarations have rules);
               runs = reading (RunsAs m info)
-                  (runs_as m info explicit accepted written have rules);
+                  (runs_as m info explicit accepted declarations have rules);
             };
             resolved = reading (ResolvesAs m info)
-                (resolves m info explicit accepted written have rules);
-            binds = reading (BindsAs m info explicit) (binds_as m info explicit accepted written have);
+                (resolves m info explicit accepted declarations have rules);
+            binds = reading (BindsAs m info explicit) (binds_as m info explicit accepted declarations have);
             text_ok = appended;
             text_err = tt;
             untouched = tt;
@@ -238,7 +227,7 @@ module _ (m : Module) (info : ModuleInfo) (flags : WriterFlags)
           Concludes (Err e) content now before after
       met_no_plan e s = record {
         is_faithful = refused explicit m info e content now before after
-            (fault_refuses explicit m info s.before.handle before after written e s.tells s.fault);
+            (fault_refuses explicit m info s.before.handle before after e s.tells s.fault);
         resolved = tt;
         binds = tt;
         text_ok = tt;
@@ -251,7 +240,7 @@ module _ (m : Module) (info : ModuleInfo) (flags : WriterFlags)
             ));
         untouched = λ first.
             absurd (first.1
-            (fault_reported explicit m info s.before.handle has.nameable e s.tells s.fault));
+            (fault_reported explicit m info s.before.handle declarations has.nameable e s.tells s.fault));
         written_before = λ reported.
             subst (λ t. WroteFunctionsBefore m info flags t now) stands.appended s.before;
         unfailed = λ tells. s.kept ∙ stands.kept;

@@ -1,26 +1,39 @@
--- The text of a module from those of its functions.
-use Rattle.std.proofs.Common.{◌≡◌, ◌+◌, ◌<◌, ◌∙◌, ◌++◌, ℕ, zero, suc, List, [], ◌∷◌, Some}
+-- The text of a module from those of its functions and entry points.
+use Rattle.std.proofs.Common.{◌≡◌, ◌+◌, ◌-◌, ◌<◌, ◌≤◌, ◌∙◌, ◌++◌, ℕ, zero, suc, List, [], ◌∷◌, Some}
+use Rattle.std.proofs.Common.{Bool, true, false, None, Option, nat_lt}
 use Rattle.std.proofs.Common.{append-nil, append_assoc, add-one, ap, arith, below_more, codes, drop}
 use Rattle.std.proofs.Common.{drop-cons, get_or, inl, inr, length, pred, refl, slice_get, subst}
 use Rattle.std.proofs.Common.{Err, Ok, Result, sym, take, unwrap_or}
-use Rattle.std.specs.Prelude.{◌⊎◌, IsErrAnd, IsTrue}
+use Rattle.std.specs.Prelude.{◌⊎◌, IsErrAnd, IsTrue, if◌then◌else◌}
 use Rattle.std.specs.List.{enumerate_from}
 use Rattle.std.specs.Option.{option_map_or}
+use Rattle.std.proofs.lemmas.Bool.{le-ltb, lt-ltb}
 use Rattle.std.proofs.lemmas.Grind.{flat_map-append}
 use Rattle.std.proofs.lemmas.List.{get_or_default, take-append-drop, take_all, take_more}
 use Rattle.std.proofs.lemmas.List.FromFn.{length-enumerate_from}
+use Rattle.naga_ir.specs.declared.module.EntryPoint.{EntryPoint}
 use Rattle.naga_ir.specs.declared.module.Function.{Function}
 use Rattle.naga_ir.specs.declared.module.Module.{Module}
 use Rattle.naga_info.specs.declared.info.ExpressionInfo.{ExpressionInfo}
 use Rattle.naga_info.specs.declared.info.ModuleInfo.{ModuleInfo}
 use Rattle.module_meaning.specs.Accepted.{is_accepted}
-use Rattle.wgsl_text.specs.Token.{LineEnd}
-use Rattle.wgsl_text.specs.Declarations.{enables_pieces}
-use Rattle.wgsl_text.specs.Functions.{function_pieces, functions_pieces, group_end}
+use Rattle.module_meaning.specs.DeclarationForms.{entry_point_numbered}
+use Rattle.module_meaning.specs.FunctionNumbers.{all_functions, entry_functions}
+use Rattle.wgsl_text.specs.Attributes.{attributes_pieces}
+use Rattle.wgsl_text.specs.Token.{LineEnd, Piece}
+use Rattle.wgsl_text.specs.Declarations.{constants_pieces, enables_pieces, globals_pieces}
+use Rattle.wgsl_text.specs.Declarations.{overrides_pieces, structs_pieces}
+use Rattle.wgsl_text.specs.Functions.{entry_point_pieces, entry_points_pieces, function_pieces}
+use Rattle.wgsl_text.specs.Functions.{functions_pieces, group_end, more_entry_points_pieces}
+use Rattle.wgsl_text.specs.Functions.{EntryPoint as EntryPointTree, Function as FunctionTree}
+use Rattle.naga_form.specs.Attributes.{stage_attributes}
+use Rattle.naga_form.specs.Declarations.{entry_point_form, entry_points_form, written_program}
 use Rattle.naga_form.specs.Functions.{function_form, functions_form}
+use Rattle.wgsl_text.proofs.Declarations.{program_text}
 use Rattle.wgsl_text.proofs.Text.{text-append}
 use Rattle.naga_names.proofs.Refusal.{element}
-use Rattle.naga_form.proofs.AcceptedFunctions.{functions_counted}
+use Rattle.naga_form.proofs.AcceptedFunctions.{entry_points_counted, functions_counted}
+use Rattle.naga_form.proofs.AcceptedFunctions.{entry_info_among}
 use Rattle.wgsl_text.specs.Text.{text}
 use Rattle.naga_names.specs.Naming.{Names}
 use Rattle.naga_scope.specs.ExpressionNames.{NamesLabels}
@@ -29,101 +42,243 @@ use Rattle.module_meaning.specs.Enables.{needed_enables}
 use Rattle.module_meaning.specs.Names.{expression_name, labels_before, labels_named_in}
 use Rattle.module_meaning.specs.Names.{module_names}
 use Rattle.naga_wgsl_fns.specs.Appends.{StoppedWithin, Wrote}
+use Rattle.naga_wgsl_fns.specs.Attributes.{attributes_text}
 use Rattle.naga_wgsl_fns.specs.FunctionText.{annotates_types}
-use Rattle.naga_wgsl_fns.specs.Functions.{known_of, text_of_function}
+use Rattle.naga_wgsl_fns.specs.Functions.{known_of, text_of, text_of_function}
+use Rattle.naga_wgsl_fns.specs.Stages.{stage_text}
 use Rattle.naga_wgsl_fns.specs.declared.error.Error.{Error}
 use Rattle.naga_wgsl_fns.specs.declared.error.Error.TheVariants.{Memory}
 use Rattle.naga_wgsl_fns.proofs.Appending.{stopped_first, stopped_then, wrote_nothing, wrote_then}
 use Rattle.naga_back.specs.declared.flags.WriterFlags.{WriterFlags}
 use Rattle.naga_wgsl_fns.specs.Refusals.{IsFault, IsPlanRefusal, TellsOfModule}
-use Rattle.naga_wgsl_out.specs.Enables.{enables_text}
+use Rattle.naga_wgsl_out.specs.Constants.{constants_of, overrides_of}
+use Rattle.naga_wgsl_out.specs.Declarations.{declarations_text}
 use Rattle.naga_wgsl_out.specs.ModuleRefusals.{HasNamedBefore}
+use Rattle.naga_wgsl_out.specs.Structs.{structs_of}
+use Rattle.naga_wgsl_out.specs.Variables.{globals_of}
 use Rattle.naga_wgsl_out.specs.Writing.{HasPlan, IsNamedPlan, MetNoPlan, WritesFunctions}
-use Rattle.naga_wgsl_out.specs.Writing.{WroteFunctions}
+use Rattle.naga_wgsl_out.specs.Writing.{WroteFunctions, front_text, line_before, line_behind}
 use Rattle.naga_wgsl_out.specs.Writing.{line_of, lines_before, lines_of, module_lines, written_text}
 use Rattle.naga_wgsl_out.proofs.ExpressionNames.{named_plan, none_full}
 use Rattle.naga_wgsl_fns.proofs.PlanRefusals.{fault_fails}
 use Rattle.naga_wgsl_out.proofs.ModuleScopes.{has_plan_holds}
-use Rattle.module_meaning.proofs.FunctionNumbers.{below_all, function_among, info_among}
+use Rattle.module_meaning.proofs.FunctionNumbers.{info_among}
 
-functions_text : (m : Module) (info : ModuleInfo) (flags : WriterFlags) (g : ℕ) (fs : List Function)
-    (ess : List (List ExpressionInfo)) → length fs ≡ length ess →
-    ((i : ℕ) (es : List ExpressionInfo) → slice_get ess i ≡ Some es → known_of info (g + i) ≡ es) →
-    text (functions_pieces
-    (functions_form (annotates_types flags) (module_names m) m info g fs ess)) ≡
-    lines_of m info flags (enumerate_from g fs)
-functions_text m info flags g [] [] size known = refl
-functions_text m info flags g [] (es ∷ ess) size known = refl
-functions_text m info flags g (f ∷ fs) [] size known = absurd (cc)
-functions_text m info flags g (f ∷ fs) (es ∷ ess) size known =
-    let own = λ (ks : List ExpressionInfo). function_pieces (function_form (annotates_types flags) (module_names m) (expression_name m g) m info g f ks) in
-    let here : g + 0 ≡ g = omega arith in
-    let same : known_of info g ≡ es = ap (known_of info) (sym here) ∙ known 0 es refl in
-    text-append (own es) (LineEnd ∷ functions_pieces (functions_form (annotates_types flags) (module_names m) m info (g + 1) fs ess))
-    ∙ (ap (λ rest. text (own es) ++ (10 ∷ rest)) (functions_text m info flags (g + 1) fs ess (ap pred size) later)
-    ∙ (ap (λ ks. text (own ks) ++ (10 ∷ lines_of m info flags (enumerate_from (g + 1) fs))) (sym same)
-    ∙ sym (append_assoc (text (own (known_of info g))) (codes "\n") (lines_of m info flags (enumerate_from (g + 1) fs)))))
-  where
-    later : (i : ℕ) (ks : List ExpressionInfo) → slice_get ess i ≡ Some ks → known_of info ((g + 1) + i) ≡ ks
-    later i ks at = let moved : g + suc i ≡ (g + 1) + i = omega arith in subst (λ h. known_of info h ≡ ks) moved (known (suc i) ks at)
+-- behind the numbered items of a list stand those of another, numbered on
+numbered_on : {X : Type 0} (n : ℕ) (xs ys : List X) →
+    enumerate_from n (xs ++ ys) ≡ enumerate_from n xs ++ enumerate_from (n + length xs) ys
+numbered_on n [] ys = let same : n ≡ n + 0 = omega arith in ap (λ k. enumerate_from k ys) same
+numbered_on n (x ∷ xs) ys =
+    let moved : (n + 1) + length xs ≡ n + suc (length xs) = omega arith in
+    ap (λ more. (n, x) ∷ more)
+    (numbered_on (n + 1) xs ys ∙ ap (λ k. enumerate_from (n + 1) xs ++ enumerate_from k ys) moved)
 
--- so far a module's text is what it enables and its functions
+-- ---- the lines of functions and of entry points
+module _ (m : Module) (info : ModuleInfo) (flags : WriterFlags) where
+  -- a function by its number, of whose expressions this is known
+  abbrev own_text : ℕ → Function → List ExpressionInfo → List ℕ
+  own_text g f es =
+      text (function_pieces (function_form (annotates_types flags) (module_names m) (expression_name m g) m info g f es))
+
+  lines_are : (g : ℕ) (f : Function) (before behind : Bool) (stage : Option EntryPoint) →
+      nat_lt (length m.functions) g ≡ before → nat_lt g (length m.functions) ≡ behind →
+      entry_point_numbered m g ≡ stage →
+      line_of m info flags (g, f) ≡
+      (if before then codes "\n" else []) ++
+      ((option_map_or (stage_text m) stage [] ++ own_text g f (known_of info g)) ++ (if behind then codes "\n" else []))
+  lines_are g f before behind stage is_before is_behind is =
+      λ i. (if is_before i then codes "\n" else []) ++
+      ((option_map_or (stage_text m) (is i) [] ++ own_text g f (known_of info g)) ++ (if is_behind i then codes "\n" else []))
+
+  function_line : (h : ℕ) (f : Function) → h < length m.functions →
+      line_of m info flags (h, f) ≡ own_text h f (known_of info h) ++ codes "\n"
+  function_line h f lt =
+      let here = lt-ltb h (length m.functions) lt in
+      lines_are h f false true None (le-ltb (length m.functions) h (omega (arith, lt))) here
+      (ap (λ b. if b then None else slice_get m.entry_points.items (h - length m.functions)) here)
+
+  entry_point_line : (j : ℕ) (p : EntryPoint) → slice_get m.entry_points.items j ≡ Some p →
+      line_of m info flags (length m.functions + j, p.function) ≡
+      (if nat_lt 0 j then codes "\n" else []) ++
+      (stage_text m p ++ own_text (length m.functions + j) p.function (known_of info (length m.functions + j)))
+  entry_point_line j p at =
+      let g : ℕ = length m.functions + j in
+      let past : length m.functions ≤ g = omega arith in
+      let there = le-ltb g (length m.functions) past in
+      let rest : g - length m.functions ≡ j = omega arith in
+      lines_are g p.function (nat_lt (length m.functions) g) false (Some p) refl there
+      (ap (λ b. if b then None else slice_get m.entry_points.items (g - length m.functions)) there
+      ∙ (ap (slice_get m.entry_points.items) rest ∙ at))
+      ∙ (ap (λ t. (if nat_lt (length m.functions) g then codes "\n" else []) ++ t)
+      (append-nil (stage_text m p ++ own_text g p.function (known_of info g)))
+      ∙ ap (λ b. (if b then codes "\n" else []) ++ (stage_text m p ++ own_text g p.function (known_of info g))) (moved j))
+    where
+      moved : (j : ℕ) → nat_lt (length m.functions) (length m.functions + j) ≡ nat_lt 0 j
+      moved zero = le-ltb (length m.functions) (length m.functions + 0) (omega arith)
+      moved (suc j) = lt-ltb (length m.functions) (length m.functions + suc j) (omega arith)
+
+  functions_text : (g : ℕ) (fs : List Function) (ess : List (List ExpressionInfo)) →
+      g + length fs ≤ length m.functions → length fs ≡ length ess →
+      ((i : ℕ) (es : List ExpressionInfo) → slice_get ess i ≡ Some es → known_of info (g + i) ≡ es) →
+      text (functions_pieces
+      (functions_form (annotates_types flags) (module_names m) m info g fs ess)) ≡
+      lines_of m info flags (enumerate_from g fs)
+  functions_text g [] [] within size known = refl
+  functions_text g [] (es ∷ ess) within size known = refl
+  functions_text g (f ∷ fs) [] within size known = absurd (cc)
+  functions_text g (f ∷ fs) (es ∷ ess) within size known =
+      let here : g + 0 ≡ g = omega arith in
+      let same : known_of info g ≡ es = ap (known_of info) (sym here) ∙ known 0 es refl in
+      let behind = functions_pieces (functions_form (annotates_types flags) (module_names m) m info (g + 1) fs ess) in
+      let more = lines_of m info flags (enumerate_from (g + 1) fs) in
+      text-append (function_pieces (function_form (annotates_types flags) (module_names m) (expression_name m g) m info g f es)) (LineEnd ∷ behind)
+      ∙ (ap (λ rest. own_text g f es ++ (10 ∷ rest)) (functions_text (g + 1) fs ess (omega (arith, within)) (ap pred size) (later g ess es known))
+      ∙ (ap (λ ks. own_text g f ks ++ (10 ∷ more)) (sym same)
+      ∙ (sym (append_assoc (own_text g f (known_of info g)) (codes "\n") more)
+      ∙ ap (λ t. t ++ more) (sym (function_line g f (omega (arith, within)))))))
+    where
+      later : (g : ℕ) (ess : List (List ExpressionInfo)) (es : List ExpressionInfo) →
+          ((i : ℕ) (ks : List ExpressionInfo) → slice_get (es ∷ ess) i ≡ Some ks → known_of info (g + i) ≡ ks) →
+          (i : ℕ) (ks : List ExpressionInfo) → slice_get ess i ≡ Some ks → known_of info ((g + 1) + i) ≡ ks
+      later g ess es known i ks at =
+          let moved : g + suc i ≡ (g + 1) + i = omega arith in
+          subst (λ h. known_of info h ≡ ks) moved (known (suc i) ks at)
+
+  -- the entry points from the one with this index on, behind an empty line where it is not the first
+  abbrev points_pieces : ℕ → List EntryPointTree → List Piece
+  points_pieces zero points = entry_points_pieces points
+  points_pieces (suc j) points = more_entry_points_pieces points
+
+  point_text : (g : ℕ) (p : EntryPoint) (es : List ExpressionInfo) →
+      text (entry_point_pieces (entry_point_form (annotates_types flags) (module_names m) m info g p es)) ≡
+      stage_text m p ++ own_text g p.function es
+  unfolding stage_text attributes_text
+  point_text g p es =
+      let stage = attributes_pieces (stage_attributes (module_names m) p p.stage) in
+      let own = function_pieces (function_form (annotates_types flags) (module_names m) (expression_name m g) m info g p.function es) in
+      text-append stage (LineEnd ∷ own) ∙ sym (append_assoc (text stage) (codes "\n") (text own))
+
+  points_text : (j : ℕ) (ps : List EntryPoint) (ess : List (List ExpressionInfo)) → length ps ≡ length ess →
+      ((i : ℕ) (p : EntryPoint) → slice_get ps i ≡ Some p → slice_get m.entry_points.items (j + i) ≡ Some p) →
+      ((i : ℕ) (es : List ExpressionInfo) → slice_get ess i ≡ Some es → known_of info (length m.functions + (j + i)) ≡ es) →
+      text (points_pieces j
+      (entry_points_form (annotates_types flags) (module_names m) m info (length m.functions + j) ps ess)) ≡
+      lines_of m info flags (enumerate_from (length m.functions + j) (entry_functions ps))
+  points_text zero [] [] size there known = refl
+  points_text (suc j) [] [] size there known = refl
+  points_text j [] (es ∷ ess) size there known = absurd (cc)
+  points_text j (p ∷ ps) [] size there known = absurd (cc)
+  points_text j (p ∷ ps) (es ∷ ess) size there known = front j ∙ line
+    where
+      g : ℕ
+      g = length m.functions + j
+
+      point : List Piece
+      point = entry_point_pieces (entry_point_form (annotates_types flags) (module_names m) m info g p es)
+
+      behind : List Piece
+      behind = more_entry_points_pieces (entry_points_form (annotates_types flags) (module_names m) m info (g + 1) ps ess)
+
+      more : List ℕ
+      more = lines_of m info flags (enumerate_from (g + 1) (entry_functions ps))
+
+      front : (j : ℕ) → text (points_pieces j (entry_points_form (annotates_types flags) (module_names m) m info g (p ∷ ps) (es ∷ ess))) ≡
+          ((if nat_lt 0 j then codes "\n" else []) ++ text point) ++ text behind
+      front zero = text-append point behind
+      front (suc j) = ap (λ t. 10 ∷ t) (text-append point behind)
+
+      here : slice_get m.entry_points.items j ≡ Some p
+      here = let same : j + 0 ≡ j = omega arith in ap (slice_get m.entry_points.items) (sym same) ∙ there 0 p refl
+
+      same : known_of info g ≡ es
+      same =
+          let first : length m.functions + (j + 0) ≡ length m.functions + j = omega arith in
+          ap (known_of info) (sym first) ∙ known 0 es refl
+
+      rest : text behind ≡ more
+      rest =
+          let next : length m.functions + suc j ≡ (length m.functions + j) + 1 = omega arith in
+          subst
+          (λ h. text (more_entry_points_pieces (entry_points_form (annotates_types flags) (module_names m) m info h ps ess)) ≡
+          lines_of m info flags (enumerate_from h (entry_functions ps)))
+          next
+          (points_text (suc j) ps ess (ap pred size)
+          (λ i q at. let moved : j + suc i ≡ suc j + i = omega arith in ap (slice_get m.entry_points.items) (sym moved) ∙ there (suc i) q at)
+          (λ i ks at. let moved : length m.functions + (j + suc i) ≡ length m.functions + (suc j + i) = omega arith in
+          subst (λ h. known_of info h ≡ ks) moved (known (suc i) ks at)))
+
+      line : ((if nat_lt 0 j then codes "\n" else []) ++ text point) ++ text behind ≡
+          line_of m info flags (g, p.function) ++ more
+      line =
+          (λ i. ((if nat_lt 0 j then codes "\n" else []) ++ (point_text g p es ∙ ap (λ ks. stage_text m p ++ own_text g p.function ks) (sym same)) i) ++ rest i)
+          ∙ ap (λ t. t ++ more) (sym (entry_point_line j p here))
+
+-- what stands in front of the functions, and these and the entry points behind
+front_then : (m : Module) (rest : List ℕ) →
+    front_text m ++ rest ≡
+    text (enables_pieces (needed_enables m)) ++
+    (text (group_end (needed_enables m)) ++
+    (text (structs_pieces (structs_of m)) ++
+    (text (constants_pieces (constants_of m)) ++
+    (text (group_end (constants_of m)) ++
+    (text (overrides_pieces (overrides_of m)) ++
+    (text (group_end (overrides_of m)) ++
+    (text (globals_pieces (globals_of m)) ++ (text (group_end (globals_of m)) ++ rest))))))))
+unfolding declarations_text
+front_then m rest = simp append_assoc
+
+-- a module's text is what stands in front of its functions, these and its entry points
 pub written_lines : (m : Module) (info : ModuleInfo) (flags : WriterFlags) → IsTrue (is_accepted m info) →
-    enables_text (needed_enables m) ++ module_lines m info flags ≡ written_text m info flags
+    front_text m ++ module_lines m info flags ≡ written_text m info flags
 written_lines m info flags accepted =
-    let form = functions_form (annotates_types flags) (module_names m) m info 0 m.functions info.functions.items in
-    let words = needed_enables m in
-    append_assoc (text (enables_pieces words)) (text (group_end words)) (module_lines m info flags)
-    ∙ (ap (λ t. text (enables_pieces words) ++ (text (group_end words) ++ t))
-    (sym (ap text (append-nil (functions_pieces form)) ∙ functions_text m info flags 0 m.functions info.functions.items (functions_counted m info accepted) known))
-    ∙ sym (text-append (enables_pieces words) (group_end words ++ (functions_pieces form ++ []))
-    ∙ ap (λ t. text (enables_pieces words) ++ t) (text-append (group_end words) (functions_pieces form ++ []))))
+    let first = enumerate_from 0 m.functions in
+    let points = entry_functions m.entry_points.items in
+    ap (λ t. front_text m ++ t)
+    (ap (lines_of m info flags) (numbered_on 0 m.functions points)
+    ∙ (flat_map-append (line_of m info flags) first (enumerate_from (0 + length m.functions) points)
+    ∙ sym (λ i. functions_are i ++ points_are i)))
+    ∙ (front_then m (text (functions_pieces functions) ++ text (entry_points_pieces entry_points))
+    ∙ sym (program_text (written_program m info (annotates_types flags))))
   where
-    known : (i : ℕ) (es : List ExpressionInfo) → slice_get info.functions.items i ≡ Some es → known_of info (0 + i) ≡ es
-    known i es at = let same : i ≡ 0 + i = omega arith in subst (λ h. known_of info h ≡ es) same (ap (λ o. unwrap_or o []) (info_among info i es at))
+    functions : List FunctionTree
+    functions = functions_form (annotates_types flags) (module_names m) m info 0 m.functions info.functions.items
 
--- the first of the functions that are left
-pub next_line : (m : Module) (info : ModuleInfo) (flags : WriterFlags) (all : List (ℕ × Function))
-    (n : ℕ) (f : ℕ × Function) → n < length all → f ≡ get_or all n f →
-    lines_of m info flags (drop n all) ≡
-    (text (function_pieces
-    (function_form (annotates_types flags) (module_names m) (expression_name m f.0) m info f.0 f.1
-    (known_of info f.0))) ++ codes "\n") ++ lines_of m info flags (drop (n + 1) all)
-next_line m info flags all n f lt is =
-    let split : drop n all ≡ get_or all n f ∷ drop (n + 1) all = rw add-one (drop-cons all n f lt) in
-    ap (lines_of m info flags) split ∙ ap (λ q. lines_of m info flags (q ∷ drop (n + 1) all)) (sym is)
+    entry_points : List EntryPointTree
+    entry_points =
+        entry_points_form (annotates_types flags) (module_names m) m info (length m.functions)
+        m.entry_points.items info.entry_points.items
+
+    functions_are : text (functions_pieces functions) ≡ lines_of m info flags (enumerate_from 0 m.functions)
+    functions_are =
+        functions_text m info flags 0 m.functions info.functions.items (omega arith)
+        (functions_counted m info accepted)
+        (λ i es at. let same : i ≡ 0 + i = omega arith in
+        subst (λ h. known_of info h ≡ es) same (ap (λ o. unwrap_or o []) (info_among info i es at)))
+
+    points_are : text (entry_points_pieces entry_points) ≡
+        lines_of m info flags
+        (enumerate_from (0 + length m.functions) (entry_functions m.entry_points.items))
+    points_are =
+        let none : length m.functions + 0 ≡ length m.functions = omega arith in
+        let from : length m.functions + 0 ≡ 0 + length m.functions = omega arith in
+        ap (λ g. text (entry_points_pieces (entry_points_form (annotates_types flags) (module_names m) m info g m.entry_points.items info.entry_points.items))) (sym none)
+        ∙ (points_text m info flags 0 m.entry_points.items info.entry_points.items
+        (entry_points_counted m info accepted)
+        (λ i p at. let same : i ≡ 0 + i = omega arith in ap (slice_get m.entry_points.items) (sym same) ∙ at)
+        (λ i es at. ap (λ o. unwrap_or o []) (entry_info_among m info accepted i es at))
+        ∙ ap (λ g. lines_of m info flags (enumerate_from g (entry_functions m.entry_points.items))) from)
 
 -- ---- along the functions
+-- what has a number is the function with that number
 at_enumerated : (n : ℕ) (fs : List Function) (i : ℕ) (f : ℕ × Function) →
     i < length (enumerate_from n fs) → f ≡ get_or (enumerate_from n fs) i f → (f.0 ≡ n + i) ×
-    (i < length fs) × (slice_get fs i ≡ Some f.1)
+    (slice_get fs i ≡ Some f.1)
 at_enumerated n [] i f lt is = absurd (omega (arith, lt))
-at_enumerated n (x ∷ fs) zero f lt is = let first : n ≡ n + 0 = omega arith in (ap (λ p. p.0) is ∙ first, omega arith, ap Some (sym (ap (λ p. p.1) is)))
+at_enumerated n (x ∷ fs) zero f lt is = let first : n ≡ n + 0 = omega arith in (ap (λ p. p.0) is ∙ first, ap Some (sym (ap (λ p. p.1) is)))
 at_enumerated n (x ∷ fs) (suc i) f lt is =
     let rest = at_enumerated (n + 1) fs i f (omega (arith, lt)) is in
     let moved : (n + 1) + i ≡ n + suc i = omega arith in
-    (rest.0 ∙ moved, omega (arith, rest.1), rest.2)
-
-text_is : (m : Module) (info : ModuleInfo) (flags : WriterFlags) (n : ℕ) (f : ℕ × Function) →
-    n < length (enumerate_from 0 m.functions) → f ≡ get_or (enumerate_from 0 m.functions) n f →
-    text (function_pieces
-    (function_form (annotates_types flags) (module_names m) (expression_name m f.0) m info f.0 f.1
-    (known_of info f.0))) ≡ text_of_function m info flags f.0
-text_is m info flags n f lt is =
-    let at = at_enumerated 0 m.functions n f lt is in
-    let same : 0 + n ≡ n = omega arith in
-    let found = function_among m f.0 f.1 (ap (slice_get m.functions) (at.0 ∙ same) ∙ at.2) in
-    sym (ap (λ o. option_map_or (λ g. text (function_pieces (function_form (annotates_types flags) (module_names m) (expression_name m f.0) m info f.0 g (known_of info f.0)))) o []) found)
-
--- the lines that are left begin with those of the next function
-pub here_line : (m : Module) (info : ModuleInfo) (flags : WriterFlags) (n : ℕ) (f : ℕ × Function) →
-    n < length (enumerate_from 0 m.functions) → f ≡ get_or (enumerate_from 0 m.functions) n f →
-    lines_of m info flags (drop n (enumerate_from 0 m.functions)) ≡
-    (text_of_function m info flags f.0 ++ codes "\n") ++ lines_of m info flags
-    (drop (n + 1) (enumerate_from 0 m.functions))
-here_line m info flags n f lt is =
-    next_line m info flags (enumerate_from 0 m.functions) n f lt is
-    ∙ ap (λ t. (t ++ codes "\n") ++ lines_of m info flags (drop (n + 1) (enumerate_from 0 m.functions))) (text_is m info flags n f lt is)
+    (rest.0 ∙ moved, rest.1)
 
 -- ---- up to a function, each in front of it written by a plan
 -- the answer of a call that ends with an error
@@ -153,88 +308,96 @@ up_to_none m info flags content failed namer named = record {
 
 -- the functions from this one on
 abbrev pub lines_behind : Module → ModuleInfo → WriterFlags → (n : ℕ) → List ℕ
-lines_behind m info flags n = lines_of m info flags (drop n (enumerate_from 0 m.functions))
+lines_behind m info flags n = lines_of m info flags (drop n (enumerate_from 0 (all_functions m)))
 
 -- all functions are those in front of one and the others
 pub lines_split : (m : Module) (info : ModuleInfo) (flags : WriterFlags) (n : ℕ) →
     lines_before m info flags n ++ lines_behind m info flags n ≡ module_lines m info flags
 lines_split m info flags n =
-    let all = enumerate_from 0 m.functions in
+    let all = enumerate_from 0 (all_functions m) in
     sym (flat_map-append (line_of m info flags) (take n all) (drop n all))
     ∙ ap (lines_of m info flags) (take-append-drop n all)
 
 module _ (m : Module) (info : ModuleInfo) (flags : WriterFlags) {n : ℕ} {content middle : List ℕ}
     {failed among : ℕ} {namer : Names} (so_far : IsUpTo m info flags n content failed namer middle among) where
   abbrev all : List (ℕ × Function)
-  all = enumerate_from 0 m.functions
+  all = enumerate_from 0 (all_functions m)
 
   -- where all were gone through
-  pub up_to_all : n ≡ length m.functions → WroteFunctions m info flags content failed middle among
+  pub up_to_all : n ≡ length (all_functions m) → WroteFunctions m info flags content failed middle among
   up_to_all is = record {
     wrote = subst (λ fs. Wrote content failed (lines_of m info flags fs) middle among)
-        (take_all n all (omega (arith, is, length-enumerate_from 0 m.functions))) so_far.wrote;
+        (take_all n all (omega (arith, is, length-enumerate_from 0 (all_functions m)))) so_far.wrote;
     planned = λ i lt. so_far.planned i (omega (arith, is, lt));
   }
 
-  -- at the function with this handle
-  module _ (handle : ℕ) (is : handle ≡ n) (lt : n < length m.functions) where
+  -- at the function with this number
+  module _ (lt : n < length (all_functions m)) where
     below : n < length all
-    below = subst (λ k. n < k) (sym (length-enumerate_from 0 m.functions)) lt
+    below = subst (λ k. n < k) (sym (length-enumerate_from 0 (all_functions m))) lt
 
     abbrev here : ℕ × Function
-    here = get_or all n (n, (element m.functions n lt).0)
+    here = get_or all n (n, (element (all_functions m) n lt).0)
 
     stands : here ≡ get_or all n here
     stands = get_or_default all n _ here below
 
-    handle_is : here.0 ≡ handle
-    handle_is =
+    number_is : here.0 ≡ n
+    number_is =
         let same : 0 + n ≡ n = omega arith in
-        (at_enumerated 0 m.functions n here below stands).0 ∙ (same ∙ sym is)
+        (at_enumerated 0 (all_functions m) n here below stands).0 ∙ same
 
     -- its line
     abbrev line : List ℕ
-    line = text_of_function m info flags handle ++ codes "\n"
+    line = line_before m n ++ (text_of_function m info flags n ++ line_behind m n)
 
-    line_is : text_of_function m info flags here.0 ++ codes "\n" ≡ line
-    line_is = ap (λ h. text_of_function m info flags h ++ codes "\n") handle_is
+    line_is : line_of m info flags here ≡ line
+    line_is =
+        let found = (at_enumerated 0 (all_functions m) n here below stands).1 in
+        let own = λ g. text_of m info flags (expression_name m g) g here.1 (known_of info g) in
+        ap (λ g. line_before m g ++ (own g ++ line_behind m g)) number_is
+        ∙ ap (λ o. line_before m n ++
+        (option_map_or (λ f. text_of m info flags (expression_name m n) n f (known_of info n)) o []
+        ++ line_behind m n)) (sym found)
 
     one_more_line : lines_before m info flags n ++ line ≡ lines_before m info flags (n + 1)
     one_more_line =
         ap (λ t. lines_before m info flags n ++ t)
-        (sym (ap (λ t. t ++ codes "\n") (text_is m info flags n here below stands) ∙ line_is)
-        ∙ sym (append-nil (line_of m info flags here)))
+        (sym line_is ∙ sym (append-nil (line_of m info flags here)))
         ∙ (sym (flat_map-append (line_of m info flags) (take n all) (here ∷ []))
         ∙ ap (λ fs. lines_of m info flags fs)
         (ap (λ q. take n all ++ q ∷ []) stands ∙ sym (take_more all n here below)))
 
-    -- a plan of it with its names
-    pub named_before : HasNamedBefore m handle namer
-    named_before = subst (λ h. HasNamedBefore m h namer) (sym is) so_far.named
+    -- and those behind it
+    line_then : line ++ lines_behind m info flags (n + 1) ≡ lines_behind m info flags n
+    line_then =
+        let split : drop n all ≡ get_or all n here ∷ drop (n + 1) all =
+        rw add-one (drop-cons all n here below) in
+        ap (λ t. t ++ lines_behind m info flags (n + 1)) (sym line_is)
+        ∙ sym (ap (lines_of m info flags) split
+        ∙ ap (λ q. lines_of m info flags (q ∷ drop (n + 1) all)) (sym stands))
 
+    -- a plan of it with its names
     pub named_at : (planned : Planned) (next : Names) →
-        IsPlanOf (annotates_types flags) m info handle planned →
-        NamesLabels namer [] (labels_named_in m handle) next planned.named →
-        IsNamedPlan (annotates_types flags) m info handle next planned
+        IsPlanOf (annotates_types flags) m info n planned →
+        NamesLabels namer [] (labels_named_in m n) next planned.named →
+        IsNamedPlan (annotates_types flags) m info n next planned
     named_at planned next plan names =
-        named_plan m (annotates_types flags) info handle namer next planned
-        (below_all m handle (subst (λ k. k < length m.functions) (sym is) lt)) named_before plan names
+        named_plan m (annotates_types flags) info n namer next planned lt so_far.named plan names
 
     -- one more
     pub up_to_more : (planned : Planned) (next : Names) {now : List ℕ} {failures : ℕ} →
-        IsNamedPlan (annotates_types flags) m info handle next planned → Wrote middle among line now failures →
+        IsNamedPlan (annotates_types flags) m info n next planned → Wrote middle among line now failures →
         IsUpTo m info flags (n + 1) content failed next now failures
     up_to_more planned next {now} {failures} plan wrote = record {
       wrote = subst (λ t. Wrote content failed t now failures) one_more_line
           (wrote_then so_far.wrote wrote);
-      planned = below_more (HasPlan (annotates_types flags) m info) n so_far.planned
-          (subst (HasPlan (annotates_types flags) m info) is (record {
-            planned = planned;
-            plan = plan.plan;
-            nameable = none_full m handle next
-                (below_all m handle (subst (λ k. k < length m.functions) (sym is) lt)) plan.namer_is;
-          }));
-      named = subst (λ k. HasNamedBefore m (k + 1) next) is plan.namer_is;
+      planned = below_more (HasPlan (annotates_types flags) m info) n so_far.planned (record {
+        planned = planned;
+        plan = plan.plan;
+        nameable = none_full m n next lt plan.namer_is;
+      });
+      named = plan.namer_is;
     }
 
     -- memory or the sink stopped it
@@ -242,36 +405,32 @@ module _ (m : Module) (info : ModuleInfo) (flags : WriterFlags) {n : ℕ} {conte
         IsErrAnd r (λ e. e ≡ error) → StoppedWithin middle among line now failures error →
         WritesFunctions m info flags r content failed now failures
     up_to_stopped r error {now} {failures} reported stopped =
-        let whole = ap (λ t. lines_before m info flags n ++ t)
-        (ap (λ t. t ++ lines_behind m info flags (n + 1)) (sym line_is)
-        ∙ sym (here_line m info flags n here below stands)) ∙ lines_split m info flags n in
+        let whole = ap (λ t. lines_before m info flags n ++ t) line_then ∙ lines_split m info flags n in
         writes_err r reported
         (inl (subst (λ t. StoppedWithin content failed t now failures error) whole
         (stopped_then so_far.wrote (stopped_first (lines_behind m info flags (n + 1)) stopped))))
 
     -- it has no plan
-    unplanned : (error : Error) → TellsOfModule error → IsFault (annotates_types flags) m info (labels_before m handle) handle error →
+    unplanned : (error : Error) → TellsOfModule error →
+        IsFault (annotates_types flags) m info (labels_before m n) n error →
         MetNoPlan m info flags content failed middle among error
     unplanned error tells fault = record {
       before = record {
         handle = n;
-        fails = fault_fails (annotates_types flags) m info (labels_before m n) n error here_fault;
+        fails = fault_fails (annotates_types flags) m info (labels_before m n) n error fault;
         hold = λ i below. has_plan_holds (annotates_types flags) m info i (so_far.planned i below);
         written = so_far.wrote.appended;
       };
       tells = tells;
-      fault = here_fault;
+      fault = fault;
       kept = so_far.wrote.kept;
     }
-      where
-        here_fault : IsFault (annotates_types flags) m info (labels_before m n) n error
-        here_fault = subst (λ h. IsFault (annotates_types flags) m info (labels_before m h) h error) is fault
 
     pub up_to_unplanned : (r : Result Unit Error) (error : Error) → IsErrAnd r (λ e. e ≡ error) →
-        IsPlanRefusal (annotates_types flags) m info (labels_before m handle) handle error → WritesFunctions m info flags r content failed middle among
+        IsPlanRefusal (annotates_types flags) m info (labels_before m n) n error → WritesFunctions m info flags r content failed middle among
     up_to_unplanned r error reported refusal = writes_err r reported (by error refusal)
       where
-        by : (error : Error) → IsPlanRefusal (annotates_types flags) m info (labels_before m handle) handle error →
+        by : (error : Error) → IsPlanRefusal (annotates_types flags) m info (labels_before m n) n error →
             StoppedWithin content failed (module_lines m info flags) middle among error
             ⊎ MetNoPlan m info flags content failed middle among error
         by (Memory e) refusal = inl (record {

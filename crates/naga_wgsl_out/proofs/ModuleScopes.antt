@@ -1,7 +1,8 @@
 -- The rules of scope in the functions of a module, one by one and in all.
 use Rattle.std.proofs.Common.{◌≡◌, ◌<◌, ◌^◌, ℕ, Bool, true, zero, suc, List, [], ◌∷◌}
 use Rattle.std.proofs.Common.{Some, arith, inl, inr, length, nat_le, subst}
-use Rattle.std.proofs.Common.{sym}
+use Rattle.std.proofs.Common.{◌∙◌, sym}
+use Rattle.std.proofs.lemmas.Bool.{false≢true}
 use Rattle.std.specs.Prelude.{IfSome, IsTrue, slice_get}
 use Rattle.std.proofs.lemmas.Option.{slice_get_within}
 use mathlib.Core.List.{reverse_aux}
@@ -13,25 +14,24 @@ use Rattle.shader_runs.specs.Program.{Function}
 use Rattle.shader_runs.specs.ScopeRules.{ScopeHolds}
 use Rattle.module_meaning.specs.Accepted.{is_accepted}
 use Rattle.module_meaning.proofs.Lists.{all_pass}
-use Rattle.module_meaning.specs.WrittenSoFar.{is_written_so_far}
+use Rattle.module_meaning.specs.DeclarationForms.{DeclarationsHaveForms}
 use Rattle.module_meaning.specs.Written.{AllWrittenHaveForms}
 use Rattle.module_meaning.specs.Premises.{EachScopeHolds, ScopesHold, handles_are_counted}
 use Rattle.module_meaning.specs.FunctionNumbers.{all_functions, all_infos}
 use Rattle.module_meaning.specs.FunctionShapes.{function_shapes}
-use Rattle.module_meaning.proofs.ModuleShapes.{declares_functions_alone}
 use Rattle.naga_form.proofs.AcceptedFunctions.{all_counted}
 use Rattle.naga_names.proofs.Refusal.{element}
 use Rattle.module_meaning.specs.Names.{labels_before}
 use Rattle.naga_scope.specs.Plans.{ScopeHoldsIn}
 use Rattle.naga_wgsl_fns.specs.declared.error.Error.{Error}
 use Rattle.naga_wgsl_fns.specs.declared.error.Error.TheVariants.{Custom, FmtError, Memory}
-use Rattle.naga_wgsl_fns.specs.declared.error.Error.TheVariants.{Unimplemented}
 use Rattle.naga_wgsl_fns.specs.Refusals.{IsFault, IsWritableAt}
 use Rattle.naga_wgsl_fns.specs.Refusals.{HasFormlessIn}
-use Rattle.naga_wgsl_fns.specs.Refusals.{NamesFormless}
+use Rattle.naga_wgsl_fns.specs.DeclarationRefusals.{NamesDeclaration, OfBinding, OfHead}
+use Rattle.naga_wgsl_fns.specs.DeclarationRefusals.{OfInitialiser, OfMember, OfStage, OfType}
 use Rattle.naga_wgsl_fns.specs.Refusals.{NamesFormless}
 use Rattle.naga_wgsl_fns.specs.Refusals.{TellsOfModule}
-use Rattle.naga_wgsl_fns.proofs.PlanRefusals.{named, planned_holds}
+use Rattle.naga_wgsl_fns.proofs.PlanRefusals.{declaration_is_no_sink, named, planned_holds}
 use Rattle.naga_wgsl_out.specs.ModuleRefusals.{IsRefusal, ItemsAreFull, TellsOfFunction}
 use Rattle.naga_wgsl_out.specs.Writing.{HasPlan}
 
@@ -58,13 +58,11 @@ each_from [] at = tt
 each_from (f ∷ fs) at = (at 0 (omega arith), each_from fs (λ i lt. at (suc i) (omega (arith, lt))))
 
 -- where the rules hold in a module, they hold in each function
-pub scope_holds_in : (m : Module) (info : ModuleInfo) → IsTrue (is_written_so_far m) →
-    ScopesHold m info → (i : ℕ) → ScopeHoldsIn m info i
-scope_holds_in m info written rules i =
+pub scope_holds_in : (m : Module) (info : ModuleInfo) → ScopesHold m info → (i : ℕ) →
+    ScopeHoldsIn m info i
+scope_holds_in m info rules i =
     let own = function_shapes m info (all_functions m) (all_infos info) in
-    let is_supported = subst (λ (p : shapes.Module). EachScopeHolds p.functions)
-    (declares_functions_alone m info written) rules in
-    each_at own (turned_back own [] is_supported).0 i
+    each_at own (turned_back own [] rules).0 i
 
 -- ---- functions with a plan
 pub has_plan_holds : (explicit : Bool) (m : Module) (info : ModuleInfo) (i : ℕ) →
@@ -87,14 +85,11 @@ shapes_below m info i lt = by (all_functions m) (all_infos info) i lt
 
 -- where each function has a plan, the rules of scope hold in the module
 pub all_planned_hold : (explicit : Bool) (m : Module) (info : ModuleInfo) →
-    IsTrue (is_written_so_far m) →
     ((i : ℕ) → i < length (all_functions m) → HasPlan explicit m info i) → ScopesHold m info
-all_planned_hold explicit m info written planned =
+all_planned_hold explicit m info planned =
     let own = function_shapes m info (all_functions m) (all_infos info) in
-    subst (λ (p : shapes.Module). EachScopeHolds p.functions)
-    (sym (declares_functions_alone m info written))
-    (turned own []
-    (each_from own (λ i lt. (has_plan_holds explicit m info i (planned i (shapes_below m info i lt))).in_scope)) tt)
+    turned own []
+    (each_from own (λ i lt. (has_plan_holds explicit m info i (planned i (shapes_below m info i lt))).in_scope)) tt
 
 -- and its handles are counted
 pub all_planned_counted : (explicit : Bool) (m : Module) (info : ModuleInfo) →
@@ -119,42 +114,75 @@ all_planned_formed explicit m info planned g f known at is =
     ((planned g (slice_get_within (all_functions m) g f at)).plan f known at is).formed
 
 -- ---- functions without one
-expression_reported : (m : Module) (info : ModuleInfo) (i : ℕ) (error : Error) →
-    NamesFormless m info i error → TellsOfModule error → TellsOfFunction m error
-expression_reported m info i error n tells =
-    let at = named m info i error n in
-    inr (inl (tells, inl (m, n.known, n.function.expressions, at.0, at.3)))
+module _ (m : Module) (declarations : DeclarationsHaveForms m) where
+  expression_reported : (info : ModuleInfo) (i : ℕ) (error : Error) →
+      NamesFormless m info i error → TellsOfModule error → TellsOfFunction m error
+  expression_reported info i error n tells =
+      let at = named m info i error n in
+      record {
+        declarations = declarations;
+        tells = inr (inl (tells, inl (m, n.known, n.function.expressions, at.0, at.3)));
+      }
 
-formless_reported : (explicit : Bool) (m : Module) (info : ModuleInfo) (i : ℕ) (error : Error) →
-    HasFormlessIn explicit m info i error → TellsOfModule error → TellsOfFunction m error
-formless_reported explicit m info i error (inl n) tells = expression_reported m info i error n tells
-formless_reported explicit m info i error (inr (inl n)) tells =
-    inr (inl (tells, inr (inl (m, n.type, n.named))))
-formless_reported explicit m info i error (inr (inr n)) tells =
-    inr (inl (tells, inr (inr (n.statement, n.named))))
+  formless_reported : (explicit : Bool) (info : ModuleInfo) (i : ℕ) (error : Error) →
+      HasFormlessIn explicit m info i error → TellsOfModule error → TellsOfFunction m error
+  formless_reported explicit info i error (inl n) tells = expression_reported info i error n tells
+  formless_reported explicit info i error (inr (inl n)) tells = record {
+    declarations = declarations;
+    tells = inr (inl (tells, inr (inl (m, n.type, n.named))));
+  }
+  formless_reported explicit info i error (inr (inr n)) tells = record {
+    declarations = declarations;
+    tells = inr (inl (tells, inr (inr (n.statement, n.named))));
+  }
 
 -- what a fault tells
 module _ (explicit : Bool) (m : Module) (info : ModuleInfo) (i : ℕ) where
-  pub fault_reported : (ItemsAreFull m → ⊥) → (error : Error) → TellsOfModule error →
-      IsFault explicit m info (labels_before m i) i error → TellsOfFunction m error
-  fault_reported items error tells (inl scope) = inl scope.0
-  fault_reported items error tells (inr (inl formless)) = formless_reported explicit m info i error formless tells
-  fault_reported items error tells (inr (inr full)) = inr (inr (full.0, items))
+  pub fault_reported : DeclarationsHaveForms m → (ItemsAreFull m → ⊥) → (error : Error) →
+      TellsOfModule error → IsFault explicit m info (labels_before m i) i error →
+      TellsOfFunction m error
+  fault_reported declarations items error tells (inl scope) =
+      record { declarations = declarations; tells = inl scope.0 }
+  fault_reported declarations items error tells (inr (inl formless)) =
+      formless_reported m declarations explicit info i error formless tells
+  fault_reported declarations items error tells (inr (inr full)) =
+      record { declarations = declarations; tells = inr (inr (full.0, items)) }
 
-  pub fault_refuses : (before after : ℕ) → IsTrue (is_written_so_far m) → (error : Error) →
-      TellsOfModule error → IsFault explicit m info (labels_before m i) i error → IsRefusal explicit m info before after error
-  fault_refuses before after written (FmtError e) tells fault = absurd tells
-  fault_refuses before after written (Memory e) tells fault = absurd tells
-  fault_refuses before after written (Custom message) tells (inl scope) =
-      inr (inl (scope.0, λ rules. scope.1 (scope_holds_in m info written rules i)))
-  fault_refuses before after written (Custom message) tells (inr (inl formless)) =
-      inr (inr (i, formless))
-  fault_refuses before after written (Custom message) tells (inr (inr full)) =
+  pub fault_refuses : (before after : ℕ) → (error : Error) → TellsOfModule error →
+      IsFault explicit m info (labels_before m i) i error →
+      IsRefusal explicit m info before after error
+  fault_refuses before after (FmtError e) tells fault = absurd tells
+  fault_refuses before after (Memory e) tells fault = absurd tells
+  fault_refuses before after (Custom message) tells (inl scope) =
+      inr (inl (scope.0, λ rules. scope.1 (scope_holds_in m info rules i)))
+  fault_refuses before after (Custom message) tells (inr (inl formless)) =
+      inr (inr (inr (i, formless)))
+  fault_refuses before after (Custom message) tells (inr (inr full)) =
       inl (inl (full.0, inr (i, full.1)))
-  fault_refuses before after written (Unimplemented message) tells (inl scope) = absurd scope.0
-  fault_refuses before after written (Unimplemented message) tells (inr (inl formless)) =
-      inr (i, formless)
-  fault_refuses before after written (Unimplemented message) tells (inr (inr full)) = absurd full.0
-  fault_refuses before after written _ tells (inl scope) = absurd scope.0
-  fault_refuses before after written _ tells (inr (inl formless)) = (i, formless)
-  fault_refuses before after written _ tells (inr (inr full)) = absurd full.0
+  fault_refuses before after _ tells (inl scope) = absurd scope.0
+  fault_refuses before after _ tells (inr (inl formless)) = inr (i, formless)
+  fault_refuses before after _ tells (inr (inr full)) = absurd full.0
+
+-- ---- declarations without a form
+-- one that is named is a reason
+pub declaration_refuses : (explicit : Bool) (m : Module) (info : ModuleInfo) (before after : ℕ)
+    (error : Error) → NamesDeclaration m error → IsRefusal explicit m info before after error
+declaration_refuses explicit m info before after (FmtError e) named =
+    absurd (declaration_is_no_sink m e named)
+declaration_refuses explicit m info before after (Memory e) named = tt
+declaration_refuses explicit m info before after (Custom message) named = inr (inr (inl named))
+declaration_refuses explicit m info before after _ named = inl named
+
+-- and tells of no function
+pub declaration_tells_of_none : (m : Module) (error : Error) → NamesDeclaration m error →
+    TellsOfFunction m error → ⊥
+declaration_tells_of_none m error (OfType ty is formless named) of =
+    false≢true (sym formless ∙ of.declarations.types ty is)
+declaration_tells_of_none m error (OfInitialiser h is formless named) of =
+    false≢true (sym formless ∙ of.declarations.initialisers h is)
+declaration_tells_of_none m error (OfMember b is formless named) of =
+    false≢true (sym formless ∙ of.declarations.members b is)
+declaration_tells_of_none m error (OfHead number (OfBinding f b at is formless named)) of =
+    false≢true (sym formless ∙ (of.declarations.heads number).bindings f at b is)
+declaration_tells_of_none m error (OfHead number (OfStage p at formless named)) of =
+    false≢true (sym formless ∙ (of.declarations.heads number).stage p at)

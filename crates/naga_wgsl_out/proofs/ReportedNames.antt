@@ -1,9 +1,8 @@
--- Why the items of a module get no names, and that it is not yet written, is told by other texts than
--- what is told of a function.
+-- Why the items of a module get no names is told by other texts than what is told of a function.
 use Rattle.std.proofs.Common.{◌≡◌, ◌∙◌, ℕ, Bool, true, false, List, None, Option, Some, ap, codes, inl}
 use Rattle.std.proofs.Common.{inr, nat_eq, refl, subst, sym}
 use Rattle.std.proofs.lemmas.Bool.{false≢true}
-use Rattle.std.specs.Prelude.{Err, IfErr, IsErrAnd, IsSomeAnd, Ok, Result, get_or, slice_get}
+use Rattle.std.specs.Prelude.{◌⊎◌, Err, IfErr, IsErrAnd, IsSomeAnd, Ok, Result, get_or, slice_get}
 use Rattle.std.specs.Prelude.{string_bytes}
 use Rattle.module_meaning.specs.ExpressionOperators.{has_parts}
 use Rattle.module_meaning.specs.LackingScalars.{lacking_scalar}
@@ -23,17 +22,19 @@ use Rattle.naga_ir.specs.declared.types.TypeInner.{TypeInner}
 use Rattle.naga_wgsl_fns.specs.Errors.{IsCustom, IsUnimplemented}
 use Rattle.naga_wgsl_fns.specs.declared.error.Error.{Error}
 use Rattle.naga_wgsl_fns.specs.declared.error.Error.TheVariants.{Custom, Memory, Unimplemented}
-use Rattle.naga_wgsl_out.specs.ModuleRefusals.{IsNamesRefusal, IsReportedOfItems, TellsOfFunction}
+use Rattle.naga_wgsl_out.specs.ModuleRefusals.{IsNamesRefusal, IsReportedOfItems, ItemsAreFull}
+use Rattle.naga_wgsl_out.specs.ModuleRefusals.{TellsOfFunction}
 use Rattle.naga_wgsl_fns.specs.Refusals.{NamesConversion}
 use Rattle.naga_wgsl_fns.specs.Refusals.{NamesExpression, NamesFunction, NamesLiteral, NamesMatrix}
 use Rattle.naga_wgsl_fns.specs.Refusals.{NamesGlobal, NamesPart, NamesScalar, NamesStatement}
-use Rattle.naga_wgsl_fns.specs.Refusals.{NamesType, NamesUnspelled}
+use Rattle.naga_wgsl_fns.specs.Refusals.{NamesType, NamesUnspelled, TellsOfForm, TellsOfFullNamer}
+use Rattle.naga_wgsl_fns.specs.Refusals.{TellsOfScope}
 use Rattle.naga_scope.specs.declared.statements.FormlessStatement.{FormlessStatement}
 use Rattle.naga_scope.specs.declared.statements.FormlessStatement.TheVariants as formless
 use Rattle.naga_wgsl_fns.specs.Refusals.{OfConstant, OfLiteral, OfOperand, OfOperation, OfType}
 use Rattle.naga_wgsl_fns.specs.Refusals.{converted, pointed_scalar}
 
--- the text begins with an `n`, as what is told of names does, and `not yet written`
+-- the text begins with an `n`, as what is told of names does
 abbrev begins : List ℕ → Bool
 begins text = nat_eq (get_or text 0 0) 110
 
@@ -171,27 +172,31 @@ reported_begins m message (inr reported) = ap begins reported.0
 
 -- why the items get no names tells of no function
 tells_of_none : (m : Module) (error : Error) → IsNamesRefusal m error → TellsOfFunction m error → ⊥
-tells_of_none m (Custom message) refusal (inl scope) =
-    false≢true (sym (ap begins scope) ∙ reported_begins m (string_bytes message) refusal)
-tells_of_none m (Custom message) refusal (inr (inl (tells, inl (other, known, es, e, named)))) =
-    false≢true
-    (sym (expression_other other known es e (Custom message) named)
-    ∙ reported_begins m (string_bytes message) refusal)
-tells_of_none m (Custom message) refusal (inr (inl (tells, inr (inl (other, r, named))))) =
-    false≢true
-    (sym (type_other other r (Custom message) named)
-    ∙ reported_begins m (string_bytes message) refusal)
-tells_of_none m (Custom message) refusal (inr (inl (tells, inr (inr (statement, named))))) =
-    false≢true
-    (sym (statement_other statement (Custom message) named)
-    ∙ reported_begins m (string_bytes message) refusal)
-tells_of_none m (Custom message) (inl reported) (inr (inr full)) = full.1 reported.1
-tells_of_none m (Custom message) (inr reported) (inr (inr full)) =
-    false≢true (ap (λ text. nat_eq (get_or text 4 0) 32) (sym full.0 ∙ reported.0))
-tells_of_none m (Memory e) refusal (inl scope) = scope
-tells_of_none m (Memory e) refusal (inr (inl form)) = form.0
-tells_of_none m (Memory e) refusal (inr (inr full)) = full.0
-tells_of_none m _ refusal of = absurd refusal
+tells_of_none m error refusal of = by error refusal of.tells
+  where
+    by : (error : Error) → IsNamesRefusal m error →
+        (TellsOfScope error ⊎ (TellsOfForm error ⊎ (TellsOfFullNamer error × (ItemsAreFull m → ⊥)))) → ⊥
+    by (Custom message) refusal (inl scope) =
+        false≢true (sym (ap begins scope) ∙ reported_begins m (string_bytes message) refusal)
+    by (Custom message) refusal (inr (inl (tells, inl (other, known, es, e, named)))) =
+        false≢true
+        (sym (expression_other other known es e (Custom message) named)
+        ∙ reported_begins m (string_bytes message) refusal)
+    by (Custom message) refusal (inr (inl (tells, inr (inl (other, r, named))))) =
+        false≢true
+        (sym (type_other other r (Custom message) named)
+        ∙ reported_begins m (string_bytes message) refusal)
+    by (Custom message) refusal (inr (inl (tells, inr (inr (statement, named))))) =
+        false≢true
+        (sym (statement_other statement (Custom message) named)
+        ∙ reported_begins m (string_bytes message) refusal)
+    by (Custom message) (inl reported) (inr (inr full)) = full.1 reported.1
+    by (Custom message) (inr reported) (inr (inr full)) =
+        false≢true (ap (λ text. nat_eq (get_or text 4 0) 32) (sym full.0 ∙ reported.0))
+    by (Memory e) refusal (inl scope) = scope
+    by (Memory e) refusal (inr (inl form)) = form.0
+    by (Memory e) refusal (inr (inr full)) = full.0
+    by _ refusal of = absurd refusal
 
 pub names_tell_of_none : (m : Module) (P : Type 0) (r : Result Unit Error) (error : Error) →
     IsErrAnd r (λ e. e ≡ error) → IsNamesRefusal m error →
@@ -199,24 +204,3 @@ pub names_tell_of_none : (m : Module) (P : Type 0) (r : Result Unit Error) (erro
 names_tell_of_none m P (Err e) error reported refusal =
     λ of. absurd (tells_of_none m e (subst (IsNamesRefusal m) (sym reported) refusal) of)
 names_tell_of_none m P (Ok u) error reported refusal = absurd reported
-
--- neither does that a module is not yet written
-pub not_written_tells_of_none : (m : Module) (error : Error) →
-    IsUnimplemented (codes "not yet written") error → TellsOfFunction m error → ⊥
-not_written_tells_of_none m (Unimplemented message) reported (inl scope) = scope
-not_written_tells_of_none m (Unimplemented message) reported
-    (inr (inl (tells, inl (other, known, es, e, named)))) =
-    false≢true
-    (sym (expression_other other known es e (Unimplemented message) named) ∙ ap begins reported)
-not_written_tells_of_none m (Unimplemented message) reported
-    (inr (inl (tells, inr (inl (types, r, named))))) =
-    false≢true (sym (type_other types r (Unimplemented message) named) ∙ ap begins reported)
-not_written_tells_of_none m (Unimplemented message) reported
-    (inr (inl (tells, inr (inr (statement, named))))) =
-    false≢true
-    (sym (statement_other statement (Unimplemented message) named) ∙ ap begins reported)
-not_written_tells_of_none m (Unimplemented message) reported (inr (inr full)) = full.0
-not_written_tells_of_none m (Memory e) reported (inl scope) = scope
-not_written_tells_of_none m (Memory e) reported (inr (inl form)) = form.0
-not_written_tells_of_none m (Memory e) reported (inr (inr full)) = full.0
-not_written_tells_of_none m _ reported of = absurd reported

@@ -18,6 +18,7 @@ ghost use Rattle.naga_wgsl_fns.specs.FunctionText.{annotates_types};
 ghost use Rattle.naga_wgsl_fns.specs.Functions.{text_of_function};
 ghost use Rattle.naga_wgsl_out.specs.Headline.{EachReading, FaithfulWriting, answer_of, text_of};
 ghost use Rattle.naga_wgsl_fns.specs.Items.{HasNamedItemsOf};
+ghost use Rattle.naga_wgsl_fns.specs.ModuleText.{CanWriteOf};
 ghost use Rattle.naga_wgsl_fns.specs.Refusals.{TellsOfModule};
 ghost use Rattle.naga_wgsl_out.specs.ModuleRefusals.{ComesBeforeText, HasAllNames};
 ghost use Rattle.naga_wgsl_out.specs.ModuleRefusals.{HasNamedBefore, IsNamesRefusal};
@@ -159,9 +160,9 @@ fn write_front<W: TextSink>(
     names: &HashMap<NameKey, String>,
     out: &mut W,
 ) -> Result<(), Error>
-    requires accepted { (info : ModuleInfo) × IsTrue (is_accepted «module».now info) }
+    requires can { CanWriteOf «module».now }
     requires declared { DeclarationsHaveForms «module».now }
-    requires names { HasNamesOf «module».now (names_in names.now) }
+    requires names { HasAllNames «module».now (names_in names.now) }
     ensures { Appends result (W.text out.old) (W.failures out.old) (front_text «module».now)
         (W.text out.new) (W.failures out.new) }
 {

@@ -17,7 +17,7 @@ error_of_plan-requires-clause-known c =
 
 pub error_of_plan-requires-clause-formless : goal.error_of_plan-requires-clause-formless
 error_of_plan-requires-clause-formless c =
-    is_of_plan c.annotates_types.result c.args.«module».now c.args.info.now c.requires.accepted c.requires.written
+    is_of_plan c.annotates_types.result c.args.«module».now c.args.info.now c.requires.accepted
     (function_number c.args.«module».now c.args.ty.now) c.function_of.result.0.now c.function_of.ensures.function c.function_of.result.1.now c.function_of.ensures.known
     _ c.in-Err.error c.in-Err.ensures.err
 
@@ -28,7 +28,7 @@ returns-in-Err-clause-err c =
     λ earlier has.
     subst (λ explicit. IsPlanRefusal explicit m info earlier (function_number c.args.«module».now c.args.ty.now) c.error_of_plan.result)
     c.annotates_types.ensures
-    (plan_refusal c.annotates_types.result m info c.requires.accepted c.requires.written
+    (plan_refusal c.annotates_types.result m info c.requires.accepted
     (function_number c.args.«module».now c.args.ty.now) c.function_of.result.0.now c.function_of.ensures.function earlier c.function_of.result.1.now
     c.function_of.ensures.known _ c.requires.words has c.in-Err.error c.error_of_plan.result
     c.in-Err.ensures.err c.error_of_plan.ensures)
