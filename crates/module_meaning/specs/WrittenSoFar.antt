@@ -1,4 +1,5 @@
--- What is written so far of the modules. Others are refused as not yet written.
+-- Which expressions have a form: those of functions, and the module's own, of which initialisers are
+-- made.
 --
 -- Throughout, m is a module, f a function, es are its expressions, e is one, k is what is known of
 -- one, h is a handle, a an argument, r a result, s are scalars, and t is a type.
@@ -48,22 +49,7 @@ use Rattle.module_meaning.specs.Undeclared.{whole_known}
 use Rattle.naga_words.specs.Spelling.{is_struct}
 use Rattle.wgsl_words.specs.Words.{math_word}
 
--- nothing is declared but types and functions: no constant has a name
-abbrev pub declares_functions : Module → Bool
-declares_functions m =
-    list_all (λ c. is_none c.name) m.constants && (length m.overrides == 0 &&
-    (length m.global_variables == 0 && length m.entry_points.items == 0))
-
--- ---- types
--- a type that is no struct has no declaration, nor has a struct that no text declares; such a struct
--- is refused by name where it would be spelled
-abbrev pub type_is_written_so_far : Module → (h : ℕ) → Type_ → Bool
-type_is_written_so_far m h t = not (is_struct t.inner) || is_undeclared m.special_types h
-
-abbrev pub types_are_written_so_far : Module → Bool
-types_are_written_so_far m = all_placed (type_is_written_so_far m) m.types
-
--- ---- functions
+-- ---- literals
 -- the literal is of `bool` or of one of these integer types
 abbrev pub is_written_literal : LiteralValue → Bool
 is_written_literal (literal.Bool value) = true
@@ -186,21 +172,3 @@ expression_is_written m es _ = false
 abbrev pub expression_has_form : Module → List ExpressionInfo → List Expression → Expression → Bool
 expression_has_form m known es e =
     expression_is_written m known e && own_offset_is_written es e
-
--- neither the arguments nor the result are bound to a location or a builtin value
-abbrev pub is_unbound : Function → Bool
-is_unbound f =
-    list_all (λ a. is_none a.binding) f.arguments.items &&
-    option_map_or (λ r. is_none r.binding) f.result true
-
--- such a function, whatever its statements and expressions are
-abbrev pub function_is_written : Function → Bool
-function_is_written f = is_unbound f
-
--- ---- modules
--- Such types and such functions. A type without a form is refused by name where it is written, and
--- let be where it is not, and so is a struct that no text declares.
-unfoldable pub is_written_so_far : Module → Bool
-is_written_so_far m =
-    declares_functions m &&
-    (types_are_written_so_far m && list_all function_is_written m.functions)

@@ -23,11 +23,9 @@ mod type_numbers;
 pub mod undeclared;
 mod uses;
 mod walk;
-pub mod written_so_far;
 
 pub use acceptance::{accepts, unaccepted};
 pub use alike::is_spelled;
 pub use counts::count;
 pub use faults::{Fault, FunctionPlace, Item, Unaccepted};
 pub use undeclared::is_spellable;
-pub use written_so_far::is_written_so_far;

@@ -29,8 +29,6 @@ use Rattle.naga_words.specs.Contexts.{Names, names_of}
 use Rattle.naga_words.specs.Spelling.{is_struct, length_within, size_within}
 use Rattle.naga_words.specs.Words.{sampler_word}
 use Rattle.module_meaning.specs.AlikeTypes.{is_spelled, type_key as form_numbers}
-use Rattle.module_meaning.proofs.WrittenSoFar.{type_of_part}
-use Rattle.module_meaning.specs.WrittenSoFar.{types_are_written_so_far}
 use Rattle.module_meaning.specs.Undeclared.{is_undeclared, names_undeclared}
 use Rattle.module_meaning.specs.Types.{type_names}
 use Rattle.wgsl_text.proofs.Building.{in_front}
@@ -306,54 +304,3 @@ free_tree : (t : TypeSpecifier) → IsType t → is_plain t ≡ true →
 free_tree (Named w) is plain =
     passes (λ v. operates_freely (type_layout (Named v))) plain_type_words w plain_types_free plain
 free_tree (Template w parts) is plain = template_free w parts is.part.0
-
--- ---- types of a module that is written so far
--- a struct among them is declared by no text
-pub struct_undeclared : (m : Module) → types_are_written_so_far m ≡ true → (h : ℕ) (t : Type_) →
-    slice_get m.types h ≡ Some t → is_struct t.inner ≡ true →
-    is_undeclared m.special_types h ≡ true
-struct_undeclared m all h t at is = by t.inner is (type_of_part m all h t at)
-  where
-    by : (it : TypeInner) → is_struct it ≡ true →
-        (not (is_struct it) || is_undeclared m.special_types h) ≡ true →
-        is_undeclared m.special_types h ≡ true
-    by (inner.Struct members span) is part = part
-    by _ is part = absurd cc
-
-module _ (m : Module) (types : TypesAreFit m) where
-  -- a type of the module that has a form is one of the grammar
-  pub is_type_at : (ty : ℕ) → is_spelled m.types (Handle ty) ≡ true →
-      IsType (type_form (type_names m) ty)
-  is_type_at ty is =
-      let t = tree_there (type_names m) (Handle ty) is in
-      subst (λ o. IsType (unwrap_or o (Named []))) (sym t.1) (tree_is m types (Handle ty) tt t.0 t.1)
-
-  -- what a `let` tells is a type of the grammar
-  pub distinguished_is : (explicit : Bool) (es : List ExpressionInfo) →
-      ((h : ℕ) (k : ExpressionInfo) → slice_get es h ≡ Some k → IsFit m k.ty) →
-      (h : ℕ) (tree : TypeSpecifier) →
-      annotated_type explicit m (type_names m) es h ≡ Some tree → IsType tree
-  distinguished_is true es fits h tree is =
-      let k =
-      then_some
-      (λ k. if names_undeclared m k.ty then None else resolution_tree (type_names m) k.ty)
-      (slice_get es h) tree is in
-      by (names_undeclared m k.0.ty) k.0 (fits h k.0 k.1) k.2
-    where
-      by : (undeclared : Bool) (k : ExpressionInfo) → IsFit m k.ty →
-          (if undeclared then None else resolution_tree (type_names m) k.ty) ≡ Some tree →
-          IsType tree
-      by true k fit e = absurd cc
-      by false k fit e = tree_is m types k.ty fit tree e
-  distinguished_is false es fits h tree is = absurd cc
-
-  -- the tree of a type is spelled as no name is, or it names a struct
-  pub free_form : (r : TypeResolution) → IsFit m r →
-      (t : TypeSpecifier) → resolution_tree (type_names m) r ≡ Some t →
-      (operates_freely (type_layout t) ≡ true) ⊎ IsStructNamed (type_names m) t
-  free_form r fit t is = by (resolution_plain (type_names m) r t is)
-    where
-      by : (is_plain t ≡ true) ⊎ IsStructNamed (type_names m) t →
-          (operates_freely (type_layout t) ≡ true) ⊎ IsStructNamed (type_names m) t
-      by (inl plain) = inl (free_tree t (tree_is m types r fit t is) plain)
-      by (inr named) = inr named
