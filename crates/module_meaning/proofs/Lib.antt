@@ -9,7 +9,6 @@ pub mod ExpressionShapes
 mod DeclaredItemExamples
 pub mod Fitting
 pub mod FunctionNumbers
-pub mod Interface
 pub mod InterfaceExamples
 pub mod Lists
 pub mod ModuleShapeExamples

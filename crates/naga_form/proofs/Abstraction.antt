@@ -3,7 +3,7 @@
 use Rattle.std.proofs.Common.{◌≡◌, ℕ, suc, Bool, true, false, List, [], ◌∷◌, ◌++◌, length, refl}
 use Rattle.std.proofs.Common.{sym, ap, ◌∙◌, arith, zero, ◌+◌, pos, negsuc, map, Option, Some, None}
 use Rattle.std.proofs.Common.{add-one, add-zero, zero-add}
-use Rattle.std.specs.Prelude.{codes, IsTrue, slice_get, unwrap_or}
+use Rattle.std.specs.Prelude.{codes, slice_get, unwrap_or}
 use Rattle.std.specs.Option.{option_map, is_some}
 use Rattle.std.proofs.lemmas.Option.{slice_get_within}
 use Rattle.naga_names.proofs.Refusal.{element}
@@ -33,7 +33,6 @@ use Rattle.naga_ir.specs.declared.module.FunctionArgument.{FunctionArgument}
 use Rattle.naga_ir.specs.declared.module.LocalVariable.{LocalVariable}
 use Rattle.naga_ir.specs.declared.module.Module.{Module}
 use Rattle.naga_ir.specs.declared.types.AddressSpace.TheVariants as space
-use Rattle.naga_ir.specs.declared.types.Type_.{Type_}
 use Rattle.naga_ir.specs.declared.types.TypeInner.TheVariants as inner
 use Rattle.std.specs.Prelude.{if◌then◌else◌}
 use Rattle.naga_form.specs.Expressions.{points}

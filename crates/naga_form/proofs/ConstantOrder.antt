@@ -26,7 +26,7 @@ use Rattle.module_meaning.specs.ModuleShapes.{module_shape, named_constants, ini
 use Rattle.module_meaning.specs.OperatorTable.{Operator, Splat, run_word}
 use Rattle.module_meaning.specs.Ranges.{all_below}
 use Rattle.module_meaning.specs.ExpressionContexts.{constant_over, declared_over, global_tree, global_tree_within, constant_number, override_number}
-use Rattle.module_meaning.specs.ExpressionContexts.{global_types_known, named_count, zero_of_type}
+use Rattle.module_meaning.specs.ExpressionContexts.{global_types_known, zero_of_type}
 use Rattle.naga_form.proofs.ConstantInitialisers.{initialiser_of}
 use Rattle.naga_form.proofs.ConstantTrees.{availability_tree}
 use Rattle.naga_form.proofs.NamedConstants.{constants_counted, named_at, types_count, types_of_constants}

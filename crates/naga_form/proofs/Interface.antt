@@ -3,12 +3,12 @@
 -- Throughout, m is a module, info what is known of it, names are those of its items, t its types with
 -- their names, g the number of a function, ty the handle of a type, b a binding, k the handle of a
 -- declaration, and declarations go by their first letters.
-use Rattle.std.proofs.Common.{◌≡◌, ℕ, zero, suc, ◌+◌, ◌-◌, ◌<◌, Bool, true, false, List, [], ◌∷◌, length}
-use Rattle.std.proofs.Common.{refl, sym, ap, ◌∙◌, map, Option, Some, None, pred, arith, subst}
+use Rattle.std.proofs.Common.{◌≡◌, ℕ, suc, ◌+◌, ◌<◌, Bool, true, false, List, [], ◌∷◌, length}
+use Rattle.std.proofs.Common.{refl, sym, ap, ◌∙◌, map, Option, Some, None, pred, arith}
 use Rattle.std.specs.Prelude.{IsTrue, slice_get, unwrap_or, if◌then◌else◌, ◌==◌}
 use Rattle.std.specs.List.{cons_option, enumerate_from, filter_map, list_all}
 use Rattle.std.specs.Option.{is_some, option_and_then, option_map, option_map_or}
-use Rattle.std.proofs.lemmas.Bool.{and_parts, eqb-true, le-ltb}
+use Rattle.std.proofs.lemmas.Bool.{and_parts, eqb-true}
 use Rattle.std.proofs.lemmas.Option.{slice_get_within}
 use Rattle.naga_ir.specs.declared.binding.Binding.{Binding}
 use Rattle.naga_ir.specs.declared.expression.Expression as ir
@@ -39,7 +39,6 @@ use Rattle.wgsl_text.specs.Requests.{is_request}
 use Rattle.wgsl_text.specs.Types.{TypeSpecifier, Named}
 use Rattle.wgsl_text.proofs.Text.{text-append}
 use Rattle.shader_runs.specs.Constants.{module_initialiser_value, text_initialiser_value}
-use Rattle.shader_runs.specs.Form as runs
 use Rattle.shader_runs.specs.Form.{form_module}
 use Rattle.shader_runs.specs.Premises.{IsTyped, SettingsFit}
 use Rattle.shader_runs.specs.Program as shapes
@@ -50,7 +49,7 @@ use Rattle.shader_runs.specs.Value.{Value}
 use Rattle.shader_runs.specs.World.{Meaning, Settings, World}
 use Rattle.shader_runs.proofs.Calls.{initialisers_are_alike}
 use Rattle.text_meaning.specs.Abstraction.{expression_read, program_read}
-use Rattle.text_meaning.specs.Attributes.{alignment_read, behind_alignment, behind_size, size_read}
+use Rattle.text_meaning.specs.Attributes.{alignment_read, behind_alignment}
 use Rattle.text_meaning.specs.Attributes.{stage_binding_read, stage_read}
 use Rattle.text_meaning.specs.Interface.{access_read, constant_interface_read}
 use Rattle.text_meaning.specs.Interface.{entry_point_interface_read, function_interface_read}
@@ -66,7 +65,7 @@ use Rattle.module_meaning.specs.ExpressionContexts.{global_tree}
 use Rattle.module_meaning.specs.Faithful.{HasInterfaceOf}
 use Rattle.module_meaning.specs.FunctionNumbers.{all_functions}
 use Rattle.module_meaning.specs.Interface.{argument_passed, body_interface, constant_interface}
-use Rattle.module_meaning.specs.Interface.{entry_point_interface, function_interface}
+use Rattle.module_meaning.specs.Interface.{entry_point_interface}
 use Rattle.module_meaning.specs.Interface.{function_interfaces, global_expression_value}
 use Rattle.module_meaning.specs.Interface.{global_interface, member_interface}
 use Rattle.module_meaning.specs.Interface.{override_interface, result_passed, stage_of}
@@ -75,9 +74,9 @@ use Rattle.module_meaning.specs.ModuleShapes.{module_shape}
 use Rattle.module_meaning.specs.Names.{constant_name, expression_name, function_name, global_name}
 use Rattle.module_meaning.specs.Names.{module_names, name_in, override_name}
 use Rattle.module_meaning.specs.Namings.{function_naming, namings, outer_names}
-use Rattle.module_meaning.specs.Numbers.{fits_32_bits}
+use Rattle.module_meaning.specs.Numbers.{fits_32_bits, workgroup_fits_32_bits}
 use Rattle.module_meaning.specs.Premises.{ScopesHold}
-use Rattle.module_meaning.specs.StageBindings.{stage_binding}
+use Rattle.module_meaning.specs.Ranges.{is_below}
 use Rattle.module_meaning.specs.Types.{spelled_type, type_names}
 use Rattle.module_meaning.specs.Undeclared.{is_declared}
 use Rattle.module_meaning.specs.Written.{AllWrittenHaveForms}
@@ -95,7 +94,7 @@ use Rattle.naga_form.specs.Functions.{function_form, functions_form, locals_form
 use Rattle.naga_form.specs.Functions.{result_form}
 use Rattle.naga_form.specs.TypeTrees.{type_tree}
 use Rattle.naga_form.specs.Types.{type_form}
-use Rattle.naga_form.proofs.AcceptedFunctions.{entry_point_parts, entry_points_counted}
+use Rattle.naga_form.proofs.AcceptedFunctions.{entry_point_is_in_range, entry_points_counted}
 use Rattle.naga_form.proofs.AcceptedFunctions.{functions_counted}
 use Rattle.naga_form.proofs.AcceptedGroups.{declarations_are}
 use Rattle.naga_form.proofs.Attributes.{coherent_is_read, gives_no_room, id_is_read, passing_read}
@@ -126,7 +125,7 @@ bound_has_form None each = refl
 bound_has_form (Some b) each = each b refl
 
 -- ---- what is passed, and locals
--- what is passed in by a function is bound as it is written
+-- what a function takes and gives is bound by what has a form
 abbrev BindingsHaveForms : ir_function.Function → Type 0
 BindingsHaveForms f = (b : Binding) → IsPassed f b → binding_has_form b ≡ true
 
@@ -378,12 +377,21 @@ module _ (m : Module) where
     module _ (accepted : IsTrue (is_accepted m info)) where
       stage_declared : (j : ℕ) (p : EntryPoint) → slice_get m.entry_points.items j ≡ Some p →
           stage_read (stage_attributes names p p.stage) ≡ stage_of names p p.stage
-      stage_declared j p at =
-          by p.workgroup_size refl
-          (eqb-true (length p.workgroup_size) 3
-          (and_parts (length p.workgroup_size == 3) (list_all fits_32_bits p.workgroup_size)
-          (entry_point_parts m info accepted j p at).0).0)
+      stage_declared j p at = by p.workgroup_size refl three
         where
+          three : length p.workgroup_size ≡ 3
+          three =
+              let own = entry_point_is_in_range m info accepted j p at in
+              let count = length m.global_variables in
+              let one =
+              and_parts (is_below count (option_map (λ k. k.output_variable) p.mesh_info)) _ own in
+              let two = and_parts (is_below count p.task_payload) _ one.1 in
+              let behind = and_parts (is_below count p.incoming_ray_payload) _ two.1 in
+              let sizes = and_parts (workgroup_fits_32_bits p.workgroup_size) _ behind.1 in
+              eqb-true (length p.workgroup_size) 3
+              (and_parts (length p.workgroup_size == 3) (list_all fits_32_bits p.workgroup_size)
+              sizes.0).0
+
           has : stage_has_form p p.stage ≡ true
           has = (declarations.heads (length m.functions + j)).stage p (entry_point_at m j ∙ at)
 

@@ -8,7 +8,7 @@ use Rattle.std.proofs.Common.{◌≡◌, ℕ, suc, ◌+◌, ◌-◌, Bool, true,
 use Rattle.std.proofs.Common.{None, refl, sym, ap, ◌∙◌, length, map, arith, add-one, add-zero}
 use Rattle.std.specs.Prelude.{if◌then◌else◌, slice_get, unwrap_or}
 use Rattle.std.specs.List.{cons_option, enumerate_from, filter, filter_map}
-use Rattle.std.specs.Option.{option_map, option_map_or, is_some}
+use Rattle.std.specs.Option.{option_map, option_map_or}
 use Rattle.naga_ir.specs.declared.module.Constant.{Constant}
 use Rattle.naga_ir.specs.declared.module.GlobalVariable.{GlobalVariable}
 use Rattle.naga_ir.specs.declared.module.Module.{Module}
@@ -42,7 +42,6 @@ use Rattle.module_meaning.specs.InfoSizes.{is_handle_space}
 use Rattle.module_meaning.specs.ModuleShapes.{initialiser, module_shape, named_constants}
 use Rattle.module_meaning.specs.ModuleShapes.{variable_shape}
 use Rattle.module_meaning.specs.Names.{constant_name, global_name, module_names, name_in}
-use Rattle.module_meaning.specs.Names.{override_name}
 use Rattle.module_meaning.specs.Namings.{named_handles, outer_names}
 use Rattle.module_meaning.specs.TypeIdentity.{identity, word_of_unspelled_type}
 use Rattle.module_meaning.specs.Types.{declared_type, type_names, word_of_values}

@@ -71,7 +71,6 @@ use Rattle.module_meaning.specs.ExpressionShapes.{shape_of, applied_or}
 use Rattle.module_meaning.specs.OperatorTable.{Operator}
 use Rattle.naga_ir.specs.Operands.{expression_operands}
 use Rattle.text_meaning.specs.Abstraction.{expression_read}
-use Rattle.wgsl_text.specs.Expressions.{operands}
 use Rattle.naga_ir.specs.declared.expression.Expression.TheVariants as expression
 use Rattle.naga_form.proofs.Operators.{applied_read}
 use Rattle.naga_form.proofs.Literals.{literal_read}
