@@ -16,3 +16,5 @@ pub mod SpelledTypes
 pub mod Sweeping
 pub mod Turns
 pub mod WrittenConstants
+pub mod FormlessDeclarations
+pub mod Searching

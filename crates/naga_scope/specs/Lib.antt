@@ -1,6 +1,7 @@
 pub mod Availabilities
 pub mod Changes
 pub mod Continues
+pub mod Declarations
 pub mod ExpressionNames
 pub mod FormlessStatements
 pub mod Forms

@@ -1,9 +1,9 @@
 -- What is told of a constant that has no form.
-use Rattle.std.proofs.Common.{◌≡◌, ℕ, zero, suc, ◌<◌, ◌&&◌, ◌||◌, Bool, true, false, List, [], ◌∷◌, Some, None}
+use Rattle.std.proofs.Common.{◌≡◌, ℕ, zero, suc, ◌<◌, ◌&&◌, ◌||◌, Bool, true, false, List, [], ◌∷◌, Option, Some, None}
 use Rattle.std.proofs.Common.{refl, sym, ap, ap₂, ◌∙◌, map, slice_get, subst, true≢false}
 use Rattle.std.specs.Prelude.{IsSomeAnd, not}
 use Rattle.std.specs.List.{IsAmong, find, list_all}
-use Rattle.std.specs.Option.{is_some, option_map_or}
+use Rattle.std.specs.Option.{is_none, is_some, option_map_or}
 use Rattle.module_meaning.proofs.Stepwise.{by_those_before}
 use Rattle.module_meaning.specs.Undeclared.{is_spellable}
 use Rattle.module_meaning.specs.WrittenSoFar.{constant_is_written, global_is_written, global_is_written_over}
@@ -61,9 +61,13 @@ module _ (m : Module) (marks : List Bool) (are : MarksGlobals m marks) where
       )
 
 -- ---- what has no form
-neither : (a b : Bool) → (a || b) ≡ false → b ≡ false
+neither : (a b : Bool) → (a || b) ≡ false → (a ≡ false) × (b ≡ false)
 neither true b is = absurd cc
-neither false b is = is
+neither false b is = (refl, is)
+
+unnamed : {X : Type 0} (o : Option X) → is_some o ≡ false → is_none o ≡ true
+unnamed None is = refl
+unnamed (Some x) is = absurd cc
 
 module _ (m : Module) (ordered : GlobalsStandInOrder m) (h : ℕ)
     (formless : global_is_written m h ≡ false) where
@@ -107,19 +111,19 @@ module _ (m : Module) (ordered : GlobalsStandInOrder m) (h : ℕ)
       e ≡ expression.Override o → ⊥
   override_fails e o at same = true≢false (fails_over (expression.Override o) (at ∙ ap Some same))
 
-  -- the initialiser of the constant that it names stands before it, and is not written
+  -- the constant that it names has no name, and its initialiser stands before it and is not written
   pub constant_fails : (e : Expression) (c : ℕ) (k : Constant) →
       slice_get m.global_expressions h ≡ Some e → e ≡ expression.Constant c →
-      slice_get m.constants c ≡ Some k → (k.init < h) × (global_is_written m k.init ≡ false)
+      slice_get m.constants c ≡ Some k →
+      (k.init < h) × (global_is_written m k.init ≡ false) × (is_none k.name ≡ true)
   constant_fails e c k at same there =
-      let here = at ∙ ap Some same in (
-        ordered.initialisers h c k here there,
-        neither (is_some k.name) (global_is_written m k.init)
-            (sym
-            (ap (λ o. option_map_or (λ k. is_some k.name || global_is_written m k.init) o false)
-            there)
-            ∙ fails_over (expression.Constant c) here),
-      )
+      let here = at ∙ ap Some same in
+      let both = neither (is_some k.name) (global_is_written m k.init)
+      (sym
+      (ap (λ o. option_map_or (λ k. is_some k.name || global_is_written m k.init) o false)
+      there)
+      ∙ fails_over (expression.Constant c) here) in
+      (ordered.initialisers h c k here there, both.1, unnamed k.name both.0)
 
   -- an operand stands before it
   pub operand_before : (e : Expression) (x : ℕ) → slice_get m.global_expressions h ≡ Some e →
@@ -161,6 +165,6 @@ constant_named m error c k there is =
 pub initialiser_fails : (m : Module) (c : ℕ) (k : Constant) → slice_get m.constants c ≡ Some k →
     constant_is_written m c ≡ false → global_is_written m k.init ≡ false
 initialiser_fails m c k there formless =
-    neither (is_some k.name) (global_is_written m k.init)
+    (neither (is_some k.name) (global_is_written m k.init)
     (sym (ap (λ o. option_map_or (λ k. is_some k.name || global_is_written m k.init) o false) there)
-    ∙ formless)
+    ∙ formless)).1

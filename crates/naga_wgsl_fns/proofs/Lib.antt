@@ -4,6 +4,7 @@ pub mod Blanks
 pub mod BlockRows
 pub mod ConstantRows
 pub mod ConversionRows
+pub mod DeclarationRefusals
 pub mod ExpressionNames
 pub mod ExpressionRows
 pub mod FormlessConstants

@@ -1,5 +1,6 @@
 pub mod Appends
 pub mod Constants
+pub mod DeclarationRefusals
 pub mod Errors
 pub mod Expressions
 pub mod FunctionText

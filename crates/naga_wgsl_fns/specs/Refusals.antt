@@ -5,7 +5,7 @@ use Rattle.std.specs.Prelude.{◌≡◌, ⊤, ℕ, ◌<◌, List, ◌⊎◌, cod
 use Rattle.std.specs.Prelude.{IsSomeAnd, Option, Some, None, length, slice_get, Bool, true, false}
 use Rattle.std.specs.Prelude.{nat_lt}
 use Rattle.std.specs.List.{IsAmong}
-use Rattle.std.specs.Option.{is_some, option_and_then}
+use Rattle.std.specs.Option.{is_none, is_some, option_and_then}
 use Rattle.naga_ir.specs.declared.expression.Expression.{Expression}
 use Rattle.naga_ir.specs.Operands.{expression_operands}
 use Rattle.naga_ir.specs.declared.expression.Expression.TheVariants.{AccessIndex, As, Compose}
@@ -176,7 +176,8 @@ made_type e = None
 
 -- One of the module's own expressions has no form, and what is told names why: it is a literal without
 -- a form, it makes a value of a type without one, it applies an operator, or so it is with one of its
--- operands or with the initialiser of the constant that it names.
+-- operands or with the initialiser of the constant that it names, if that has no name. One that has a
+-- name is written as that, whatever its initialiser is.
 pub data NamesGlobal (m : Module) (error : Error) : (handle : ℕ) → Type 0 where
   OfLiteral : (h : ℕ) (value : LiteralValue) →
       slice_get m.global_expressions h ≡ Some (Literal value) →
@@ -191,7 +192,7 @@ pub data NamesGlobal (m : Module) (error : Error) : (handle : ℕ) → Type 0 wh
       IsAmong (expression_operands e) x → NamesGlobal m error x → NamesGlobal m error h
   OfConstant : (h c : ℕ) (k : constant.Constant) →
       slice_get m.global_expressions h ≡ Some (Constant c) → slice_get m.constants c ≡ Some k →
-      NamesGlobal m error k.init → NamesGlobal m error h
+      IsTrue (is_none k.name) → NamesGlobal m error k.init → NamesGlobal m error h
 
 -- a constant and a variable of the module that an expression names are there
 abbrev pub NamesItemsOf : Module → Expression → Type 0

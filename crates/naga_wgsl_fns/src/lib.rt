@@ -11,6 +11,7 @@ mod conversions;
 pub mod error;
 mod expressions;
 mod formless_constants;
+pub mod formless_declarations;
 mod forms;
 pub mod functions;
 pub mod global_expressions;
@@ -34,6 +35,7 @@ mod types;
 mod variables;
 
 pub use error::Error;
+pub use formless_declarations::{declaration_without_form, head_without_form};
 pub use functions::write_planned;
 pub use global_expressions::write_global_expression;
 pub use implemented::to_wgsl_if_implemented;

@@ -105,7 +105,7 @@ global_other m error h (OfType _ ty e at is formless named) = type_other m (Hand
 global_other m error h (OfOperation _ e at is named) =
     custom_other (codes "operator in a constant") error named refl
 global_other m error h (OfOperand _ x e at among inside) = global_other m error x inside
-global_other m error h (OfConstant _ c k at there inside) = global_other m error k.init inside
+global_other m error h (OfConstant _ c k at there unnamed inside) = global_other m error k.init inside
 
 -- so does no refusal that names an expression
 expression_other : (m : Module) (known : List ExpressionInfo) (es : List Expression)

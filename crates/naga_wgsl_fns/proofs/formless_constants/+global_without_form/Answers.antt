@@ -32,8 +32,12 @@ global_without_form-requires t c =
 
 pub returns-in-Constant : goal.returns-in-Constant
 returns-in-Constant t c =
+    let fails =
+    formless.constant_fails c.args.«module».now c.requires.ordered c.args.handle
+    c.requires.formless c.index.result.now c.in-Constant.constant c.index-in-Constant.result.now
+    c.index.ensures c.in-Constant.is c.index-in-Constant.ensures in
     OfConstant c.args.handle c.in-Constant.constant c.index-in-Constant.result.now
-    (c.index.ensures ∙ ap Some c.in-Constant.is) c.index-in-Constant.ensures
+    (c.index.ensures ∙ ap Some c.in-Constant.is) c.index-in-Constant.ensures fails.2
     c.global_without_form.ensures
 
 -- ---- an override

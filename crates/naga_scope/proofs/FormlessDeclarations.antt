@@ -1,0 +1,184 @@
+-- What a search through a module's declarations says of them.
+use Rattle.std.proofs.Common.{◌≡◌, ℕ, ◌+◌, ◌-◌, ◌<◌, ◌≤◌, Bool, true, false, Option, Some, None, refl, sym, ap, ◌∙◌, subst}
+use Rattle.std.proofs.Common.{length, slice_get, nat_lt, arith}
+use Rattle.std.specs.Prelude.{IsTrue, if◌then◌else◌}
+use Rattle.std.proofs.lemmas.Bool.{le-ltb, lt-ltb}
+use Rattle.std.proofs.lemmas.Option.{slice_get_within}
+use Rattle.module_meaning.proofs.FunctionNumbers.{entry_point_among, function_among, which_function}
+use Rattle.module_meaning.proofs.FunctionNumbers.{IsNumbered, OfEntryPoint, OfFunction}
+use Rattle.module_meaning.specs.DeclarationForms.{DeclarationsHaveForms, HeadHasForm, IsDeclaredType}
+use Rattle.module_meaning.specs.DeclarationForms.{IsInitialiser, IsMemberBinding, IsPassed}
+use Rattle.module_meaning.specs.DeclarationForms.{binding_has_form, entry_point_numbered, stage_has_form}
+use Rattle.module_meaning.specs.DeclarationForms.IsDeclaredType as type
+use Rattle.module_meaning.specs.DeclarationForms.IsInitialiser as initialiser
+use Rattle.module_meaning.specs.DeclarationForms.IsMemberBinding as member
+use Rattle.module_meaning.specs.DeclarationForms.IsPassed as passed
+use Rattle.module_meaning.specs.FunctionNumbers.{all_functions}
+use Rattle.module_meaning.specs.Undeclared.{is_spellable}
+use Rattle.module_meaning.specs.WrittenSoFar.{global_is_written}
+use Rattle.naga_info.specs.declared.info.TypeResolution.TheVariants.{Handle}
+use Rattle.naga_ir.specs.declared.binding.Binding.{Binding}
+use Rattle.naga_ir.specs.declared.binding.Binding.TheVariants as binding
+use Rattle.naga_ir.specs.declared.binding.BuiltIn.{BuiltIn}
+use Rattle.naga_ir.specs.declared.module.EntryPoint.{EntryPoint}
+use Rattle.naga_ir.specs.declared.module.Function.{Function}
+use Rattle.naga_ir.specs.declared.module.Module.{Module}
+use Rattle.naga_scope.specs.declared.declarations.FormlessDeclaration.{FormlessDeclaration}
+use Rattle.naga_scope.specs.declared.declarations.FormlessDeclaration.TheVariants as declaration
+use Rattle.naga_scope.specs.declared.declarations.FormlessHead.{FormlessHead}
+use Rattle.naga_scope.specs.declared.declarations.FormlessHead.TheVariants as head
+use Rattle.naga_scope.specs.Declarations.{BindingHasForm, ConstantHasForm, EntryPointHasForm, Finds, IsFormlessBinding}
+use Rattle.naga_scope.specs.Declarations.{IsFormlessConstant, IsFormlessDeclaration, IsFormlessEntryPoint, IsFormlessHead}
+use Rattle.naga_scope.specs.Declarations.{IsFormlessPassed, IsFormlessType, IsFormlessValue, PassedHasForm, TypeHasForm}
+use Rattle.naga_scope.specs.Declarations.{ValueHasForm}
+
+module _ (m : Module) where
+  -- ---- numbers
+  -- no entry point has the number of a function
+  function_numbered : (h : ℕ) → h < length m.functions → entry_point_numbered m h ≡ None
+  function_numbered h lt =
+      ap (λ b. if b then None else slice_get m.entry_points.items (h - length m.functions))
+      (lt-ltb h (length m.functions) lt)
+
+  -- the entry points come behind the functions
+  numbered : (j : ℕ) → entry_point_numbered m (length m.functions + j) ≡ slice_get m.entry_points.items j
+  numbered j =
+      let behind : length m.functions ≤ length m.functions + j = omega arith in
+      let rest : (length m.functions + j) - length m.functions ≡ j = omega arith in
+      ap (λ b. if b then None else slice_get m.entry_points.items ((length m.functions + j) - length m.functions))
+      (le-ltb (length m.functions + j) (length m.functions) behind)
+      ∙ ap (slice_get m.entry_points.items) rest
+
+  -- ---- heads
+  pub function_head : (h : ℕ) (f : Function) → slice_get m.functions h ≡ Some f → PassedHasForm f → HeadHasForm m h
+  function_head h f there formed = record {
+    bindings = λ g at.
+        let same : Some f ≡ Some g = sym (function_among m h f there) ∙ at in
+        let function : f ≡ g = cc in
+        subst PassedHasForm function formed;
+    stage = λ p at.
+        let lt = slice_get_within m.functions h f there in
+        let none : None ≡ Some p = sym (function_numbered h lt) ∙ at in
+        absurd cc;
+  }
+
+  pub entry_point_head : (j : ℕ) (p : EntryPoint) → slice_get m.entry_points.items j ≡ Some p → EntryPointHasForm p →
+      HeadHasForm m (length m.functions + j)
+  entry_point_head j p there formed = record {
+    bindings = λ g at.
+        let same : Some p.function ≡ Some g = sym (entry_point_among m j p there) ∙ at in
+        let function : p.function ≡ g = cc in
+        subst PassedHasForm function formed.passed;
+    stage = λ q at.
+        let same : Some p ≡ Some q = sym there ∙ sym (numbered j) ∙ at in
+        let entry_point : p ≡ q = cc in
+        subst (λ p. IsTrue (stage_has_form p p.stage)) entry_point formed.stage;
+  }
+
+  pub function_lacks : (h : ℕ) (f : Function) → slice_get m.functions h ≡ Some f → (v : BuiltIn) → IsFormlessPassed f v →
+      IsFormlessHead m h (head.BuiltIn v)
+  function_lacks h f there v lacks = (f, function_among m h f there, lacks.0, lacks.1)
+
+  pub entry_point_lacks : (j : ℕ) (p : EntryPoint) → slice_get m.entry_points.items j ≡ Some p → (it : FormlessHead) →
+      IsFormlessEntryPoint p it → IsFormlessHead m (length m.functions + j) it
+  entry_point_lacks j p there (head.BuiltIn v) lacks = (p.function, entry_point_among m j p there, lacks.0, lacks.1)
+  entry_point_lacks j p there head.Stage lacks = (p, numbered j ∙ there, lacks)
+
+  -- ---- what a search finds
+  pub of_types : (it : FormlessDeclaration) → Finds m.types (TypeHasForm m) (IsFormlessType m) (Some it) →
+      IsFormlessDeclaration m it
+  of_types (declaration.Type_ ty) (h, t, at, (declared, (i, s, there, (same, lacks)))) =
+      (subst (IsDeclaredType m) (sym same) (type.OfMember h i t s at declared there), lacks)
+  of_types (declaration.Initialiser handle) (h, t, at, (declared, (i, s, there, lacks))) = absurd lacks
+  of_types (declaration.BuiltIn v) (h, t, at, (declared, (i, s, there, (bound, lacks)))) =
+      (member.OfMember h i t s (binding.BuiltIn v) at declared there bound, lacks)
+  of_types (declaration.Head it) (h, t, at, (declared, (i, s, there, lacks))) = absurd lacks
+
+  pub of_constants : (it : FormlessDeclaration) → Finds m.constants (λ i. ConstantHasForm m) (λ i. IsFormlessConstant m) (Some it) →
+      IsFormlessDeclaration m it
+  of_constants (declaration.Type_ ty) (i, k, at, (is_named, (same, lacks))) =
+      (subst (IsDeclaredType m) (sym same) (type.OfConstant i k at is_named), lacks)
+  of_constants (declaration.Initialiser h) (i, k, at, (is_named, (same, lacks))) =
+      let handle : k.init ≡ h = cc in
+      (subst (IsInitialiser m) handle (initialiser.OfConstant i k at is_named), lacks)
+  of_constants (declaration.BuiltIn v) (i, k, at, (is_named, lacks)) = absurd lacks
+  of_constants (declaration.Head it) (i, k, at, (is_named, lacks)) = absurd lacks
+
+  pub of_overrides : (it : FormlessDeclaration) →
+      Finds m.overrides (λ i o. ValueHasForm m o.ty o.init) (λ i o. IsFormlessValue m o.ty o.init) (Some it) →
+      IsFormlessDeclaration m it
+  of_overrides (declaration.Type_ ty) (i, o, at, (same, lacks)) =
+      (subst (IsDeclaredType m) (sym same) (type.OfOverride i o at), lacks)
+  of_overrides (declaration.Initialiser h) (i, o, at, (same, lacks)) =
+      (initialiser.OfOverride i o h at same, lacks)
+  of_overrides (declaration.BuiltIn v) (i, o, at, lacks) = absurd lacks
+  of_overrides (declaration.Head it) (i, o, at, lacks) = absurd lacks
+
+  pub of_variables : (it : FormlessDeclaration) →
+      Finds m.global_variables (λ i g. ValueHasForm m g.ty g.init) (λ i g. IsFormlessValue m g.ty g.init) (Some it) →
+      IsFormlessDeclaration m it
+  of_variables (declaration.Type_ ty) (i, g, at, (same, lacks)) =
+      (subst (IsDeclaredType m) (sym same) (type.OfVariable i g at), lacks)
+  of_variables (declaration.Initialiser h) (i, g, at, (same, lacks)) =
+      (initialiser.OfVariable i g h at same, lacks)
+  of_variables (declaration.BuiltIn v) (i, g, at, lacks) = absurd lacks
+  of_variables (declaration.Head it) (i, g, at, lacks) = absurd lacks
+
+  pub of_functions : (v : BuiltIn) → Finds m.functions (λ i. PassedHasForm) (λ i. IsFormlessPassed) (Some v) →
+      IsFormlessDeclaration m (declaration.Head (head.BuiltIn v))
+  of_functions v (h, f, there, lacks) = (h, function_lacks h f there v lacks)
+
+  pub of_entry_points : (it : FormlessHead) →
+      Finds m.entry_points.items (λ i. EntryPointHasForm) (λ i. IsFormlessEntryPoint) (Some it) →
+      IsFormlessDeclaration m (declaration.Head it)
+  of_entry_points it (j, p, there, lacks) = (length m.functions + j, entry_point_lacks j p there it lacks)
+
+  -- where nothing is found, all has a form
+  module _ (in_types : Finds m.types (TypeHasForm m) (IsFormlessType m) None)
+      (in_constants : Finds m.constants (λ i. ConstantHasForm m) (λ i. IsFormlessConstant m) None)
+      (in_overrides : Finds m.overrides (λ i o. ValueHasForm m o.ty o.init) (λ i o. IsFormlessValue m o.ty o.init) None)
+      (in_variables : Finds m.global_variables (λ i g. ValueHasForm m g.ty g.init) (λ i g. IsFormlessValue m g.ty g.init) None)
+      (in_functions : Finds m.functions (λ i. PassedHasForm) (λ i. IsFormlessPassed) None)
+      (in_entry_points : Finds m.entry_points.items (λ i. EntryPointHasForm) (λ i. IsFormlessEntryPoint) None) where
+    types_formed : (ty : ℕ) → IsDeclaredType m ty → IsTrue (is_spellable m (Handle ty))
+    types_formed _ (type.OfMember h i t s at declared there) = (in_types h t at declared i s there).type
+    types_formed _ (type.OfConstant i k at is_named) = (in_constants i k at is_named).type
+    types_formed _ (type.OfOverride i o at) = (in_overrides i o at).type
+    types_formed _ (type.OfVariable i g at) = (in_variables i g at).type
+
+    initialisers_formed : (h : ℕ) → IsInitialiser m h → IsTrue (global_is_written m h)
+    initialisers_formed _ (initialiser.OfConstant i k at is_named) = (in_constants i k at is_named).initialiser k.init refl
+    initialisers_formed h (initialiser.OfOverride i o _ at is) = (in_overrides i o at).initialiser h is
+    initialisers_formed h (initialiser.OfVariable i g _ at is) = (in_variables i g at).initialiser h is
+
+    members_formed : (b : Binding) → IsMemberBinding m b → IsTrue (binding_has_form b)
+    members_formed b (member.OfMember h i t s _ at declared there bound) = (in_types h t at declared i s there).binding b bound
+
+    passed_formed : (number : ℕ) (f : Function) → IsNumbered m number f → PassedHasForm f
+    passed_formed number f (OfFunction there is) = in_functions number f there
+    passed_formed number f (OfEntryPoint j p at there same is) = subst PassedHasForm same (in_entry_points j p there).passed
+
+    stage_formed : (number : ℕ) (p : EntryPoint) → entry_point_numbered m number ≡ Some p → IsTrue (stage_has_form p p.stage)
+    stage_formed number p at = by (nat_lt number (length m.functions)) at
+      where
+        by : (b : Bool) → (if b then None else slice_get m.entry_points.items (number - length m.functions)) ≡ Some p →
+            IsTrue (stage_has_form p p.stage)
+        by true at = absurd cc
+        by false at = (in_entry_points (number - length m.functions) p at).stage
+
+    pub all_formed : DeclarationsHaveForms m
+    all_formed = record {
+      types = types_formed;
+      initialisers = initialisers_formed;
+      members = members_formed;
+      heads = λ number. record {
+        bindings = λ f at. passed_formed number f (which_function m number f at);
+        stage = λ p at. stage_formed number p at;
+      };
+    }
+
+-- ---- what a function takes and gives
+pub passed_has_form : (f : Function) → ((i : ℕ) (a : _) → slice_get f.arguments.items i ≡ Some a → BindingHasForm a.binding) →
+    ((r : _) → f.result ≡ Some r → BindingHasForm r.binding) → PassedHasForm f
+passed_has_form f arguments result b (passed.OfArgument i a _ at bound) = arguments i a at b bound
+passed_has_form f arguments result b (passed.OfResult r _ is bound) = result r is b bound

@@ -1,0 +1,133 @@
+-- What a search for a declaration without a form finds.
+--
+-- Throughout, m is a module, number is that of a function or an entry point, f is a function, p an
+-- entry point, b a binding, v a value of the hardware, ty is the handle of a type, h that of an
+-- expression, s a member, c a constant, o an override, g a variable, a an argument, i is the place of
+-- an item in its list, and it is what is found.
+use Rattle.std.specs.Prelude.{◌≡◌, ⊤, ℕ, Option, Some, None, IsFalse, IsTrue, List, slice_get}
+use Rattle.std.specs.Option.{is_some}
+use Rattle.module_meaning.specs.DeclarationForms.{IsDeclaredType, IsInitialiser, IsMemberBinding}
+use Rattle.module_meaning.specs.DeclarationForms.{IsPassed, binding_has_form, entry_point_numbered}
+use Rattle.module_meaning.specs.DeclarationForms.{stage_has_form}
+use Rattle.module_meaning.specs.FunctionNumbers.{all_functions}
+use Rattle.module_meaning.specs.Undeclared.{is_declared, is_spellable}
+use Rattle.module_meaning.specs.WrittenSoFar.{global_is_written}
+use Rattle.naga_info.specs.declared.info.TypeResolution.TheVariants.{Handle}
+use Rattle.naga_ir.specs.declared.binding.Binding.{Binding}
+use Rattle.naga_ir.specs.declared.binding.Binding.TheVariants as binding
+use Rattle.naga_ir.specs.declared.binding.BuiltIn.{BuiltIn}
+use Rattle.naga_ir.specs.declared.module.Constant.{Constant}
+use Rattle.naga_ir.specs.declared.module.EntryPoint.{EntryPoint}
+use Rattle.naga_ir.specs.declared.module.Function.{Function}
+use Rattle.naga_ir.specs.declared.module.Module.{Module}
+use Rattle.naga_ir.specs.declared.types.StructMember.{StructMember}
+use Rattle.naga_ir.specs.declared.types.Type_.{Type_}
+use Rattle.naga_names.specs.Reset.{members_of}
+use Rattle.naga_scope.specs.declared.declarations.FormlessDeclaration.{FormlessDeclaration}
+use Rattle.naga_scope.specs.declared.declarations.FormlessDeclaration.TheVariants as declaration
+use Rattle.naga_scope.specs.declared.declarations.FormlessHead.{FormlessHead}
+use Rattle.naga_scope.specs.declared.declarations.FormlessHead.TheVariants as head
+
+-- ---- what is found
+-- it has no form among what the function with this number takes and gives and its stage
+abbrev pub IsFormlessHead : Module → (number : ℕ) → FormlessHead → Type 0
+IsFormlessHead m number (head.BuiltIn v) =
+    (f : Function) × (slice_get (all_functions m) number ≡ Some f)
+    × IsPassed f (binding.BuiltIn v) × IsFalse (binding_has_form (binding.BuiltIn v))
+IsFormlessHead m number head.Stage =
+    (p : EntryPoint) × (entry_point_numbered m number ≡ Some p) × IsFalse (stage_has_form p p.stage)
+
+-- it has no form among the module's declarations
+abbrev pub IsFormlessDeclaration : Module → FormlessDeclaration → Type 0
+IsFormlessDeclaration m (declaration.Type_ ty) =
+    IsDeclaredType m ty × IsFalse (is_spellable m (Handle ty))
+IsFormlessDeclaration m (declaration.Initialiser h) =
+    IsInitialiser m h × IsFalse (global_is_written m h)
+IsFormlessDeclaration m (declaration.BuiltIn v) =
+    IsMemberBinding m (binding.BuiltIn v) × IsFalse (binding_has_form (binding.BuiltIn v))
+IsFormlessDeclaration m (declaration.Head it) = (number : ℕ) × IsFormlessHead m number it
+
+-- ---- searches
+-- Each item of a list has a form, or this one has none, as is told of each item by its place.
+abbrev pub Finds : {X F : Type 0} → List X → (HasForm : (i : ℕ) → X → Type 0) →
+    (IsFormless : (i : ℕ) → X → F → Type 0) → Option F → Type 0
+Finds {X} xs HasForm IsFormless None = (i : ℕ) (x : X) → slice_get xs i ≡ Some x → HasForm i x
+Finds {X} xs HasForm IsFormless (Some it) =
+    (i : ℕ) × (x : X) × (slice_get xs i ≡ Some x) × IsFormless i x it
+
+-- ---- types and initialisers
+-- the type that is told, and the initialiser if there is one, have forms
+pub record ValueHasForm (m : Module) (ty : ℕ) (init : Option ℕ) : Type 0 where
+  pub type : IsTrue (is_spellable m (Handle ty))
+  pub initialiser : (h : ℕ) → init ≡ Some h → IsTrue (global_is_written m h)
+
+-- the one or the other has none
+abbrev pub IsFormlessValue : Module → (ty : ℕ) → (init : Option ℕ) → FormlessDeclaration → Type 0
+IsFormlessValue m ty init (declaration.Type_ found) =
+    (found ≡ ty) × IsFalse (is_spellable m (Handle found))
+IsFormlessValue m ty init (declaration.Initialiser h) =
+    (init ≡ Some h) × IsFalse (global_is_written m h)
+IsFormlessValue m ty init _ = ⊥
+
+-- so it is with a constant that has a name: its declaration tells both
+abbrev pub ConstantHasForm : Module → Constant → Type 0
+ConstantHasForm m c = IsTrue (is_some c.name) → ValueHasForm m c.ty (Some c.init)
+
+abbrev pub IsFormlessConstant : Module → Constant → FormlessDeclaration → Type 0
+IsFormlessConstant m c it = IsTrue (is_some c.name) × IsFormlessValue m c.ty (Some c.init) it
+
+-- ---- bindings
+-- the binding, if there is one, has a form
+abbrev pub BindingHasForm : Option Binding → Type 0
+BindingHasForm bound = (b : Binding) → bound ≡ Some b → IsTrue (binding_has_form b)
+
+-- it is to this value of the hardware, which has none
+abbrev pub IsFormlessBinding : Option Binding → BuiltIn → Type 0
+IsFormlessBinding bound v =
+    (bound ≡ Some (binding.BuiltIn v)) × IsFalse (binding_has_form (binding.BuiltIn v))
+
+-- ---- structs
+-- a member's type and its binding have forms
+pub record MemberHasForm (m : Module) (s : StructMember) : Type 0 where
+  pub type : IsTrue (is_spellable m (Handle s.ty))
+  pub binding : BindingHasForm s.binding
+
+-- the one or the other has none
+abbrev pub IsFormlessMember : Module → StructMember → FormlessDeclaration → Type 0
+IsFormlessMember m s (declaration.Type_ ty) =
+    (ty ≡ s.ty) × IsFalse (is_spellable m (Handle ty))
+IsFormlessMember m s (declaration.BuiltIn v) = IsFormlessBinding s.binding v
+IsFormlessMember m s _ = ⊥
+
+-- these members have forms, or one has none
+abbrev pub FindsMember : Module → List StructMember → Option FormlessDeclaration → Type 0
+FindsMember m members =
+    Finds members (λ i s. MemberHasForm m s) (λ i s it. IsFormlessMember m s it)
+
+-- so it is with those of a struct that a text declares
+abbrev pub TypeHasForm : Module → (ty : ℕ) → Type_ → Type 0
+TypeHasForm m ty t =
+    IsTrue (is_declared m.special_types ty t.inner) → FindsMember m (members_of t.inner) None
+
+abbrev pub IsFormlessType : Module → (ty : ℕ) → Type_ → FormlessDeclaration → Type 0
+IsFormlessType m ty t it =
+    IsTrue (is_declared m.special_types ty t.inner) × FindsMember m (members_of t.inner) (Some it)
+
+-- ---- functions
+-- what a function takes and gives has a form
+abbrev pub PassedHasForm : Function → Type 0
+PassedHasForm f = (b : Binding) → IsPassed f b → IsTrue (binding_has_form b)
+
+-- it takes or gives this value of the hardware, which has none
+abbrev pub IsFormlessPassed : Function → BuiltIn → Type 0
+IsFormlessPassed f v =
+    IsPassed f (binding.BuiltIn v) × IsFalse (binding_has_form (binding.BuiltIn v))
+
+-- so it is with an entry point and its stage
+pub record EntryPointHasForm (p : EntryPoint) : Type 0 where
+  pub passed : PassedHasForm p.function
+  pub stage : IsTrue (stage_has_form p p.stage)
+
+abbrev pub IsFormlessEntryPoint : EntryPoint → FormlessHead → Type 0
+IsFormlessEntryPoint p (head.BuiltIn v) = IsFormlessPassed p.function v
+IsFormlessEntryPoint p head.Stage = IsFalse (stage_has_form p p.stage)

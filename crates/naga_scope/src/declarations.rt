@@ -1,0 +1,347 @@
+//! Which declaration of a module no text has a form for.
+
+ghost use Rattle.std.specs.Prelude.{◌≡◌, IfNone, IfSome, IsFalse, IsTrue, MatchOption};
+ghost use Rattle.std.specs.Option.{is_none};
+ghost use Rattle.module_meaning.specs.DeclarationForms.{DeclarationsHaveForms, HeadHasForm};
+ghost use Rattle.module_meaning.specs.DeclarationForms.{stage_has_form};
+ghost use Rattle.module_meaning.specs.FunctionNumbers.{IsFunctionOf, function_number};
+ghost use Rattle.naga_scope.specs.Declarations.{BindingHasForm, ConstantHasForm};
+ghost use Rattle.naga_scope.specs.Declarations.{EntryPointHasForm, Finds, FindsMember};
+ghost use Rattle.naga_scope.specs.Declarations.{IsFormlessBinding, IsFormlessConstant};
+ghost use Rattle.naga_scope.specs.Declarations.{IsFormlessDeclaration, IsFormlessEntryPoint};
+ghost use Rattle.naga_scope.specs.Declarations.{IsFormlessHead, IsFormlessMember};
+ghost use Rattle.naga_scope.specs.Declarations.{IsFormlessPassed, IsFormlessType, IsFormlessValue};
+ghost use Rattle.naga_scope.specs.Declarations.{MemberHasForm, PassedHasForm, TypeHasForm};
+ghost use Rattle.naga_scope.specs.Declarations.{ValueHasForm};
+ghost use Rattle.naga_scope.specs.Marks.{MarksGlobals};
+
+use crate::forms::type_is_spellable;
+use crate::global_expressions::GlobalExpressions;
+use naga_acceptance::undeclared::is_undeclared;
+use naga_back::FunctionType;
+use naga_ir::{
+    Arena, Binding, BuiltIn, Constant, EntryPoint, Expression, Function, FunctionArgument, Handle,
+    Module, ShaderStage, StructMember, Type_, TypeInner,
+};
+use wgsl_words::TryToWgsl;
+
+/// What no text has a form for of what a function takes or gives, or of its stage.
+#[derive(Clone, Copy, Debug)]
+pub enum FormlessHead {
+    /// An argument or the result is bound to this value, which WGSL has no word for.
+    BuiltIn(BuiltIn),
+    /// The entry point lacks the payload or the mesh output of its stage.
+    Stage,
+}
+
+/// What no text has a form for of a module's declarations.
+#[derive(Clone, Copy, Debug)]
+pub enum FormlessDeclaration {
+    /// A member of a struct, a constant, an override or a variable is of this type, which no text
+    /// can spell.
+    Type_(Handle<Type_>),
+    /// A constant, an override or a variable has this initialiser, which has no form.
+    Initialiser(Handle<Expression>),
+    /// A member of a struct is bound to this value, which WGSL has no word for.
+    BuiltIn(BuiltIn),
+    /// A function or an entry point has a head without a form.
+    Head(FormlessHead),
+}
+
+/// What no text has a form for of what this function takes or gives, or of its stage, if it is that
+/// of an entry point. The function is one of the module's.
+pub fn formless_head(module: &Module, ty: FunctionType) -> Option<FormlessHead>
+    requires there { IsFunctionOf ty «module».now }
+    ensures none { IfNone result (HeadHasForm «module».now (function_number «module».now ty)) }
+    ensures some { IfSome result (IsFormlessHead «module».now (function_number «module».now ty)) }
+{
+    match ty {
+        FunctionType::Function(handle) => match formless_passed(&module.functions[handle]) {
+            Some(value) => Some(FormlessHead::BuiltIn(value)),
+            None => None,
+        },
+        FunctionType::EntryPoint(index) => {
+            formless_entry_point(&module.entry_points[index as usize])
+        }
+    }
+}
+
+/// The first of the module's declarations that has no form, if there is one, or what has none in it:
+/// of its structs, constants, overrides, variables, functions and entry points, in this order. It
+/// takes no memory.
+pub fn formless_declaration(
+    module: &Module,
+    globals: &GlobalExpressions,
+) -> Option<FormlessDeclaration>
+    requires globals { MarksGlobals «module».now globals.now }
+    ensures none { IfNone result (DeclarationsHaveForms «module».now) }
+    ensures some { IfSome result (IsFormlessDeclaration «module».now) }
+{
+    if let Some(formless) = formless_in_structs(module) {
+        return Some(formless);
+    }
+    if let Some(formless) = formless_in_constants(module, globals) {
+        return Some(formless);
+    }
+    if let Some(formless) = formless_in_overrides(module, globals) {
+        return Some(formless);
+    }
+    if let Some(formless) = formless_in_variables(module, globals) {
+        return Some(formless);
+    }
+    if let Some(value) = formless_in_functions(&module.functions) {
+        return Some(FormlessDeclaration::Head(FormlessHead::BuiltIn(value)));
+    }
+    match formless_in_entry_points(&module.entry_points) {
+        Some(head) => Some(FormlessDeclaration::Head(head)),
+        None => None,
+    }
+}
+
+/// The first type or binding without a form of a member of a struct that a text declares.
+fn formless_in_structs(module: &Module) -> Option<FormlessDeclaration>
+    ensures { Finds «module».now.types (TypeHasForm «module».now) (IsFormlessType «module».now)
+        result }
+{
+    for (handle, ty) in module.types.iter() {
+        if let Some(formless) = formless_in_type(module, handle, ty) {
+            return Some(formless);
+        }
+    }
+    None
+}
+
+/// The same of the type with this handle.
+fn formless_in_type(
+    module: &Module,
+    handle: Handle<Type_>,
+    ty: &Type_,
+) -> Option<FormlessDeclaration>
+    ensures { MatchOption result (TypeHasForm «module».now handle ty.now)
+        (IsFormlessType «module».now handle ty.now) }
+{
+    match &ty.inner {
+        TypeInner::Struct { members, .. } => {
+            if is_undeclared(&module.special_types, handle) {
+                None
+            } else {
+                formless_in_members(module, members)
+            }
+        }
+        _ => None,
+    }
+}
+
+fn formless_in_members(module: &Module, members: &[StructMember]) -> Option<FormlessDeclaration>
+    ensures { FindsMember «module».now members.now result }
+{
+    for member in members {
+        if let Some(formless) = formless_member(module, member) {
+            return Some(formless);
+        }
+    }
+    None
+}
+
+fn formless_member(module: &Module, member: &StructMember) -> Option<FormlessDeclaration>
+    ensures { MatchOption result (MemberHasForm «module».now member.now)
+        (IsFormlessMember «module».now member.now) }
+{
+    if !type_is_spellable(module, member.ty) {
+        return Some(FormlessDeclaration::Type_(member.ty));
+    }
+    match formless_binding(member.binding) {
+        Some(value) => Some(FormlessDeclaration::BuiltIn(value)),
+        None => None,
+    }
+}
+
+/// The value of a binding that WGSL has no word for.
+fn formless_binding(binding: Option<Binding>) -> Option<BuiltIn>
+    ensures { MatchOption result (BindingHasForm binding) (IsFormlessBinding binding) }
+{
+    match binding {
+        Some(Binding::BuiltIn(value)) => {
+            if value.try_to_wgsl().is_some() {
+                None
+            } else {
+                Some(value)
+            }
+        }
+        _ => None,
+    }
+}
+
+/// The first type or initialiser without a form of a constant that has a name.
+fn formless_in_constants(
+    module: &Module,
+    globals: &GlobalExpressions,
+) -> Option<FormlessDeclaration>
+    requires globals { MarksGlobals «module».now globals.now }
+    ensures { Finds «module».now.constants (λ i. ConstantHasForm «module».now)
+        (λ i. IsFormlessConstant «module».now) result }
+{
+    for (_, constant) in module.constants.iter() {
+        if let Some(formless) = formless_constant(module, globals, constant) {
+            return Some(formless);
+        }
+    }
+    None
+}
+
+fn formless_constant(
+    module: &Module,
+    globals: &GlobalExpressions,
+    constant: &Constant,
+) -> Option<FormlessDeclaration>
+    requires globals { MarksGlobals «module».now globals.now }
+    ensures { MatchOption result (ConstantHasForm «module».now constant.now)
+        (IsFormlessConstant «module».now constant.now) }
+{
+    if constant.name.is_some() {
+        formless_value(module, globals, constant.ty, Some(constant.init))
+    } else {
+        None
+    }
+}
+
+/// The first type or initialiser without a form of an override.
+fn formless_in_overrides(
+    module: &Module,
+    globals: &GlobalExpressions,
+) -> Option<FormlessDeclaration>
+    requires globals { MarksGlobals «module».now globals.now }
+    ensures { Finds «module».now.overrides (λ i o. ValueHasForm «module».now o.ty o.init)
+        (λ i o. IsFormlessValue «module».now o.ty o.init) result }
+{
+    for (_, item) in module.overrides.iter() {
+        if let Some(formless) = formless_value(module, globals, item.ty, item.init) {
+            return Some(formless);
+        }
+    }
+    None
+}
+
+/// The first type or initialiser without a form of a variable of the module.
+fn formless_in_variables(
+    module: &Module,
+    globals: &GlobalExpressions,
+) -> Option<FormlessDeclaration>
+    requires globals { MarksGlobals «module».now globals.now }
+    ensures { Finds «module».now.global_variables (λ i g. ValueHasForm «module».now g.ty g.init)
+        (λ i g. IsFormlessValue «module».now g.ty g.init) result }
+{
+    for (_, variable) in module.global_variables.iter() {
+        if let Some(formless) = formless_value(module, globals, variable.ty, variable.init) {
+            return Some(formless);
+        }
+    }
+    None
+}
+
+/// The type or the initialiser of a declaration, if it has no form.
+fn formless_value(
+    module: &Module,
+    globals: &GlobalExpressions,
+    ty: Handle<Type_>,
+    init: Option<Handle<Expression>>,
+) -> Option<FormlessDeclaration>
+    requires globals { MarksGlobals «module».now globals.now }
+    ensures { MatchOption result (ValueHasForm «module».now ty init)
+        (IsFormlessValue «module».now ty init) }
+{
+    if !type_is_spellable(module, ty) {
+        return Some(FormlessDeclaration::Type_(ty));
+    }
+    match init {
+        Some(init) => {
+            if globals.is_written(init) {
+                None
+            } else {
+                Some(FormlessDeclaration::Initialiser(init))
+            }
+        }
+        None => None,
+    }
+}
+
+/// The first value without a word that a function takes or gives.
+fn formless_in_functions(functions: &Arena<Function>) -> Option<BuiltIn>
+    ensures { Finds functions.now (λ i. PassedHasForm) (λ i. IsFormlessPassed) result }
+{
+    for (_, function) in functions.iter() {
+        if let Some(value) = formless_passed(function) {
+            return Some(value);
+        }
+    }
+    None
+}
+
+/// The same of one function.
+fn formless_passed(function: &Function) -> Option<BuiltIn>
+    ensures { MatchOption result (PassedHasForm function.now) (IsFormlessPassed function.now) }
+{
+    if let Some(value) = formless_in_arguments(&function.arguments) {
+        return Some(value);
+    }
+    match function.result {
+        Some(answer) => formless_binding(answer.binding),
+        None => None,
+    }
+}
+
+fn formless_in_arguments(arguments: &[FunctionArgument]) -> Option<BuiltIn>
+    ensures { Finds arguments.now (λ i a. BindingHasForm a.binding)
+        (λ i a. IsFormlessBinding a.binding) result }
+{
+    for argument in arguments {
+        if let Some(value) = formless_binding(argument.binding) {
+            return Some(value);
+        }
+    }
+    None
+}
+
+/// The first value without a word that an entry point takes or gives, or its stage without a form.
+fn formless_in_entry_points(entry_points: &[EntryPoint]) -> Option<FormlessHead>
+    ensures { Finds entry_points.now (λ i. EntryPointHasForm) (λ i. IsFormlessEntryPoint) result }
+{
+    for entry_point in entry_points {
+        if let Some(formless) = formless_entry_point(entry_point) {
+            return Some(formless);
+        }
+    }
+    None
+}
+
+/// The same of one entry point.
+fn formless_entry_point(entry_point: &EntryPoint) -> Option<FormlessHead>
+    ensures { MatchOption result (EntryPointHasForm entry_point.now)
+        (IsFormlessEntryPoint entry_point.now) }
+{
+    if let Some(value) = formless_passed(&entry_point.function) {
+        return Some(FormlessHead::BuiltIn(value));
+    }
+    if stage_has_form(entry_point) {
+        None
+    } else {
+        Some(FormlessHead::Stage)
+    }
+}
+
+/// Whether the entry point has the payload or the mesh output of its stage, if that has one.
+fn stage_has_form(entry_point: &EntryPoint) -> bool
+    ensures { result ≡ stage_has_form entry_point.now entry_point.now.stage }
+{
+    match entry_point.stage {
+        ShaderStage::Mesh => entry_point.mesh_info.is_some(),
+        ShaderStage::Task => entry_point.task_payload.is_some(),
+        ShaderStage::AnyHit | ShaderStage::ClosestHit | ShaderStage::Miss => {
+            entry_point.incoming_ray_payload.is_some()
+        }
+        ShaderStage::Vertex
+        | ShaderStage::Fragment
+        | ShaderStage::Compute
+        | ShaderStage::RayGeneration => true,
+    }
+}

@@ -1,0 +1,59 @@
+-- The initialisers of an accepted module's declarations are among its expressions.
+use Rattle.std.proofs.Common.{◌≡◌, ℕ, ◌<◌, true, Option, Some, ap, length, nat_lt, slice_get, sym, ◌∙◌}
+use Rattle.std.specs.List.{list_all}
+use Rattle.std.specs.Prelude.{IsTrue}
+use Rattle.std.proofs.lemmas.Bool.{and_parts, ltb-true}
+use Rattle.module_meaning.proofs.Lists.{list_all_at}
+use Rattle.module_meaning.specs.Accepted.{is_accepted}
+use Rattle.module_meaning.specs.DeclarationForms.{IsInitialiser}
+use Rattle.module_meaning.specs.DeclarationForms.IsInitialiser as initialiser
+use Rattle.module_meaning.specs.InfoSizes.{sizes_fit, type_is_fit}
+use Rattle.module_meaning.specs.Ranges.{constant_in_range, declarations_in_range, global_in_range}
+use Rattle.module_meaning.specs.Ranges.{is_below, module_in_range, module_ranges_fit}
+use Rattle.module_meaning.specs.Ranges.{override_in_range, special_types_fit, types_in_range}
+use Rattle.naga_form.proofs.WrittenOut.{initialiser_within}
+use Rattle.naga_info.specs.declared.info.ModuleInfo.{ModuleInfo}
+use Rattle.naga_ir.specs.declared.module.Module.{Module}
+
+-- the initialiser that there is stands before these many
+there : (count : ℕ) (init : Option ℕ) (h : ℕ) → init ≡ Some h → is_below count init ≡ true → h < count
+there count init h is below = ltb-true h count (ap (is_below count) (sym is) ∙ below)
+
+module _ (m : Module) (info : ModuleInfo) (accepted : IsTrue (is_accepted m info)) where
+  abbrev types : ℕ
+  types = length m.types
+
+  abbrev own : ℕ
+  own = length m.global_expressions
+
+  ranges : module_ranges_fit m info ≡ true
+  unfolding is_accepted
+  ranges = (and_parts (module_ranges_fit m info) _ accepted).0
+
+  declared : declarations_in_range m ≡ true
+  unfolding module_ranges_fit
+  declared =
+      let one = and_parts (sizes_fit m info) _ ranges in
+      let two = and_parts (list_all type_is_fit m.types) _ one.1 in
+      let three = and_parts (module_in_range m) _ two.1 in
+      (and_parts (declarations_in_range m) _ three.0).0
+
+  parts : (list_all (override_in_range types own) m.overrides ≡ true) × (list_all (global_in_range types own) m.global_variables ≡ true)
+  parts =
+      let one = and_parts (types_in_range (length m.overrides) m.types) _ declared in
+      let two = and_parts (special_types_fit types m.special_types) _ one.1 in
+      let three = and_parts (list_all (constant_in_range types own) m.constants) _ two.1 in
+      let four = and_parts (list_all (override_in_range types own) m.overrides) _ three.1 in
+      let five = and_parts (list_all (global_in_range types own) m.global_variables) _ four.1 in
+      (four.0, five.0)
+
+  pub initialiser_there : (h : ℕ) → IsInitialiser m h → h < length m.global_expressions
+  initialiser_there _ (initialiser.OfConstant i k at named) = initialiser_within m info accepted i k at
+  initialiser_there h (initialiser.OfOverride i o _ at is) =
+      let one = and_parts (nat_lt o.ty types) _ (list_all_at (override_in_range types own) m.overrides i o parts.0 at) in
+      let two = and_parts (is_below own o.init) _ one.1 in
+      there own o.init h is two.0
+  initialiser_there h (initialiser.OfVariable i g _ at is) =
+      let one = and_parts (nat_lt g.ty types) _ (list_all_at (global_in_range types own) m.global_variables i g parts.1 at) in
+      let two = and_parts (is_below own g.init) _ one.1 in
+      there own g.init h is two.0

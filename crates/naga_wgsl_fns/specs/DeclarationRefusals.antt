@@ -1,0 +1,44 @@
+-- Why a declaration of a module is refused, each reason with what it says.
+--
+-- Throughout, m is a module, number is that of a function or an entry point, f is a function, p an
+-- entry point, b a binding, ty is the handle of a type, and h that of an expression.
+use Rattle.std.specs.Prelude.{◌≡◌, ℕ, Some, IsFalse, codes, slice_get}
+use Rattle.module_meaning.specs.DeclarationForms.{IsDeclaredType, IsInitialiser, IsMemberBinding}
+use Rattle.module_meaning.specs.DeclarationForms.{IsPassed, binding_has_form, entry_point_numbered}
+use Rattle.module_meaning.specs.DeclarationForms.{stage_has_form}
+use Rattle.module_meaning.specs.FunctionNumbers.{all_functions}
+use Rattle.module_meaning.specs.Undeclared.{is_spellable}
+use Rattle.module_meaning.specs.WrittenSoFar.{global_is_written}
+use Rattle.naga_info.specs.declared.info.TypeResolution.TheVariants.{Handle}
+use Rattle.naga_ir.specs.declared.binding.Binding.{Binding}
+use Rattle.naga_ir.specs.declared.module.EntryPoint.{EntryPoint}
+use Rattle.naga_ir.specs.declared.module.Function.{Function}
+use Rattle.naga_ir.specs.declared.module.Module.{Module}
+use Rattle.naga_wgsl_fns.specs.Errors.{IsCustom, IsUnsupported}
+use Rattle.naga_wgsl_fns.specs.Refusals.{NamesGlobal, NamesType}
+use Rattle.naga_wgsl_fns.specs.declared.error.Error.{Error}
+
+-- a value of the hardware that WGSL has no word for
+abbrev pub NamesBuiltin : Error → Type 0
+NamesBuiltin error = IsUnsupported (codes "builtin value") error
+
+-- a stage whose entry point lacks its payload or its mesh output
+abbrev pub NamesStage : Error → Type 0
+NamesStage error = IsCustom (codes "missing payload or mesh output") error
+
+-- What a function takes or gives, or its stage, has no form, and is named.
+pub data NamesHead (m : Module) (number : ℕ) (error : Error) : Type 0 where
+  OfBinding : (f : Function) (b : Binding) → slice_get (all_functions m) number ≡ Some f →
+      IsPassed f b → IsFalse (binding_has_form b) → NamesBuiltin error → NamesHead m number error
+  OfStage : (p : EntryPoint) → entry_point_numbered m number ≡ Some p →
+      IsFalse (stage_has_form p p.stage) → NamesStage error → NamesHead m number error
+
+-- A declaration of the module has no form, and is named.
+pub data NamesDeclaration (m : Module) (error : Error) : Type 0 where
+  OfType : (ty : ℕ) → IsDeclaredType m ty → IsFalse (is_spellable m (Handle ty)) →
+      NamesType m (Handle ty) error → NamesDeclaration m error
+  OfInitialiser : (h : ℕ) → IsInitialiser m h → IsFalse (global_is_written m h) →
+      NamesGlobal m error h → NamesDeclaration m error
+  OfMember : (b : Binding) → IsMemberBinding m b → IsFalse (binding_has_form b) →
+      NamesBuiltin error → NamesDeclaration m error
+  OfHead : (number : ℕ) → NamesHead m number error → NamesDeclaration m error
