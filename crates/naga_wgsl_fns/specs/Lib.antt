@@ -1,4 +1,6 @@
 pub mod Appends
+pub mod Attributes
+pub mod Bindings
 pub mod Constants
 pub mod DeclarationRefusals
 pub mod Errors
@@ -12,5 +14,6 @@ pub mod Literals
 pub mod ModuleText
 pub mod Names
 pub mod Refusals
+pub mod Stages
 pub mod Statements
 pub mod Types
