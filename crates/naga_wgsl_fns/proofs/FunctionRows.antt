@@ -1,5 +1,5 @@
--- Each function of a module that is accepted and written so far can be written; and the texts of
--- its parts, from what is written of them in turn.
+-- Each function of an accepted module of which all that is written has a form can be written; and the
+-- texts of its parts, from what is written of them in turn.
 use Rattle.std.proofs.Common.{◌≡◌, ℕ, ◌+◌, ◌<◌, ◌≤◌, ◌==◌, zero, suc, add-one, arith, ne_eqb}
 use Rattle.std.proofs.Common.{false, Option, None, Some, refl, sym, ap, subst, ◌∙◌, codes}
 use Rattle.std.proofs.Common.{List, [], ◌∷◌, ◌++◌, append_assoc, drop, length}
@@ -19,7 +19,7 @@ use Rattle.naga_ir.specs.declared.module.Module.{Module}
 use Rattle.naga_info.specs.declared.info.ExpressionInfo.{ExpressionInfo}
 use Rattle.naga_info.specs.declared.info.ModuleInfo.{ModuleInfo}
 use Rattle.module_meaning.specs.Accepted.{is_accepted}
-use Rattle.module_meaning.specs.WrittenSoFar.{is_written_so_far}
+use Rattle.module_meaning.specs.DeclarationForms.{HeadHasForm, entry_point_numbered}
 use Rattle.naga_form.specs.Expressions.{value_form}
 use Rattle.naga_form.specs.Statements.{lines_form}
 use Rattle.wgsl_text.specs.Functions.{Parameter, value_pieces, parameter_pieces}
@@ -39,7 +39,6 @@ use Rattle.shader_runs.specs.Scope.{Handles}
 use Rattle.module_meaning.specs.ExpressionLabels.{expression_labels}
 use Rattle.module_meaning.specs.Names.{HasNamesOf, module_names}
 use Rattle.module_meaning.specs.Written.{WrittenHaveForms}
-use Rattle.module_meaning.proofs.WrittenSoFar.{written_so_far_parts}
 use Rattle.naga_scope.specs.Availabilities.{TextPoint}
 use Rattle.naga_scope.specs.declared.points.Availability.{Availability}
 use Rattle.naga_words.specs.declared.error.TypeTextError.{TypeTextError}
@@ -65,7 +64,15 @@ use Rattle.naga_wgsl_fns.specs.Functions.{body_text, first_form, first_text, fir
 use Rattle.naga_wgsl_fns.specs.Functions.{form_of, function_text, group_end_text, head_text}
 use Rattle.naga_wgsl_fns.specs.Functions.{known_of, local_form, local_text, local_text_of}
 use Rattle.naga_wgsl_fns.specs.Functions.{locals_text, next_argument_text, result_text, separator}
-use Rattle.naga_wgsl_fns.specs.Functions.{text_under}
+use Rattle.naga_wgsl_fns.specs.Functions.{item_text, stage_before, text_of, text_under}
+use Rattle.naga_wgsl_fns.specs.Attributes.{attributes_text}
+use Rattle.naga_wgsl_fns.specs.Stages.{stage_text}
+use Rattle.naga_form.specs.Attributes.{passing_attributes}
+use Rattle.naga_form.proofs.DeclaredPrograms.{entry_point_there}
+use Rattle.naga_back.specs.declared.context.FunctionType.TheVariants as item
+use Rattle.naga_ir.specs.declared.module.EntryPoint.{EntryPoint}
+use Rattle.module_meaning.specs.FunctionNumbers.{function_number}
+use Rattle.wgsl_text.specs.Attributes.{attributes_pieces}
 
 -- ---- what is wanted
 -- what is known of a function is what is known of its number
@@ -73,27 +80,27 @@ known_is : (info : ModuleInfo) (g : ℕ) (es : List ExpressionInfo) → slice_ge
 known_is info g es at = ap (λ o. unwrap_or o []) at
 
 pub can_write : (t : FunctionText) → IsTrue (is_accepted t.shader.now t.module_info.now) →
-    IsTrue (is_written_so_far t.shader.now) → HasNamesOf t.shader.now (names_in t.names.now) →
+    HasNamesOf t.shader.now (names_in t.names.now) →
     IsFunctionOf t.ty t.shader.now →
     slice_get (all_functions t.shader.now) (number t) ≡ Some t.function.now →
     slice_get (all_infos t.module_info.now) (number t) ≡ Some t.info.now →
     WrittenHaveForms (annotates_types t.flags) t.shader.now t.module_info.now t.function.now
-    t.info.now →
+    t.info.now → HeadHasForm t.shader.now (number t) →
     length (expression_labels t.function.now) < 2 ^ 64 → CanWrite t
-can_write t accepted written named there here known formed room =
+can_write t accepted named there here known formed head room =
     let m = t.shader.now in
     let info = t.module_info.now in
     let f = t.function.now in
     record {
       named = named;
       accepted = accepted;
-      is_supported = written;
       there = there;
       function = here;
       infos = known;
       ranges = ranges_of m info accepted t.ty there f here;
       size = (of_number m info accepted (number t) f t.info.now here known).size;
       formed = formed;
+      head = head;
       room = room;
     }
 
@@ -115,13 +122,15 @@ names_same slice names named same are number =
 pub text_under_names : (t : FunctionText) →
     slice_get (all_functions t.shader.now) (number t) ≡ Some t.function.now →
     slice_get (all_infos t.module_info.now) (number t) ≡ Some t.info.now →
-    text_under t.shader.now t.module_info.now t.flags (named_in t) (number t) ≡ function_text t
-unfolding function_text
+    text_under t.shader.now t.module_info.now t.flags (named_in t) (number t) ≡ item_text t
+unfolding item_text function_text
 text_under_names t here known =
     let m = t.shader.now in
     let info = t.module_info.now in
-    let form = λ (f : Function) (es : List ExpressionInfo). text (function_pieces (function_form (annotates_types t.flags) (module_names m) (named_in t) m info (number t) f es)) in
-    ap (λ o. option_map_or (λ f. form f (known_of info (number t))) o []) here ∙ ap (form t.function.now) (known_is info (number t) t.info.now known)
+    let form = λ (f : Function) (es : List ExpressionInfo).
+    text_of m info t.flags (named_in t) (number t) f es in
+    ap (λ o. option_map_or (λ f. form f (known_of info (number t))) o []) here
+    ∙ ap (form t.function.now) (known_is info (number t) t.info.now known)
 
 -- ---- the head
 pub head_row : (f : FunctionText) →
@@ -132,29 +141,36 @@ pub head_row : (f : FunctionText) →
 unfolding head_text joined_texts
 head_row f = refl
 
-pub argument_row : (f : FunctionText) (number : ℕ) (a : FunctionArgument) → argument_text f number a ≡ joined_texts (name_of_argument f number) (joined_texts (codes ": ") (type_text f a.ty))
-unfolding argument_text name_of_argument type_text joined_texts
-argument_row f number a = refl
+pub argument_row : (f : FunctionText) (number : ℕ) (a : FunctionArgument) →
+    argument_text f number a ≡
+    joined_texts (attributes_text (passing_attributes a.binding))
+    (joined_texts (name_of_argument f number) (joined_texts (codes ": ") (type_text f a.ty)))
+unfolding argument_text attributes_text name_of_argument type_text joined_texts
+argument_row f number a = text-append (attributes_pieces (passing_attributes a.binding)) _
 
 pub next_argument_row : (f : FunctionText) (number : ℕ) (a : FunctionArgument) → next_argument_text f number a ≡ joined_texts (separator number) (argument_text f number a)
 unfolding next_argument_text joined_texts
 next_argument_row f number a = refl
 
-pub answer_row : (f : FunctionText) (ty : ℕ) → answer_text f ty ≡ joined_texts (codes " -> ") (type_text f ty)
+pub answer_row : (f : FunctionText) (r : FunctionResult) →
+    answer_text f r ≡
+    joined_texts (codes " -> ")
+    (joined_texts (attributes_text (passing_attributes r.binding)) (type_text f r.ty))
 unfolding answer_text joined_texts
-answer_row f ty = refl
+answer_row f r = refl
 
 abbrev pub result_at : FunctionText → Option FunctionResult → List ℕ
 result_at f None = []
-result_at f (Some answer) = answer_text f answer.ty
+result_at f (Some r) = answer_text f r
 
 pub result_row : (f : FunctionText) → result_text f ≡ result_at f f.function.now.result
-unfolding result_text answer_text type_text
+unfolding result_text answer_text type_text attributes_text
 result_row f = by f.function.now.result
   where
-    by : (answer : Option FunctionResult) → text (result_pieces (result_form (type_names_of f) answer)) ≡ result_at f answer
+    by : (r : Option FunctionResult) → text (result_pieces (result_form (type_names_of f) r)) ≡ result_at f r
     by None = refl
-    by (Some answer) = refl
+    by (Some r) =
+        ap (λ t. codes " -> " ++ t) (text-append (attributes_pieces (passing_attributes r.binding)) _)
 
 -- what is left of the arguments from this number on, with the parenthesis behind the last
 abbrev pub arguments_left : FunctionText → ℕ → List FunctionArgument → List ℕ
@@ -298,6 +314,41 @@ function_row f =
     ∙ ap (λ t. form.name ++ (codes "(" ++ t)) (append_assoc (arguments_text f) (result_text f ++ codes " {\n") ((locals ++ end) ++ behind)
     ∙ ap (λ t. arguments_text f ++ t) (append_assoc (result_text f) (codes " {\n") ((locals ++ end) ++ behind)
     ∙ ap (λ t. result_text f ++ (codes " {\n" ++ t)) (append_assoc locals end behind)))))
+
+-- ---- the stage in front
+pub item_row : (f : FunctionText) →
+    item_text f ≡ joined_texts (stage_before f.shader.now (number f)) (function_text f)
+unfolding item_text joined_texts
+item_row f = refl
+
+-- a function that others may call is no entry point
+pub no_entry_point : (m : Module) (h : ℕ) → h < length m.functions → entry_point_numbered m h ≡ None
+no_entry_point m h lt =
+    ap (λ b. if b then None else slice_get m.entry_points.items (h - length m.functions))
+    (true-ltb h (length m.functions) lt)
+
+pub no_stage_row : (f : FunctionText) → CanWrite f → (h : ℕ) → f.ty ≡ item.Function h →
+    stage_before f.shader.now (number f) ≡ []
+no_stage_row f can h is =
+    let m = f.shader.now in
+    let lt = subst (λ ty. IsFunctionOf ty m) is can.there in
+    ap (λ ty. stage_before m (function_number m ty)) is
+    ∙ ap (λ o. option_map_or (stage_text m) o []) (no_entry_point m h lt)
+
+-- the entry point of a function
+pub point_there : (f : FunctionText) → CanWrite f → (j : ℕ) → f.ty ≡ item.EntryPoint j →
+    (p : EntryPoint) → slice_get f.shader.now.entry_points.items j ≡ Some p →
+    entry_point_numbered f.shader.now (number f) ≡ Some p
+point_there f can j is p at =
+    let m = f.shader.now in
+    ap (λ ty. entry_point_numbered m (function_number m ty)) is
+    ∙ (entry_point_there m f.module_info.now can.accepted j ∙ at)
+
+pub stage_row : (f : FunctionText) → CanWrite f → (j : ℕ) → f.ty ≡ item.EntryPoint j →
+    (p : EntryPoint) → slice_get f.shader.now.entry_points.items j ≡ Some p →
+    stage_before f.shader.now (number f) ≡ stage_text f.shader.now p
+stage_row f can j is p at =
+    ap (λ o. option_map_or (stage_text f.shader.now) o []) (point_there f can j is p at)
 
 -- why a function was not written
 pub reason_reported : (failed failures : ℕ) (want : TypeTextError) (error : Error)

@@ -1,10 +1,10 @@
 -- One of a module's own expressions, written by itself.
-use Rattle.std.proofs.Common.{◌≡◌, ◌++◌, ℕ, false, List, [], append-nil, inl, inr, refl, subst, sym}
+use Rattle.std.proofs.Common.{◌≡◌, ◌++◌, ℕ, List, [], append-nil, refl, subst, sym}
 use Rattle.std.specs.Prelude.{Err, IfErr, IsErrAnd, IsFalse, IsTrue, Ok, OnErr, OnOk, Result}
 use Rattle.naga_ir.specs.declared.module.Module.{Module}
 use Rattle.naga_info.specs.declared.info.ModuleInfo.{ModuleInfo}
 use Rattle.module_meaning.specs.Accepted.{is_accepted}
-use Rattle.module_meaning.specs.WrittenSoFar.{global_is_written, is_written_so_far}
+use Rattle.module_meaning.specs.WrittenSoFar.{global_is_written}
 use Rattle.module_meaning.specs.Types.{type_names}
 use Rattle.naga_form.proofs.DeclaredPrograms.{written_global}
 use Rattle.naga_form.specs.ConstantForms.{global_form}
@@ -12,11 +12,11 @@ use Rattle.naga_words.specs.Sink.{IsBehind}
 use Rattle.wgsl_text.specs.Reading.{HasOneReading, ReadsExpression}
 use Rattle.wgsl_text.proofs.Reading.{expression_has_one_reading}
 use Rattle.naga_wgsl_fns.specs.Constants.{global_text}
-use Rattle.naga_wgsl_fns.specs.Errors.{IsNotYetWritten, IsWant}
+use Rattle.naga_wgsl_fns.specs.Errors.{IsWant}
 use Rattle.naga_wgsl_fns.specs.GlobalExpressions.{GlobalWriting, IsGlobalRefusal}
 use Rattle.naga_wgsl_fns.specs.Refusals.{NamesGlobal}
 use Rattle.naga_wgsl_fns.specs.declared.error.Error.{Error}
-use Rattle.naga_wgsl_fns.specs.declared.error.Error.TheVariants.{FmtError, Memory, Unimplemented}
+use Rattle.naga_wgsl_fns.specs.declared.error.Error.TheVariants.{FmtError, Memory}
 use Rattle.naga_wgsl_fns.proofs.SingleFunctions.{want_tells_nothing}
 use Rattle.naga_wgsl_fns.proofs.PlanRefusals.{no_global_sink}
 
@@ -35,17 +35,10 @@ module _ (m : Module) (handle : ℕ) where
       untouched = λ tells. (refl, refl);
     }
 
-    pub global_for_part : (error : Error) → IsNotYetWritten error → IsFalse (is_written_so_far m) →
-        IsGlobalRefusal m handle before before error
-    global_for_part (Unimplemented message) is part = inl (is, part)
-    global_for_part (Memory e) is part = tt
-    global_for_part _ is part = absurd is
-
     pub global_for_form : (error : Error) → IsFalse (global_is_written m handle) →
         NamesGlobal m error handle → IsGlobalRefusal m handle before before error
     global_for_form (FmtError e) formless named = absurd (no_global_sink m e handle named)
     global_for_form (Memory e) formless named = tt
-    global_for_form (Unimplemented message) formless named = inr (formless, named)
     global_for_form _ formless named = (formless, named)
 
   global_for_want : (before after : ℕ) (error : Error) → IsWant before after error →
@@ -55,7 +48,7 @@ module _ (m : Module) (handle : ℕ) where
   global_for_want before after _ is = absurd is
 
   module _ (info : ModuleInfo) (accepted : IsTrue (is_accepted m info))
-      (written : IsTrue (is_written_so_far m)) (formed : IsTrue (global_is_written m handle)) where
+      (formed : IsTrue (global_is_written m handle)) where
     one_expression :
         HasOneReading ReadsExpression (global_text m handle) (global_form m (type_names m) handle)
     unfolding global_text
@@ -69,7 +62,7 @@ module _ (m : Module) (handle : ℕ) where
         OnOk r (after ≡ before) → IfErr r (IsWant before after) →
         GlobalWriting m handle r content now before after
     global_writes (Ok _) content now before after text_ok text_err kept reason = record {
-      refusals = record { is_supported = written; formed = formed };
+      refusals = formed;
       text_ok = text_ok;
       reading = one_expression;
       failures_ok = kept;

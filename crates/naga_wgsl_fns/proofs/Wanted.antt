@@ -12,6 +12,7 @@ use Rattle.naga_ir.specs.declared.expression.Expression.{Expression}
 use Rattle.naga_ir.specs.declared.expression.SwizzleComponent.{SwizzleComponent}
 use Rattle.naga_ir.specs.declared.expression.Expression.TheVariants as expression
 use Rattle.naga_ir.specs.declared.expression.Literal as ir_literal
+use Rattle.naga_ir.specs.declared.binding.Binding.{Binding}
 use Rattle.naga_ir.specs.declared.module.Function.{Function}
 use Rattle.naga_ir.specs.declared.module.FunctionArgument as argument
 use Rattle.naga_ir.specs.declared.module.FunctionResult.{FunctionResult}
@@ -39,6 +40,9 @@ use Rattle.naga_wgsl_fns.specs.FunctionText.{AreInText}
 use Rattle.module_meaning.specs.FunctionShapes.{statement_shape}
 use Rattle.module_meaning.specs.Names.{module_names, name_in, numbered_name}
 use Rattle.module_meaning.specs.AlikeTypes.{is_spelled}
+use Rattle.module_meaning.specs.DeclarationForms.IsPassed as passed
+use Rattle.module_meaning.specs.DeclarationForms.{binding_has_form}
+use Rattle.naga_wgsl_fns.specs.Bindings.{passing_has_form}
 use Rattle.module_meaning.specs.WrittenSoFar.{expression_is_written, known_passes}
 use Rattle.naga_form.proofs.AcceptedGroups.{fits_in_range, known_fits, known_is_fit}
 use Rattle.naga_form.proofs.PartTypes.{known_before}
@@ -217,6 +221,22 @@ module _ (t : FunctionText) (can : CanWrite t) where
   answer_is_formed r is =
       spelled_of_spellable m (resolution.Handle r.ty)
       (can.formed.types (resolution.Handle r.ty) (OfResult r is))
+
+  -- what they pass by has a form
+  passes : (b : Option Binding) →
+      ((k : Binding) → b ≡ Some k → IsTrue (binding_has_form k)) → IsTrue (passing_has_form b)
+  passes None is = refl
+  passes (Some k) is = is k refl
+
+  pub argument_passes : (n : ℕ) (a : argument.FunctionArgument) →
+      slice_get f.arguments.items n ≡ Some a → IsTrue (passing_has_form a.binding)
+  argument_passes n a here =
+      passes a.binding
+      (λ k is. can.head.bindings f can.function k (passed.OfArgument n a k here is))
+
+  pub answer_passes : (r : FunctionResult) → f.result ≡ Some r → IsTrue (passing_has_form r.binding)
+  answer_passes r is =
+      passes r.binding (λ k bound. can.head.bindings f can.function k (passed.OfResult r k is bound))
 
   pub local_is_formed : (l : ℕ) (v : LocalVariable) → slice_get f.local_variables l ≡ Some v → IsTrue (is_spelled m.types (resolution.Handle v.ty))
   local_is_formed l v here =

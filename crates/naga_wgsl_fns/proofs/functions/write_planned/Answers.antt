@@ -16,16 +16,16 @@ use Rattle.naga_wgsl_fns.proofs.FunctionRows.{text_under_names}
 use Rattle.naga_wgsl_fns.specs.Functions.{text_under}
 use Rattle.naga_wgsl_fns.proofs.functions.write_planned.Goals as goal
 
-pub write_declaration-requires-clause-can : goal.write_declaration-requires-clause-can
-write_declaration-requires-clause-can g c =
+pub write_item-requires-clause-can : goal.write_item-requires-clause-can
+write_item-requires-clause-can g c =
     let plan = plan_found (annotates_types c.args.flags) c.args.module.now c.args.info.now
     (function_number c.args.module.now c.args.ty.now) c.function_of.result.0.now
     c.function_of.result.1.now c.args.plan c.function_of.ensures.function c.function_of.ensures.known c.requires.planned in
-    can_write _ c.requires.accepted c.requires.written c.requires.names c.requires.there
-    c.function_of.ensures.function c.function_of.ensures.known plan.formed plan.room
+    can_write _ c.requires.accepted c.requires.names c.requires.there
+    c.function_of.ensures.function c.function_of.ensures.known plan.formed c.requires.head plan.room
 
-pub write_declaration-requires-clause-start : goal.write_declaration-requires-clause-start
-write_declaration-requires-clause-start g c =
+pub write_item-requires-clause-start : goal.write_item-requires-clause-start
+write_item-requires-clause-start g c =
     let plan = plan_found (annotates_types c.args.flags) c.args.module.now c.args.info.now
     (function_number c.args.module.now c.args.ty.now) c.function_of.result.0.now
     c.function_of.result.1.now c.args.plan c.function_of.ensures.function c.function_of.ensures.known c.requires.planned in
@@ -34,22 +34,22 @@ write_declaration-requires-clause-start g c =
     ap (λ (p : TextPoint). handles_of named p.table) c.into_parts-scope.ensures.scope
     ∙ plan.starts named
 
-pub write_declaration-requires-clause-named : goal.write_declaration-requires-clause-named
-write_declaration-requires-clause-named g c =
+pub write_item-requires-clause-named : goal.write_item-requires-clause-named
+write_item-requires-clause-named g c =
     let plan = plan_found (annotates_types c.args.flags) c.args.module.now c.args.info.now
     (function_number c.args.module.now c.args.ty.now) c.function_of.result.0.now
     c.function_of.result.1.now c.args.plan c.function_of.ensures.function c.function_of.ensures.known c.requires.planned in
     ap (λ (p : TextPoint). p.named) c.into_parts-scope.ensures.scope ∙ plan.no_name
 
-pub write_declaration-requires-clause-size : goal.write_declaration-requires-clause-size
-write_declaration-requires-clause-size g c =
+pub write_item-requires-clause-size : goal.write_item-requires-clause-size
+write_item-requires-clause-size g c =
     let plan = plan_found (annotates_types c.args.flags) c.args.module.now c.args.info.now
     (function_number c.args.module.now c.args.ty.now) c.function_of.result.0.now
     c.function_of.result.1.now c.args.plan c.function_of.ensures.function c.function_of.ensures.known c.requires.planned in
     ap (λ (p : TextPoint). length p.table) c.into_parts-scope.ensures.scope ∙ plan.size
 
-pub write_declaration-requires-clause-room : goal.write_declaration-requires-clause-room
-write_declaration-requires-clause-room g c =
+pub write_item-requires-clause-room : goal.write_item-requires-clause-room
+write_item-requires-clause-room g c =
     let plan = plan_found (annotates_types c.args.flags) c.args.module.now c.args.info.now
     (function_number c.args.module.now c.args.ty.now) c.function_of.result.0.now
     c.function_of.result.1.now c.args.plan c.function_of.ensures.function c.function_of.ensures.known c.requires.planned in
@@ -57,7 +57,7 @@ write_declaration-requires-clause-room g c =
 
 pub returns-in-Ok-clause-text_ok : goal.returns-in-Ok-clause-text_ok
 returns-in-Ok-clause-text_ok g c =
-    let same : c.write_declaration.new.out.sink.ghost_name ≡ c.new-written.result.sink.ghost_name = same_sink _ _ _ c.write_declaration.ensures in
+    let same : c.write_item.new.out.sink.ghost_name ≡ c.new-written.result.sink.ghost_name = same_sink _ _ _ c.write_item.ensures in
     content_whole_as _ _ _ _ _ (grind arith) (grind arith)
     (writes_as
     (sym
@@ -66,12 +66,12 @@ returns-in-Ok-clause-text_ok g c =
     (λ i number. sym (names_same c.as_slice.result.now c.into_parts-scope.result.1.items
     c.args.plan.named c.as_slice.ensures.value c.into_parts-scope.ensures.named number) i)
     ∙ text_under_names _ c.function_of.ensures.function c.function_of.ensures.known))
-    c.write_declaration.ensures)
+    c.write_item.ensures)
     c.new-written.ensures.want c.in-Ok.ensures.whole
 
 pub returns-clause-text_err : goal.returns-clause-text_err
 returns-clause-text_err g c =
-    let same : c.write_declaration.new.out.sink.ghost_name ≡ c.new-written.result.sink.ghost_name = same_sink _ _ _ c.write_declaration.ensures in
+    let same : c.write_item.new.out.sink.ghost_name ≡ c.new-written.result.sink.ghost_name = same_sink _ _ _ c.write_item.ensures in
     content_begun_as _ _ _ _ _ _ (grind arith) (grind arith)
     (writes_as
     (sym
@@ -80,21 +80,21 @@ returns-clause-text_err g c =
     (λ i number. sym (names_same c.as_slice.result.now c.into_parts-scope.result.1.items
     c.args.plan.named c.as_slice.ensures.value c.into_parts-scope.ensures.named number) i)
     ∙ text_under_names _ c.function_of.ensures.function c.function_of.ensures.known))
-    c.write_declaration.ensures)
+    c.write_item.ensures)
     c.new-written.ensures.want c.in-Err.ensures.wanting
 
 pub returns-clause-reason : goal.returns-clause-reason
 returns-clause-reason g c =
-    let same : c.write_declaration.new.out.sink.ghost_name ≡ c.new-written.result.sink.ghost_name = same_sink _ _ _ c.write_declaration.ensures in
-    let reason = reason_known _ _ _ c.in-Err.want c.write_declaration.ensures c.new-written.ensures.want c.in-Err.ensures.wanting in
+    let same : c.write_item.new.out.sink.ghost_name ≡ c.new-written.result.sink.ghost_name = same_sink _ _ _ c.write_item.ensures in
+    let reason = reason_known _ _ _ c.in-Err.want c.write_item.ensures c.new-written.ensures.want c.in-Err.ensures.wanting in
     let reported = reason_reported (g.W.TextSink.failures c.new-written.result.sink.now)
-    (g.W.TextSink.failures c.write_declaration.new.out.sink.now) c.in-Err.want
+    (g.W.TextSink.failures c.write_item.new.out.sink.now) c.in-Err.want
     c.error_of_want.result reason c.error_of_want.ensures in
     let before = ap (λ s. g.W.TextSink.failures s) c.new-written.ensures.content in
     subst (λ n. IsWant (g.W.TextSink.failures c.args.out.now) n c.error_of_want.result) (grind arith)
-    (subst (λ n. IsWant n (g.W.TextSink.failures c.write_declaration.new.out.sink.now) c.error_of_want.result) before reported)
+    (subst (λ n. IsWant n (g.W.TextSink.failures c.write_item.new.out.sink.now) c.error_of_want.result) before reported)
 
 pub error_of_want-requires : goal.error_of_want-requires
 error_of_want-requires g c is =
-    never_formless _ _ _ c.write_declaration.ensures c.new-written.ensures.want
+    never_formless _ _ _ c.write_item.ensures c.new-written.ensures.want
     (c.in-Err.ensures.wanting ∙ ap Some is)

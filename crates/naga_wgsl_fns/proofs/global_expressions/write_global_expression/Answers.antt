@@ -1,18 +1,8 @@
 use Rattle.std.proofs.Common.{◌∙◌, refl, sym}
 use Rattle.naga_scope.proofs.WrittenConstants.{globals_in_order}
-use Rattle.naga_wgsl_fns.proofs.SingleExpressions.{global_for_form, global_for_part, global_refused}
+use Rattle.naga_wgsl_fns.proofs.SingleExpressions.{global_for_form, global_refused}
 use Rattle.naga_wgsl_fns.proofs.SingleExpressions.{global_writes}
 use Rattle.naga_wgsl_fns.proofs.global_expressions.write_global_expression.Goals as goal
-
-pub returns-then-not-is_written_so_far : goal.returns-then-not-is_written_so_far
-returns-then-not-is_written_so_far g c =
-    let m = c.args.«module».now in
-    let content = g.W.TextSink.text c.args.out.now in
-    let before = g.W.TextSink.failures c.args.out.now in
-    global_refused m c.args.handle content before _ c.not_yet_written.result refl
-    (global_for_part m c.args.handle content before c.not_yet_written.result
-    c.not_yet_written.ensures
-    (sym c.is_written_so_far.ensures ∙ c.if-not-is_written_so_far.true))
 
 pub of-requires : goal.of-requires
 of-requires g c = record {
@@ -31,7 +21,6 @@ write_written_global-requires g c = record {
     of_module = record {
       info = c.requires.accepted.0;
       accepted = c.requires.accepted.1;
-      is_supported = sym c.is_written_so_far.ensures ∙ c.if-not-is_written_so_far.false;
     };
     named = c.requires.names;
   };
@@ -42,7 +31,6 @@ write_written_global-requires g c = record {
 pub returns-then-is_written : goal.returns-then-is_written
 returns-then-is_written g c =
     global_writes c.args.«module».now c.args.handle c.requires.accepted.0 c.requires.accepted.1
-    (sym c.is_written_so_far.ensures ∙ c.if-not-is_written_so_far.false)
     (sym (c.in_ok-globals.ensures c.args.handle)
     ∙ (sym c.is_written.ensures ∙ c.if-is_written.true))
     c.write_written_global.result (g.W.TextSink.text c.args.out.now)

@@ -1,6 +1,4 @@
 use Rattle.naga_scope.proofs.WrittenConstants.{globals_in_order}
-use Rattle.module_meaning.proofs.FunctionNumbers.{number_within}
-use Rattle.module_meaning.specs.FunctionNumbers.{function_number}
 use Rattle.naga_wgsl_fns.proofs.SingleFunctions.{for_plan, none_named, refused, writes}
 use Rattle.naga_wgsl_fns.proofs.items.write_by_plan.Goals as goal
 
@@ -13,10 +11,10 @@ of-requires g c = record {
 pub returns-in_err-globals-clause-function : goal.returns-in_err-globals-clause-function
 returns-in_err-globals-clause-function g c =
     λ earlier has.
-    refused c.args.«module».now c.args.info.now c.args.flags earlier (function_number c.args.«module».now c.args.ty.now)
+    refused c.args.«module».now c.args.info.now c.args.flags earlier c.args.ty.now
     (g.W.TextSink.text c.args.out.now) (g.W.TextSink.failures c.args.out.now) c.from_residual.result
     _ c.args.namer.now c.from_residual.ensures.1 tt
-    (none_named c.args.«module».now c.args.info.now c.args.flags earlier (function_number c.args.«module».now c.args.ty.now)
+    (none_named c.args.«module».now c.args.info.now c.args.flags earlier c.args.ty.now
     c.args.namer.now has)
 
 pub returns-in_err-plan-clause-function : goal.returns-in_err-plan-clause-function
@@ -26,10 +24,10 @@ returns-in_err-plan-clause-function g c =
     let info = c.args.info.now in
     let content = g.W.TextSink.text c.args.out.now in
     let before = g.W.TextSink.failures c.args.out.now in
-    refused m info c.args.flags earlier (function_number c.args.«module».now c.args.ty.now) content before
+    refused m info c.args.flags earlier c.args.ty.now content before
     c.from_residual-in_err-plan.result
     _ c.plan_of.new.namer c.from_residual-in_err-plan.ensures.1
-    (for_plan m info c.args.flags earlier (function_number c.args.«module».now c.args.ty.now) content before _
+    (for_plan m info c.args.flags earlier c.args.ty.now content before _
     (c.in_err-plan.ensures.err earlier has))
     (c.in_err-plan.ensures.begun.some earlier has)
 
@@ -39,8 +37,8 @@ returns-in_err-plan-clause-words g c = c.in_err-plan.ensures.begun.words
 pub returns-clause-function : goal.returns-clause-function
 returns-clause-function g c =
     λ earlier has.
-    writes c.args.«module».now c.args.info.now c.args.flags earlier (function_number c.args.«module».now c.args.ty.now) c.requires.accepted
-    c.requires.written (number_within c.args.«module».now c.args.ty.now c.requires.there) c.args.namer.now c.plan_of.new.namer c.requires.words has
+    writes c.args.«module».now c.args.info.now c.args.flags earlier c.args.ty.now c.requires.accepted
+    c.requires.head c.requires.there c.args.namer.now c.plan_of.new.namer c.requires.words has
     c.in_ok-plan.plan c.in_ok-plan.ensures.ok c.in_ok-plan.ensures.named c.write_planned.result
     (g.W.TextSink.text c.args.out.now) (g.W.TextSink.text c.write_planned.new.out)
     (g.W.TextSink.failures c.args.out.now) (g.W.TextSink.failures c.write_planned.new.out)
