@@ -318,6 +318,10 @@ module _ (m : Module) (info : ModuleInfo) where
     globals_are : GlobalsAre (global_tree m info)
     globals_are h t found = globals_within (suc h) h t found
 
+    pub global_tree_in_range : (h : ℕ) (t : ConstantTree) → global_tree m info h ≡ Some t →
+        ConstantInRange shape t
+    global_tree_in_range h t found = (globals_are h t found).range
+
     -- a constant as it is written
     constants_are : ConstantsAre (written_constant m info)
     constants_are = constants_over (global_tree m info) globals_are

@@ -1,21 +1,14 @@
 -- Structs, overrides and members are told apart by their names.
-use Rattle.std.proofs.Common.{◌≡◌, ℕ, ap}
+use Rattle.std.proofs.Common.{◌≡◌, ℕ}
 use Rattle.naga_ir.specs.declared.module.Module.{Module}
-use Rattle.naga_names.specs.Reset.{LabelledItem, labelled_items}
 use Rattle.naga_names.specs.declared.key.NameKey.TheVariants as key
-use Rattle.naga_names.proofs.NamedItems.{Stands, type_stands, override_stands}
 use Rattle.naga_names.proofs.Refusal.{element}
 use Rattle.module_meaning.specs.Names.{ItemsAreDistinguished}
-use Rattle.module_meaning.specs.Names.{TypesAreDistinguished, module_names, name_in, wgsl_names}
+use Rattle.module_meaning.specs.Names.{TypesAreDistinguished}
+use Rattle.naga_form.proofs.ItemKeys.{keys_tell, override_has, type_has}
 use Rattle.naga_form.proofs.MemberNames.{member_names_tell}
-use Rattle.naga_form.proofs.Names.{items_tell}
 
 module _ (m : Module) where
-  one_key : (a b : LabelledItem) → Stands (labelled_items wgsl_names m) a →
-      Stands (labelled_items wgsl_names m) b →
-      name_in (module_names m) a.0 ≡ name_in (module_names m) b.0 → a.0 ≡ b.0
-  one_key a b s t e = ap (λ item. item.0) (items_tell m a b s t e)
-
   one_type : (h k : ℕ) → key.Type_ h ≡ key.Type_ k → h ≡ k
   one_type h k e = cc
 
@@ -29,17 +22,17 @@ module _ (m : Module) where
   types_are_distinguished = record {
     structs = λ h k t u at there is_t is_u e.
         one_type h k
-        (one_key _ _ (type_stands wgsl_names m h t at) (type_stands wgsl_names m k u there) e);
+        (keys_tell m (key.Type_ h) (key.Type_ k) (type_has m h t at) (type_has m k u there) e);
     overrides = λ o p lo lp e.
         let a = element m.overrides o lo in let b = element m.overrides p lp in
         one_override o p
-        (one_key _ _ (override_stands wgsl_names m o a.0 a.1)
-        (override_stands wgsl_names m p b.0 b.1) e);
+        (keys_tell m (key.Override o) (key.Override p) (override_has m o a.0 a.1)
+        (override_has m p b.0 b.1) e);
     apart = λ h o t at is lo e.
         let b = element m.overrides o lo in
         no_override h o
-        (one_key _ _ (type_stands wgsl_names m h t at)
-        (override_stands wgsl_names m o b.0 b.1) e);
+        (keys_tell m (key.Type_ h) (key.Override o) (type_has m h t at)
+        (override_has m o b.0 b.1) e);
   }
 
   pub items_are_distinguished : ItemsAreDistinguished m

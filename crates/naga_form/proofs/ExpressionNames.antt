@@ -1,6 +1,6 @@
 -- The names that front ends gave: each is that of a label that stands in the list of a module's
 -- labels behind those in front of it, so that no two places of this list have one name.
-use Rattle.std.proofs.Common.{◌≡◌, ◌≢◌, ℕ, ◌<◌, zero, suc, Bool, true, false, List, [], ◌∷◌}
+use Rattle.std.proofs.Common.{◌≡◌, ◌≢◌, ℕ, ◌<◌, zero, suc, true, List, [], ◌∷◌}
 use Rattle.std.proofs.Common.{◌++◌, length, take, Some, sym, ap, subst, ◌∙◌, ◌||◌, arith}
 use Rattle.std.proofs.Common.{append_assoc, length-append}
 use Rattle.std.specs.Prelude.{slice_get, ◌⊎◌, not}
@@ -26,7 +26,7 @@ use Rattle.module_meaning.specs.Names.{expression_name, item_labels}
 use Rattle.module_meaning.specs.Names.{labels_before, module_labels, module_names, name_in}
 use Rattle.module_meaning.specs.Names.{numbered_name, wgsl_names}
 use Rattle.wgsl_text.specs.Words.{IsIdentifier, is_builtin}
-use Rattle.naga_form.proofs.Names.{is_identifier, name_is, unnumbered}
+use Rattle.naga_form.proofs.Names.{is_identifier, name_is, names_another, unnumbered}
 
 -- what stands at a place of a list
 pub split_at : {X : Type 0} (xs : List X) (j : ℕ) (y : X) → slice_get xs j ≡ Some y →
@@ -198,11 +198,5 @@ module _ (m : Module) where
         let label = element labels k lt in
         let name = name_after wgsl_names (before_named k) label.0 in
         let is = named_name_is k label.0 label.1 in
-        by (is_word w) (is_builtin w)
-        (sym (ap is_word (sym is ∙ e)) ∙ name_after_is_word wgsl_names (before_named k) label.0)
-        (sym (ap is_builtin (sym is ∙ e)) ∙ (is_identifier (before_named k) label.0).own) other
-      where
-        by : (a b : Bool) → a ≡ true → b ≡ false → (not a || b) ≡ true → ⊥
-        by true false one two other = absurd (cc)
-        by true true one two other = absurd (cc)
-        by false b one two other = absurd (cc)
+        names_another name w (name_after_is_word wgsl_names (before_named k) label.0)
+        (is_identifier (before_named k) label.0).own other (sym is ∙ e)

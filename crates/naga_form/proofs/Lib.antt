@@ -23,6 +23,7 @@ pub mod ConstantsFit
 pub mod Facts
 pub mod Fits
 pub mod FittingStatements
+pub mod FixedNames
 pub mod FreeModules
 pub mod FreeNames
 pub mod FreeWords
@@ -31,6 +32,7 @@ pub mod DeclaredItems
 pub mod ExpressionNames
 pub mod Images
 pub mod Interface
+pub mod ItemKeys
 mod LeafExamples
 pub mod Leaves
 pub mod Letters
@@ -41,6 +43,7 @@ pub mod MemberNames
 pub mod ModuleFits
 pub mod ModulePlaces
 pub mod NamedConstants
+pub mod NamedFits
 pub mod Names
 mod NumberedNames
 pub mod OperatorEvents
@@ -49,8 +52,8 @@ pub mod OperatorTable
 pub mod OperatingWords
 pub mod Operators
 pub mod Ordered
+pub mod OutsideWords
 pub mod PartTypes
-pub mod WrittenSoFarFits
 pub mod PartsFit
 pub mod PlainForms
 pub mod PointerParts
@@ -69,6 +72,7 @@ pub mod SimpleShapes
 pub mod SoundGroups
 pub mod SoundOperators
 pub mod SpelledSignatures
+pub mod SpelledWords
 pub mod StatementPrograms
 pub mod Switches
 pub mod TakenParts

@@ -1,139 +1,187 @@
 -- A module meets what the law of runs asks of it, under its names.
-use Rattle.module_meaning.specs.WrittenSoFar.{types_are_written_so_far}
-use Rattle.std.proofs.Common.{[], ◌≡◌, ℕ, suc, ◌+◌, ◌<◌, Bool, true, false, List, ◌∷◌, map, length}
-use Rattle.std.proofs.Common.{Some, refl, sym, ap, subst, ◌∙◌, arith, add-one, append-nil}
-use Rattle.std.specs.Prelude.{IsTrue, slice_get, reverse}
+use Rattle.std.proofs.Common.{[], ◌≡◌, ℕ, suc, ◌+◌, ◌<◌, Bool, true, false, List, ◌∷◌, length}
+use Rattle.std.proofs.Common.{Some, refl, sym, ap, subst, ◌∙◌, arith, add-one}
+use Rattle.std.specs.Prelude.{IsTrue, slice_get}
 use Rattle.std.specs.List.{list_all}
 use mathlib.Core.List.{reverse_aux}
 use Rattle.std.proofs.lemmas.List.{length-reverse}
 use Rattle.std.proofs.lemmas.Bool.{and_from}
-use Rattle.indexmap.proofs.ReorderLemmas.{map-reverse}
 use Rattle.naga_ir.specs.declared.module.Function as ir_function
 use Rattle.naga_ir.specs.declared.module.Module.{Module}
 use Rattle.module_meaning.specs.DeclarationForms.{DeclarationsHaveForms}
 use Rattle.module_meaning.specs.ModuleShapes.{module_shape}
-use Rattle.module_meaning.proofs.ModuleShapes.{declares_functions_alone, functions_alone}
-use Rattle.module_meaning.proofs.WrittenSoFar.{functions_are_written, written_so_far_parts}
 use Rattle.naga_info.specs.declared.info.ExpressionInfo.{ExpressionInfo}
 use Rattle.naga_info.specs.declared.info.ModuleInfo.{ModuleInfo}
-use Rattle.naga_form.specs.Functions.{functions_form}
-use Rattle.naga_form.specs.Declarations.{written_program}
-use Rattle.naga_form.proofs.Abstraction.{function_reads}
-use Rattle.naga_form.proofs.AcceptedFunctions.{functions_paired}
-use Rattle.module_meaning.specs.InfoSizes.{function_size_fits}
-use Rattle.module_meaning.proofs.SideBySide.{paired_at, zip_parts}
+use Rattle.module_meaning.proofs.SideBySide.{zip_parts}
 use Rattle.naga_form.proofs.DistinguishedItems.{types_are_distinguished}
 use Rattle.naga_form.proofs.Names.{one_function}
 use Rattle.module_meaning.specs.FunctionNumbers.{all_functions, all_infos}
-use Rattle.module_meaning.proofs.FunctionNumbers.{function_among, info_among}
 use Rattle.naga_names.proofs.Refusal.{element}
 use Rattle.shader_runs.specs.Program as shapes
 use Rattle.shader_runs.specs.Scope.{Naming, fits_function}
-use Rattle.shader_runs.specs.Text.{TextModule}
-use Rattle.shader_runs.specs.Constants.{follow_module}
-use Rattle.shader_runs.specs.Form.{form_function, form_functions, form_module, functions_of}
+use Rattle.shader_runs.specs.Form.{functions_of}
 use Rattle.shader_runs.specs.Premises.{ConstantsFit}
 use Rattle.shader_runs.specs.Correct.{ModuleFits}
-use Rattle.shader_runs.proofs.Calls.{runs_alike}
 use Rattle.shader_runs.proofs.Names.{length-functions_of}
 use Rattle.shader_runs.proofs.Update.{and_left, and_right}
-use Rattle.module_meaning.specs.Premises.{scope_holds, ScopesHold}
+use Rattle.module_meaning.specs.Premises.{scope_holds}
 use Rattle.module_meaning.specs.Names.{module_names}
-use Rattle.module_meaning.specs.Names.{function_name, expression_name}
+use Rattle.module_meaning.specs.Names.{expression_name}
 use Rattle.module_meaning.specs.FunctionShapes.{function_shapes}
 use Rattle.module_meaning.specs.Namings.{namings_from, namings, outer_names, function_naming}
-use Rattle.text_meaning.specs.Abstraction.{function_read, program_read}
-use Rattle.wgsl_text.specs.Requests.{is_request}
-use Rattle.module_meaning.specs.Faithful.{RunsAs}
 use Rattle.module_meaning.specs.StatementForms.{block_has_forms}
-use Rattle.module_meaning.specs.Written.{AllWrittenHaveForms, WrittenHaveForms}
+use Rattle.module_meaning.specs.Written.{AllWrittenHaveForms}
 use Rattle.naga_form.proofs.Facts.{further, from_start}
-use Rattle.naga_form.proofs.WritableModules.{no_case_falls, no_further_functions, no_further_infos}
-use Rattle.naga_form.proofs.WrittenSoFarFits.{is_free}
+use Rattle.naga_form.proofs.WritableModules.{no_case_falls}
+use Rattle.naga_form.proofs.NamedFits.{is_free}
 use Rattle.naga_form.proofs.ConstantsFit.{constants_are_typed}
 use Rattle.naga_form.proofs.FunctionsFit.{IsFree, AllBehind, all_fit_freely}
 use Rattle.naga_form.proofs.AcceptedFunctions.{all_counted, functions_known, group_at}
 use Rattle.naga_form.proofs.Leaves.{ConstantsAreTyped}
 use Rattle.module_meaning.specs.Accepted.{is_accepted}
-use Rattle.module_meaning.specs.WrittenSoFar.{function_is_written}
-use Rattle.std.proofs.lemmas.Bool.{and_parts, eqb-true}
-use Rattle.naga_form.proofs.AcceptedGroups.{declarations_are}
+use Rattle.std.proofs.lemmas.Bool.{and_parts}
 use Rattle.naga_form.proofs.AcceptedGroups.{types_are_fit}
-use Rattle.naga_form.proofs.ScopeRules.{same_functions, scopes_are_checked}
+use Rattle.naga_form.proofs.ScopeRules.{same_functions}
+use Rattle.module_meaning.specs.ExpressionContexts.{global_tree}
+use Rattle.module_meaning.specs.ModuleShapes.{variable_shape}
+use Rattle.shader_runs.specs.Premises.{ConstantInRange, EachWord, ModuleNamesAreDistinct}
+use Rattle.shader_runs.specs.Premises.{OperatesOutside}
+use Rattle.shader_runs.specs.Program.{ConstantTree}
+use Rattle.shader_runs.specs.Scope.{ModuleNames}
+use Rattle.naga_form.proofs.ConstantInitialisers.{initialiser_of}
+use Rattle.naga_form.proofs.ConstantTrees.{global_tree_in_range}
+use Rattle.naga_form.proofs.ConstantsFit.{constants_fit}
+use Rattle.naga_form.proofs.Fits.{mapped_length}
+use Rattle.naga_form.proofs.FixedNames.{constants_tell}
+use Rattle.naga_form.proofs.ItemKeys.{CountsItems}
+use Rattle.naga_form.proofs.NamedConstants.{constants_length}
+use Rattle.naga_form.proofs.OutsideWords.{global_words as global_words_outside}
+use Rattle.naga_form.proofs.OutsideWords.{initialiser_words_outside}
+use Rattle.naga_form.proofs.WrittenOut.{are_written_out}
 
--- ---- what the law of runs asks
--- A module that is accepted and written so far: all is said by acceptance but what the part shows.
-module _ (m : Module) (info : ModuleInfo) (accepted : IsTrue (is_accepted m info)) (written : DeclarationsHaveForms m) where
+-- ---- lists
+-- there are as many shapes as functions
+pub shapes_counted : (m : Module) (info : ModuleInfo) (fs : List ir_function.Function)
+    (ess : List (List ExpressionInfo)) → length fs ≡ length ess →
+    length (function_shapes m info fs ess) ≡ length fs
+shapes_counted m info [] ess paired = refl
+shapes_counted m info (f ∷ fs) [] paired = absurd (omega (arith, paired))
+shapes_counted m info (f ∷ fs) (es ∷ ess) paired =
+    ap suc (shapes_counted m info fs ess (omega (arith, paired)))
+
+-- what holds of all of a list that is turned round onto another holds of all of both
+behind_all : {X : Type 0} (test : X → Bool) (xs behind : List X) →
+    IsTrue (list_all test (reverse_aux xs behind)) → IsTrue (list_all test behind)
+behind_all test [] behind all = all
+behind_all test (x ∷ xs) behind all =
+    and_right (test x) (list_all test behind) (behind_all test xs (x ∷ behind) all)
+
+all_reversed : {X : Type 0} (test : X → Bool) (xs behind : List X) →
+    IsTrue (list_all test (reverse_aux xs behind)) → IsTrue (list_all test xs)
+all_reversed test [] behind all = refl
+all_reversed test (x ∷ xs) behind all =
+    and_from (test x) (list_all test xs)
+    (and_left (test x) (list_all test behind) (behind_all test xs (x ∷ behind) all))
+    (all_reversed test xs (x ∷ behind) all)
+
+-- ---- an accepted module
+module _ (m : Module) (info : ModuleInfo) (accepted : IsTrue (is_accepted m info)) where
   abbrev p : shapes.Module
   p = module_shape m info
 
-  same : p ≡ functions_alone m info
-  same = declares_functions_alone m info written
+  abbrev names : ModuleNames
+  names = outer_names (module_names m) m
 
-  no_constant_types : p.constant_types ≡ []
-  no_constant_types = ap (λ p. p.constant_types) same
-
-  no_globals : p.globals ≡ []
-  no_globals = ap (λ p. p.globals) same
-
-  all_shaped : length p.functions ≡ length (all_functions m)
-  all_shaped =
+  functions_shaped : length p.functions ≡ length (all_functions m)
+  functions_shaped =
       length-reverse (function_shapes m info (all_functions m) (all_infos info))
       ∙ shapes_counted m info (all_functions m) (all_infos info) (all_counted m info accepted)
 
-  module _ (explicit : Bool) (have : AllWrittenHaveForms explicit m info) where
-    -- the statements of each function that is known have forms
-    forms_at : (k : ℕ) (f : ir_function.Function) (es : List ExpressionInfo) → slice_get (functions_known m info) k ≡ Some (f, es) → block_has_forms f.body ≡ true
-    forms_at k f es at =
-        let both = zip_parts (all_functions m) (all_infos info) k (f, es) at in
-        (have k f es both.0 both.1).statements
+  -- its program of shapes has what it declares
+  counts : CountsItems m p
+  counts = record {
+    functions = functions_shaped;
+    constants = constants_length m info;
+    globals = mapped_length (variable_shape m) m.global_variables;
+  }
 
-    constants_typed : (k : ℕ) (f : ir_function.Function) (es : List ExpressionInfo) → slice_get (functions_known m info) k ≡ Some (f, es) → ConstantsAreTyped m info f es
-    constants_typed k f es at = constants_are_typed m info accepted (types_are_distinguished m) f es (group_at m info accepted k f es at)
+  -- nothing is left of each function, behind those before it
+  all_free : (g : ℕ) (fs : List ir_function.Function) (ess : List (List ExpressionInfo)) →
+      ((i : ℕ) (f : ir_function.Function) → slice_get fs i ≡ Some f →
+      slice_get (all_functions m) (g + i) ≡ Some f) →
+      IsTrue (list_all fits_function
+      (namings_from (module_names m) m g (function_shapes m info fs ess))) →
+      (behind : List Naming) → length behind ≡ g → AllBehind (IsFree false p names) behind →
+      AllBehind (IsFree false p names)
+      (reverse_aux (namings_from (module_names m) m g (function_shapes m info fs ess)) behind)
+  all_free g [] ess there scoped behind at so_far = so_far
+  all_free g (f ∷ fs) [] there scoped behind at so_far = so_far
+  all_free g (f ∷ fs) (es ∷ ess) there scoped behind at so_far =
+      let here : g + 0 ≡ g = omega arith in
+      let found = subst (λ h. slice_get (all_functions m) h ≡ Some f) here (there 0 f refl) in
+      let own = function_naming (module_names m) (expression_name m g) m info g f es in
+      let scopes = and_parts (fits_function own) (list_all fits_function (namings_from (module_names m) m (g + 1) (function_shapes m info fs ess))) scoped in
+      let this = is_free m info (types_are_fit m info accepted) p counts g f found es
+      (functions_of behind) (length-functions_of behind ∙ at) scopes.0 in
+      all_free (g + 1) fs ess (further (all_functions m) g f fs there) scopes.1 (own ∷ behind)
+      (ap suc at ∙ sym (add-one g)) (this, so_far)
 
-    -- nothing is left of each function, behind those before it
-    all_free : (g : ℕ) (fs : List ir_function.Function) (ess : List (List ExpressionInfo)) →
-        ((i : ℕ) (f : ir_function.Function) → slice_get fs i ≡ Some f →
-        slice_get (all_functions m) (g + i) ≡ Some f) →
-        IsTrue (list_all fits_function
-        (namings_from (module_names m) m g (function_shapes m info fs ess))) →
-        (behind : List Naming) → length behind ≡ g →
-        AllBehind (IsFree false p (outer_names (module_names m) m)) behind →
-        AllBehind (IsFree false p (outer_names (module_names m) m))
-        (reverse_aux (namings_from (module_names m) m g (function_shapes m info fs ess)) behind)
-    all_free g [] ess there scoped behind at so_far = so_far
-    all_free g (f ∷ fs) [] there scoped behind at so_far = so_far
-    all_free g (f ∷ fs) (es ∷ ess) there scoped behind at so_far =
-        let here : g + 0 ≡ g = omega arith in
-        let found = subst (λ h. slice_get (all_functions m) h ≡ Some f) here (there 0 f refl) in
-        let own = function_naming (module_names m) (expression_name m g) m info g f es in
-        let scopes = and_parts (fits_function own) (list_all fits_function (namings_from (module_names m) m (g + 1) (function_shapes m info fs ess))) scoped in
-        let this = is_free m info (types_are_fit m info accepted) g f found es p no_constant_types no_globals all_shaped (functions_of behind) (length-functions_of behind ∙ at) scopes.0 in
-        all_free (g + 1) fs ess (further (all_functions m) g f fs there) scopes.1 (own ∷ behind) (ap suc at ∙ sym (add-one g)) (this, so_far)
+  constants_typed : (k : ℕ) (f : ir_function.Function) (es : List ExpressionInfo) →
+      slice_get (functions_known m info) k ≡ Some (f, es) → ConstantsAreTyped m info f es
+  constants_typed k f es at =
+      constants_are_typed m info accepted (types_are_distinguished m) f es
+      (group_at m info accepted k f es at)
 
-    no_constants : ConstantsFit (functions_alone m info) (outer_names (module_names m) m)
-    no_constants = record {
-      counted = omega arith;
-      rank = λ i. i;
-      initialisers = λ i e q. absurd (cc);
-      distinct = λ i k lt lk e. absurd (omega (arith, lt));
-    }
+  functions_tell : ModuleNamesAreDistinct p names
+  functions_tell = record {
+    functions = λ g k lg lk e.
+        let a = element (all_functions m) g (subst (λ n. g < n) functions_shaped lg) in
+        let b = element (all_functions m) k (subst (λ n. k < n) functions_shaped lk) in
+        one_function m g k a.0 b.0 a.1 b.1 e;
+  }
 
-    pub module_fits : IsTrue (scope_holds m info) →
-        ModuleFits (module_shape m info) (outer_names (module_names m) m) (namings (module_names m) m info)
-    module_fits scope =
-        let listed = namings_from (module_names m) m 0 (function_shapes m info (all_functions m) (all_infos info)) in
-        record {
-          functions = same_functions m info;
-          distinct = record {
-            functions = λ g k lg lk e.
-                let a = element (all_functions m) g (subst (λ n. g < n) all_shaped lg) in
-                let b = element (all_functions m) k (subst (λ n. k < n) all_shaped lk) in
-                one_function m g k a.0 b.0 a.1 b.1 e;
-          };
-          constants = subst (λ p. ConstantsFit p (outer_names (module_names m) m)) (sym same) no_constants;
-          all = all_fit_freely m info accepted (types_are_distinguished m) constants_typed
-              (λ k f es at. no_case_falls f.body (forms_at k f es at)) (outer_names (module_names m) m)
-              (namings (module_names m) m info) (same_functions m info) false forms_at
-              (all_free 0 (all_functions m) (all_infos info) (from_start (all_functions m)) (all_reversed fits_function listed [] scope) [] refl tt);
-        }
+  -- the tree of one of the module's own expressions names what is there
+  pub global_in_range : (h : ℕ) (e : ConstantTree) → h < length m.global_expressions →
+      global_tree m info h ≡ Some e → ConstantInRange p e
+  global_in_range h e lt = global_tree_in_range m info accepted (types_are_distinguished m) h e
+
+  module _ (declarations : DeclarationsHaveForms m) where
+    -- and its words are those of operators
+    pub global_words : (h : ℕ) (e : ConstantTree) → global_tree m info h ≡ Some e →
+        EachWord (OperatesOutside p names) e
+    global_words = global_words_outside m info (types_are_fit m info accepted) p counts
+
+    constants : ConstantsFit p names
+    constants =
+        constants_fit m info accepted (types_are_distinguished m) (are_written_out m declarations)
+        names
+        (λ i e at.
+        let found = initialiser_of m info accepted (types_are_distinguished m) i e at in
+        subst (EachWord (OperatesOutside p names)) found.is
+        (initialiser_words_outside m info (types_are_fit m info accepted) p counts found.constant))
+        (constants_tell m p counts)
+
+    module _ (explicit : Bool) (have : AllWrittenHaveForms explicit m info) where
+      -- the statements of each function that is known have forms
+      forms_at : (k : ℕ) (f : ir_function.Function) (es : List ExpressionInfo) →
+          slice_get (functions_known m info) k ≡ Some (f, es) → block_has_forms f.body ≡ true
+      forms_at k f es at =
+          let both = zip_parts (all_functions m) (all_infos info) k (f, es) at in
+          (have k f es both.0 both.1).statements
+
+      -- what the law of runs asks: all is said by acceptance but what names, words and scope show
+      pub module_fits : IsTrue (scope_holds m info) →
+          ModuleFits (module_shape m info) (outer_names (module_names m) m)
+          (namings (module_names m) m info)
+      module_fits scope =
+          let listed = namings_from (module_names m) m 0 (function_shapes m info (all_functions m) (all_infos info)) in
+          record {
+            functions = same_functions m info;
+            distinct = functions_tell;
+            constants = constants;
+            all = all_fit_freely m info accepted (types_are_distinguished m) constants_typed
+                (λ k f es at. no_case_falls f.body (forms_at k f es at)) names
+                (namings (module_names m) m info) (same_functions m info) false forms_at
+                (all_free 0 (all_functions m) (all_infos info) (from_start (all_functions m))
+                (all_reversed fits_function listed [] scope) [] refl tt);
+          }

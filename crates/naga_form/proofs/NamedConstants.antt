@@ -1,22 +1,25 @@
 -- The named constants of a module and its overrides in the list of types that its program of shapes
 -- has for them.
 use Rattle.std.proofs.Common.{◌≡◌, ℕ, zero, suc, ◌+◌, ◌-◌, ◌<◌, ◌≤◌, Bool, true, false, List, [], ◌∷◌, ◌++◌, refl, sym, ap, ◌∙◌, length, take}
-use Rattle.std.proofs.Common.{Some, slice_get, map, arith}
+use Rattle.std.proofs.Common.{Some, slice_get, map, arith, nat_lt}
 use Rattle.std.specs.Prelude.{if◌then◌else◌}
 use Rattle.std.specs.List.{filter}
 use Rattle.std.specs.Option.{option_map, option_map_or, is_some}
 use Rattle.std.proofs.lemmas.List.{length-drop, length-map, length-append, get_or_append_left, get_or-append-add}
+use Rattle.std.proofs.lemmas.Bool.{ltb-true, ltb-false}
 use Rattle.std.proofs.lemmas.Option.{slice_get-map, slice_get_past, slice_get_within, get_or_from_slice_get}
+use Rattle.std.proofs.lemmas.Option.{same_Some}
 use Rattle.naga_ir.specs.declared.module.Constant.{Constant}
 use Rattle.naga_ir.specs.declared.module.Module.{Module}
 use Rattle.naga_ir.specs.declared.module.Override.{Override}
 use Rattle.naga_info.specs.declared.info.ModuleInfo.{ModuleInfo}
 use Rattle.naga_info.specs.declared.info.TypeResolution.TheVariants.{Handle}
+use Rattle.naga_names.proofs.Refusal.{element}
 use Rattle.naga_names.specs.Keys.{NameMap}
 use Rattle.naga_names.specs.declared.key.NameKey.TheVariants as key
 use Rattle.module_meaning.specs.ModuleShapes.{initialiser, module_shape, named_constants}
 use Rattle.module_meaning.specs.Names.{constant_name, name_in, override_name}
-use Rattle.module_meaning.specs.Namings.{named_handles, outer_names}
+use Rattle.module_meaning.specs.Namings.{named_handles, numbered_key, outer_names}
 use Rattle.module_meaning.specs.OperatorTable.{if_there}
 use Rattle.module_meaning.specs.ExpressionContexts.{named_count, constant_number, override_number}
 use Rattle.module_meaning.specs.Types.{type_of_values}
@@ -88,6 +91,83 @@ handles_count k (d ∷ cs) = by (handles_count (suc k) cs) (is_named d)
     by rest true = let at : 1 + named_count cs ≡ suc (named_count cs) = omega arith in ap (λ n. suc n) rest ∙ sym at
     by rest false = let at : 0 + named_count cs ≡ named_count cs = omega arith in rest ∙ sym at
 
+-- what the list of handles has is the handle of a constant, where k is that of the first one, and in
+-- front of it so many have a name
+record IsHandleOf (k : ℕ) (cs : List Constant) (i h : ℕ) : Type 0 where
+  place : ℕ
+  constant : Constant
+  here : h ≡ k + place
+  there : slice_get cs place ≡ Some constant
+  counted : named_count (take place cs) ≡ i
+
+handle_of : (k : ℕ) (cs : List Constant) (i h : ℕ) → slice_get (named_handles k cs) i ≡ Some h →
+    IsHandleOf k cs i h
+handle_of k [] i h found = absurd cc
+handle_of k (d ∷ cs) i h found = by (is_named d) refl i (handle_of (suc k) cs) found
+  where
+    further : (i n : ℕ) → if_there (is_named d) + i ≡ n → IsHandleOf (suc k) cs i h →
+        IsHandleOf k (d ∷ cs) n h
+    further i n count s =
+        let here = s.here in
+        record {
+          place = suc s.place;
+          constant = s.constant;
+          here = omega (arith, here);
+          there = s.there;
+          counted = ap (λ c. if_there (is_named d) + c) s.counted ∙ count;
+        }
+
+    by : (b : Bool) → is_named d ≡ b → (i : ℕ) →
+        ((i h : ℕ) → slice_get (named_handles (suc k) cs) i ≡ Some h → IsHandleOf (suc k) cs i h) →
+        slice_get (if b then k ∷ named_handles (suc k) cs else named_handles (suc k) cs) i ≡ Some h →
+        IsHandleOf k (d ∷ cs) i h
+    by false is i rest found =
+        let none : 0 + i ≡ i = omega arith in
+        further i i (ap (λ b. if_there b + i) is ∙ none) (rest i h found)
+    by true is zero rest found =
+        let first = same_Some k h found in
+        record {
+          place = 0;
+          constant = d;
+          here = omega (arith, first);
+          there = refl;
+          counted = refl;
+        }
+    by true is (suc i) rest found =
+        let one : 1 + i ≡ suc i = omega arith in
+        further i (suc i) (ap (λ b. if_there b + i) is ∙ one) (rest i h found)
+
+-- What has a number among the constants of the runs is a constant with a name, or an override.
+pub data IsNumberedIn (m : Module) (i : ℕ) : Type 0 where
+  OfConstant : (h : ℕ) (c : Constant) → slice_get m.constants h ≡ Some c → constant_number m h ≡ i →
+      numbered_key m i ≡ key.Constant h → IsNumberedIn m i
+  OfOverride : (h : ℕ) (o : Override) → slice_get m.overrides h ≡ Some o → override_number m h ≡ i →
+      numbered_key m i ≡ key.Override h → IsNumberedIn m i
+
+pub which_constant : (m : Module) (i : ℕ) → i < named_count m.constants + length m.overrides →
+    IsNumberedIn m i
+which_constant m i lt = by (nat_lt i (named_count m.constants)) refl
+  where
+    by : (b : Bool) → nat_lt i (named_count m.constants) ≡ b → IsNumberedIn m i
+    by true is =
+        let before = ltb-true i (named_count m.constants) is in
+        let count = handles_count 0 m.constants in
+        let found = element (named_handles 0 m.constants) i (omega (arith, before, count)) in
+        let s = handle_of 0 m.constants i found.0 found.1 in
+        let here = s.here in
+        let same : found.0 ≡ s.place = omega (arith, here) in
+        OfConstant s.place s.constant s.there s.counted
+        (ap (λ o. option_map_or key.Constant o (key.Override (i - named_count m.constants)))
+        (found.1 ∙ ap Some same))
+    by false is =
+        let behind = ltb-false i (named_count m.constants) is in
+        let count = handles_count 0 m.constants in
+        let found = element m.overrides (i - named_count m.constants) (omega (arith, lt, behind)) in
+        let back : named_count m.constants + (i - named_count m.constants) ≡ i = omega (arith, behind) in
+        OfOverride (i - named_count m.constants) found.0 found.1 back
+        (ap (λ o. option_map_or key.Constant o (key.Override (i - named_count m.constants)))
+        (slice_get_past (named_handles 0 m.constants) i (omega (arith, count, behind))))
+
 -- what has the number of a constant with a name, and that of an override, has its name
 pub constant_numbered : (names : NameMap) (m : Module) (h : ℕ) (c : Constant) → slice_get m.constants h ≡ Some c → is_some c.name ≡ true →
     (outer_names names m).constant (constant_number m h) ≡ constant_name names h
@@ -146,6 +226,7 @@ module _ (m : Module) (info : ModuleInfo) where
       let all = types_count in
       let left = length-drop (constant_count (module_shape m info)) (types_of_constants ++ types_of_overrides) in
       omega (arith, own, named, all, left)
+use Rattle.std.proofs.lemmas.Bool.{ltb-true, ltb-false}
 
   -- the type of a named constant, by its place
   pub place_typed : (i : ℕ) (c : Constant) → slice_get (named_constants m) i ≡ Some c →

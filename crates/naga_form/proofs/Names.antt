@@ -104,6 +104,17 @@ is_identifier earlier label = record {
   own = keeps_off_builtin earlier label;
 }
 
+-- what is no word, or one of WGSL's own, is another
+pub names_another : (name w : List ℕ) → is_word name ≡ true → is_builtin name ≡ false →
+    (not (is_word w) || is_builtin w) ≡ true → name ≢ w
+names_another name w word own other e =
+    by (is_word w) (is_builtin w) (sym (ap is_word e) ∙ word) (sym (ap is_builtin e) ∙ own) other
+  where
+    by : (a b : Bool) → a ≡ true → b ≡ false → (not a || b) ≡ true → ⊥
+    by true false one two other = absurd (cc)
+    by true true one two other = absurd (cc)
+    by false b one two other = absurd (cc)
+
 -- ---- numbered names
 no_blanks : (w : List ℕ) (h : ℕ) → is_word w ≡ true → w ≡ replicate h 32 → ⊥
 no_blanks w zero word e = absurd (no (sym (ap is_word e) ∙ word))

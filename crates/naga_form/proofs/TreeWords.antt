@@ -101,16 +101,20 @@ module _ (m : Module) (info : ModuleInfo) (P : List ℕ → Type 0)
       by x true = tt
       by x false = or_zero_words x.ty (global x.init) (all x.init)
 
-  global_words : (levels : ℕ) → GlobalWords (global_tree_within levels m info)
-  global_words zero h t e = absurd (cc)
-  global_words (suc levels) h t e =
+  within_global_words : (levels : ℕ) → GlobalWords (global_tree_within levels m info)
+  within_global_words zero h t e = absurd (cc)
+  within_global_words (suc levels) h t e =
       let global = global_tree_within levels m info in
       let x = then_some (tree_over (declared_over m (constant_over m global) (global_types_known info)) global h) (slice_get m.global_expressions h) t e in
-      over_words (constant_over m global) (constant_words_over global (global_words levels)) (global_types_known info) global (global_words levels) h x.0 t x.2
+      over_words (constant_over m global) (constant_words_over global (within_global_words levels)) (global_types_known info) global (within_global_words levels) h x.0 t x.2
+
+  -- of each tree of the module's own expressions
+  pub global_words : (h : ℕ) (t : ConstantTree) → global_tree m info h ≡ Some t → EachWord P t
+  global_words h t e = within_global_words (suc h) h t e
 
   -- of each constant, as it is written
   pub constant_words : (c : ℕ) (t : ConstantTree) → written_constant m info c ≡ Some t → EachWord P t
-  constant_words c t e = constant_words_over (global_tree m info) (λ h t is. global_words (suc h) h t is) c t e
+  constant_words c t e = constant_words_over (global_tree m info) global_words c t e
 
   -- of each tree among expressions, whatever is known of them
   pub written_words : (known : ℕ → Option TypeResolution) (es : List ir.Expression) (h : ℕ) (t : ConstantTree) → constant_tree (declared m info known) es h ≡ Some t → EachWord P t
@@ -122,7 +126,7 @@ module _ (m : Module) (info : ModuleInfo) (P : List ℕ → Type 0)
   or_false_words (Some t) all = all t refl
 
   pub initialiser_words : (c : ir_constant.Constant) → EachWord P (initialiser m info c)
-  initialiser_words c = or_false_words (global_tree m info c.init) (global_words (suc c.init) c.init)
+  initialiser_words c = or_false_words (global_tree m info c.init) (global_words c.init)
 
   -- a value of a type without parts
   pub zero_words : (known : ℕ → Option TypeResolution) (h ty : ℕ) (t : ConstantTree) →

@@ -1,7 +1,7 @@
 -- Each constant of an accepted module has a tree. Where the initialisers of those with a name are
 -- written out, as a literal, another constant, an override, a zero value, a composition or a splat
--- of such, these have trees too. Acceptance doesn't ask that they are: a negation of a literal is
--- not.
+-- of such, these have trees too, and so it is where all that a module declares has a form. Acceptance
+-- doesn't ask that they are: a negation of a literal is not.
 use Rattle.module_meaning.specs.Writable.{AreWrittenOut, is_written_out, written_out_within, written_out_over}
 use Rattle.module_meaning.specs.Names.{TypesAreDistinguished}
 use Rattle.std.proofs.Common.{◌≡◌, ℕ, zero, suc, ◌<◌, ◌+◌, Bool, true, false, List, [], ◌∷◌, refl, sym, ap, ◌∙◌, length}
@@ -9,7 +9,7 @@ use Rattle.std.proofs.Common.{Option, Some, None, slice_get, arith, nat_lt, ◌&
 use Rattle.std.specs.List.{list_all}
 use Rattle.std.specs.Prelude.{IsTrue, ◌||◌}
 use Rattle.std.specs.Option.{option_map, option_map_or, option_and_then, is_none, is_some}
-use Rattle.std.proofs.lemmas.Bool.{and_parts, ltb-true}
+use Rattle.std.proofs.lemmas.Bool.{and_from, and_parts, ltb-true}
 use Rattle.naga_ir.specs.Operands.{expression_operands}
 use Rattle.naga_ir.specs.declared.expression.Expression.{Expression}
 use Rattle.naga_ir.specs.declared.expression.Expression.TheVariants as expression
@@ -36,7 +36,10 @@ use Rattle.module_meaning.specs.Ranges.{resolution_fits, is_below, function_in_r
 use Rattle.module_meaning.specs.Ranges.{entry_point_in_range}
 use Rattle.module_meaning.specs.Soundness.{module_is_sound}
 use Rattle.module_meaning.specs.ExpressionContexts.{constant_over, declared_over, global_tree, global_tree_within, global_types_known, written_constant}
-use Rattle.module_meaning.proofs.Lists.{list_all_at}
+use Rattle.module_meaning.specs.DeclarationForms.{DeclarationsHaveForms, IsInitialiser}
+use Rattle.module_meaning.specs.Undeclared.{is_spellable}
+use Rattle.module_meaning.specs.WrittenSoFar.{global_is_written_over, global_is_written_within}
+use Rattle.module_meaning.proofs.Lists.{all_pass, list_all_at}
 use Rattle.module_meaning.proofs.Lists.{placed_at}
 use Rattle.naga_form.proofs.AcceptedGroups.{IsSoundGroup, own_known, own_group, declarations_are}
 use Rattle.naga_form.proofs.ConstantInitialisers.{HaveTrees, named_stands}
@@ -55,6 +58,61 @@ trees_there tree_of is_written bound have (h ∷ hs) below all =
     let one = have h (ltb-true h bound low.0) is.0 in
     let more = trees_there tree_of is_written bound have hs low.1 is.1 in
     (one.0 ∷ more.0, λ i. tree_then (one.1 i) (more.1 i))
+
+-- ---- of a module whose declarations have forms
+module _ (m : Module) where
+  -- what has a form is written out
+  form_is_out : (levels h : ℕ) → global_is_written_within levels m h ≡ true →
+      written_out_within levels m.global_expressions h ≡ true
+  form_is_out zero h is = absurd cc
+  form_is_out (suc levels) h is = by (slice_get m.global_expressions h) is (form_is_out levels)
+    where
+      own : ℕ → Bool
+      own = global_is_written_within levels m
+
+      out : ℕ → Bool
+      out = written_out_within levels m.global_expressions
+
+      all_out : ((x : ℕ) → own x ≡ true → out x ≡ true) → (xs : List ℕ) →
+          list_all own xs ≡ true → list_all out xs ≡ true
+      all_out each [] is = refl
+      all_out each (x ∷ xs) is =
+          let both = and_parts (own x) (list_all own xs) is in
+          and_from (out x) (list_all out xs) (each x both.0) (all_out each xs both.1)
+
+      over : ((x : ℕ) → own x ≡ true → out x ≡ true) → (e : Expression) →
+          global_is_written_over m own e ≡ true → written_out_over out e ≡ true
+      over each (expression.Literal value) is = refl
+      over each (expression.Constant handle) is = refl
+      over each (expression.Override handle) is = refl
+      over each (expression.ZeroValue ty) is = refl
+      over each (expression.Compose ty components) is =
+          all_out each components.items
+          (and_parts (is_spellable m (Handle ty)) (list_all own components.items) is).1
+      over each (expression.Splat size value) is = each value is
+      over each _ is = absurd cc
+
+      by : (o : Option Expression) →
+          option_map_or (global_is_written_over m own) o false ≡ true →
+          ((x : ℕ) → own x ≡ true → out x ≡ true) →
+          option_map_or (written_out_over out) o false ≡ true
+      by None is each = absurd cc
+      by (Some e) is each = over each e is
+
+  -- so the initialiser of each constant with a name is
+  pub are_written_out : DeclarationsHaveForms m → AreWrittenOut m
+  are_written_out declarations =
+      all_pass (λ c. is_none c.name || is_written_out m.global_expressions c.init) m.constants
+      (λ i c at. by c.init c.name
+      (λ named.
+      form_is_out (suc c.init) c.init
+      (declarations.initialisers c.init (IsInitialiser.OfConstant i c at named))))
+    where
+      by : {X : Type 0} (init : ℕ) (name : Option X) →
+          (is_some name ≡ true → is_written_out m.global_expressions init ≡ true) →
+          (is_none name || is_written_out m.global_expressions init) ≡ true
+      by init None out = refl
+      by init (Some name) out = out refl
 
 module _ (m : Module) (info : ModuleInfo) where
   -- ---- of expressions that stand together

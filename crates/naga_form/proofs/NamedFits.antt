@@ -1,8 +1,7 @@
--- What acceptance leaves to be shown of a function, its words and its names, where the function is of
--- the part that is written so far.
+-- What acceptance leaves to be shown of a function under the names of its module: its words and names.
 use Rattle.std.proofs.Common.{[], ◌≡◌, ◌≢◌, ℕ, suc, zero, Bool, true, false, ◌<◌, List, ◌∷◌}
 use Rattle.std.proofs.Common.{length, Some, refl, sym, ap, subst, ◌∙◌, arith}
-use Rattle.std.proofs.Common.{replicate, take, nat_eq, true≢false}
+use Rattle.std.proofs.Common.{replicate, nat_eq, true≢false}
 use Rattle.std.specs.Prelude.{IsTrue, slice_get, get_or, not, Option, None}
 use Rattle.std.specs.Prelude.{◌&&◌, ◌||◌}
 use Rattle.std.proofs.lemmas.Bool.{and_parts}
@@ -18,22 +17,13 @@ use Rattle.module_meaning.specs.OperatorTable.{BinarySign, UnarySign, Select, Ma
 use Rattle.module_meaning.specs.OperatorTable.{Relational, Splat, run_word, Operator, Construct}
 use Rattle.module_meaning.specs.OperatorTable.{WithoutForm, ValueOf, Cast, PartAt, Derivative, with_type}
 use Rattle.module_meaning.specs.OperatorTable.{AtomicLoad, RayIntersection, RayCorners}
-use Rattle.module_meaning.specs.Types.{type_names}
 use Rattle.module_meaning.specs.FunctionNumbers.{all_functions, function_type}
-use Rattle.module_meaning.proofs.FunctionNumbers.{argument_keys_tell, local_keys_tell}
-use Rattle.module_meaning.proofs.FunctionNumbers.{no_argument_is_function, no_argument_is_local}
-use Rattle.module_meaning.proofs.FunctionNumbers.{no_argument_is_type, no_function_is_type}
-use Rattle.module_meaning.proofs.FunctionNumbers.{no_local_is_function, no_local_is_type}
-use Rattle.naga_back.specs.FunctionContext.{argument_key, function_key, local_key}
-use Rattle.naga_back.specs.declared.context.FunctionType.{FunctionType}
+use Rattle.naga_back.specs.FunctionContext.{function_key}
 use Rattle.naga_info.specs.declared.info.TypeResolution.{TypeResolution}
 use Rattle.naga_info.specs.declared.info.TypeResolution.TheVariants.{Handle, Value}
 use Rattle.shader_runs.specs.Program.{Constructed, no_constant}
 use Rattle.std.specs.Option.{option_map, option_map_or, option_and_then}
-use Rattle.std.specs.Prelude.{codes, ◌⊎◌}
-use mathlib.Core.Logic.{inl, inr}
-use Rattle.wgsl_text.specs.Reading.{type_layout}
-use Rattle.wgsl_text.proofs.Text.{text-append}
+use Rattle.std.specs.Prelude.{codes}
 use Rattle.naga_form.proofs.OperatingWords.{operates_freely, unary_free, binary_free, choice_free}
 use Rattle.naga_form.proofs.OperatingWords.{asks_freely, bits_free, derivative_free}
 use Rattle.naga_form.proofs.OperatingWords.{formless_free, is_signed, atomic_load_free}
@@ -43,46 +33,34 @@ use Rattle.naga_form.proofs.OperatingWords.{splat_free, math_free, relation_free
 use Rattle.naga_form.proofs.OperatingWords.{names_no_item}
 use Rattle.naga_form.proofs.TreeWords.{constant_words, levels_words, offset_words, or_false_words}
 use Rattle.naga_form.proofs.TreeWords.{written_words}
-use Rattle.naga_form.proofs.TypeTrees.{resolution_row}
 use Rattle.naga_info.proofs.Options.{then_some}
-use Rattle.naga_form.proofs.SameValues.{IsFit, TypesAreFit, or_nothing}
+use Rattle.naga_form.proofs.SameValues.{IsFit, TypesAreFit}
 use Rattle.naga_form.proofs.TypedWords.{no_request}
-use Rattle.wgsl_text.proofs.Types.{named_text}
-use Rattle.naga_form.proofs.WrittenTypes.{IsStructNamed, free_form}
 use Rattle.module_meaning.specs.ExpressionContexts.{declared, types_known}
 use Rattle.module_meaning.proofs.ExpressionShapes.{load_asks}
 use Rattle.module_meaning.proofs.Shapes.{operator_any}
-use Rattle.naga_names.specs.Reset.{LabelledItem, labelled_items, labels_of, type_label}
 use Rattle.shader_runs.specs.Program as shapes
-use Rattle.shader_runs.specs.Program.{argument_count}
-use Rattle.shader_runs.specs.Program.{local_count, from}
 use Rattle.shader_runs.specs.Scope.{Naming, named_by_all}
 use Rattle.shader_runs.specs.Scope.{fits_function}
 use Rattle.shader_runs.specs.Premises.{WordFits}
 use Rattle.shader_runs.specs.Premises.{AreDistinct, FixedKey}
-use Rattle.shader_runs.specs.Premises.{NumberedKey, NamedKey, ArgumentName, LocalName, ConstantName}
-use Rattle.shader_runs.specs.Premises.{AsksBy, GlobalName, OperatesBy, StandsFree, IsNoName}
-use Rattle.shader_runs.specs.Premises.{IsName, NameKey, name_at}
+use Rattle.shader_runs.specs.Premises.{NumberedKey, NamedKey}
+use Rattle.shader_runs.specs.Premises.{AsksBy, OperatesBy, StandsFree, IsNoName}
 use Rattle.naga_form.proofs.AlikeNumbers.{is_no}
-use Rattle.naga_form.proofs.Names.{numbered_distinct, name_is, item_is_identifier}
-use Rattle.naga_form.proofs.Names.{item_not_numbered, items_tell, function_item, argument_item}
-use Rattle.naga_form.proofs.Names.{function_there, argument_there, local_item, local_there}
-use Rattle.naga_names.proofs.Refusal.{element}
-use Rattle.module_meaning.specs.Names.{argument_name, numbered_name, wgsl_names, module_names}
-use Rattle.module_meaning.specs.Names.{name_in, function_name, local_name, numbered_text}
+use Rattle.naga_form.proofs.Names.{numbered_distinct, item_is_identifier}
+use Rattle.naga_form.proofs.Names.{item_not_numbered}
+use Rattle.module_meaning.specs.Names.{numbered_name, module_names}
+use Rattle.module_meaning.specs.Names.{name_in, function_name, numbered_text}
 use Rattle.module_meaning.specs.Names.{expression_name}
-use Rattle.module_meaning.specs.Types.{declared_type}
 use Rattle.module_meaning.specs.FunctionShapes.{function_shape, statements_shape}
 use Rattle.module_meaning.specs.Namings.{outer_names, function_naming}
 use Rattle.naga_ir.specs.declared.expression.Expression.TheVariants as expression
 use Rattle.naga_ir.specs.declared.module.Module.{Module}
 use Rattle.naga_keywords.specs.Plain.{is_word}
 use Rattle.naga_names.specs.declared.key.NameKey.TheVariants as key
-use Rattle.naga_names.proofs.NameShapes.{name_after_is_word}
-use Rattle.naga_names.proofs.NamedItems.{Stands, local_stands, type_stands}
 use Rattle.wgsl_text.specs.Requests.{is_request}
 use Rattle.wgsl_text.specs.Words.{is_builtin}
-use Rattle.naga_form.proofs.Fits.{named_by_all_is, mapped_length}
+use Rattle.naga_form.proofs.Fits.{named_by_all_is}
 use Rattle.naga_form.proofs.ExpressionNames.{named_no_item, named_no_word, named_not_numbered}
 use Rattle.naga_form.proofs.ExpressionNames.{named_tell}
 use Rattle.module_meaning.specs.ExpressionLabels.{expression_labels}
@@ -94,11 +72,9 @@ use Rattle.module_meaning.specs.ExpressionShapes.{part_selector, part_shape}
 use Rattle.module_meaning.specs.Conversions.{conversion_target}
 use Rattle.module_meaning.specs.ExpressionOperators.{type_known}
 use Rattle.naga_form.proofs.AllowedParts.{target_fit}
-use Rattle.naga_form.specs.TypeTrees.{resolution_tree}
 use Rattle.naga_ir.specs.declared.types.ScalarKind.{ScalarKind}
 use Rattle.naga_ir.specs.declared.types.TypeInner.{TypeInner}
 use Rattle.naga_ir.specs.declared.types.Type_.{Type_}
-use Rattle.wgsl_text.specs.Types.{Named, TypeSpecifier}
 use Rattle.module_meaning.proofs.ExpressionShapes.{query_asks}
 use Rattle.module_meaning.specs.ExpressionOperators.{is_depth_image, level_of, query_operator}
 use Rattle.module_meaning.specs.ExpressionOperators.{sample_operator, texel_of, matrix_load}
@@ -117,6 +93,14 @@ use Rattle.std.proofs.Common.{◌++◌}
 use Rattle.std.specs.Option.{is_some, option_to_list}
 use Rattle.std.specs.Prelude.{if◌then◌else◌}
 use Rattle.shader_runs.specs.Value.{Selector}
+use Rattle.naga_names.specs.declared.key.NameKey.{NameKey}
+use Rattle.shader_runs.specs.Premises.{FixedName, fixed_name, IsFixedName}
+use Rattle.naga_form.proofs.FixedNames.{fixed_has, fixed_key, fixed_named, fixed_no_item, fixed_of}
+use Rattle.naga_form.proofs.FixedNames.{fixed_tell, function_is_none}
+use Rattle.naga_form.proofs.ItemKeys.{CountsItems, function_has, HasItem, item_is_no_word}
+use Rattle.naga_form.proofs.ItemKeys.{no_function_is, no_word_of_item, type_has, type_is_no_item}
+use Rattle.naga_form.proofs.ItemKeys.{word_is_no_item}
+use Rattle.naga_form.proofs.SpelledWords.{made_word, made_words, spelled_words}
 
 -- ---- signs
 -- what begins with another byte than `_`, and is not all blanks, is no numbered name
@@ -134,14 +118,10 @@ sign_not_numbered : (h c : ℕ) (rest : List ℕ) → nat_eq c 95 ≡ false →
 unfolding numbered_name
 sign_not_numbered h c rest one two e = not_numbered _ h c rest one two e
 
-none_listed : {X : Type 0} (i : ℕ) (ts : List X) → ts ≡ [] → i < length ts → ⊥
-none_listed i ts e lt = let none : i < 0 = subst (λ ts. i < length ts) e lt in omega (arith, none)
-
 -- ---- one function
-module _ (m : Module) (info : ModuleInfo) (types : TypesAreFit m) (g : ℕ) (f : ir_function.Function)
-    (found : slice_get (all_functions m) g ≡ Some f) (es : List ExpressionInfo) (p : shapes.Module)
-    (constants : p.constant_types ≡ []) (globals : p.globals ≡ [])
-    (counted : length p.functions ≡ length (all_functions m)) where
+module _ (m : Module) (info : ModuleInfo) (types : TypesAreFit m) (p : shapes.Module)
+    (counts : CountsItems m p) (g : ℕ) (f : ir_function.Function)
+    (found : slice_get (all_functions m) g ≡ Some f) (es : List ExpressionInfo) where
   abbrev own : Naming
   own = function_naming (module_names m) (expression_name m g) m info g f es
 
@@ -155,41 +135,24 @@ module _ (m : Module) (info : ModuleInfo) (types : TypesAreFit m) (g : ℕ) (f :
   named_in : (k : ℕ) → k < named_by_all shape (statements_shape d.context f.body) 0 → k < length (expression_labels f)
   named_in k lt = let all = named_by_all_is m info f es f.body 0 in omega (arith, lt, all)
 
+  -- each fixed name is that of an item
+  has_item : (x : FixedName) → IsFixedName p shape x → HasItem m (fixed_key m g x)
+  has_item = fixed_has m p counts info g f found es
+
   -- ---- words
-  word_of : (item : LabelledItem) → Stands (labelled_items wgsl_names m) item → is_word (name_in (module_names m) item.0) ≡ true
-  word_of item s = ap is_word (name_is m item s) ∙ name_after_is_word wgsl_names (labels_of (take s.place (labelled_items wgsl_names m))) item.1
-
-  no_word : (item : LabelledItem) (w : List ℕ) → Stands (labelled_items wgsl_names m) item →
-      (not (is_word w) || is_builtin w) ≡ true → name_in (module_names m) item.0 ≢ w
-  no_word item w s other e =
-      by (is_word w) (is_builtin w) (sym (ap is_word e) ∙ word_of item s)
-      (sym (ap is_builtin e) ∙ (item_is_identifier m item s).own) other
-    where
-      by : (a b : Bool) → a ≡ true → b ≡ false → (not a || b) ≡ true → ⊥
-      by true false one two other = absurd (cc)
-      by true true one two other = absurd (cc)
-      by false b one two other = absurd (cc)
-
   -- a word that operates freely is no name
-  stands_free : (c : ℕ) (rest : List ℕ) →
-      nat_eq c 95 ≡ false → is_signed (c ∷ rest) ≡ true →
-      (not (is_word (c ∷ rest)) || is_builtin (c ∷ rest)) ≡ true → StandsFree p own (c ∷ rest)
-  stands_free c rest one two other = (functions, no_name)
+  stands_free : (c : ℕ) (rest : List ℕ) → nat_eq c 95 ≡ false → is_signed (c ∷ rest) ≡ true →
+      names_no_item (c ∷ rest) ≡ true → StandsFree p own (c ∷ rest)
+  stands_free c rest one two free =
+      (no_function_is m p counts (c ∷ rest) (word_is_no_item m (c ∷ rest) free), no_name)
     where
-      functions : (k : ℕ) → k < length p.functions → function_name m (module_names m) k ≢ c ∷ rest
-      functions k lt =
-          let a = element (all_functions m) k (subst (λ n. k < n) counted lt) in
-          no_word (function_item m k a.0) (c ∷ rest) (function_there m k a.0 a.1) other
+      other : (not (is_word (c ∷ rest)) || is_builtin (c ∷ rest)) ≡ true
+      other = no_word_of_item (c ∷ rest) free
 
       no_name : IsNoName p own (c ∷ rest)
-      no_name (FixedKey (ArgumentName i)) is e =
-          let a = element f.arguments.items i (subst (λ n. i < n) (mapped_length (λ a. declared_type m a.ty) f.arguments.items) is) in
-          no_word (argument_item m g i a.0) (c ∷ rest) (argument_there m g f i a.0 found a.1) other e
-      no_name (FixedKey (LocalName i)) is e =
-          let a = element f.local_variables i (subst (λ n. i < n) (mapped_length (λ l. l.init) f.local_variables) is) in
-          no_word (local_item m g i a.0) (c ∷ rest) (local_there m g f i a.0 found a.1) other e
-      no_name (FixedKey (ConstantName i)) is e = none_listed i p.constant_types constants is
-      no_name (FixedKey (GlobalName i)) is e = none_listed i p.globals globals is
+      no_name (FixedKey x) is e =
+          item_is_no_word m (c ∷ rest) other (fixed_key m g x) (has_item x is)
+          (sym (fixed_named m g x) ∙ e)
       no_name (NumberedKey h) is e = sign_not_numbered h c rest one two e
       no_name (NamedKey k) is e = named_no_word m g f found k (named_in k is) (c ∷ rest) other e
 
@@ -201,7 +164,7 @@ module _ (m : Module) (info : ModuleInfo) (types : TypesAreFit m) (g : ℕ) (f :
       (is_signed (c ∷ rest) && (not (is_word (c ∷ rest)) || is_builtin (c ∷ rest))) free in
       let two =
       and_parts (is_signed (c ∷ rest)) (not (is_word (c ∷ rest)) || is_builtin (c ∷ rest)) one.1 in
-      stands_free c rest (is_no (nat_eq c 95) one.0) two.0 two.1
+      stands_free c rest (is_no (nat_eq c 95) one.0) two.0 free
 
   operates : (w : List ℕ) → operates_freely w ≡ true → OperatesBy p own w
   operates w free =
@@ -212,116 +175,50 @@ module _ (m : Module) (info : ModuleInfo) (types : TypesAreFit m) (g : ℕ) (f :
   asks_by w free =
       let both = and_parts (is_request w) (names_no_item w) free in (both.0, free_word w both.1)
 
-  other_name : (item : LabelledItem) → Stands (labelled_items wgsl_names m) item → (b : LabelledItem) →
-      Stands (labelled_items wgsl_names m) b → (b.0 ≡ item.0 → ⊥) →
-      name_in (module_names m) b.0 ≢ name_in (module_names m) item.0
-  other_name item there b s differs e = differs (ap (λ item. item.0) (items_tell m b item s there e))
-
-  -- the name of an item that is no argument and no local is none that the text of the function uses
-  item_is_no_name : (item : LabelledItem) → Stands (labelled_items wgsl_names m) item →
-      ((i : ℕ) → argument_key (function_type m g) i ≡ item.0 → ⊥) →
-      ((i : ℕ) → local_key (function_type m g) i ≡ item.0 → ⊥) →
-      IsNoName p own (name_in (module_names m) item.0)
-  item_is_no_name item there no_argument no_local = by
+  -- the name of an item that has no fixed name's key is none that the text of the function uses
+  item_is_no_name : (k : NameKey) → HasItem m k → fixed_of m k ≡ None →
+      IsNoName p own (name_in (module_names m) k)
+  item_is_no_name k has none = by
     where
-      by : IsNoName p own (name_in (module_names m) item.0)
-      by (FixedKey (ArgumentName i)) is e =
-          let a = element f.arguments.items i (subst (λ n. i < n) (mapped_length (λ a. declared_type m a.ty) f.arguments.items) is) in
-          other_name item there (argument_item m g i a.0) (argument_there m g f i a.0 found a.1) (no_argument i) e
-      by (FixedKey (LocalName i)) is e =
-          let a = element f.local_variables i (subst (λ n. i < n) (mapped_length (λ l. l.init) f.local_variables) is) in
-          other_name item there (local_item m g i a.0) (local_there m g f i a.0 found a.1) (no_local i) e
-      by (FixedKey (ConstantName i)) is e = none_listed i p.constant_types constants is
-      by (FixedKey (GlobalName i)) is e = none_listed i p.globals globals is
-      by (NumberedKey k) is e = item_not_numbered m item k there (sym e)
-      by (NamedKey k) is e = named_no_item m g f found k (named_in k is) item there (sym e)
+      by : IsNoName p own (name_in (module_names m) k)
+      by (FixedKey x) is e = fixed_no_item m p counts info g f found es k has none x is e
+      by (NumberedKey h) is e = item_not_numbered m (k, has.0) h has.1 (sym e)
+      by (NamedKey j) is e = named_no_item m g f found j (named_in j is) (k, has.0) has.1 (sym e)
 
   -- nor is that of a struct, which asks for nothing
   struct_operates : (h : ℕ) (t : Type_) → slice_get m.types h ≡ Some t →
       OperatesBy p own (name_in (module_names m) (key.Type_ h))
   struct_operates h t at =
-      (no_request w (item_is_identifier m item there), (functions, item_is_no_name item there no_argument no_local))
-    where
-      item : LabelledItem
-      item = (key.Type_ h, type_label m.entry_points.items h t)
-
-      there : Stands (labelled_items wgsl_names m) item
-      there = type_stands wgsl_names m h t at
-
-      w : List ℕ
-      w = name_in (module_names m) (key.Type_ h)
-
-      no_argument : (i : ℕ) → argument_key (function_type m g) i ≡ key.Type_ h → ⊥
-      no_argument i = no_argument_is_type (function_type m g) i h
-
-      no_local : (i : ℕ) → local_key (function_type m g) i ≡ key.Type_ h → ⊥
-      no_local i = no_local_is_type (function_type m g) i h
-
-      functions : (k : ℕ) → k < length p.functions → function_name m (module_names m) k ≢ w
-      functions k lt =
-          let a = element (all_functions m) k (subst (λ n. k < n) counted lt) in
-          other_name item there (function_item m k a.0) (function_there m k a.0 a.1)
-          (no_function_is_type (function_type m k) h)
+      let has = type_has m h t at in
+      let w = name_in (module_names m) (key.Type_ h) in (
+        no_request w (item_is_identifier m (key.Type_ h, has.0) has.1),
+        (
+          no_function_is m p counts w (type_is_no_item m h t at),
+          item_is_no_name (key.Type_ h) has refl,
+        ),
+      )
 
   -- nor is that of a function in front of it
   callee_is_no_name : (k : ℕ) → k < g → IsNoName p own (function_name m (module_names m) k)
   callee_is_no_name k lt =
       let within = slice_get_within (all_functions m) g f found in
-      let a = element (all_functions m) k (omega (arith, lt, within)) in
-      item_is_no_name (function_item m k a.0) (function_there m k a.0 a.1) no_argument no_local
-    where
-      no_argument : (i : ℕ) → argument_key (function_type m g) i ≡ function_key (function_type m k) → ⊥
-      no_argument i = no_argument_is_function (function_type m g) (function_type m k) i
+      item_is_no_name (function_key (function_type m k))
+      (function_has m k (omega (arith, lt, within))) (function_is_none m (function_type m k))
 
-      no_local : (i : ℕ) → local_key (function_type m g) i ≡ function_key (function_type m k) → ⊥
-      no_local i = no_local_is_function (function_type m g) (function_type m k) i
-
-  -- what is spelled by a type is called by that, or by what no text has where it has no form
-  spelled_words : (r : TypeResolution) → IsFit m r → (P : Operator → Type 0) →
+  -- what spells a type is called so
+  type_words : (r : TypeResolution) → IsFit m r → (P : Operator → Type 0) →
       (makes : List ℕ → Operator) → (without : Operator) →
       ((word : List ℕ) → OperatesBy p own word → P (makes word)) → P without →
       P (option_map_or makes (d.context.spelled r) without)
-  spelled_words r fit P makes without is none = by (resolution_tree (type_names m) r) refl
-    where
-      struct_name : (h : ℕ) → (type_names m).struct_name h ≡ name_in (module_names m) (key.Type_ h)
-      struct_name h = or_nothing (module_names m (key.Type_ h))
+  type_words = spelled_words m types (OperatesBy p own) operates struct_operates
 
-      form_operates : (t : TypeSpecifier) →
-          (operates_freely (type_layout t) ≡ true) ⊎ IsStructNamed (type_names m) t →
-          OperatesBy p own (type_layout t)
-      form_operates t (inl free) = operates (type_layout t) free
-      form_operates t (inr is) =
-          subst (OperatesBy p own)
-          (sym
-          (ap type_layout (is.named ∙ ap Named (struct_name is.handle))
-          ∙ named_text (name_in (module_names m) (key.Type_ is.handle))))
-          (struct_operates is.handle is.type is.there)
-
-      row : d.context.spelled r ≡ option_map type_layout (resolution_tree (type_names m) r)
-      row = resolution_row text-append (type_names m) (λ handle. true) r
-
-      by : (o : Option TypeSpecifier) → resolution_tree (type_names m) r ≡ o →
-          P (option_map_or makes (d.context.spelled r) without)
-      by (Some t) at =
-          subst (λ o. P (option_map_or makes o without)) (sym (row ∙ ap (option_map type_layout) at))
-          (is (type_layout t) (form_operates t (free_form m types r fit t at)))
-      by None at =
-          subst (λ o. P (option_map_or makes o without)) (sym (row ∙ ap (option_map type_layout) at))
-          none
-
-  abbrev unmade : (components ty : ℕ) → Operator
-  unmade components ty = WithoutForm (ValueOf (d.context.numbers (Handle ty)) components)
-
-  made_words : (components : ℕ) (ty : ℕ) → (P : Operator → Type 0) →
+  value_words : (components ty : ℕ) → (P : Operator → Type 0) →
       ((word : List ℕ) → OperatesBy p own word → P (Construct word components)) →
-      (OperatesBy p own (run_word (unmade components ty)) → P (unmade components ty)) →
+      (OperatesBy p own
+      (run_word (WithoutForm (ValueOf (d.context.numbers (Handle ty)) components))) →
+      P (WithoutForm (ValueOf (d.context.numbers (Handle ty)) components))) →
       P (constructor d.context (Handle ty) components)
-  made_words components ty P makes without =
-      spelled_words (Handle ty) tt P (λ spelling. Construct spelling components) (unmade components ty)
-      makes
-      (without
-      (operates (run_word (unmade components ty))
-      (formless_free (ValueOf (d.context.numbers (Handle ty)) components) refl)))
+  value_words = made_words m types (OperatesBy p own) operates struct_operates
 
   cast_words : (bits : Bool) (word : List ℕ) (operand : ℕ) → OperatesBy p own word →
       WordFits p own (Some (applied_shape (cast_to bits word) (operand ∷ [])))
@@ -339,7 +236,7 @@ module _ (m : Module) (info : ModuleInfo) (types : TypesAreFit m) (g : ℕ) (f :
       (WithoutForm (Cast kind convert)))
       (operand ∷ [])))
   converted_words bits kind convert operand from (Some it) fit =
-      spelled_words (Value it) (fit it refl) (λ op. WordFits p own (Some (applied_shape op (operand ∷ []))))
+      type_words (Value it) (fit it refl) (λ op. WordFits p own (Some (applied_shape op (operand ∷ []))))
       (cast_to bits) (WithoutForm (Cast kind convert)) (λ word free. cast_words bits word operand free)
       (operates (run_word (WithoutForm (Cast kind convert))) (formless_free (Cast kind convert) refl))
   converted_words bits kind convert operand from None fit =
@@ -370,9 +267,7 @@ module _ (m : Module) (info : ModuleInfo) (types : TypesAreFit m) (g : ℕ) (f :
   -- ---- constants that are written out
   made_operates : (ty components : ℕ) →
       OperatesBy p own (run_word (constructor d.context (Handle ty) components))
-  made_operates ty components =
-      made_words components ty (λ op. OperatesBy p own (run_word op)) (λ word operates. operates)
-      (λ operates. operates)
+  made_operates = made_word m types (OperatesBy p own) operates struct_operates
 
   splat_operates : (size : VectorSize) → OperatesBy p own (run_word (Splat size))
   splat_operates size = operates (run_word (Splat size)) (splat_free size)
@@ -404,16 +299,18 @@ module _ (m : Module) (info : ModuleInfo) (types : TypesAreFit m) (g : ℕ) (f :
   words h (expression.Override handle) = tt
   words h (expression.GlobalVariable handle) = tt
   words h (expression.ZeroValue ty) =
-      made_words 0 ty
+      value_words 0 ty
       (λ op. WordFits p own
       (Some
       (constant_shape
       (option_map (λ r. Constructed (run_word op) (d.value_type r) no_constant)
       (d.context.known h)))))
       (λ word operates. zero_words word operates (d.context.known h))
-      (λ operates. zero_words (run_word (unmade 0 ty)) operates (d.context.known h))
+      (λ operates.
+      zero_words (run_word (WithoutForm (ValueOf (d.context.numbers (Handle ty)) 0))) operates
+      (d.context.known h))
   words h (expression.Compose ty components) =
-      made_words (length components.items) ty
+      value_words (length components.items) ty
       (λ op. WordFits p own (Some (applied_shape op components.items)))
       (λ word operates. operates) (λ operates. operates)
   words h (expression.As operand kind convert) =
@@ -495,62 +392,35 @@ module _ (m : Module) (info : ModuleInfo) (types : TypesAreFit m) (g : ℕ) (f :
   requests w is = (is, free_word w (request_free w is))
 
   -- ---- names
+  -- fixed names, numbered names and those that front ends gave are apart
+  fixed_not_numbered : (x : FixedName) (h : ℕ) → IsFixedName p shape x →
+      fixed_name own.names x ≢ numbered_name h
+  fixed_not_numbered x h is e =
+      let has = has_item x is in
+      item_not_numbered m (fixed_key m g x, has.0) h has.1 (sym (fixed_named m g x) ∙ e)
+
+  fixed_not_named : (x : FixedName) (k : ℕ) → IsFixedName p shape x →
+      k < length (expression_labels f) → fixed_name own.names x ≢ expression_name m g k
+  fixed_not_named x k is lt e =
+      let has = has_item x is in
+      named_no_item m g f found k lt (fixed_key m g x, has.0) has.1 (sym (fixed_named m g x) ∙ e)
+
   distinct : AreDistinct p own
-  distinct a b is_a is_b e = apart a b is_a is_b e
-    where
-      argument_in : (i : ℕ) → i < argument_count shape → i < length f.arguments.items
-      argument_in i lt = subst (λ n. i < n) (mapped_length (λ a. declared_type m a.ty) f.arguments.items) lt
-
-      local_in : (i : ℕ) → i < local_count shape → i < length f.local_variables
-      local_in i lt = subst (λ n. i < n) (mapped_length (λ l. l.init) f.local_variables) lt
-
-      own_type : FunctionType
-      own_type = function_type m g
-
-      mixed_keys : (i j : ℕ) → i < length f.arguments.items → j < length f.local_variables → argument_name m (module_names m) g i ≡ local_name m (module_names m) g j → ⊥
-      mixed_keys i j li lj e =
-          let a = element f.arguments.items i li in
-          let b = element f.local_variables j lj in
-          let same = items_tell m (argument_item m g i a.0) (local_item m g j b.0) (argument_there m g f i a.0 found a.1) (local_there m g f j b.0 found b.1) e in
-          no_argument_is_local own_type own_type i j (ap (λ item. item.0) same)
-
-      apart : (a b : NameKey) → IsName p shape a → IsName p shape b → name_at own.names a ≡ name_at own.names b → a ≡ b
-      apart (FixedKey (ArgumentName i)) (FixedKey (ArgumentName j)) la lb e =
-          let a = element f.arguments.items i (argument_in i la) in
-          let b = element f.arguments.items j (argument_in j lb) in
-          let same = items_tell m (argument_item m g i a.0) (argument_item m g j b.0) (argument_there m g f i a.0 found a.1) (argument_there m g f j b.0 found b.1) e in
-          ap (λ k. FixedKey (ArgumentName k)) (argument_keys_tell own_type i j (ap (λ item. item.0) same))
-      apart (FixedKey (LocalName i)) (FixedKey (LocalName j)) la lb e =
-          let a = element f.local_variables i (local_in i la) in
-          let b = element f.local_variables j (local_in j lb) in
-          let same = items_tell m (local_item m g i a.0) (local_item m g j b.0) (local_there m g f i a.0 found a.1) (local_there m g f j b.0 found b.1) e in
-          ap (λ k. FixedKey (LocalName k)) (local_keys_tell own_type i j (ap (λ item. item.0) same))
-      apart (FixedKey (ArgumentName i)) (FixedKey (LocalName j)) la lb e = absurd (mixed_keys i j (argument_in i la) (local_in j lb) e)
-      apart (FixedKey (LocalName i)) (FixedKey (ArgumentName j)) la lb e = absurd (mixed_keys j i (argument_in j lb) (local_in i la) (sym e))
-      apart (FixedKey (ArgumentName i)) (NumberedKey h) la lb e =
-          let a = element f.arguments.items i (argument_in i la) in absurd (item_not_numbered m (argument_item m g i a.0) h (argument_there m g f i a.0 found a.1) e)
-      apart (NumberedKey h) (FixedKey (ArgumentName i)) la lb e =
-          let a = element f.arguments.items i (argument_in i lb) in absurd (item_not_numbered m (argument_item m g i a.0) h (argument_there m g f i a.0 found a.1) (sym e))
-      apart (FixedKey (LocalName i)) (NumberedKey h) la lb e =
-          let a = element f.local_variables i (local_in i la) in absurd (item_not_numbered m (local_item m g i a.0) h (local_there m g f i a.0 found a.1) e)
-      apart (NumberedKey h) (FixedKey (LocalName i)) la lb e =
-          let a = element f.local_variables i (local_in i lb) in absurd (item_not_numbered m (local_item m g i a.0) h (local_there m g f i a.0 found a.1) (sym e))
-      apart (NumberedKey h) (NumberedKey k) la lb e = ap NumberedKey (numbered_distinct h k e)
-      apart (NamedKey j) (NamedKey k) la lb e = ap NamedKey (named_tell m g f found j k (named_in j la) (named_in k lb) e)
-      apart (FixedKey (ArgumentName i)) (NamedKey k) la lb e =
-          let a = element f.arguments.items i (argument_in i la) in absurd (named_no_item m g f found k (named_in k lb) (argument_item m g i a.0) (argument_there m g f i a.0 found a.1) e)
-      apart (NamedKey k) (FixedKey (ArgumentName i)) la lb e =
-          let a = element f.arguments.items i (argument_in i lb) in absurd (named_no_item m g f found k (named_in k la) (argument_item m g i a.0) (argument_there m g f i a.0 found a.1) (sym e))
-      apart (FixedKey (LocalName i)) (NamedKey k) la lb e =
-          let a = element f.local_variables i (local_in i la) in absurd (named_no_item m g f found k (named_in k lb) (local_item m g i a.0) (local_there m g f i a.0 found a.1) e)
-      apart (NamedKey k) (FixedKey (LocalName i)) la lb e =
-          let a = element f.local_variables i (local_in i lb) in absurd (named_no_item m g f found k (named_in k la) (local_item m g i a.0) (local_there m g f i a.0 found a.1) (sym e))
-      apart (NamedKey k) (NumberedKey h) la lb e = absurd (named_not_numbered m g f found k h (named_in k la) e)
-      apart (NumberedKey h) (NamedKey k) la lb e = absurd (named_not_numbered m g f found k h (named_in k lb) (sym e))
-      apart (FixedKey (ConstantName i)) y la lb e = absurd (none_listed i p.constant_types constants la)
-      apart (FixedKey (GlobalName i)) y la lb e = absurd (none_listed i p.globals globals la)
-      apart x (FixedKey (ConstantName i)) la lb e = absurd (none_listed i p.constant_types constants lb)
-      apart x (FixedKey (GlobalName i)) la lb e = absurd (none_listed i p.globals globals lb)
+  distinct (FixedKey x) (FixedKey y) la lb e =
+      ap FixedKey (fixed_tell m p counts info g f found es x y la lb e)
+  distinct (NumberedKey h) (NumberedKey k) la lb e = ap NumberedKey (numbered_distinct h k e)
+  distinct (NamedKey j) (NamedKey k) la lb e =
+      ap NamedKey (named_tell m g f found j k (named_in j la) (named_in k lb) e)
+  distinct (FixedKey x) (NumberedKey h) la lb e = absurd (fixed_not_numbered x h la e)
+  distinct (NumberedKey h) (FixedKey x) la lb e = absurd (fixed_not_numbered x h lb (sym e))
+  distinct (FixedKey x) (NamedKey k) la lb e =
+      absurd (fixed_not_named x k la (named_in k lb) e)
+  distinct (NamedKey k) (FixedKey x) la lb e =
+      absurd (fixed_not_named x k lb (named_in k la) (sym e))
+  distinct (NamedKey k) (NumberedKey h) la lb e =
+      absurd (named_not_numbered m g f found k h (named_in k la) e)
+  distinct (NumberedKey h) (NamedKey k) la lb e =
+      absurd (named_not_numbered m g f found k h (named_in k lb) (sym e))
 
   -- so nothing is left where its handles are in scope
   pub is_free : (behind : List shapes.Function) → length behind ≡ g → IsTrue (fits_function own) →

@@ -1,0 +1,74 @@
+-- The words of the trees of a module's own expressions: each is an operator's, and none is a name of an
+-- item that runs know.
+use Rattle.std.proofs.Common.{◌≡◌, ℕ, true, false, List, Some}
+use Rattle.std.specs.Prelude.{not, slice_get}
+use Rattle.std.proofs.lemmas.Bool.{and_parts}
+use Rattle.naga_info.specs.declared.info.ModuleInfo.{ModuleInfo}
+use Rattle.naga_ir.specs.declared.module.Constant as ir_constant
+use Rattle.naga_ir.specs.declared.module.Module.{Module}
+use Rattle.naga_ir.specs.declared.types.Type_.{Type_}
+use Rattle.naga_ir.specs.declared.types.VectorSize.{VectorSize}
+use Rattle.naga_names.specs.declared.key.NameKey.TheVariants as key
+use Rattle.module_meaning.specs.ExpressionContexts.{global_tree}
+use Rattle.module_meaning.specs.ModuleShapes.{initialiser}
+use Rattle.module_meaning.specs.Names.{module_names, name_in}
+use Rattle.module_meaning.specs.Namings.{outer_names}
+use Rattle.module_meaning.specs.OperatorTable.{run_word, Splat}
+use Rattle.shader_runs.specs.Premises.{EachWord, OperatesOutside}
+use Rattle.shader_runs.specs.Program as shapes
+use Rattle.shader_runs.specs.Program.{ConstantTree}
+use Rattle.shader_runs.specs.Scope.{ModuleNames}
+use Rattle.wgsl_text.specs.Requests.{is_request}
+use Rattle.naga_form.proofs.AlikeNumbers.{is_no}
+use Rattle.naga_form.proofs.ItemKeys.{CountsItems, IsNoItem, no_constant_is, no_function_is}
+use Rattle.naga_form.proofs.ItemKeys.{no_global_is, type_has, type_is_no_item, word_is_no_item}
+use Rattle.naga_form.proofs.Names.{item_is_identifier}
+use Rattle.naga_form.proofs.OperatingWords.{names_no_item, operates_freely, splat_free}
+use Rattle.naga_form.proofs.SameValues.{TypesAreFit}
+use Rattle.naga_form.proofs.SpelledWords.{made_word}
+use Rattle.naga_form.proofs.TreeWords.{global_words as tree_words, initialiser_words}
+use Rattle.naga_form.proofs.TypedWords.{no_request}
+
+module _ (m : Module) (info : ModuleInfo) (types : TypesAreFit m) (p : shapes.Module)
+    (counts : CountsItems m p) where
+  abbrev names : ModuleNames
+  names = outer_names (module_names m) m
+
+  abbrev Operates : List ℕ → Type 0
+  Operates w = OperatesOutside p names w
+
+  operates : (w : List ℕ) → is_request w ≡ false → IsNoItem m w → Operates w
+  operates w asks_nothing none = record {
+    asks_nothing = asks_nothing;
+    functions = no_function_is m p counts w none;
+    constants = no_constant_is m p counts w none;
+    globals = no_global_is m p counts w none;
+  }
+
+  free_operates : (w : List ℕ) → operates_freely w ≡ true → Operates w
+  free_operates w free =
+      let both = and_parts (not (is_request w)) (names_no_item w) free in
+      operates w (is_no (is_request w) both.0) (word_is_no_item m w both.1)
+
+  struct_operates : (h : ℕ) (t : Type_) → slice_get m.types h ≡ Some t →
+      Operates (name_in (module_names m) (key.Type_ h))
+  struct_operates h t at =
+      let has = type_has m h t at in
+      operates (name_in (module_names m) (key.Type_ h))
+      (no_request (name_in (module_names m) (key.Type_ h))
+      (item_is_identifier m (key.Type_ h, has.0) has.1))
+      (type_is_no_item m h t at)
+
+  splat_operates : (size : VectorSize) → Operates (run_word (Splat size))
+  splat_operates size = free_operates (run_word (Splat size)) (splat_free size)
+
+  -- in each tree, and in each initialiser
+  pub global_words : (h : ℕ) (e : ConstantTree) → global_tree m info h ≡ Some e → EachWord Operates e
+  global_words =
+      tree_words m info Operates (made_word m types Operates free_operates struct_operates)
+      splat_operates
+
+  pub initialiser_words_outside : (c : ir_constant.Constant) → EachWord Operates (initialiser m info c)
+  initialiser_words_outside =
+      initialiser_words m info Operates (made_word m types Operates free_operates struct_operates)
+      splat_operates
