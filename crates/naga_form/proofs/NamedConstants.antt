@@ -226,7 +226,10 @@ module _ (m : Module) (info : ModuleInfo) where
       let all = types_count in
       let left = length-drop (constant_count (module_shape m info)) (types_of_constants ++ types_of_overrides) in
       omega (arith, own, named, all, left)
-use Rattle.std.proofs.lemmas.Bool.{ltb-true, ltb-false}
+
+  -- of named constants and overrides
+  pub constants_length : length (module_shape m info).constant_types ≡ named_count m.constants + length m.overrides
+  constants_length = types_count ∙ ap (λ k. k + length m.overrides) constants_count
 
   -- the type of a named constant, by its place
   pub place_typed : (i : ℕ) (c : Constant) → slice_get (named_constants m) i ≡ Some c →
