@@ -74,8 +74,9 @@ use Rattle.module_meaning.specs.ModuleShapes.{module_shape}
 use Rattle.module_meaning.specs.Names.{constant_name, expression_name, function_name, global_name}
 use Rattle.module_meaning.specs.Names.{module_names, name_in, override_name}
 use Rattle.module_meaning.specs.Namings.{function_naming, namings, outer_names}
-use Rattle.module_meaning.specs.Numbers.{fits_32_bits}
+use Rattle.module_meaning.specs.Numbers.{fits_32_bits, workgroup_fits_32_bits}
 use Rattle.module_meaning.specs.Premises.{ScopesHold}
+use Rattle.module_meaning.specs.Ranges.{is_below}
 use Rattle.module_meaning.specs.Types.{spelled_type, type_names}
 use Rattle.module_meaning.specs.Undeclared.{is_declared}
 use Rattle.module_meaning.specs.Written.{AllWrittenHaveForms}
@@ -93,7 +94,7 @@ use Rattle.naga_form.specs.Functions.{function_form, functions_form, locals_form
 use Rattle.naga_form.specs.Functions.{result_form}
 use Rattle.naga_form.specs.TypeTrees.{type_tree}
 use Rattle.naga_form.specs.Types.{type_form}
-use Rattle.naga_form.proofs.AcceptedFunctions.{entry_point_parts, entry_points_counted}
+use Rattle.naga_form.proofs.AcceptedFunctions.{entry_point_is_in_range, entry_points_counted}
 use Rattle.naga_form.proofs.AcceptedFunctions.{functions_counted}
 use Rattle.naga_form.proofs.AcceptedGroups.{declarations_are}
 use Rattle.naga_form.proofs.Attributes.{coherent_is_read, gives_no_room, id_is_read, passing_read}
@@ -376,12 +377,21 @@ module _ (m : Module) where
     module _ (accepted : IsTrue (is_accepted m info)) where
       stage_declared : (j : ℕ) (p : EntryPoint) → slice_get m.entry_points.items j ≡ Some p →
           stage_read (stage_attributes names p p.stage) ≡ stage_of names p p.stage
-      stage_declared j p at =
-          by p.workgroup_size refl
-          (eqb-true (length p.workgroup_size) 3
-          (and_parts (length p.workgroup_size == 3) (list_all fits_32_bits p.workgroup_size)
-          (entry_point_parts m info accepted j p at).0).0)
+      stage_declared j p at = by p.workgroup_size refl three
         where
+          three : length p.workgroup_size ≡ 3
+          three =
+              let own = entry_point_is_in_range m info accepted j p at in
+              let count = length m.global_variables in
+              let one =
+              and_parts (is_below count (option_map (λ k. k.output_variable) p.mesh_info)) _ own in
+              let two = and_parts (is_below count p.task_payload) _ one.1 in
+              let behind = and_parts (is_below count p.incoming_ray_payload) _ two.1 in
+              let sizes = and_parts (workgroup_fits_32_bits p.workgroup_size) _ behind.1 in
+              eqb-true (length p.workgroup_size) 3
+              (and_parts (length p.workgroup_size == 3) (list_all fits_32_bits p.workgroup_size)
+              sizes.0).0
+
           has : stage_has_form p p.stage ≡ true
           has = (declarations.heads (length m.functions + j)).stage p (entry_point_at m j ∙ at)
 
