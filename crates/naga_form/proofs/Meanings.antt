@@ -25,7 +25,8 @@ use Rattle.naga_form.proofs.ModuleFits.{module_fits}
 use Rattle.naga_form.proofs.Runs.{reads_as_shapes}
 use Rattle.naga_form.proofs.ScopeRules.{scopes_are_checked}
 use Rattle.naga_form.proofs.WellFormed.{all_well_formed}
-use Rattle.naga_form.proofs.WritableModules.{are_written_out, only_empty}
+use Rattle.naga_form.proofs.WritableModules.{only_empty}
+use Rattle.naga_form.proofs.WrittenOut.{are_written_out}
 
 module _ (m : Module) (info : ModuleInfo) (explicit : Bool) (accepted : IsTrue (is_accepted m info))
     (declarations : DeclarationsHaveForms m) (have : AllWrittenHaveForms explicit m info)

@@ -1,33 +1,23 @@
--- A module of which all that is declared and written has forms holds nothing that no text is ever
--- written for: the constants with a name are written out, and only empty cases fall through.
-use Rattle.std.proofs.Common.{◌≡◌, ℕ, zero, suc, ◌+◌, Bool, true, false, not, ◌&&◌, ◌||◌, List, []}
-use Rattle.std.proofs.Common.{◌∷◌, Option, Some, None, refl, slice_get, subst, length}
+-- Of a module of which all that is written has forms, only empty cases fall through.
+use Rattle.std.proofs.Common.{◌≡◌, ℕ, ◌+◌, Bool, true, not, ◌&&◌, ◌||◌}
+use Rattle.std.proofs.Common.{List, Some, refl, slice_get, subst, length}
 use Rattle.std.specs.Prelude.{IsTrue}
-use Rattle.std.specs.List.{list_all}
-use Rattle.std.specs.Option.{is_none, is_some, option_map_or}
 use Rattle.std.proofs.lemmas.Bool.{and_from, and_parts}
 use Rattle.naga_ir.specs.StatementTree.{StatementTree, simple, block, branch, switch, loop}
 use Rattle.naga_ir.specs.StatementTree.{BlockTree, no_statements, statement, has_no_statements}
 use Rattle.naga_ir.specs.StatementTree.{CaseTrees, no_cases, case}
-use Rattle.naga_ir.specs.declared.expression.Expression.{Expression}
-use Rattle.naga_ir.specs.declared.expression.Expression.TheVariants as expression
 use Rattle.naga_ir.specs.declared.module.Function.{Function}
 use Rattle.naga_ir.specs.declared.module.Module.{Module}
 use Rattle.naga_info.specs.declared.info.ExpressionInfo.{ExpressionInfo}
 use Rattle.naga_info.specs.declared.info.ModuleInfo.{ModuleInfo}
-use Rattle.naga_info.specs.declared.info.TypeResolution.TheVariants.{Handle}
 use Rattle.module_meaning.specs.Accepted.{is_accepted}
-use Rattle.module_meaning.specs.DeclarationForms.{DeclarationsHaveForms, IsInitialiser}
 use Rattle.module_meaning.specs.FunctionNumbers.{all_functions}
 use Rattle.module_meaning.specs.StatementForms.{statement_has_form, block_has_forms}
 use Rattle.module_meaning.specs.StatementForms.{cases_have_forms}
-use Rattle.module_meaning.specs.Undeclared.{is_spellable}
-use Rattle.module_meaning.specs.Writable.{AreWrittenOut, OnlyEmptyFall, is_written_out}
+use Rattle.module_meaning.specs.Writable.{OnlyEmptyFall}
 use Rattle.module_meaning.specs.Writable.{only_empty_fall, only_empty_fall_in}
 use Rattle.module_meaning.specs.Writable.{only_empty_cases_fall}
-use Rattle.module_meaning.specs.Writable.{written_out_over, written_out_within}
 use Rattle.module_meaning.specs.Written.{AllWrittenHaveForms}
-use Rattle.module_meaning.specs.WrittenSoFar.{global_is_written_over, global_is_written_within}
 use Rattle.module_meaning.proofs.FunctionNumbers.{entry_point_among, function_among}
 use Rattle.module_meaning.proofs.Lists.{all_pass, list_all_at}
 use Rattle.naga_form.proofs.AcceptedFunctions.{AsEntryPoint, AsFunction, Numbered}
@@ -80,56 +70,6 @@ only_at m info accepted only k f es at = by (numbered m info accepted k f es at)
         subst (λ f. only_empty_fall f.body ≡ true) same
         (list_all_at (λ p. only_empty_fall p.function.body) m.entry_points.items j p
         only.entry_points here)
-
--- ---- constants
--- what is written of the module's own expressions is written out
-over_out : (m : Module) (own out : ℕ → Bool) → ((h : ℕ) → own h ≡ true → out h ≡ true) →
-    (e : Expression) → global_is_written_over m own e ≡ true → written_out_over out e ≡ true
-over_out m own out each (expression.Literal value) is = refl
-over_out m own out each (expression.Constant handle) is = refl
-over_out m own out each (expression.Override handle) is = refl
-over_out m own out each (expression.ZeroValue ty) is = refl
-over_out m own out each (expression.Compose ty components) is =
-    all components.items
-    (and_parts (is_spellable m (Handle ty)) (list_all own components.items) is).1
-  where
-    all : (hs : List ℕ) → list_all own hs ≡ true → list_all out hs ≡ true
-    all [] is = refl
-    all (h ∷ hs) is =
-        let both = and_parts (own h) (list_all own hs) is in
-        and_from (out h) (list_all out hs) (each h both.0) (all hs both.1)
-over_out m own out each (expression.Splat size value) is = each value is
-over_out m own out each _ is = absurd cc
-
-out_within : (m : Module) (levels h : ℕ) → global_is_written_within levels m h ≡ true →
-    written_out_within levels m.global_expressions h ≡ true
-out_within m zero h is = absurd cc
-out_within m (suc levels) h is = by (slice_get m.global_expressions h) is (out_within m levels)
-  where
-    own : ℕ → Bool
-    own = global_is_written_within levels m
-
-    out : ℕ → Bool
-    out = written_out_within levels m.global_expressions
-
-    by : (o : Option Expression) → option_map_or (global_is_written_over m own) o false ≡ true →
-        ((k : ℕ) → own k ≡ true → out k ≡ true) →
-        option_map_or (written_out_over out) o false ≡ true
-    by None is each = absurd cc
-    by (Some e) is each = over_out m own out each e is
-
--- so is the initialiser of each constant with a name
-pub are_written_out : (m : Module) → DeclarationsHaveForms m → AreWrittenOut m
-are_written_out m declarations =
-    all_pass (λ c. is_none c.name || is_written_out m.global_expressions c.init) m.constants
-    (λ i c at. by c.name (λ named.
-    out_within m (suc c.init) c.init
-    (declarations.initialisers c.init (IsInitialiser.OfConstant i c at named))))
-  where
-    by : {X : Type 0} {out : Bool} (name : Option X) → (is_some name ≡ true → out ≡ true) →
-        (is_none name || out) ≡ true
-    by None is = refl
-    by (Some name) is = is refl
 
 -- ---- modules
 module _ (m : Module) (info : ModuleInfo) (accepted : IsTrue (is_accepted m info)) (explicit : Bool)
