@@ -12,7 +12,6 @@ pub mod FunctionNumbers
 pub mod InterfaceExamples
 pub mod Lists
 pub mod ModuleShapeExamples
-pub mod ModuleShapes
 pub mod NumberExamples
 pub mod Operations
 pub mod WrittenSoFar

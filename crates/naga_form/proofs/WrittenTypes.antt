@@ -304,3 +304,42 @@ free_tree : (t : TypeSpecifier) → IsType t → is_plain t ≡ true →
 free_tree (Named w) is plain =
     passes (λ v. operates_freely (type_layout (Named v))) plain_type_words w plain_types_free plain
 free_tree (Template w parts) is plain = template_free w parts is.part.0
+
+-- ---- types of a module
+module _ (m : Module) (types : TypesAreFit m) where
+  -- a type of the module that has a form is one of the grammar
+  pub is_type_at : (ty : ℕ) → is_spelled m.types (Handle ty) ≡ true →
+      IsType (type_form (type_names m) ty)
+  is_type_at ty is =
+      let t = tree_there (type_names m) (Handle ty) is in
+      subst (λ o. IsType (unwrap_or o (Named []))) (sym t.1) (tree_is m types (Handle ty) tt t.0 t.1)
+
+  -- what a `let` tells is a type of the grammar
+  pub distinguished_is : (explicit : Bool) (es : List ExpressionInfo) →
+      ((h : ℕ) (k : ExpressionInfo) → slice_get es h ≡ Some k → IsFit m k.ty) →
+      (h : ℕ) (tree : TypeSpecifier) →
+      annotated_type explicit m (type_names m) es h ≡ Some tree → IsType tree
+  distinguished_is true es fits h tree is =
+      let k =
+      then_some
+      (λ k. if names_undeclared m k.ty then None else resolution_tree (type_names m) k.ty)
+      (slice_get es h) tree is in
+      by (names_undeclared m k.0.ty) k.0 (fits h k.0 k.1) k.2
+    where
+      by : (undeclared : Bool) (k : ExpressionInfo) → IsFit m k.ty →
+          (if undeclared then None else resolution_tree (type_names m) k.ty) ≡ Some tree →
+          IsType tree
+      by true k fit e = absurd cc
+      by false k fit e = tree_is m types k.ty fit tree e
+  distinguished_is false es fits h tree is = absurd cc
+
+  -- the tree of a type is spelled as no name is, or it names a struct
+  pub free_form : (r : TypeResolution) → IsFit m r →
+      (t : TypeSpecifier) → resolution_tree (type_names m) r ≡ Some t →
+      (operates_freely (type_layout t) ≡ true) ⊎ IsStructNamed (type_names m) t
+  free_form r fit t is = by (resolution_plain (type_names m) r t is)
+    where
+      by : (is_plain t ≡ true) ⊎ IsStructNamed (type_names m) t →
+          (operates_freely (type_layout t) ≡ true) ⊎ IsStructNamed (type_names m) t
+      by (inl plain) = inl (free_tree t (tree_is m types r fit t is) plain)
+      by (inr named) = inr named

@@ -8,7 +8,7 @@ use Rattle.std.specs.declared.string.String.{String}
 use Rattle.std.specs.Prelude.{if◌then◌else◌, unwrap_or, IsTrue}
 use Rattle.std.specs.List.{list_all}
 use Rattle.std.specs.Option.{option_map_or}
-use Rattle.std.proofs.lemmas.Bool.{and_parts}
+use Rattle.std.proofs.lemmas.Bool.{lt-ltb}
 use Rattle.std.proofs.lemmas.List.{append-nil, drop_all}
 use Rattle.std.proofs.lemmas.Option.{slice_get_within, get_or_from_slice_get}
 use Rattle.naga_ir.specs.declared.module.Function.{Function}
@@ -325,7 +325,7 @@ item_row f = refl
 pub no_entry_point : (m : Module) (h : ℕ) → h < length m.functions → entry_point_numbered m h ≡ None
 no_entry_point m h lt =
     ap (λ b. if b then None else slice_get m.entry_points.items (h - length m.functions))
-    (true-ltb h (length m.functions) lt)
+    (lt-ltb h (length m.functions) lt)
 
 pub no_stage_row : (f : FunctionText) → CanWrite f → (h : ℕ) → f.ty ≡ item.Function h →
     stage_before f.shader.now (number f) ≡ []

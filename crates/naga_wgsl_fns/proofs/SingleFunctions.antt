@@ -1,47 +1,58 @@
 -- A function that is written by itself.
-use Rattle.std.proofs.Common.{◌≡◌, ◌<◌, ◌^◌, ◌∙◌, ◌++◌, ℕ, Bool, List, [], Some, append-nil, append_assoc}
-use Rattle.std.proofs.Common.{ap, arith}
-use Rattle.std.proofs.Common.{inl, inr, length, refl, slice_get, subst, sym, take, unwrap_or}
-use Rattle.std.specs.Prelude.{Err, IfErr, IsErrAnd, IsFalse, IsTrue, Ok, OnErr, OnOk, Result, vec_len}
-use Rattle.std.specs.Option.{is_none, option_map_or}
-use Rattle.std.proofs.lemmas.Bool.{and_parts, eqb-true, leb-true}
-use Rattle.std.specs.Prelude.{◌==◌}
-use Rattle.std.specs.List.{list_all}
+use Rattle.std.proofs.Common.{◌≡◌, ◌<◌, ◌^◌, ◌∙◌, ◌++◌, ℕ, Bool, List, [], None, Some, append-nil}
+use Rattle.std.proofs.Common.{ap, append_assoc, arith, inl, inr, length, refl, slice_get, subst, sym}
+use Rattle.std.proofs.Common.{codes, take, unwrap_or, ◌∷◌}
+use Rattle.std.specs.Prelude.{Err, IfErr, IsErrAnd, IsTrue, Ok, OnErr, OnOk, Result, vec_len}
+use Rattle.std.specs.Option.{option_map_or}
+use Rattle.std.proofs.lemmas.Bool.{leb-true}
 use Rattle.naga_ir.specs.declared.module.Function as ir_function
+use Rattle.naga_ir.specs.declared.module.EntryPoint as ir_entry_point
 use Rattle.naga_ir.specs.declared.module.Module.{Module}
 use Rattle.naga_info.specs.declared.info.ExpressionInfo.{ExpressionInfo}
 use Rattle.naga_info.specs.declared.info.ModuleInfo.{ModuleInfo}
 use Rattle.naga_names.specs.Naming.{HasNamed, Names, name_after}
 use Rattle.naga_names.proofs.Refusal.{element}
+use Rattle.module_meaning.proofs.FunctionNumbers.{number_within}
 use Rattle.module_meaning.specs.Accepted.{is_accepted}
 use Rattle.module_meaning.specs.ExpressionLabels.{expression_labels, name_of_label}
 use Rattle.module_meaning.specs.Names.{item_labels, labels_named_in, module_names, wgsl_names}
 use Rattle.module_meaning.specs.DeclarationForms.{HeadHasForm, entry_point_numbered}
-use Rattle.module_meaning.specs.FunctionNumbers.{all_functions, all_infos, function_number}
+use Rattle.module_meaning.specs.FunctionNumbers.{IsFunctionOf, all_functions, all_infos}
+use Rattle.module_meaning.specs.FunctionNumbers.{function_number}
 use Rattle.naga_form.proofs.AcceptedFunctions.{all_counted}
+use Rattle.naga_form.proofs.DeclaredPrograms.{entry_point_there, stage_written}
 use Rattle.naga_form.proofs.Names.{is_identifier}
 use Rattle.naga_form.proofs.Programs.{one_is}
+use Rattle.naga_form.specs.Attributes.{stage_attributes}
 use Rattle.naga_form.specs.Functions.{function_form}
 use Rattle.naga_back.specs.declared.flags.WriterFlags.{WriterFlags}
+use Rattle.naga_back.specs.declared.context.FunctionType.{FunctionType}
+use Rattle.naga_back.specs.declared.context.FunctionType.TheVariants as item
 use Rattle.naga_scope.specs.ExpressionNames.{HasNamedSome, HasOtherUses, NamesLabels}
 use Rattle.naga_scope.specs.Plans.{IsPlanOf, Planned}
 use Rattle.naga_words.specs.Sink.{IsBehind}
-use Rattle.wgsl_text.specs.Functions.{Function, IsFunction}
-use Rattle.wgsl_text.specs.Reading.{HasOneReading, ReadsFunction}
+use Rattle.wgsl_text.specs.Attributes.{attributes_pieces}
+use Rattle.wgsl_text.specs.Functions.{EntryPoint, Function, IsFunction, function_pieces}
+use Rattle.wgsl_text.specs.Reading.{HasOneReading, ReadsEntryPoint, ReadsFunction}
+use Rattle.wgsl_text.specs.Reading.{entry_point_layout, function_layout}
+use Rattle.wgsl_text.specs.Text.{LineEnd, text}
 use Rattle.wgsl_text.specs.Words.{IsIdentifier}
-use Rattle.wgsl_text.proofs.Reading.{function_has_one_reading}
-use Rattle.naga_wgsl_fns.specs.Errors.{IsNotYetWritten, IsWant}
+use Rattle.wgsl_text.proofs.Reading.{entry_point_has_one_reading, function_has_one_reading}
+use Rattle.wgsl_text.proofs.Text.{text-append}
+use Rattle.naga_wgsl_fns.specs.Attributes.{attributes_text}
+use Rattle.naga_wgsl_fns.specs.DeclarationRefusals.{NamesHead}
+use Rattle.naga_wgsl_fns.specs.Errors.{IsWant}
 use Rattle.naga_wgsl_fns.specs.FunctionText.{annotates_types}
-use Rattle.naga_wgsl_fns.specs.Functions.{known_of, names_of, text_of, text_under}
-use Rattle.naga_wgsl_fns.specs.Items.{FunctionWriting, IsFunctionRefusal}
-use Rattle.naga_wgsl_fns.specs.Items.{HasNamedItemsOf, OfFunction, named_behind, text_behind}
-use Rattle.naga_back.specs.declared.context.FunctionType.{FunctionType}
-use Rattle.naga_back.specs.declared.context.FunctionType.TheVariants as item
+use Rattle.naga_wgsl_fns.specs.Functions.{known_of, names_of, stage_before, text_of, text_under}
+use Rattle.naga_wgsl_fns.specs.Items.{AppendsOne, FunctionWriting, IsFunctionRefusal}
+use Rattle.naga_wgsl_fns.specs.Items.{HasNamedItemsOf, named_behind, text_behind}
 use Rattle.naga_wgsl_fns.specs.Refusals.{IsPlanRefusal, TellsOfModule}
+use Rattle.naga_wgsl_fns.specs.Stages.{stage_text}
 use Rattle.naga_wgsl_fns.specs.declared.error.Error.{Error}
-use Rattle.naga_wgsl_fns.specs.declared.error.Error.TheVariants.{FmtError, Memory, Unimplemented}
+use Rattle.naga_wgsl_fns.specs.declared.error.Error.TheVariants.{FmtError, Memory}
 use Rattle.naga_wgsl_fns.proofs.ExpressionNames.{named_are, none_full}
-use Rattle.naga_wgsl_fns.proofs.PlanRefusals.{planned_holds}
+use Rattle.naga_wgsl_fns.proofs.FunctionRows.{no_entry_point}
+use Rattle.naga_wgsl_fns.proofs.PlanRefusals.{head_is_no_sink, planned_holds}
 
 -- what comes from the sink or from memory tells of no module
 pub want_tells_nothing : (before after : ℕ) (error : Error) → IsWant before after error →
@@ -76,6 +87,23 @@ items_named m handle old new items same r named =
         HasNamedItemsOf m new
     by (Ok _) has = with_more (labels_named_in m handle) has.0
     by (Err e) has = with_more has.1.named has.1.has
+
+-- an entry point's text is its function's behind that of its stage
+point_layout : (m : Module) (p : ir_entry_point.EntryPoint) (form : Function) →
+    entry_point_layout
+    (record { stage = stage_attributes (module_names m) p p.stage; function = form }) ≡
+    stage_text m p ++ function_layout form
+unfolding stage_text attributes_text
+point_layout m p form =
+    let attributes = attributes_pieces (stage_attributes (module_names m) p p.stage) in
+    text-append attributes (LineEnd ∷ function_pieces form)
+    ∙ sym (append_assoc (text attributes) (codes "\n") (function_layout form))
+
+-- each entry point there is has an index
+point_within : (m : Module) (j : ℕ) → j < vec_len m.entry_points → j < length m.entry_points.items
+point_within m j lt =
+    let counted : m.entry_points.len ≡ length m.entry_points.items = m.entry_points.ok.0 in
+    omega (arith, lt, counted)
 
 -- ---- one function
 module _ (m : Module) (info : ModuleInfo) (flags : WriterFlags) (earlier : List (List ℕ))
@@ -209,10 +237,11 @@ module _ (m : Module) (info : ModuleInfo) (flags : WriterFlags) (earlier : List 
               (function_has_one_reading form is_function);
         }
         by (item.EntryPoint j) lt is =
-            let p = element m.entry_points.items j (entry_point_within m j lt) in
+            let p = element m.entry_points.items j (point_within m j lt) in
             let point : EntryPoint = record { stage = stage_attributes (module_names m) p.0 p.0.stage; function = form } in
-            let found = ap (entry_point_numbered m) (ap (function_number m) is) ∙ entry_point_there m j p.0 p.1 in
-            let stage = stage_there m info accepted j p.0 p.1 (head.stage p.0 found) in
+            let found = ap (entry_point_numbered m) (ap (function_number m) is)
+            ∙ (entry_point_there m info accepted j ∙ p.1) in
+            let stage = stage_written m info accepted j p.0 p.1 (head.stage p.0 found) in
             record {
               text = whole;
               appended = appended;
