@@ -16,6 +16,7 @@ pub mod ModuleShapeExamples
 pub mod ModuleShapes
 pub mod NumberExamples
 pub mod Operations
+mod WordExamples
 pub mod WrittenSoFar
 pub mod ShapeExamples
 pub mod ShapeKinds

@@ -1,7 +1,7 @@
--- What the identifiers and the words of a text stand for, and what a module means by them. A name is
--- looked up where it stands, and inner names hide outer ones. A word before operands is looked up
--- too, so that a name in scope would hide it; so are no words of parts, no `&&` and `||`, and no
--- literals, which stand for themselves. On both sides a word comes before what it is over.
+-- What the identifiers and words of a text stand for, and what a module means by them. A name is
+-- looked up where it stands, and inner names hide outer ones. So is a word before operands, which
+-- stands for itself where no name hides it. A part's word or number, `&&`, `||` and a literal stand
+-- for themselves everywhere. On both sides a word comes before what it is over.
 --
 -- Throughout, of a point of a function: k names were given by front ends before it, l `let`s of the
 -- body stand before it, s are the handles in scope there, and a handle that has a name is bound by
