@@ -14,6 +14,7 @@ pub mod Lists
 pub mod ModuleShapeExamples
 pub mod NumberExamples
 pub mod Operations
+mod WordExamples
 pub mod WrittenSoFar
 pub mod ShapeExamples
 pub mod ShapeKinds

@@ -1,6 +1,6 @@
--- Each name of a program stands for what it was written for. What the identifiers of functions stand
--- for is told of the abstract text, which forgets types and member words: these are told by the
--- types that they belong to.
+-- Each name of a program stands for what it was written for. What the identifiers and words of
+-- functions stand for is told of the abstract text. It forgets the types of declarations, and which
+-- struct has a member: these are told by themselves.
 use Rattle.std.specs.Prelude.{◌≡◌, ℕ, map, Some, IsTrue, slice_get, length}
 use Rattle.naga_ir.specs.declared.module.Module.{Module}
 use Rattle.naga_ir.specs.declared.types.StructMember.{StructMember}
@@ -25,8 +25,9 @@ use Rattle.text_meaning.specs.Abstraction.{program_read}
 use Rattle.text_meaning.specs.Resolution.{item_named, member_named, program_initialiser_targets}
 use Rattle.text_meaning.specs.Resolution.{stage_targets, type_items, types_are_not_hidden}
 
--- Each identifier of each function and of each named constant, in their order, stands for the
--- constant, variable, function, argument, local or `let` that the module means there.
+-- Each identifier and each word of each function and of each named constant, in their order, stands
+-- for what the module means there: a constant, variable, function, argument, local or `let`, or an
+-- operator, a constructor, a request, a part or a literal.
 abbrev pub BodiesResolve : Module → ModuleInfo → Program → Type 0
 BodiesResolve m info program =
     text_targets (program_read program)

@@ -1,4 +1,4 @@
--- Each identifier of what is written for a module stands for what it was written for.
+-- Each identifier and each word of what is written for a module stands for what it was written for.
 use Rattle.naga_form.proofs.AcceptedFunctions.{names_are_in_range}
 use Rattle.std.proofs.Common.{◌≡◌, ℕ, ◌<◌, Bool, true, List, [], ◌∷◌, sym, ap, subst, ◌∙◌, ◌+◌}
 use Rattle.std.proofs.Common.{Option, Some, None, false}

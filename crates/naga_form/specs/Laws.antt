@@ -79,7 +79,7 @@ IsAProgram =
 abbrev pub HasTheInterface : Type 0
 HasTheInterface = OfAcceptedInScope HasInterfaceOf
 
--- each of its identifiers stands for what it was written for
+-- each of its identifiers and words stands for what it was written for
 abbrev pub ResolvesAsMeant : Type 0
 ResolvesAsMeant = OfAcceptedInScope ResolvesAs
 

@@ -24,8 +24,8 @@ pub fn has_the_interface()
     ensures { HasTheInterface }
 {}
 
-/// Each of its identifiers stands for what it was written for, where the rules of scope hold in the
-/// module.
+/// Each of its identifiers and words stands for what it was written for, where the rules of scope
+/// hold in the module.
 pub fn resolves_as_meant()
     ensures { ResolvesAsMeant }
 {}

@@ -1,4 +1,4 @@
--- Each identifier of a text stands for what the module means by it.
+-- Each identifier and each word of a text stands for what the module means by it.
 use Rattle.std.proofs.Common.{◌≡◌, ◌≢◌, ℕ, zero, suc, ◌+◌, ◌<◌, ◌≤◌, Bool, true, false, cond, List}
 use Rattle.std.proofs.Common.{[], ◌∷◌, ◌++◌, map, length, Option, Some, None, refl, sym, ap, subst}
 use Rattle.std.proofs.Common.{◌∙◌, arith, append_assoc, length-drop}
@@ -33,7 +33,7 @@ use Rattle.shader_runs.specs.Premises.{InitialiserFits, OperatesOutside, ModuleN
 use Rattle.shader_runs.specs.Premises.{ConstantInRange, EachWord}
 use Rattle.shader_runs.specs.Correct.{ModuleFits}
 use Rattle.shader_runs.specs.Resolution.{Target, ConstantTarget, GlobalTarget, FunctionTarget}
-use Rattle.shader_runs.specs.Resolution.{ArgumentTarget, LocalTarget, LetTarget, Lookup}
+use Rattle.shader_runs.specs.Resolution.{ArgumentTarget, LocalTarget, LetTarget, WordTarget, Lookup}
 use Rattle.shader_runs.specs.Resolution.{word_target, tree_targets, trees_targets, tree_targets_if}
 use Rattle.shader_runs.specs.Resolution.{lets_behind_all, names_left, lines_targets, groups_targets}
 use Rattle.shader_runs.specs.Resolution.{with_items, with_functions, text_names, variables_targets}
@@ -50,7 +50,7 @@ use Rattle.shader_runs.proofs.Names.{length-form_functions, length-functions_of}
 use Rattle.shader_runs.proofs.Sources.{named_all_more, list_more, cases_more, start_sources}
 use Rattle.shader_runs.proofs.TreeTargets.{both, constant_resolves, IsNamed, place_resolves}
 use Rattle.shader_runs.proofs.TreeTargets.{value_resolves, value_if_resolves, values_resolve}
-use Rattle.shader_runs.proofs.TreeTargets.{let_resolves}
+use Rattle.shader_runs.proofs.TreeTargets.{let_resolves, word_resolves}
 use Rattle.shader_runs.proofs.LinesLeft.{groups_counted, lines_counted, list_names, names_after}
 use Rattle.shader_runs.proofs.LinesLeft.{names_after_all, names_after_result, names_by, lines_leave}
 use Rattle.shader_runs.proofs.Lookups.{InScope, IsDeclared, Knows, KnowsItems, constant_named}
@@ -127,18 +127,21 @@ module _ (p : Module) (f : Naming) (distinct : AreDistinct p f) where
 
     performs_resolve : (l : ℕ) (names : Lookup) →
         Knows p f distinct (local_count f.function) names → (ws : List Bytes) → EachAsks p f ws →
-        (tail : Lines) → lines_targets l names (perform_each ws tail) ≡ lines_targets l names tail
+        (tail : Lines) → lines_targets l names (perform_each ws tail) ≡
+        map Some (map WordTarget ws) ++ lines_targets l names tail
     performs_resolve l names knows [] asks tail = refl
     performs_resolve l names knows (w ∷ ws) asks tail =
-        (λ i. (word_target (knows.free w asks.0.1 i) ++ []) ++ lines_targets l names (perform_each ws tail))
-        ∙ performs_resolve l names knows ws asks.1 tail
+        word_resolves names w (knows.free w asks.0.1) (performs_resolve l names knows ws asks.1 tail)
 
     action_resolves : (names : Lookup) → Knows p f distinct (local_count f.function) names →
         (a : Action) (xs : List ℕ) (r : Option ℕ) → length callees ≤ length p.functions →
         f.names.earlier ≡ length callees → ActionFits p callees f a xs r →
-        word_target (names (word_of f.names a)) ≡ map Some (action_targets a)
-    action_resolves names knows (Asked word) xs r within earlier fits = ap word_target (knows.free word fits.1)
-    action_resolves names knows (Called g) xs r within earlier fits = ap word_target (knows.functions g (omega (arith, fits.0, within, earlier)) fits.1)
+        Some (word_target (word_of f.names a) (names (word_of f.names a))) ∷ []
+        ≡ map Some (action_targets a)
+    action_resolves names knows (Asked word) xs r within earlier fits = word_resolves names word (knows.free word fits.1) refl
+    action_resolves names knows (Called g) xs r within earlier fits =
+        ap (λ o. Some (word_target (f.names.outer.function g) o) ∷ [])
+        (knows.functions g (omega (arith, fits.0, within, earlier)) fits.1)
 
     module _ (within : length callees ≤ length p.functions) (earlier : f.names.earlier ≡ length callees) where
       mutual
@@ -209,7 +212,8 @@ module _ (p : Module) (f : Naming) (distinct : AreDistinct p f) where
             (action_resolves names scope.items a xs r within earlier regular.0)
             (values_resolve f names s numbers scope.lets (all_named names scope.items) xs))
           where
-            by : (r : Option ℕ) → word_target (names (word_of f.names a)) ++ trees_targets names
+            by : (r : Option ℕ) →
+                Some (word_target (word_of f.names a) (names (word_of f.names a))) ∷ trees_targets names
                 (value_forms (written_form f s) xs) ≡ map Some
                 (action_targets a ++ operands_targets (value_targets f.function s numbers) xs)
                 → lines_targets l names

@@ -1,8 +1,8 @@
--- The identifiers of an expression's form stand for what is meant by it.
+-- The identifiers and words of an expression's form stand for what is meant by it.
 use Rattle.std.proofs.Common.{◌≡◌, ℕ, zero, suc, ◌<◌, Bool, true, false, List, [], ◌∷◌, ◌++◌, map, length, Option}
 use Rattle.std.proofs.Common.{Some, None, refl, sym, ap, ◌∙◌, append_assoc}
 use Rattle.std.proofs.lemmas.List.{map-append}
-use Rattle.shader_runs.specs.Value.{Bytes, ValueType, PointerType, Selector}
+use Rattle.shader_runs.specs.Value.{Bytes, MemberNamed, ValueType, PointerType, Selector}
 use Rattle.shader_runs.specs.Program.{ConstantTree, Fixed, NamedConstant, Constructed}
 use Rattle.shader_runs.specs.Program.{ConstantTrees, no_constant, constant, Expression, Constant}
 use Rattle.shader_runs.specs.Program.{Argument, Local, Global, Load, Operator, Access, AccessIndex}
@@ -16,14 +16,15 @@ use Rattle.shader_runs.specs.Form.{constant_forms, global_form, own_form, availa
 use Rattle.shader_runs.specs.Form.{written_below, written_form, value_at, value_if}
 use Rattle.shader_runs.specs.Premises.{EachWord, EachWordOf, EachLeaf, EachLeafOf, IsLiteral}
 use Rattle.shader_runs.specs.Resolution.{Target, ConstantTarget, GlobalTarget, ArgumentTarget}
-use Rattle.shader_runs.specs.Resolution.{LocalTarget, LetTarget, Lookup, word_target, tree_targets}
+use Rattle.shader_runs.specs.Resolution.{LocalTarget, LetTarget, LogicTarget, PartTarget, WordTarget}
+use Rattle.shader_runs.specs.Resolution.{Lookup, word_target, tree_targets}
 use Rattle.shader_runs.specs.Resolution.{trees_targets, tree_targets_if, constant_targets}
 use Rattle.shader_runs.specs.Resolution.{constants_targets, operands_targets, own_targets}
 use Rattle.shader_runs.specs.Resolution.{LetNumbers, availability_targets, targets_below}
 use Rattle.shader_runs.specs.Resolution.{value_targets}
 use Rattle.shader_runs.specs.Resolution.{value_targets_if}
 
--- the identifiers of a plain form
+-- those of a plain form
 abbrev plain_targets : Lookup → Plain → List (Option Target)
 plain_targets names (AsValue e) = tree_targets names e
 plain_targets names (AsPlace e) = tree_targets names e
@@ -36,21 +37,31 @@ place_targets_of : (names : Lookup) (q : Plain) → tree_targets names (place_fo
 place_targets_of names (AsValue e) = refl
 place_targets_of names (AsPlace e) = refl
 
--- two parts, of each of which the identifiers stand for what is meant
+-- two parts, each of which stands for what is meant
 pub both : {us vs : List (Option Target)} (xs ys : List Target) → us ≡ map Some xs → vs ≡ map Some ys → us ++ vs ≡ map Some (xs ++ ys)
 both xs ys a b = (λ i. a i ++ b i) ∙ sym (map-append Some xs ys)
+
+-- what stands behind a word
+behind : {us vs : List (Option Target)} (t : Target) → us ≡ vs → Some t ∷ us ≡ Some t ∷ vs
+behind t e = ap (λ ts. Some t ∷ ts) e
 
 access_targets : (names : Lookup) (k : ValueType) (b i : Plain) → plain_targets names (access_form k b i) ≡ plain_targets names b ++ plain_targets names i
 access_targets names (PointerType spelling) b i = λ j. place_targets_of names b j ++ value_targets_of names i j
 access_targets names _ b i = λ j. value_targets_of names b j ++ value_targets_of names i j
 
-part_targets : (names : Lookup) (k : ValueType) (x : Selector) (b : Plain) → plain_targets names (part_form k x b) ≡ plain_targets names b
-part_targets names (PointerType spelling) x b = place_targets_of names b
-part_targets names _ x b = value_targets_of names b
+part_targets : (names : Lookup) (k : ValueType) (x : Selector) (b : Plain) → plain_targets names (part_form k x b) ≡ Some (PartTarget x) ∷ plain_targets names b
+part_targets names (PointerType spelling) x b = behind (PartTarget x) (place_targets_of names b)
+part_targets names _ x b = behind (PartTarget x) (value_targets_of names b)
 
 global_targets : (names : Lookup) (held : Bool) (e : Tree) → plain_targets names (global_form held e) ≡ tree_targets names e
 global_targets names true e = refl
 global_targets names false e = refl
+
+-- a word that is no name, and what stands behind it
+pub word_resolves : (names : Lookup) (word : Bytes) → names word ≡ None →
+    {us vs : List (Option Target)} → us ≡ vs →
+    Some (word_target word (names word)) ∷ us ≡ Some (WordTarget word) ∷ vs
+word_resolves names word free e = λ j. Some (word_target word (free j)) ∷ e j
 
 -- trees over constants, where named constants stand for themselves and words are no names
 module _ (n : ModuleNames) (names : Lookup) (count : ℕ) (found : (i : ℕ) → i < count →
@@ -61,7 +72,7 @@ module _ (n : ModuleNames) (names : Lookup) (count : ℕ) (found : (i : ℕ) →
     constant_resolves (Fixed v) range words = refl
     constant_resolves (NamedConstant i) range words = ap (λ o. o ∷ []) (found i range)
     constant_resolves (Constructed word ty es) range words =
-        (λ j. word_target (free word words.0 j) ++ trees_targets names (constant_forms n es)) ∙ constants_resolve es range words.1
+        word_resolves names word (free word words.0) (constants_resolve es range words.1)
 
     pub constants_resolve : (es : ConstantTrees) → EachLeafOf IsLiteral (λ i. i < count) es → EachWordOf IsWord es → trees_targets names (constant_forms n es) ≡ map Some (constants_targets es)
     constants_resolve no_constant range words = refl
@@ -90,7 +101,7 @@ module _ (f : Naming) (names : Lookup) where
   IsNamed _ = Unit {0}
 
   module _ (operand : ℕ → Plain) (like : ℕ → List Target) where
-    -- an operand's identifiers stand for what is meant
+    -- an operand stands for what is meant
     abbrev Same : ℕ → Type 0
     Same x = plain_targets names (operand x) ≡ map Some (like x)
 
@@ -116,17 +127,19 @@ module _ (f : Naming) (names : Lookup) where
         global_targets names held _ ∙ ap (λ o. o ∷ []) named
     own_resolves (Some (Load p)) named same = place_targets_of names (operand p) ∙ same.0
     own_resolves (Some (Operator word xs)) named same =
-        (λ j. word_target (named j) ++ trees_targets names (value_forms operand xs)) ∙ operands_resolve xs same
+        word_resolves names word named (operands_resolve xs same)
     own_resolves (Some (Access b i)) named same =
         access_targets names (handle_type f.function b) (operand b) (operand i) ∙ both (like b) (like i) same.0 same.1.0
     own_resolves (Some (AccessIndex x b)) named same =
-        part_targets names (handle_type f.function b) x (operand b) ∙ same.0
+        part_targets names (handle_type f.function b) x (operand b) ∙ behind (PartTarget x) same.0
     own_resolves (Some (Logical j a b)) named same =
-        both (like a) (like b) (value_targets_of names (operand a) ∙ same.0) (value_targets_of names (operand b) ∙ same.1.0)
-    own_resolves (Some (Swizzle letters v)) named same = value_targets_of names (operand v) ∙ same.0
+        behind (LogicTarget j)
+        (both (like a) (like b) (value_targets_of names (operand a) ∙ same.0) (value_targets_of names (operand b) ∙ same.1.0))
+    own_resolves (Some (Swizzle letters v)) named same =
+        behind (PartTarget (MemberNamed letters)) (value_targets_of names (operand v) ∙ same.0)
     own_resolves (Some (Request a word xs es)) named same =
-        (λ j. word_target (named.0 j) ++ trees_targets names (value_forms_then operand xs (constant_forms f.names.outer es)))
-        ∙ operands_then xs (constant_forms f.names.outer es) (constants_targets es) same named.1
+        word_resolves names word named.0
+        (operands_then xs (constant_forms f.names.outer es) (constants_targets es) same named.1)
     own_resolves (Some Result) named same = refl
     own_resolves None named same = refl
 

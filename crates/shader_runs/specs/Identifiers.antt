@@ -1,4 +1,4 @@
--- The laws of the identifiers in the text that is written for a module.
+-- The laws of the identifiers and words in the text that is written for a module.
 use Rattle.std.specs.Prelude.{◌≡◌, ℕ, ◌<◌, List, [], ◌∷◌, map, Option, Some}
 use Rattle.shader_runs.specs.Program.{Expression, Argument, Local, Function, argument_count}
 use Rattle.shader_runs.specs.Program.{local_count, expression_of, Module}
@@ -20,8 +20,8 @@ LeavesStand [] = Unit {0}
 LeavesStand (f ∷ fs) =
     ((h : ℕ) → LeafStands f.function (expression_of f.function h)) × LeavesStand fs
 
--- in the text of every module whose scope holds, each identifier stands for what the module means
--- by it
+-- in the text of every module whose scope holds, each identifier and each word stands for what the
+-- module means by it: no name in scope hides a word
 abbrev pub ResolvesAsMeant : Type 0
 ResolvesAsMeant =
     (p : Module) (n : ModuleNames) (fs : List Naming) → ModuleFits p n fs → LeavesStand fs →

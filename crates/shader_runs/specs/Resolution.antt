@@ -1,18 +1,23 @@
--- What the identifiers of a text stand for, and what a module means by them. A name is looked up
--- where it stands, and inner names hide outer ones. Throughout, of a point of a function: k names
--- were given by front ends before it, l `let`s of the body stand before it, s are the handles in
--- scope there, and a handle that has a name is bound by the `let` with its number.
+-- What the identifiers and words of a text stand for, and what a module means by them. A name is
+-- looked up where it stands, and inner names hide outer ones. So is a word before operands, which
+-- stands for itself where no name hides it. A part's word or number, `&&`, `||` and a literal stand
+-- for themselves everywhere. On both sides a word comes before what it is over.
+--
+-- Throughout, of a point of a function: k names were given by front ends before it, l `let`s of the
+-- body stand before it, s are the handles in scope there, and a handle that has a name is bound by
+-- the `let` with its number.
 use Rattle.std.specs.Prelude.{ℕ, zero, suc, true, false, cond, List, [], ◌∷◌, ◌++◌, map, length}
 use Rattle.std.specs.Prelude.{Option, Some, None}
-use Rattle.shader_runs.specs.Value.{Bytes}
+use Rattle.shader_runs.specs.Value.{Bytes, MemberNamed, Selector, ShortCircuit, Truth, Value}
 use Rattle.shader_runs.specs.World.{update, bind}
 use Rattle.shader_runs.specs.Program.{ConstantTree, Fixed, NamedConstant, Constructed}
 use Rattle.shader_runs.specs.Program.{ConstantTrees, no_constant, constant, Expression, Constant}
 use Rattle.shader_runs.specs.Program.{Argument, Local, Global, Load, Operator, Access, AccessIndex}
 use Rattle.shader_runs.specs.Program.{Logical, Swizzle, Request, Action, Asked, Called, Statement}
-use Rattle.shader_runs.specs.Program.{Emit, Store, Block, If, Switch, Loop, Return, Act, Statements}
-use Rattle.shader_runs.specs.Program.{end, then, Cases, no_case, case, Function, expression_of}
-use Rattle.shader_runs.specs.Program.{binds, from, holds_continue, Module}
+use Rattle.shader_runs.specs.Program.{Emit, Store, Block, If, Switch, Loop, Return, Barrier, Act}
+use Rattle.shader_runs.specs.Program.{Statements, end, then, Cases, no_case, case, Function}
+use Rattle.shader_runs.specs.Program.{expression_of, binds, from, holds_continue, Module}
+use Rattle.shader_runs.specs.ProgramRun.{barrier_words}
 use Rattle.shader_runs.specs.Scope.{Availability, Bound, Handles, Naming, at_start, named_after}
 use Rattle.shader_runs.specs.Scope.{named_by, named_by_all, after_one, after, after_all}
 use Rattle.shader_runs.specs.Text.{Tree, Name, LiteralOf, Apply, Deref, AddressOf, Index, PartOf}
@@ -22,16 +27,28 @@ use Rattle.shader_runs.specs.Text.{before, Groups, no_group, group, Variable, Te
 use Rattle.shader_runs.specs.Text.{TextModule}
 use Rattle.shader_runs.specs.TextRun.{has_continue}
 
--- what a name stands for: an item of the module, or an argument, a variable or a `let` of the
--- function where it stands; a named constant or override by its number among both, a function by
--- how many stand before it, and a `let` by its number among those of the body
+-- what a name or a word stands for: an item of the module, or an argument, a variable or a `let` of
+-- the function where it stands; or a word, a part, a short circuit or a literal, for itself
 pub data Target : Type 0 where
+  -- a named constant or override, by its number among both
   ConstantTarget : (number : ℕ) → Target
+  -- a variable of the module
   GlobalTarget : (number : ℕ) → Target
+  -- a function, by how many stand before it
   FunctionTarget : (number : ℕ) → Target
   ArgumentTarget : (number : ℕ) → Target
+  -- a variable of the function
   LocalTarget : (number : ℕ) → Target
+  -- a `let`, by its number among those of the body
   LetTarget : (number : ℕ) → Target
+  -- a word of the language before operands: an operator, a function or a type's constructor, what
+  -- asks for an event, or a barrier
+  WordTarget : (word : Bytes) → Target
+  -- a member, an element or several components, by its word or its number
+  PartTarget : Selector → Target
+  -- `&&` or `||`
+  LogicTarget : ShortCircuit → Target
+  LiteralTarget : Value → Target
 
 -- what each name in scope stands for
 abbrev pub Lookup : Type 0
@@ -42,22 +59,25 @@ abbrev pub no_targets : Lookup
 no_targets x = None
 
 -- ---- a text
--- a word before operands is a function's name, or a word of the language, which is no identifier
-abbrev pub word_target : Option Target → List (Option Target)
-word_target None = []
-word_target (Some t) = Some t ∷ []
+-- a word before operands is a function's name, or a word of the language where nothing in scope has
+-- this name
+abbrev pub word_target : (word : Bytes) → Option Target → Target
+word_target word None = WordTarget word
+word_target word (Some t) = t
 
 abbrev mutual
-  -- the identifiers of an expression in their order, each with what it stands for
+  -- the identifiers and words of an expression, each with what it stands for
   pub tree_targets : Lookup → Tree → List (Option Target)
   tree_targets names (Name x) = names x ∷ []
-  tree_targets names (LiteralOf v) = []
-  tree_targets names (Apply word es) = word_target (names word) ++ trees_targets names es
+  tree_targets names (LiteralOf v) = Some (LiteralTarget v) ∷ []
+  tree_targets names (Apply word es) =
+      Some (word_target word (names word)) ∷ trees_targets names es
   tree_targets names (Deref e) = tree_targets names e
   tree_targets names (AddressOf e) = tree_targets names e
   tree_targets names (Index e i) = tree_targets names e ++ tree_targets names i
-  tree_targets names (PartOf x e) = tree_targets names e
-  tree_targets names (LogicalOf j a b) = tree_targets names a ++ tree_targets names b
+  tree_targets names (PartOf x e) = Some (PartTarget x) ∷ tree_targets names e
+  tree_targets names (LogicalOf j a b) =
+      Some (LogicTarget j) ∷ (tree_targets names a ++ tree_targets names b)
 
   pub trees_targets : Lookup → Trees → List (Option Target)
   trees_targets names no_more = []
@@ -98,7 +118,7 @@ names_left l (before x ls) names =
     cond (has_continue x) names (names_left (lets_behind l x) ls (names_behind l x names))
 
 abbrev mutual
-  -- the identifiers of a line
+  -- those of a line
   pub line_targets : ℕ → Lookup → Line → List (Option Target)
   line_targets l names (Let x e) = tree_targets names e
   line_targets l names (Assign p e) = tree_targets names p ++ tree_targets names e
@@ -113,7 +133,8 @@ abbrev mutual
       lines_targets l names b
       ++ (lines_targets l1 inside d ++ tree_targets_if (names_left l1 d inside) e)
   line_targets l names (ReturnLine e) = tree_targets_if names e
-  line_targets l names (Perform word es) = word_target (names word) ++ trees_targets names es
+  line_targets l names (Perform word es) =
+      Some (word_target word (names word)) ∷ trees_targets names es
   line_targets l names _ = []
 
   pub lines_targets : ℕ → Lookup → Lines → List (Option Target)
@@ -142,8 +163,8 @@ text_names t =
     with_items ConstantTarget 0 (map (λ c. c.name) t.constants ++ t.overrides)
     (with_items GlobalTarget 0 (map (λ g. g.name) t.globals) (with_functions t.functions))
 
--- the identifiers of variables from the number i on, each of which is in scope behind its first
--- value, and of the lines behind them
+-- those of variables from the number i on, each of which is in scope behind its first value, and of
+-- the lines behind them
 abbrev pub variables_targets : ℕ → Lookup → List Variable → Lines → List (Option Target)
 variables_targets i names [] ls = lines_targets 0 names ls
 variables_targets i names (v ∷ vs) ls =
@@ -155,8 +176,8 @@ abbrev pub text_function_targets : Lookup → TextFunction → List (Option Targ
 text_function_targets items f =
     variables_targets 0 (with_items ArgumentTarget 0 f.parameters items) f.variables f.lines
 
--- The identifiers of a text, each with what it stands for: of each initialiser, and of each
--- function, the last one first.
+-- The identifiers and words of a text, each with what it stands for: of each initialiser, and of
+-- each function, the last one first.
 abbrev pub text_targets : TextModule → List (List (Option Target))
 text_targets t =
     map (λ c. tree_targets (text_names t) c.initialiser) t.constants
@@ -164,11 +185,11 @@ text_targets t =
 
 -- ---- a module
 abbrev mutual
-  -- what a tree over constants means by its identifiers
+  -- what a tree over constants means by its identifiers and words
   pub constant_targets : ConstantTree → List Target
-  constant_targets (Fixed v) = []
+  constant_targets (Fixed v) = LiteralTarget v ∷ []
   constant_targets (NamedConstant i) = ConstantTarget i ∷ []
-  constant_targets (Constructed word ty es) = constants_targets es
+  constant_targets (Constructed word ty es) = WordTarget word ∷ constants_targets es
 
   pub constants_targets : ConstantTrees → List Target
   constants_targets no_constant = []
@@ -179,6 +200,10 @@ abbrev pub operands_targets : (ℕ → List Target) → List ℕ → List Target
 operands_targets operand [] = []
 operands_targets operand (x ∷ xs) = operand x ++ operands_targets operand xs
 
+-- stands where a handle is out of scope, which the check of a module refuses
+abbrev pub no_value : List Target
+no_value = LiteralTarget (Truth false) ∷ []
+
 -- what an expression means, by what its operands mean
 abbrev pub own_targets : (ℕ → List Target) → Option Expression → List Target
 own_targets operand (Some (Constant e)) = constant_targets e
@@ -186,14 +211,14 @@ own_targets operand (Some (Argument i)) = ArgumentTarget i ∷ []
 own_targets operand (Some (Local i)) = LocalTarget i ∷ []
 own_targets operand (Some (Global held i)) = GlobalTarget i ∷ []
 own_targets operand (Some (Load p)) = operand p
-own_targets operand (Some (Operator word xs)) = operands_targets operand xs
+own_targets operand (Some (Operator word xs)) = WordTarget word ∷ operands_targets operand xs
 own_targets operand (Some (Access b i)) = operand b ++ operand i
-own_targets operand (Some (AccessIndex x b)) = operand b
-own_targets operand (Some (Logical j a b)) = operand a ++ operand b
-own_targets operand (Some (Swizzle letters v)) = operand v
+own_targets operand (Some (AccessIndex x b)) = PartTarget x ∷ operand b
+own_targets operand (Some (Logical j a b)) = LogicTarget j ∷ (operand a ++ operand b)
+own_targets operand (Some (Swizzle letters v)) = PartTarget (MemberNamed letters) ∷ operand v
 own_targets operand (Some (Request a word xs es)) =
-    operands_targets operand xs ++ constants_targets es
-own_targets operand _ = []
+    WordTarget word ∷ (operands_targets operand xs ++ constants_targets es)
+own_targets operand _ = no_value
 
 -- the number of the `let` that binds a handle
 abbrev pub LetNumbers : Type 0
@@ -206,7 +231,7 @@ availability_targets _ number own = own
 
 -- what a handle below the bound means
 abbrev pub targets_below : Function → Handles → LetNumbers → ℕ → ℕ → List Target
-targets_below f s numbers zero h = []
+targets_below f s numbers zero h = no_value
 targets_below f s numbers (suc n) h =
     availability_targets (s h) (numbers h)
     (own_targets (targets_below f s numbers n) (expression_of f h))
@@ -290,13 +315,13 @@ emit_targets f k l (h ∷ hs) s numbers =
     cond (binds f.function h) own []
     ++ emit_targets f k1 l1 hs (after_one f k h s) (numbers_after f.function l h numbers)
 
--- what an action calls
+-- what an action asks for or calls
 abbrev pub action_targets : Action → List Target
-action_targets (Asked word) = []
+action_targets (Asked word) = WordTarget word ∷ []
 action_targets (Called g) = FunctionTarget g ∷ []
 
 abbrev mutual
-  -- what a statement means by its identifiers
+  -- what a statement means by its identifiers and words
   pub statement_targets : Naming → (k l : ℕ) → Statement → Handles → LetNumbers → List Target
   statement_targets f k l (Emit first count) s numbers =
       emit_targets f k l (from first count) s numbers
@@ -320,6 +345,7 @@ abbrev mutual
       ++ (statements_targets f k1 l1 d s1 numbers1
       ++ value_targets_if f.function (after_all f k1 d s1) numbers2 e)
   statement_targets f k l (Return v) s numbers = value_targets_if f.function s numbers v
+  statement_targets f k l (Barrier bits) s numbers = map WordTarget (barrier_words bits)
   statement_targets f k l (Act a xs r) s numbers =
       action_targets a ++ operands_targets (value_targets f.function s numbers) xs
   statement_targets f k l _ s numbers = []
@@ -350,13 +376,13 @@ first_values_targets f [] = []
 first_values_targets f (o ∷ os) =
     value_targets_if f (at_start f) no_numbers o ++ first_values_targets f os
 
--- what a function means by its identifiers
+-- what a function means by its identifiers and words
 abbrev pub function_targets : Naming → List Target
 function_targets f =
     first_values_targets f.function f.function.first_values
     ++ statements_targets f 0 0 f.function.body (at_start f.function) no_numbers
 
--- What a module means by its identifiers: in each initialiser, and in each function, the last one
--- first.
+-- What a module means by its identifiers and words: in each initialiser, and in each function, the
+-- last one first.
 abbrev pub module_targets : Module → List Naming → List (List Target)
 module_targets p fs = map constant_targets p.initialisers ++ map function_targets fs

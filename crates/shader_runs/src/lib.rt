@@ -43,8 +43,8 @@ pub fn scope_check_is_the_rules()
     ensures { ScopeCheckIsTheRules }
 {}
 
-/// Each identifier of a text stands for what the module means by it, where the check of scope
-/// holds.
+/// Each identifier and each word of a text stands for what the module means by it, where the check
+/// of scope holds.
 pub fn resolves_as_meant()
     ensures { ResolvesAsMeant }
 {}

@@ -1,6 +1,6 @@
 -- What the names of a text's declarations stand for: those in types, in initialisers and in the
 -- attributes of entry points, and which member of a struct a word stands for. What the identifiers
--- of functions stand for is told of the abstract text.
+-- and words of functions stand for is told of the abstract text.
 --
 -- Throughout, names tell what each name stands for at the level of the module, p is a program, t a
 -- type, w a word, f a function, and v, s, l and e are an override or a variable, a struct, a member
@@ -79,7 +79,7 @@ types_are_not_hidden p =
     list_all (λ f. list_all (is_in_no_type p) (own_names f)) (program_read p).functions
 
 -- ---- initialisers and attributes
--- the identifiers of an initialiser, if there is one
+-- the identifiers and words of an initialiser, if there is one
 abbrev pub initialiser_targets : Lookup → Option Expression → List (Option Target)
 initialiser_targets names value = tree_targets_if names (option_map expression_read value)
 
