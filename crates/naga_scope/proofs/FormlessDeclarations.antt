@@ -1,20 +1,23 @@
 -- What a search through a module's declarations says of them.
 use Rattle.std.proofs.Common.{◌≡◌, ℕ, ◌+◌, ◌-◌, ◌<◌, ◌≤◌, Bool, true, false, Option, Some, None, refl, sym, ap, ◌∙◌, subst}
 use Rattle.std.proofs.Common.{length, slice_get, nat_lt, arith}
-use Rattle.std.specs.Prelude.{IsTrue, if◌then◌else◌}
+use Rattle.std.proofs.Common.{List, Vec, Global, MatchOption, not}
+use Rattle.std.specs.Prelude.{IfNone, IfSome, IsTrue, if◌then◌else◌}
 use Rattle.std.proofs.lemmas.Bool.{le-ltb, lt-ltb}
 use Rattle.std.proofs.lemmas.Option.{slice_get_within}
 use Rattle.module_meaning.proofs.FunctionNumbers.{entry_point_among, function_among, which_function}
 use Rattle.module_meaning.proofs.FunctionNumbers.{IsNumbered, OfEntryPoint, OfFunction}
 use Rattle.module_meaning.specs.DeclarationForms.{DeclarationsHaveForms, HeadHasForm, IsDeclaredType}
-use Rattle.module_meaning.specs.DeclarationForms.{IsInitialiser, IsMemberBinding, IsPassed}
+use Rattle.module_meaning.specs.DeclarationForms.{IsInitialiser, IsMemberBinding}
 use Rattle.module_meaning.specs.DeclarationForms.{binding_has_form, entry_point_numbered, stage_has_form}
-use Rattle.module_meaning.specs.DeclarationForms.IsDeclaredType as type
-use Rattle.module_meaning.specs.DeclarationForms.IsInitialiser as initialiser
-use Rattle.module_meaning.specs.DeclarationForms.IsMemberBinding as member
-use Rattle.module_meaning.specs.DeclarationForms.IsPassed as passed
-use Rattle.module_meaning.specs.FunctionNumbers.{all_functions}
-use Rattle.module_meaning.specs.Undeclared.{is_spellable}
+use Rattle.module_meaning.specs.DeclarationForms.IsDeclaredType.{OfConstant as ConstantType, OfMember as MemberType}
+use Rattle.module_meaning.specs.DeclarationForms.IsDeclaredType.{OfOverride as OverrideType, OfVariable as VariableType}
+use Rattle.module_meaning.specs.DeclarationForms.IsInitialiser.{OfConstant as ConstantInitialiser}
+use Rattle.module_meaning.specs.DeclarationForms.IsInitialiser.{OfOverride as OverrideInitialiser}
+use Rattle.module_meaning.specs.DeclarationForms.IsInitialiser.{OfVariable as VariableInitialiser}
+use Rattle.module_meaning.specs.DeclarationForms.IsMemberBinding.{OfMember as MemberBinding}
+use Rattle.module_meaning.specs.DeclarationForms.IsPassed.{OfArgument, OfResult}
+use Rattle.module_meaning.specs.Undeclared.{is_declared, is_spellable, is_undeclared}
 use Rattle.module_meaning.specs.WrittenSoFar.{global_is_written}
 use Rattle.naga_info.specs.declared.info.TypeResolution.TheVariants.{Handle}
 use Rattle.naga_ir.specs.declared.binding.Binding.{Binding}
@@ -22,7 +25,13 @@ use Rattle.naga_ir.specs.declared.binding.Binding.TheVariants as binding
 use Rattle.naga_ir.specs.declared.binding.BuiltIn.{BuiltIn}
 use Rattle.naga_ir.specs.declared.module.EntryPoint.{EntryPoint}
 use Rattle.naga_ir.specs.declared.module.Function.{Function}
+use Rattle.naga_ir.specs.declared.module.FunctionArgument.{FunctionArgument}
+use Rattle.naga_ir.specs.declared.module.FunctionResult.{FunctionResult}
 use Rattle.naga_ir.specs.declared.module.Module.{Module}
+use Rattle.naga_ir.specs.declared.types.StructMember.{StructMember}
+use Rattle.naga_ir.specs.declared.types.Type_.{Type_}
+use Rattle.naga_ir.specs.declared.types.TypeInner.TheVariants as inner
+use Rattle.naga_names.specs.Reset.{members_of}
 use Rattle.naga_scope.specs.declared.declarations.FormlessDeclaration.{FormlessDeclaration}
 use Rattle.naga_scope.specs.declared.declarations.FormlessDeclaration.TheVariants as declaration
 use Rattle.naga_scope.specs.declared.declarations.FormlessHead.{FormlessHead}
@@ -30,7 +39,7 @@ use Rattle.naga_scope.specs.declared.declarations.FormlessHead.TheVariants as he
 use Rattle.naga_scope.specs.Declarations.{BindingHasForm, ConstantHasForm, EntryPointHasForm, Finds, IsFormlessBinding}
 use Rattle.naga_scope.specs.Declarations.{IsFormlessConstant, IsFormlessDeclaration, IsFormlessEntryPoint, IsFormlessHead}
 use Rattle.naga_scope.specs.Declarations.{IsFormlessPassed, IsFormlessType, IsFormlessValue, PassedHasForm, TypeHasForm}
-use Rattle.naga_scope.specs.Declarations.{ValueHasForm}
+use Rattle.naga_scope.specs.Declarations.{FindsMember, ValueHasForm}
 
 module _ (m : Module) where
   -- ---- numbers
@@ -84,23 +93,35 @@ module _ (m : Module) where
   entry_point_lacks j p there (head.BuiltIn v) lacks = (p.function, entry_point_among m j p there, lacks.0, lacks.1)
   entry_point_lacks j p there head.Stage lacks = (p, numbered j ∙ there, lacks)
 
+  -- ---- an entry point, by whether something of it lacks a form
+  module _ (j : ℕ) (p : EntryPoint) (there : slice_get m.entry_points.items j ≡ Some p) where
+    pub entry_point_without : (found : Option FormlessHead) → MatchOption found (EntryPointHasForm p) (IsFormlessEntryPoint p) →
+        IfNone found (HeadHasForm m (length m.functions + j))
+    entry_point_without None has = entry_point_head j p there has
+    entry_point_without (Some it) lacks = tt
+
+    pub entry_point_with : (found : Option FormlessHead) → MatchOption found (EntryPointHasForm p) (IsFormlessEntryPoint p) →
+        IfSome found (IsFormlessHead m (length m.functions + j))
+    entry_point_with None has = tt
+    entry_point_with (Some it) lacks = entry_point_lacks j p there it lacks
+
   -- ---- what a search finds
   pub of_types : (it : FormlessDeclaration) → Finds m.types (TypeHasForm m) (IsFormlessType m) (Some it) →
       IsFormlessDeclaration m it
   of_types (declaration.Type_ ty) (h, t, at, (declared, (i, s, there, (same, lacks)))) =
-      (subst (IsDeclaredType m) (sym same) (type.OfMember h i t s at declared there), lacks)
+      (subst (IsDeclaredType m) (sym same) (MemberType h i t s at declared there), lacks)
   of_types (declaration.Initialiser handle) (h, t, at, (declared, (i, s, there, lacks))) = absurd lacks
   of_types (declaration.BuiltIn v) (h, t, at, (declared, (i, s, there, (bound, lacks)))) =
-      (member.OfMember h i t s (binding.BuiltIn v) at declared there bound, lacks)
+      (MemberBinding h i t s (binding.BuiltIn v) at declared there bound, lacks)
   of_types (declaration.Head it) (h, t, at, (declared, (i, s, there, lacks))) = absurd lacks
 
   pub of_constants : (it : FormlessDeclaration) → Finds m.constants (λ i. ConstantHasForm m) (λ i. IsFormlessConstant m) (Some it) →
       IsFormlessDeclaration m it
   of_constants (declaration.Type_ ty) (i, k, at, (is_named, (same, lacks))) =
-      (subst (IsDeclaredType m) (sym same) (type.OfConstant i k at is_named), lacks)
+      (subst (IsDeclaredType m) (sym same) (ConstantType i k at is_named), lacks)
   of_constants (declaration.Initialiser h) (i, k, at, (is_named, (same, lacks))) =
       let handle : k.init ≡ h = cc in
-      (subst (IsInitialiser m) handle (initialiser.OfConstant i k at is_named), lacks)
+      (subst (IsInitialiser m) handle (ConstantInitialiser i k at is_named), lacks)
   of_constants (declaration.BuiltIn v) (i, k, at, (is_named, lacks)) = absurd lacks
   of_constants (declaration.Head it) (i, k, at, (is_named, lacks)) = absurd lacks
 
@@ -108,9 +129,9 @@ module _ (m : Module) where
       Finds m.overrides (λ i o. ValueHasForm m o.ty o.init) (λ i o. IsFormlessValue m o.ty o.init) (Some it) →
       IsFormlessDeclaration m it
   of_overrides (declaration.Type_ ty) (i, o, at, (same, lacks)) =
-      (subst (IsDeclaredType m) (sym same) (type.OfOverride i o at), lacks)
+      (subst (IsDeclaredType m) (sym same) (OverrideType i o at), lacks)
   of_overrides (declaration.Initialiser h) (i, o, at, (same, lacks)) =
-      (initialiser.OfOverride i o h at same, lacks)
+      (OverrideInitialiser i o h at same, lacks)
   of_overrides (declaration.BuiltIn v) (i, o, at, lacks) = absurd lacks
   of_overrides (declaration.Head it) (i, o, at, lacks) = absurd lacks
 
@@ -118,9 +139,9 @@ module _ (m : Module) where
       Finds m.global_variables (λ i g. ValueHasForm m g.ty g.init) (λ i g. IsFormlessValue m g.ty g.init) (Some it) →
       IsFormlessDeclaration m it
   of_variables (declaration.Type_ ty) (i, g, at, (same, lacks)) =
-      (subst (IsDeclaredType m) (sym same) (type.OfVariable i g at), lacks)
+      (subst (IsDeclaredType m) (sym same) (VariableType i g at), lacks)
   of_variables (declaration.Initialiser h) (i, g, at, (same, lacks)) =
-      (initialiser.OfVariable i g h at same, lacks)
+      (VariableInitialiser i g h at same, lacks)
   of_variables (declaration.BuiltIn v) (i, g, at, lacks) = absurd lacks
   of_variables (declaration.Head it) (i, g, at, lacks) = absurd lacks
 
@@ -141,18 +162,18 @@ module _ (m : Module) where
       (in_functions : Finds m.functions (λ i. PassedHasForm) (λ i. IsFormlessPassed) None)
       (in_entry_points : Finds m.entry_points.items (λ i. EntryPointHasForm) (λ i. IsFormlessEntryPoint) None) where
     types_formed : (ty : ℕ) → IsDeclaredType m ty → IsTrue (is_spellable m (Handle ty))
-    types_formed _ (type.OfMember h i t s at declared there) = (in_types h t at declared i s there).type
-    types_formed _ (type.OfConstant i k at is_named) = (in_constants i k at is_named).type
-    types_formed _ (type.OfOverride i o at) = (in_overrides i o at).type
-    types_formed _ (type.OfVariable i g at) = (in_variables i g at).type
+    types_formed _ (MemberType h i t s at declared there) = (in_types h t at declared i s there).type
+    types_formed _ (ConstantType i k at is_named) = (in_constants i k at is_named).type
+    types_formed _ (OverrideType i o at) = (in_overrides i o at).type
+    types_formed _ (VariableType i g at) = (in_variables i g at).type
 
     initialisers_formed : (h : ℕ) → IsInitialiser m h → IsTrue (global_is_written m h)
-    initialisers_formed _ (initialiser.OfConstant i k at is_named) = (in_constants i k at is_named).initialiser k.init refl
-    initialisers_formed h (initialiser.OfOverride i o _ at is) = (in_overrides i o at).initialiser h is
-    initialisers_formed h (initialiser.OfVariable i g _ at is) = (in_variables i g at).initialiser h is
+    initialisers_formed _ (ConstantInitialiser i k at is_named) = (in_constants i k at is_named).initialiser k.init refl
+    initialisers_formed h (OverrideInitialiser i o _ at is) = (in_overrides i o at).initialiser h is
+    initialisers_formed h (VariableInitialiser i g _ at is) = (in_variables i g at).initialiser h is
 
     members_formed : (b : Binding) → IsMemberBinding m b → IsTrue (binding_has_form b)
-    members_formed b (member.OfMember h i t s _ at declared there bound) = (in_types h t at declared i s there).binding b bound
+    members_formed b (MemberBinding h i t s _ at declared there bound) = (in_types h t at declared i s there).binding b bound
 
     passed_formed : (number : ℕ) (f : Function) → IsNumbered m number f → PassedHasForm f
     passed_formed number f (OfFunction there is) = in_functions number f there
@@ -178,7 +199,32 @@ module _ (m : Module) where
     }
 
 -- ---- what a function takes and gives
-pub passed_has_form : (f : Function) → ((i : ℕ) (a : _) → slice_get f.arguments.items i ≡ Some a → BindingHasForm a.binding) →
-    ((r : _) → f.result ≡ Some r → BindingHasForm r.binding) → PassedHasForm f
-passed_has_form f arguments result b (passed.OfArgument i a _ at bound) = arguments i a at b bound
-passed_has_form f arguments result b (passed.OfResult r _ is bound) = result r is b bound
+module _ (f : Function) (arguments : List FunctionArgument) (are : arguments ≡ f.arguments.items) where
+  pub argument_lacks : (v : BuiltIn) →
+      Finds arguments (λ i a. BindingHasForm a.binding) (λ i a. IsFormlessBinding a.binding) (Some v) → IsFormlessPassed f v
+  argument_lacks v (i, a, at, (bound, lacks)) =
+      (OfArgument i a (binding.BuiltIn v) (ap (λ xs. slice_get xs i) (sym are) ∙ at) bound, lacks)
+
+  -- by whether the result lacks a form, where no argument does
+  pub by_result : Finds arguments (λ i a. BindingHasForm a.binding) (λ i a. IsFormlessBinding a.binding) None →
+      (r : FunctionResult) → f.result ≡ Some r → (found : Option BuiltIn) →
+      MatchOption found (BindingHasForm r.binding) (IsFormlessBinding r.binding) →
+      MatchOption found (PassedHasForm f) (IsFormlessPassed f)
+  by_result formed r is None has = passed
+    where
+      passed : PassedHasForm f
+      passed b (OfArgument i a _ at bound) = formed i a (ap (λ xs. slice_get xs i) are ∙ at) b bound
+      passed b (OfResult q _ found bound) =
+          let both : Some r ≡ Some q = sym is ∙ found in
+          let same : r ≡ q = cc in
+          has b (ap (λ r. r.binding) same ∙ bound)
+  by_result formed r is (Some v) lacks = (OfResult r (binding.BuiltIn v) is lacks.0, lacks.1)
+
+-- ---- a struct that a text declares
+pub by_members : (m : Module) (ty : ℕ) (t : Type_) (members : Vec StructMember Global) (span : ℕ) (found : Option FormlessDeclaration) →
+    t.inner ≡ inner.Struct members span → is_undeclared m.special_types ty ≡ false → FindsMember m members.items found →
+    MatchOption found (TypeHasForm m ty t) (IsFormlessType m ty t)
+by_members m ty t members span None is declared finds =
+    λ named. subst (λ it. FindsMember m (members_of it) None) (sym is) finds
+by_members m ty t members span (Some it) is declared finds =
+    (ap (is_declared m.special_types ty) is ∙ ap not declared, subst (λ inner. FindsMember m (members_of inner) (Some it)) (sym is) finds)

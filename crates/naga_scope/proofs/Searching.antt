@@ -1,6 +1,6 @@
 -- Loops that look through items for one without a form.
-use Rattle.std.proofs.Common.{◌≡◌, ℕ, zero, suc, ◌+◌, ◌<◌, ◌≤◌, List, [], ◌∷◌, Some, length}
-use Rattle.std.proofs.Common.{refl, sym, ap, ◌∙◌, subst, slice_get, arith, ◌⊎◌, inl, inr, ◌-◌}
+use Rattle.std.proofs.Common.{◌≡◌, ℕ, suc, ◌+◌, ◌<◌, ◌≤◌, List, [], ◌∷◌, Some, length}
+use Rattle.std.proofs.Common.{sym, ap, ◌∙◌, subst, slice_get, arith, ◌⊎◌, inl, inr, ◌-◌}
 use Rattle.std.specs.List.{enumerate_from}
 use Rattle.std.proofs.lemmas.Bool.{cases_lt}
 use Rattle.std.proofs.lemmas.Option.{slice_get_within}
@@ -61,7 +61,9 @@ module _ {X : Type 0} (HasForm : (i : ℕ) → X → Type 0) (xs : List X) where
       ((i : ℕ) → slice_get items i ≡ slice_get xs (place + i)) → Turn h x rest place
   turn h x rest [] place is stands = absurd cc
   turn h x rest (y ∷ ys) place is stands =
-      let first : (h, x) ≡ (place, y) = cc in
+      let one : ℕ × X = (h, x) in
+      let other : ℕ × X = (place, y) in
+      let first : one ≡ other = cc in
       let at : h ≡ place = ap (λ p. p.0) first in
       let item : x ≡ y = ap (λ p. p.1) first in
       let start : place + 0 ≡ place = omega arith in

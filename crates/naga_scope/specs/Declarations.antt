@@ -4,7 +4,7 @@
 -- entry point, b a binding, v a value of the hardware, ty is the handle of a type, h that of an
 -- expression, s a member, c a constant, o an override, g a variable, a an argument, i is the place of
 -- an item in its list, and it is what is found.
-use Rattle.std.specs.Prelude.{◌≡◌, ⊤, ℕ, Option, Some, None, IsFalse, IsTrue, List, slice_get}
+use Rattle.std.specs.Prelude.{◌≡◌, ℕ, Option, Some, None, IsFalse, IsTrue, List, slice_get}
 use Rattle.std.specs.Option.{is_some}
 use Rattle.module_meaning.specs.DeclarationForms.{IsDeclaredType, IsInitialiser, IsMemberBinding}
 use Rattle.module_meaning.specs.DeclarationForms.{IsPassed, binding_has_form, entry_point_numbered}

@@ -20,9 +20,7 @@ mod written;
 
 pub use binding::binds;
 pub use continues::split_at_continue;
-pub use declarations::{
-    FormlessDeclaration, FormlessHead, formless_declaration, formless_head,
-};
+pub use declarations::{FormlessDeclaration, FormlessHead, formless_declaration, formless_head};
 pub use forms::{converted_scalar, sampling_has_form, scalar_behind, whole_known};
 pub use functions::function_of;
 pub use global_expressions::GlobalExpressions;

@@ -1,0 +1,22 @@
+use Rattle.naga_scope.proofs.Searching.{here_left, next_left, none_left}
+use Rattle.naga_scope.specs.Declarations.{TypeHasForm}
+use Rattle.naga_scope.proofs.declarations.formless_in_structs.Goals as goal
+
+pub returns-in-Some-formless_in_type : goal.returns-in-Some-formless_in_type
+returns-in-Some-formless_in_type c =
+    let m = c.args.module.now in
+    let here =
+    here_left (TypeHasForm m) m.types c.loop-handle.handle-iterator c.next.new.self c.in-Some.handle c.in-Some.ty.now c.in-Some.ensures.steps
+    c.loop-handle.invariant in
+    (c.in-Some.handle, c.in-Some.ty.now, here, c.in-Some-formless_in_type.ensures)
+
+pub loop-handle-preserved : goal.loop-handle-preserved
+loop-handle-preserved c =
+    let m = c.args.module.now in
+    next_left (TypeHasForm m) m.types c.loop-handle.handle-iterator c.next.new.self c.in-Some.handle c.in-Some.ty.now c.in-Some.ensures.steps
+    c.in_default.ensures c.loop-handle.invariant
+
+pub returns : goal.returns
+returns c =
+    let m = c.args.module.now in
+    none_left (TypeHasForm m) m.types c.loop-handle.handle-iterator c.in-None.ensures.steps.0 c.loop-handle.invariant
