@@ -1,5 +1,6 @@
 pub mod ActRows
 pub mod Appending
+pub mod AttributeRows
 pub mod Blanks
 pub mod BlockRows
 pub mod ConstantRows
@@ -19,8 +20,10 @@ pub mod OwnNames
 pub mod PartForms
 pub mod PartRows
 pub mod PlanRefusals
+pub mod SingleBindings
 pub mod SingleExpressions
 pub mod SingleFunctions
+pub mod StageRows
 pub mod StatementParts
 pub mod StatementRows
 pub mod SwitchRows

@@ -1,5 +1,8 @@
 pub mod Appends
+pub mod Attributes
+pub mod Bindings
 pub mod Constants
+pub mod DeclarationRefusals
 pub mod Errors
 pub mod Expressions
 pub mod FunctionText
@@ -11,5 +14,6 @@ pub mod Literals
 pub mod ModuleText
 pub mod Names
 pub mod Refusals
+pub mod Stages
 pub mod Statements
 pub mod Types

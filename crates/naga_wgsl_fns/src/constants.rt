@@ -49,7 +49,7 @@ impl FunctionText<'_> {
 impl ModuleText<'_> {
     /// One of the module's own expressions.
     #[cycle(global)]
-    pub(crate) fn write_global<W: TextSink>(
+    pub fn write_global<W: TextSink>(
         &self,
         alloc: Global,
         handle: Handle<Expression>,

@@ -326,7 +326,7 @@ impl FunctionText<'_> {
 
 /// The empty line behind a group, unless there is nothing in it.
 #[tactic(auto, unfolding(crate::specs::Functions::group_end_text))]
-fn write_group_end<W: TextSink>(is_empty: bool, out: &mut Output<'_, W>)
+pub fn write_group_end<W: TextSink>(is_empty: bool, out: &mut Output<'_, W>)
     ensures { Writes W.text W.failures out.old out.new (group_end_text is_empty) }
 {
     out.put(if is_empty { "" } else { "\n" });

@@ -5,6 +5,8 @@
 #![tactic(auto)]
 
 mod acts;
+pub mod attributes;
+pub mod bindings;
 mod blocks;
 mod constants;
 mod conversions;
@@ -23,16 +25,18 @@ mod lines;
 pub mod literal;
 mod loads;
 mod loops;
-mod module_text;
+pub mod module_text;
 mod names;
 mod parts;
 pub mod plans;
 pub mod sinks;
+mod stages;
 mod statements;
 mod switches;
 mod types;
 mod variables;
 
+pub use bindings::write_binding;
 pub use error::Error;
 pub use functions::write_planned;
 pub use global_expressions::write_global_expression;

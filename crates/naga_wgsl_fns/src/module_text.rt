@@ -15,15 +15,20 @@ use std::alloc::Global;
 use std::collections::HashMap;
 
 /// A module, and the names of its items.
+///
+/// Its methods write what the texts of several declarations share: types, values and names. What they
+/// ask of the module is that it is accepted and has its names in the map.
 #[derive(Clone, Copy)]
-pub(crate) struct ModuleText<'a> {
-    pub(crate) shader: &'a Module,
-    pub(crate) names: &'a HashMap<NameKey, String>,
+pub struct ModuleText<'a> {
+    /// The module.
+    pub shader: &'a Module,
+    /// The names of its items in WGSL.
+    pub names: &'a HashMap<NameKey, String>,
 }
 
 impl ModuleText<'_> {
     /// The type with this handle.
-    pub(crate) fn write_type<W: TextSink>(
+    pub fn write_type<W: TextSink>(
         &self,
         alloc: Global,
         ty: Handle<Type_>,

@@ -188,9 +188,10 @@ impl ModuleText<'_> {
         self.write_name(&NameKey::Override(handle), out);
     }
 
+    /// The name of the item with this key.
     // In each caller the kind of the key is known, so that hashing it takes no choice there.
     #[inline(always)]
-    pub(crate) fn write_name<W: TextSink>(&self, key: &NameKey, out: &mut Output<'_, W>)
+    pub fn write_name<W: TextSink>(&self, key: &NameKey, out: &mut Output<'_, W>)
         requires named { names_in self.now.names.now key.now
             ≡ Some (name_in (module_names self.now.shader.now) key.now) }
         ensures { Writes W.text W.failures out.old out.new
