@@ -6,3 +6,9 @@ pub mod Functions
 pub mod ExpressionNames
 pub mod Names
 pub mod Faithful
+pub mod ArenaLoops
+pub mod ConstantRows
+pub mod DeclarationRows
+pub mod ItemRows
+pub mod StructRows
+pub mod VariableRows

@@ -3,3 +3,8 @@ pub mod Writing
 pub mod ModuleRefusals
 pub mod Headline
 pub mod Checked
+pub mod Constants
+pub mod Declarations
+pub mod Items
+pub mod Structs
+pub mod Variables

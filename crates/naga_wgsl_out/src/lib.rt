@@ -9,15 +9,19 @@
 pub mod back;
 pub mod builder;
 mod checked;
+mod constants;
+mod declarations;
 pub mod diagnostics;
 mod enables;
 mod flags;
 pub mod info;
 pub mod proc;
 pub mod sinks;
+mod structs;
 pub mod to_wgsl;
 pub mod types;
 pub mod valid;
+mod variables;
 pub mod wgsl;
 mod writer;
 

@@ -1,0 +1,128 @@
+//! What a module declares in front of its functions: structs, constants that have names, overrides
+//! and variables.
+
+ghost use Rattle.std.specs.Prelude.{◌≡◌, ℕ, IsTrue, Some};
+ghost use Rattle.module_meaning.specs.AlikeTypes.{is_spelled};
+ghost use Rattle.module_meaning.specs.DeclarationForms.{DeclarationsHaveForms};
+ghost use Rattle.module_meaning.specs.Names.{HasNamesOf};
+ghost use Rattle.module_meaning.specs.WrittenSoFar.{global_is_written};
+ghost use Rattle.naga_info.specs.declared.info.TypeResolution.TheVariants as resolution;
+ghost use Rattle.naga_names.specs.Keys.{names_in};
+ghost use Rattle.naga_words.specs.Output.{Writes};
+ghost use Rattle.naga_wgsl_fns.specs.Appends.{Appends};
+ghost use Rattle.naga_wgsl_fns.specs.ModuleText.{CanWriteIn, CanWriteOf};
+ghost use Rattle.naga_wgsl_out.specs.Declarations.{declarations_text};
+ghost use Rattle.naga_wgsl_out.specs.Items.{CanDeclare, IsNamedIn, first_value_text, typed_text};
+ghost use Rattle.naga_wgsl_out.specs.Items.{value_text};
+ghost use Rattle.naga_wgsl_out.specs.ModuleRefusals.{KeyIsOutOfRange};
+
+use crate::constants::{write_constants, write_overrides};
+use crate::structs::write_structs;
+use crate::variables::write_variables;
+use naga_ir::{Expression, Handle, Module, Type_};
+use naga_names::NameKey;
+use naga_wgsl_fns::Error;
+use naga_wgsl_fns::error::error_of_want;
+use naga_wgsl_fns::module_text::ModuleText;
+use naga_words::{Output, TextSink};
+use std::alloc::Global;
+use std::collections::HashMap;
+
+/// Writes what the module declares in front of its functions: its structs, but those that no text
+/// declares, its constants that have names, its overrides and its variables, with an empty line
+/// behind each struct and behind the last of each other kind.
+///
+/// Where the call gives up, because the sink failed or for want of memory, a beginning of the text
+/// stands behind what the sink held.
+pub(crate) fn write_declarations<W: TextSink>(
+    alloc: Global,
+    module: &Module,
+    names: &HashMap<NameKey, String>,
+    out: &mut W,
+) -> Result<(), Error>
+    requires can { CanWriteOf «module».now }
+    requires declared { DeclarationsHaveForms «module».now }
+    requires names { HasNamesOf «module».now (names_in names.now) }
+    requires keys { KeyIsOutOfRange «module».now → ⊥ }
+    ensures { Appends result (W.text out.old) (W.failures out.old)
+        (declarations_text «module».now) (W.text out.new) (W.failures out.new) }
+{
+    let text = ModuleText {
+        shader: module,
+        names,
+    };
+    let mut written = Output::new(out);
+    write_all(alloc, &text, &mut written);
+    match written.outcome() {
+        Ok(()) => Ok(()),
+        Err(want) => Err(error_of_want(want)),
+    }
+}
+
+#[tactic(auto, using(naga_words::proofs::Writing::writes_then, crate::proofs::DeclarationRows::declarations_row))]
+fn write_all<W: TextSink>(alloc: Global, text: &ModuleText<'_>, out: &mut Output<'_, W>)
+    requires { CanDeclare text.now }
+    ensures { Writes W.text W.failures out.old out.new (declarations_text text.now.shader.now) }
+{
+    write_structs(alloc, text, out);
+    write_constants(alloc, text, out);
+    write_overrides(alloc, text, out);
+    write_variables(alloc, text, out);
+}
+
+/// The name of an item, and behind a colon its type.
+#[tactic(auto, using(naga_words::proofs::Writing::writes_then, crate::proofs::DeclarationRows::typed_row))]
+pub(crate) fn write_typed<W: TextSink>(
+    alloc: Global,
+    text: &ModuleText<'_>,
+    key: &NameKey,
+    ty: Handle<Type_>,
+    out: &mut Output<'_, W>,
+)
+    requires can { CanWriteIn text.now }
+    requires named { IsNamedIn text.now key.now }
+    requires formed { IsTrue (is_spelled text.now.shader.now.types (resolution.Handle ty)) }
+    ensures { Writes W.text W.failures out.old out.new
+        (typed_text text.now.shader.now key.now ty) }
+{
+    text.write_name(key, out);
+    out.put(": ");
+    text.write_type(alloc, ty, out);
+}
+
+/// What stands behind the type of an override or of a variable.
+#[tactic(auto, using(crate::proofs::DeclarationRows::no_value_row))]
+pub(crate) fn write_value<W: TextSink>(
+    alloc: Global,
+    text: &ModuleText<'_>,
+    value: Option<Handle<Expression>>,
+    out: &mut Output<'_, W>,
+)
+    requires can { CanWriteIn text.now }
+    requires written { (h : ℕ) → value ≡ Some h →
+        IsTrue (global_is_written text.now.shader.now h) }
+    ensures { Writes W.text W.failures out.old out.new (value_text text.now.shader.now value) }
+{
+    match value {
+        Some(value) => write_first_value(alloc, text, value, out),
+        None => out.put(";\n"),
+    }
+}
+
+/// A value, and the end of its line.
+#[tactic(auto, using(naga_words::proofs::Writing::writes_then, crate::proofs::DeclarationRows::first_value_row))]
+pub(crate) fn write_first_value<W: TextSink>(
+    alloc: Global,
+    text: &ModuleText<'_>,
+    value: Handle<Expression>,
+    out: &mut Output<'_, W>,
+)
+    requires can { CanWriteIn text.now }
+    requires written { IsTrue (global_is_written text.now.shader.now value) }
+    ensures { Writes W.text W.failures out.old out.new
+        (first_value_text text.now.shader.now value) }
+{
+    out.put(" = ");
+    text.write_global(alloc, value, out);
+    out.put(";\n");
+}
