@@ -3,7 +3,8 @@
 -- Throughout, m is a module, e an entry point of it, and front is what stands in front of a variable.
 use Rattle.std.proofs.Common.{◌≡◌, ◌∙◌, ◌++◌, ◌==◌, ℕ, List, [], ◌∷◌, append_assoc, ap, arith, codes}
 use Rattle.std.proofs.Common.{decimal, get_or, length, refl, slice_get, sym, true, zero, suc}
-use Rattle.std.specs.Prelude.{Option, Some, None, IsTrue}
+use Rattle.std.specs.Prelude.{◌&&◌, Option, Some, None, IsTrue}
+use Rattle.std.specs.List.{list_all}
 use Rattle.std.specs.Option.{option_map}
 use Rattle.std.proofs.lemmas.Bool.{and_parts}
 use Rattle.std.proofs.lemmas.List.{append-nil}
@@ -15,7 +16,12 @@ use Rattle.naga_ir.specs.declared.module.ShaderStage.TheVariants as stage
 use Rattle.module_meaning.proofs.Lists.{list_all_at}
 use Rattle.module_meaning.specs.Accepted.{is_accepted}
 use Rattle.module_meaning.specs.Names.{global_name, module_names}
-use Rattle.module_meaning.specs.Ranges.{entry_point_in_range, is_below, module_ranges_fit}
+use Rattle.module_meaning.specs.AgreeingOperators.{module_operators_agree}
+use Rattle.module_meaning.specs.InfoSizes.{sizes_fit, type_is_fit}
+use Rattle.module_meaning.specs.Ranges.{all_placed, declarations_in_range, entry_point_in_range}
+use Rattle.module_meaning.specs.Ranges.{function_in_range, is_below, module_in_range}
+use Rattle.module_meaning.specs.Ranges.{module_ranges_fit}
+use Rattle.module_meaning.specs.Soundness.{module_is_sound}
 use Rattle.naga_form.specs.Attributes.{attribute_of, payload_attributes, size_attributes}
 use Rattle.naga_form.specs.Attributes.{stage_attributes}
 use Rattle.naga_words.specs.Output.{joined_texts}
@@ -35,9 +41,15 @@ pub stage_is_there : (m : Module) (info : ModuleInfo) → IsTrue (is_accepted m 
     (e : EntryPoint) → slice_get m.entry_points.items i ≡ Some e → StageIsThere m e
 unfolding is_accepted module_ranges_fit
 stage_is_there m info accepted i e at =
-    let range = and_parts _ _ (and_parts _ _ (and_parts _ _ (and_parts _ _ accepted).0).1).1 in
-    let items = and_parts _ _ (and_parts _ _ range.0).1 in
-    let own = list_all_at (entry_point_in_range m) m.entry_points.items i e items.1 at in
+    let ranges = and_parts (module_ranges_fit m info)
+    (module_is_sound m info && module_operators_agree m info) accepted in
+    let types = and_parts (sizes_fit m info) _ ranges.0 in
+    let known = and_parts (list_all type_is_fit m.types) _ types.1 in
+    let all = and_parts (module_in_range m) _ known.1 in
+    let declared = and_parts (declarations_in_range m) _ all.0 in
+    let points = and_parts (all_placed (function_in_range m) m.functions)
+    (list_all (entry_point_in_range m) m.entry_points.items) declared.1 in
+    let own = list_all_at (entry_point_in_range m) m.entry_points.items i e points.1 at in
     let count = length m.global_variables in
     let one = and_parts (is_below count (option_map (λ k. k.output_variable) e.mesh_info)) _ own in
     let two = and_parts (is_below count e.task_payload) _ one.1 in
