@@ -15,7 +15,7 @@ pub mod ModuleShapeExamples
 pub mod NumberExamples
 pub mod Operations
 mod WordExamples
-pub mod WrittenSoFar
+pub mod ExpressionForms
 pub mod ShapeExamples
 pub mod ShapeKinds
 pub mod Shapes

@@ -25,7 +25,7 @@ use Rattle.naga_ir.specs.declared.types.Type_.{Type_}
 use Rattle.naga_names.specs.Reset.{members_of}
 use Rattle.module_meaning.specs.FunctionNumbers.{all_functions}
 use Rattle.module_meaning.specs.Undeclared.{is_declared, is_spellable}
-use Rattle.module_meaning.specs.WrittenSoFar.{global_is_written}
+use Rattle.module_meaning.specs.ExpressionForms.{global_is_written}
 use Rattle.wgsl_words.specs.Words.{builtin_word}
 
 -- ---- what is declared

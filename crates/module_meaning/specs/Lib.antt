@@ -27,7 +27,7 @@ pub mod Numbers
 pub mod OperandDemands
 pub mod Operations
 pub mod OperatorTable
-pub mod WrittenSoFar
+pub mod ExpressionForms
 pub mod Premises
 pub mod Ranges
 pub mod Resolution

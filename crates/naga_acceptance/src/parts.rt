@@ -4,7 +4,7 @@ ghost use Rattle.std.specs.Prelude.{◌≡◌, false, slice_get};
 ghost use Rattle.std.specs.Option.{is_some, option_copied, option_map, option_map_or};
 ghost use Rattle.naga_acceptance.specs.KnownTypes.{inferred, known_types};
 ghost use Rattle.module_meaning.specs.ExpressionOperators.{has_parts, is_composite};
-ghost use Rattle.module_meaning.specs.WrittenSoFar.{known_passes};
+ghost use Rattle.module_meaning.specs.ExpressionForms.{known_passes};
 ghost use Rattle.module_meaning.specs.TypeIdentity.{vector_number};
 ghost use Rattle.module_meaning.specs.TypeParts.{component_pointer, component_scalar};
 ghost use Rattle.module_meaning.specs.TypeParts.{element_count};

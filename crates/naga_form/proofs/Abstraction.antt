@@ -10,7 +10,7 @@ use Rattle.naga_names.proofs.Refusal.{element}
 use Rattle.naga_info.specs.declared.info.TypeResolution.TheVariants.{Handle}
 use Rattle.naga_form.proofs.Operators.{SpellsTypes}
 use Rattle.naga_form.proofs.TypeTrees.{resolution_row}
-use Rattle.module_meaning.proofs.WrittenSoFar.{spelled_of_spellable, has_form_parts}
+use Rattle.module_meaning.proofs.ExpressionForms.{spelled_of_spellable, has_form_parts}
 use Rattle.module_meaning.specs.Sampling.{offset_is_written}
 use Rattle.module_meaning.specs.Writable.{is_written_out}
 use Rattle.naga_form.proofs.ConstantForms.{IsReadAs, constants_read, names_are_read, read_out}
@@ -45,8 +45,8 @@ use Rattle.module_meaning.specs.Written.{block_roots, cases_roots, simple_roots,
 use Rattle.naga_form.proofs.WrittenHandles.{AreClosed, all_front, all_map, written_are_closed}
 use Rattle.module_meaning.specs.Written.{IsWrittenIn, OfLocal, WrittenHaveForms}
 use Rattle.naga_form.proofs.WrittenHandles.{all_rest}
-use Rattle.module_meaning.specs.WrittenSoFar.{expression_has_form}
-use Rattle.module_meaning.specs.WrittenSoFar.{constant_is_written}
+use Rattle.module_meaning.specs.ExpressionForms.{expression_has_form}
+use Rattle.module_meaning.specs.ExpressionForms.{constant_is_written}
 use Rattle.module_meaning.specs.ExpressionContexts.{written_constant}
 use Rattle.naga_names.specs.Keys.{NameMap}
 use Rattle.wgsl_text.specs.Reading.{type_layout}

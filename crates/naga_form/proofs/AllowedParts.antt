@@ -8,8 +8,8 @@ use Rattle.std.proofs.lemmas.Option.{same_Some, slice_get-map}
 use Rattle.naga_ir.specs.declared.expression.SwizzleComponent.TheVariants as component
 use Rattle.naga_ir.specs.declared.types.Type_.{Type_}
 use Rattle.module_meaning.specs.AlikeTypes.{is_spelled}
-use Rattle.module_meaning.specs.WrittenSoFar.{converts, expression_is_written, known_passes}
-use Rattle.module_meaning.specs.WrittenSoFar.{loads_matrix}
+use Rattle.module_meaning.specs.ExpressionForms.{converts, expression_is_written, known_passes}
+use Rattle.module_meaning.specs.ExpressionForms.{loads_matrix}
 use Rattle.module_meaning.specs.InfoSizes.{resolution_is_fit}
 use Rattle.module_meaning.specs.Names.{module_names, name_in}
 use Rattle.module_meaning.specs.OperandDemands.{operands_fit}

@@ -11,7 +11,7 @@ use Rattle.std.specs.List.{AllByRecursion, list_all}
 use Rattle.std.specs.Option.{is_some, option_and_then, option_map, option_map_or}
 use Rattle.std.proofs.lemmas.Bool.{and_parts}
 use Rattle.std.proofs.lemmas.Option.{slice_get_within}
-use Rattle.module_meaning.proofs.WrittenSoFar.{spelled_of_spellable}
+use Rattle.module_meaning.proofs.ExpressionForms.{spelled_of_spellable}
 use Rattle.module_meaning.specs.AlikeTypes.{is_spelled}
 use Rattle.module_meaning.specs.Undeclared.{is_spellable}
 use Rattle.module_meaning.specs.ExpressionOperators.{ExpressionContext, constructor}
@@ -21,10 +21,10 @@ use Rattle.module_meaning.specs.Literals.{literal_value}
 use Rattle.module_meaning.specs.Names.{constant_name, module_names}
 use Rattle.module_meaning.specs.Namings.{outer_names}
 use Rattle.module_meaning.specs.OperatorTable.{Operator, Splat, run_word}
-use Rattle.module_meaning.specs.WrittenSoFar.{constant_is_written, constant_is_written_over}
-use Rattle.module_meaning.specs.WrittenSoFar.{expression_is_written}
-use Rattle.module_meaning.specs.WrittenSoFar.{global_is_written, global_is_written_over}
-use Rattle.module_meaning.specs.WrittenSoFar.{global_is_written_within, is_written_literal}
+use Rattle.module_meaning.specs.ExpressionForms.{constant_is_written, constant_is_written_over}
+use Rattle.module_meaning.specs.ExpressionForms.{expression_is_written}
+use Rattle.module_meaning.specs.ExpressionForms.{global_is_written, global_is_written_over}
+use Rattle.module_meaning.specs.ExpressionForms.{global_is_written_within, is_written_literal}
 use Rattle.module_meaning.specs.ExpressionContexts.{constant_number, constant_over, declared, declared_over}
 use Rattle.module_meaning.specs.ExpressionContexts.{global_tree, global_tree_within}
 use Rattle.module_meaning.specs.ExpressionContexts.{global_types_known}

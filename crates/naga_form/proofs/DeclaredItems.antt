@@ -24,8 +24,8 @@ use Rattle.module_meaning.specs.Resolution.{MembersResolve, TypesResolve}
 use Rattle.module_meaning.specs.Types.{type_names}
 use Rattle.module_meaning.specs.Undeclared.{is_declared, is_undeclared}
 use Rattle.module_meaning.specs.Written.{AllWrittenHaveForms}
-use Rattle.module_meaning.specs.WrittenSoFar.{global_is_written}
-use Rattle.module_meaning.proofs.WrittenSoFar.{spellable_parts}
+use Rattle.module_meaning.specs.ExpressionForms.{global_is_written}
+use Rattle.module_meaning.proofs.ExpressionForms.{spellable_parts}
 use Rattle.shader_runs.specs.Resolution.{Lookup, text_names}
 use Rattle.text_meaning.specs.Abstraction.{program_read}
 use Rattle.text_meaning.specs.Resolution.{initialiser_targets, item_named}

@@ -41,10 +41,10 @@ use Rattle.module_meaning.specs.Ranges.{constant_in_range, global_in_range, is_b
 use Rattle.module_meaning.specs.Ranges.{function_in_range, override_in_range, special_types_fit, types_in_range}
 use Rattle.module_meaning.specs.Types.{type_names}
 use Rattle.module_meaning.specs.Undeclared.{is_declared}
-use Rattle.module_meaning.specs.WrittenSoFar.{constant_is_written, global_is_written}
-use Rattle.module_meaning.specs.WrittenSoFar.{is_written_literal}
+use Rattle.module_meaning.specs.ExpressionForms.{constant_is_written, global_is_written}
+use Rattle.module_meaning.specs.ExpressionForms.{is_written_literal}
 use Rattle.module_meaning.proofs.Lists.{list_all_at}
-use Rattle.module_meaning.proofs.WrittenSoFar.{spelled_of_spellable}
+use Rattle.module_meaning.proofs.ExpressionForms.{spelled_of_spellable}
 use Rattle.wgsl_text.proofs.ValueWords.{value_words}
 use Rattle.wgsl_text.specs.Attributes.{IsAttributes, is_stage}
 use Rattle.wgsl_text.specs.Declarations.{IsGlobal, IsMember, IsNamedConstant, IsOverride, IsStruct}

@@ -80,8 +80,8 @@ use Rattle.module_meaning.specs.Ranges.{is_below}
 use Rattle.module_meaning.specs.Types.{spelled_type, type_names}
 use Rattle.module_meaning.specs.Undeclared.{is_declared}
 use Rattle.module_meaning.specs.Written.{AllWrittenHaveForms}
-use Rattle.module_meaning.specs.WrittenSoFar.{global_is_written, global_is_written_over}
-use Rattle.module_meaning.specs.WrittenSoFar.{global_is_written_within}
+use Rattle.module_meaning.specs.ExpressionForms.{global_is_written, global_is_written_over}
+use Rattle.module_meaning.specs.ExpressionForms.{global_is_written_within}
 use Rattle.module_meaning.proofs.FunctionNumbers.{entry_point_among, function_among}
 use Rattle.module_meaning.proofs.FunctionNumbers.{type_of_entry_point}
 use Rattle.naga_form.specs.Attributes.{stage_attributes}

@@ -20,7 +20,7 @@ use Rattle.module_meaning.specs.Namings.{namings, outer_names}
 use Rattle.module_meaning.specs.Premises.{ScopesHold}
 use Rattle.module_meaning.specs.Types.{type_names}
 use Rattle.module_meaning.specs.Written.{AllWrittenHaveForms}
-use Rattle.module_meaning.specs.WrittenSoFar.{global_is_written}
+use Rattle.module_meaning.specs.ExpressionForms.{global_is_written}
 use Rattle.shader_runs.specs.Correct.{ModuleFits}
 use Rattle.shader_runs.specs.Form.{constant_form, form_module}
 use Rattle.shader_runs.specs.Program as shapes

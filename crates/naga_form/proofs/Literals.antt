@@ -8,7 +8,7 @@ use Rattle.naga_ir.specs.declared.expression.Literal.{Literal}
 use Rattle.naga_ir.specs.declared.expression.Literal as ir_literal
 use Rattle.naga_ir.specs.declared.expression.Literal.TheVariants as literal
 use Rattle.module_meaning.specs.Literals.{literal_is_within}
-use Rattle.module_meaning.specs.WrittenSoFar.{is_written_literal}
+use Rattle.module_meaning.specs.ExpressionForms.{is_written_literal}
 use Rattle.wgsl_text.specs.Literals.{Suffixed, LeastInteger, LeastLong, IsLiteral}
 use Rattle.wgsl_text.specs.Token.{SuffixI, SuffixLi}
 use Rattle.shader_runs.specs.Value.{Whole, Value, Truth, Opaque}

@@ -67,7 +67,7 @@ operates_freely w = not (is_request w) && names_no_item w
 abbrev pub asks_freely : List ℕ → Bool
 asks_freely w = is_request w && names_no_item w
 
--- as are the signs and the words of the operators that are written so far
+-- as are the signs and the words of the operators that have a form
 pub unary_free : (op : UnaryOperator) → operates_freely (run_word (UnarySign op)) ≡ true
 unfolding is_request is_builtin builtin_words
 unary_free unary.Negate = refl

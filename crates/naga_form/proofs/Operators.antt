@@ -51,7 +51,7 @@ use Rattle.module_meaning.specs.ExpressionShapes.{applied_shape, asking}
 use Rattle.module_meaning.specs.OperatorTable.{Operator, BinarySign, UnarySign, AtomicLoad, asks}
 use Rattle.module_meaning.specs.OperatorTable.{AtomicStore, CooperativeLoad, MatrixLoad}
 use Rattle.module_meaning.specs.OperatorTable.{own_math_word, run_word}
-use Rattle.module_meaning.specs.WrittenSoFar.{expression_is_written}
+use Rattle.module_meaning.specs.ExpressionForms.{expression_is_written}
 use Rattle.naga_ir.specs.declared.module.Module.{Module}
 use Rattle.naga_info.specs.declared.info.ExpressionInfo.{ExpressionInfo}
 use Rattle.module_meaning.specs.Shapes.{operator_shape}

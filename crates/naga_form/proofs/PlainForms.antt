@@ -1,7 +1,7 @@
 -- The plain forms of handles that are written are of the grammar, where the names in scope are
 -- identifiers.
 use Rattle.module_meaning.specs.OperandDemands.{are_operands_fit, operands_fit}
-use Rattle.module_meaning.specs.WrittenSoFar.{constant_is_written, expression_is_written}
+use Rattle.module_meaning.specs.ExpressionForms.{constant_is_written, expression_is_written}
 use Rattle.module_meaning.specs.ExpressionShapes.{part_selector, Declared}
 use Rattle.module_meaning.specs.OperatorTable.{WithoutForm, PartAt, Operator}
 use Rattle.naga_form.proofs.AllowedParts.{IsWellSelected, selected, selected_well, conversion}
@@ -27,7 +27,7 @@ use Rattle.naga_ir.specs.declared.module.Module.{Module}
 use Rattle.naga_info.specs.declared.info.ExpressionInfo.{ExpressionInfo}
 use Rattle.naga_info.specs.declared.info.ModuleInfo.{ModuleInfo}
 use Rattle.module_meaning.proofs.Lists.{list_all_at}
-use Rattle.module_meaning.proofs.WrittenSoFar.{spelled_of_spellable, has_form_parts}
+use Rattle.module_meaning.proofs.ExpressionForms.{spelled_of_spellable, has_form_parts}
 use Rattle.wgsl_text.specs.Words.{IsIdentifier}
 use Rattle.wgsl_text.specs.Expressions as tree_expressions
 use Rattle.wgsl_text.specs.Functions.{Each}

@@ -5,10 +5,10 @@ use Rattle.module_meaning.specs.DeclarationForms.{DeclarationsHaveForms}
 use Rattle.module_meaning.specs.ExpressionTypes.{have_their_types}
 use Rattle.module_meaning.specs.Numbers.{binding_fits_32_bits}
 use Rattle.module_meaning.specs.OperandDemands.{are_operands_fit}
-use Rattle.module_meaning.specs.WrittenSoFar.{constant_is_written}
+use Rattle.module_meaning.specs.ExpressionForms.{constant_is_written}
 use Rattle.module_meaning.specs.Ranges.{function_in_range, local_in_range, is_below}
 use Rattle.module_meaning.proofs.Lists.{list_all_at}
-use Rattle.module_meaning.proofs.WrittenSoFar.{spelled_of_spellable}
+use Rattle.module_meaning.proofs.ExpressionForms.{spelled_of_spellable}
 use Rattle.naga_form.proofs.AcceptedFunctions.{bindings_are_in_range, entry_info_among}
 use Rattle.naga_form.proofs.AcceptedFunctions.{locals_are_in_range, of_number, ranges_are}
 use Rattle.naga_form.proofs.AcceptedFunctions.{soundness_is}

@@ -46,8 +46,8 @@ use Rattle.module_meaning.specs.Namings.{named_handles, outer_names}
 use Rattle.module_meaning.specs.TypeIdentity.{identity, word_of_unspelled_type}
 use Rattle.module_meaning.specs.Types.{declared_type, type_names, word_of_values}
 use Rattle.module_meaning.specs.Undeclared.{is_spellable}
-use Rattle.module_meaning.specs.WrittenSoFar.{global_is_written}
-use Rattle.module_meaning.proofs.WrittenSoFar.{spelled_of_spellable}
+use Rattle.module_meaning.specs.ExpressionForms.{global_is_written}
+use Rattle.module_meaning.proofs.ExpressionForms.{spelled_of_spellable}
 use Rattle.naga_form.specs.ConstantForms.{global_form}
 use Rattle.naga_form.specs.Declarations.{constant_form, override_form, space_form}
 use Rattle.naga_form.specs.Declarations.{space_of_words, variable_form}

@@ -49,7 +49,7 @@ use Rattle.naga_info.specs.declared.info.ExpressionInfo.{ExpressionInfo}
 use Rattle.std.specs.List.{AllByRecursion}
 use Rattle.std.specs.Option.{option_to_list}
 use Rattle.naga_form.proofs.WrittenHandles.{all_map}
-use Rattle.module_meaning.specs.WrittenSoFar.{expression_is_written}
+use Rattle.module_meaning.specs.ExpressionForms.{expression_is_written}
 use Rattle.wgsl_text.specs.Types.{TypeSpecifier}
 use Rattle.shader_runs.specs.Value.{ValueType, BooleanType, OtherType, PointerType}
 use Rattle.shader_runs.specs.Value.{Selector, ElementAt, type_at}

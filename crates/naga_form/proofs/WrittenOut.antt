@@ -38,7 +38,7 @@ use Rattle.module_meaning.specs.Soundness.{module_is_sound}
 use Rattle.module_meaning.specs.ExpressionContexts.{constant_over, declared_over, global_tree, global_tree_within, global_types_known, written_constant}
 use Rattle.module_meaning.specs.DeclarationForms.{DeclarationsHaveForms, IsInitialiser}
 use Rattle.module_meaning.specs.Undeclared.{is_spellable}
-use Rattle.module_meaning.specs.WrittenSoFar.{global_is_written_over, global_is_written_within}
+use Rattle.module_meaning.specs.ExpressionForms.{global_is_written_over, global_is_written_within}
 use Rattle.module_meaning.proofs.Lists.{all_pass, list_all_at}
 use Rattle.module_meaning.proofs.Lists.{placed_at}
 use Rattle.naga_form.proofs.AcceptedGroups.{IsSoundGroup, own_known, own_group, declarations_are}

@@ -18,7 +18,7 @@ use Rattle.module_meaning.specs.DeclarationForms.IsInitialiser.{OfVariable as Va
 use Rattle.module_meaning.specs.DeclarationForms.IsMemberBinding.{OfMember as MemberBinding}
 use Rattle.module_meaning.specs.DeclarationForms.IsPassed.{OfArgument, OfResult}
 use Rattle.module_meaning.specs.Undeclared.{is_declared, is_spellable, is_undeclared}
-use Rattle.module_meaning.specs.WrittenSoFar.{global_is_written}
+use Rattle.module_meaning.specs.ExpressionForms.{global_is_written}
 use Rattle.naga_info.specs.declared.info.TypeResolution.TheVariants.{Handle}
 use Rattle.naga_ir.specs.declared.binding.Binding.{Binding}
 use Rattle.naga_ir.specs.declared.binding.Binding.TheVariants as binding

@@ -17,9 +17,9 @@ use Rattle.naga_form.proofs.WrittenOut.{Own, constant_named, initialiser_stands_
 use Rattle.naga_form.proofs.WrittenOut.{initialiser_within, own_is}
 use Rattle.naga_info.specs.declared.info.ModuleInfo.{ModuleInfo}
 use Rattle.module_meaning.specs.Undeclared.{is_spellable}
-use Rattle.module_meaning.specs.WrittenSoFar.{constant_is_written, constant_is_written_over}
-use Rattle.module_meaning.specs.WrittenSoFar.{global_is_written, global_is_written_over}
-use Rattle.module_meaning.specs.WrittenSoFar.{global_is_written_within}
+use Rattle.module_meaning.specs.ExpressionForms.{constant_is_written, constant_is_written_over}
+use Rattle.module_meaning.specs.ExpressionForms.{global_is_written, global_is_written_over}
+use Rattle.module_meaning.specs.ExpressionForms.{global_is_written_within}
 use Rattle.module_meaning.specs.Premises.{OperandsStandBefore}
 use Rattle.module_meaning.specs.Writable.{is_written_out, written_out_over, written_out_within}
 use Rattle.naga_ir.specs.Operands.{expression_operands}

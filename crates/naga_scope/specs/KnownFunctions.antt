@@ -8,7 +8,7 @@ use Rattle.module_meaning.specs.FunctionShapes.{cases_shape, function_shape, sta
 use Rattle.module_meaning.specs.FunctionShapes.{statements_shape}
 use Rattle.module_meaning.specs.Namings.{function_naming}
 use Rattle.module_meaning.specs.Premises.{OperandsStandBefore}
-use Rattle.module_meaning.specs.WrittenSoFar.{expression_has_form}
+use Rattle.module_meaning.specs.ExpressionForms.{expression_has_form}
 use Rattle.naga_ir.specs.StatementTree.{BlockTree, CaseTrees, StatementTree}
 use Rattle.naga_ir.specs.declared.expression.Expression.{Expression}
 use Rattle.naga_scope.specs.Availabilities.{KeepsStart, TextPoint, handles_of}

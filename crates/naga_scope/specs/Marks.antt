@@ -2,7 +2,7 @@
 use Rattle.std.specs.Prelude.{◌≡◌, ◌<◌, ℕ, Bool, false, List, ◌&&◌, ◌||◌, get_or, length, nat_eq, nat_lt}
 use Rattle.std.specs.Prelude.{IsFalse, IsSomeAnd, IsTrue, None, Option, Some, slice_get}
 use Rattle.std.specs.List.{list_any}
-use Rattle.module_meaning.specs.WrittenSoFar.{global_is_written}
+use Rattle.module_meaning.specs.ExpressionForms.{global_is_written}
 use Rattle.module_meaning.specs.Premises.{OperandsStandBefore}
 use Rattle.module_meaning.specs.Writable.{is_written_out}
 use Rattle.module_meaning.specs.Written.{IsWritten}

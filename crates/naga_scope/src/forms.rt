@@ -3,11 +3,11 @@
 ghost use Rattle.std.specs.Prelude.{◌≡◌, List, IsTrue, Some};
 ghost use Rattle.std.specs.Option.{is_some, option_and_then};
 ghost use Rattle.module_meaning.specs.Conversions.{converted_scalar};
-ghost use Rattle.module_meaning.specs.WrittenSoFar.{converts, expression_is_written};
-ghost use Rattle.module_meaning.specs.WrittenSoFar.{is_written_literal};
+ghost use Rattle.module_meaning.specs.ExpressionForms.{converts, expression_is_written};
+ghost use Rattle.module_meaning.specs.ExpressionForms.{is_written_literal};
 ghost use Rattle.module_meaning.specs.ExpressionOperators.{scalar_behind, scalar_in};
 ghost use Rattle.module_meaning.specs.Names.{HasNamesOf, module_names, name_in};
-ghost use Rattle.module_meaning.specs.WrittenSoFar.{known_passes, loads_matrix, part_is_written};
+ghost use Rattle.module_meaning.specs.ExpressionForms.{known_passes, loads_matrix, part_is_written};
 ghost use Rattle.module_meaning.specs.Sampling.{sampling_is_written};
 ghost use Rattle.module_meaning.specs.Undeclared.{is_spellable, member_words, part_is_written_at};
 ghost use Rattle.module_meaning.specs.Undeclared.{whole_known, whole_of};

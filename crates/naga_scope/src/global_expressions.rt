@@ -1,8 +1,8 @@
 //! Which of a module's own expressions are written, where its constants are.
 
 ghost use Rattle.std.specs.Prelude.{◌≡◌, IfOk, length};
-ghost use Rattle.module_meaning.specs.WrittenSoFar.{constant_is_written, constant_is_written_over};
-ghost use Rattle.module_meaning.specs.WrittenSoFar.{global_is_written_over};
+ghost use Rattle.module_meaning.specs.ExpressionForms.{constant_is_written, constant_is_written_over};
+ghost use Rattle.module_meaning.specs.ExpressionForms.{global_is_written_over};
 ghost use Rattle.naga_scope.specs.Marks.{GlobalsStandInOrder, MarksGlobals, is_marked};
 
 use crate::forms::{literal_has_form, type_is_spellable};

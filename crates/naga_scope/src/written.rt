@@ -15,7 +15,7 @@ ghost use Rattle.module_meaning.specs.Sampling.{own_offset_is_written};
 ghost use Rattle.module_meaning.specs.Writable.{written_out_over};
 ghost use Rattle.module_meaning.specs.Written.{block_roots, cases_roots, function_roots};
 ghost use Rattle.module_meaning.specs.Written.{statement_roots};
-ghost use Rattle.module_meaning.specs.WrittenSoFar.{expression_has_form};
+ghost use Rattle.module_meaning.specs.ExpressionForms.{expression_has_form};
 ghost use Rattle.naga_scope.specs.Forms.{AreKnownIn};
 ghost use Rattle.naga_scope.specs.KnownFunctions.{bound_in, expressions_of, has_form_in};
 ghost use Rattle.naga_scope.specs.Marks.{MarksAlso, MarksConstants, MarksGlobals, MarksJust};

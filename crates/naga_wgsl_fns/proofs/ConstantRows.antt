@@ -11,9 +11,9 @@ use Rattle.module_meaning.proofs.Stepwise.{by_those_before}
 use Rattle.module_meaning.specs.AlikeTypes.{is_spelled}
 use Rattle.module_meaning.specs.OperatorTable.{Splat, run_word}
 use Rattle.module_meaning.specs.Names.{constant_name, module_names}
-use Rattle.module_meaning.specs.WrittenSoFar.{constant_is_written, global_is_written}
-use Rattle.module_meaning.specs.WrittenSoFar.{global_is_written_over, global_is_written_within}
-use Rattle.module_meaning.specs.WrittenSoFar.{is_written_literal}
+use Rattle.module_meaning.specs.ExpressionForms.{constant_is_written, global_is_written}
+use Rattle.module_meaning.specs.ExpressionForms.{global_is_written_over, global_is_written_within}
+use Rattle.module_meaning.specs.ExpressionForms.{is_written_literal}
 use Rattle.module_meaning.specs.ExpressionContexts.{expression_context}
 use Rattle.naga_form.proofs.Operators.{constructor_called, typed_notation}
 use Rattle.naga_form.proofs.SameValues.{or_nothing}
@@ -46,7 +46,7 @@ use Rattle.naga_names.specs.declared.key.NameKey.TheVariants as key
 use Rattle.naga_wgsl_fns.specs.Literals.{literal_text}
 use Rattle.naga_wgsl_fns.specs.Names.{name_of_constant, name_of_override}
 use Rattle.naga_wgsl_fns.specs.Types.{spelled_text}
-use Rattle.module_meaning.proofs.WrittenSoFar.{spelled_of_spellable}
+use Rattle.module_meaning.proofs.ExpressionForms.{spelled_of_spellable}
 use Rattle.module_meaning.specs.Undeclared.{is_spellable}
 use Rattle.shader_runs.specs.Premises.{AllBelow}
 use Rattle.wgsl_text.proofs.Expressions.{argument_text as argument_row_text}

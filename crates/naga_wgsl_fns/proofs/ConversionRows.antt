@@ -6,7 +6,7 @@ use Rattle.std.specs.Prelude.{slice_get, unwrap_or, if◌then◌else◌}
 use Rattle.module_meaning.specs.Conversions.{conversion_target, keeps_bits}
 use Rattle.module_meaning.specs.ExpressionOperators.{type_known}
 use Rattle.module_meaning.specs.AlikeTypes.{is_spelled}
-use Rattle.module_meaning.specs.WrittenSoFar.{expression_is_written}
+use Rattle.module_meaning.specs.ExpressionForms.{expression_is_written}
 use Rattle.module_meaning.specs.Ranges.{resolution_fits}
 use Rattle.naga_form.proofs.AllowedParts.{conversion}
 use Rattle.naga_form.proofs.Operators.{bits_text, cast_called, conversion_is, typed_notation}

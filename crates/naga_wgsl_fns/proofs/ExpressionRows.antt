@@ -1,6 +1,6 @@
 -- The text of an expression by its kind and by where it stands, and from what is written of it in
 -- turn.
-use Rattle.module_meaning.specs.WrittenSoFar.{expression_is_written}
+use Rattle.module_meaning.specs.ExpressionForms.{expression_is_written}
 use Rattle.naga_wgsl_fns.proofs.Wanted.{IsNoOther, expression_formed}
 use Rattle.std.proofs.Common.{ap₂}
 use Rattle.std.proofs.Common.{◌≡◌, ℕ, zero, suc, ◌<◌, Bool, true, false, List, [], ◌∷◌, length, Option, Some}

@@ -6,8 +6,8 @@ use Rattle.std.specs.List.{IsAmong, find, list_all}
 use Rattle.std.specs.Option.{is_none, is_some, option_map_or}
 use Rattle.module_meaning.proofs.Stepwise.{by_those_before}
 use Rattle.module_meaning.specs.Undeclared.{is_spellable}
-use Rattle.module_meaning.specs.WrittenSoFar.{constant_is_written, global_is_written, global_is_written_over}
-use Rattle.module_meaning.specs.WrittenSoFar.{global_is_written_within, is_written_literal}
+use Rattle.module_meaning.specs.ExpressionForms.{constant_is_written, global_is_written, global_is_written_over}
+use Rattle.module_meaning.specs.ExpressionForms.{global_is_written_within, is_written_literal}
 use Rattle.naga_info.specs.declared.info.TypeResolution.TheVariants.{Handle}
 use Rattle.naga_ir.specs.Operands.{expression_operands}
 use Rattle.naga_ir.specs.declared.expression.Expression.{Expression}

@@ -7,7 +7,7 @@ use Rattle.std.specs.Option.{option_map_or}
 use Rattle.module_meaning.specs.AlikeTypes.{is_spelled}
 use Rattle.module_meaning.specs.ExpressionOperators.{is_atomic_pointer}
 use Rattle.module_meaning.specs.OperatorTable.{AtomicLoad, run_word}
-use Rattle.module_meaning.specs.WrittenSoFar.{expression_is_written}
+use Rattle.module_meaning.specs.ExpressionForms.{expression_is_written}
 use Rattle.naga_form.proofs.AllowedParts.{loaded_matrix}
 use Rattle.naga_form.proofs.Operators.{load_called, load_text as loaded_text, matrix_is}
 use Rattle.naga_form.proofs.Operators.{typed_notation}

@@ -7,7 +7,7 @@ use Rattle.std.proofs.lemmas.Option.{same_Some}
 use Rattle.naga_ir.specs.declared.expression.Expression as ir
 use Rattle.naga_ir.specs.declared.expression.Expression.TheVariants as expression
 use Rattle.module_meaning.specs.OperatorTable.{WithoutForm, PartAt}
-use Rattle.module_meaning.specs.WrittenSoFar.{expression_is_written}
+use Rattle.module_meaning.specs.ExpressionForms.{expression_is_written}
 use Rattle.naga_form.proofs.AllowedParts.{selected}
 use Rattle.naga_form.specs.Expressions.{PlainForm, as_value, as_reference, applied_plain, no_form}
 use Rattle.naga_form.specs.Expressions.{own_if, part_plain, points, selected_part}

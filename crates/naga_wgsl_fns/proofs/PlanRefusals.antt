@@ -27,7 +27,7 @@ use Rattle.naga_info.specs.declared.info.ModuleInfo.{ModuleInfo}
 use Rattle.shader_runs.specs.Program.{Function}
 use Rattle.shader_runs.specs.ScopeRules.{ScopeHolds}
 use Rattle.module_meaning.specs.Accepted.{is_accepted}
-use Rattle.module_meaning.specs.WrittenSoFar.{expression_has_form}
+use Rattle.module_meaning.specs.ExpressionForms.{expression_has_form}
 use Rattle.module_meaning.proofs.Lists.{list_all_at}
 use Rattle.module_meaning.specs.LackingScalars.{lacking_scalar}
 use Rattle.module_meaning.specs.Written.{IsSpelledIn}
@@ -67,7 +67,7 @@ use Rattle.naga_wgsl_fns.specs.Refusals.{HasFormlessIn, NamesConversion, NamesEx
 use Rattle.naga_wgsl_fns.specs.Refusals.{NamesFormlessType, NamesPart, NamesType}
 use Rattle.naga_wgsl_fns.specs.Refusals.{NamesUnspelled}
 use Rattle.module_meaning.specs.ExpressionOperators.{has_parts}
-use Rattle.module_meaning.specs.WrittenSoFar.{known_passes}
+use Rattle.module_meaning.specs.ExpressionForms.{known_passes}
 use Rattle.naga_wgsl_fns.specs.Refusals.{NamesFormless, NamesLiteral, NamesMatrix, converted}
 use Rattle.naga_wgsl_fns.specs.Refusals.{NamesItemsOf, NamesGlobal, OfConstant, OfLiteral}
 use Rattle.naga_wgsl_fns.specs.Refusals.{OfOperand, OfOperation, OfType, pointed_scalar}

@@ -4,7 +4,7 @@ use Rattle.std.specs.Prelude.{Err, IfErr, IsErrAnd, IsFalse, IsTrue, Ok, OnErr, 
 use Rattle.naga_ir.specs.declared.module.Module.{Module}
 use Rattle.naga_info.specs.declared.info.ModuleInfo.{ModuleInfo}
 use Rattle.module_meaning.specs.Accepted.{is_accepted}
-use Rattle.module_meaning.specs.WrittenSoFar.{global_is_written}
+use Rattle.module_meaning.specs.ExpressionForms.{global_is_written}
 use Rattle.module_meaning.specs.Types.{type_names}
 use Rattle.naga_form.proofs.DeclaredPrograms.{written_global}
 use Rattle.naga_form.specs.ConstantForms.{global_form}

@@ -30,7 +30,7 @@ use Rattle.naga_ir.specs.declared.types.CooperativeSize.{CooperativeSize}
 use Rattle.naga_ir.specs.declared.types.VectorSize.{VectorSize}
 use Rattle.naga_info.specs.declared.info.ExpressionInfo.{ExpressionInfo}
 use Rattle.module_meaning.proofs.Lists.{list_all_at}
-use Rattle.module_meaning.proofs.WrittenSoFar.{spelled_of_spellable, has_form_parts}
+use Rattle.module_meaning.proofs.ExpressionForms.{spelled_of_spellable, has_form_parts}
 use Rattle.module_meaning.specs.Sampling.{own_offset_is_written}
 use Rattle.naga_ir.specs.declared.expression.ImageQuery.{ImageQuery}
 use Rattle.naga_ir.specs.declared.expression.SampleLevel.{SampleLevel}
@@ -43,7 +43,7 @@ use Rattle.module_meaning.specs.AlikeTypes.{is_spelled}
 use Rattle.module_meaning.specs.DeclarationForms.IsPassed as passed
 use Rattle.module_meaning.specs.DeclarationForms.{binding_has_form}
 use Rattle.naga_wgsl_fns.specs.Bindings.{passing_has_form}
-use Rattle.module_meaning.specs.WrittenSoFar.{expression_is_written, known_passes}
+use Rattle.module_meaning.specs.ExpressionForms.{expression_is_written, known_passes}
 use Rattle.naga_form.proofs.AcceptedGroups.{fits_in_range, known_fits, known_is_fit}
 use Rattle.naga_form.proofs.PartTypes.{known_before}
 use Rattle.naga_info.specs.declared.info.ModuleInfo.{ModuleInfo}
@@ -105,7 +105,7 @@ use Rattle.std.proofs.Common.{◌∷◌}
 use Rattle.naga_wgsl_fns.specs.Types.{annotation_text, resolution_text, let_annotation_text}
 use Rattle.naga_wgsl_fns.specs.Types.{annotation_if}
 
--- an expression is of none of these kinds, which are those that are written so far
+-- an expression is of none of these kinds, which are those that have a form
 pub record IsNoOther (e : Expression) : Type 0 where
   pub literal : (value : ir_literal.Literal) → e ≡ expression.Literal value → ⊥
   pub constant : (c : ℕ) → e ≡ expression.Constant c → ⊥

@@ -8,7 +8,7 @@ use Rattle.module_meaning.specs.DeclarationForms.{IsPassed, binding_has_form, en
 use Rattle.module_meaning.specs.DeclarationForms.{stage_has_form}
 use Rattle.module_meaning.specs.FunctionNumbers.{all_functions}
 use Rattle.module_meaning.specs.Undeclared.{is_spellable}
-use Rattle.module_meaning.specs.WrittenSoFar.{global_is_written}
+use Rattle.module_meaning.specs.ExpressionForms.{global_is_written}
 use Rattle.naga_info.specs.declared.info.TypeResolution.TheVariants.{Handle}
 use Rattle.naga_ir.specs.declared.binding.Binding.{Binding}
 use Rattle.naga_ir.specs.declared.module.EntryPoint.{EntryPoint}

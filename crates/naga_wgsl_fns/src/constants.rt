@@ -2,7 +2,7 @@
 
 ghost use Rattle.std.specs.Prelude.{◌≡◌, IsTrue};
 ghost use Rattle.module_meaning.specs.AlikeTypes.{is_spelled};
-ghost use Rattle.module_meaning.specs.WrittenSoFar.{constant_is_written, global_is_written};
+ghost use Rattle.module_meaning.specs.ExpressionForms.{constant_is_written, global_is_written};
 ghost use Rattle.naga_info.specs.declared.info.TypeResolution.TheVariants as resolution;
 ghost use Rattle.naga_words.specs.Output.{Writes};
 ghost use Rattle.naga_wgsl_fns.specs.Constants.{called_global_text, constant_text, global_text};

@@ -2,7 +2,7 @@
 
 ghost use Rattle.std.specs.Prelude.{◌≡◌, ◌<◌, IsFalse, length, not};
 ghost use Rattle.std.specs.List.{find};
-ghost use Rattle.module_meaning.specs.WrittenSoFar.{constant_is_written, global_is_written};
+ghost use Rattle.module_meaning.specs.ExpressionForms.{constant_is_written, global_is_written};
 ghost use Rattle.naga_scope.specs.Marks.{GlobalsStandInOrder, MarksGlobals, is_marked};
 ghost use Rattle.naga_wgsl_fns.specs.Refusals.{NamesConstant, NamesGlobal};
 

@@ -1,8 +1,8 @@
 //! The refusals of expressions and types without a form, by name.
 
 ghost use Rattle.std.specs.Prelude.{Bool, IsFalse, List, ◌&&◌};
-ghost use Rattle.module_meaning.specs.WrittenSoFar.{expression_has_form, is_written_literal};
-ghost use Rattle.module_meaning.specs.WrittenSoFar.{known_passes};
+ghost use Rattle.module_meaning.specs.ExpressionForms.{expression_has_form, is_written_literal};
+ghost use Rattle.module_meaning.specs.ExpressionForms.{known_passes};
 ghost use Rattle.module_meaning.specs.ExpressionOperators.{has_parts, scalar_behind};
 ghost use Rattle.module_meaning.specs.Conversions.{conversion_target};
 ghost use Rattle.module_meaning.specs.Sampling.{sampling_is_written};

@@ -1,7 +1,7 @@
 //! Literals.
 
 ghost use Rattle.std.specs.Prelude.{◌++◌, IsTrue};
-ghost use Rattle.module_meaning.specs.WrittenSoFar.{is_written_literal};
+ghost use Rattle.module_meaning.specs.ExpressionForms.{is_written_literal};
 ghost use Rattle.naga_words.specs.Output.{Writes};
 ghost use Rattle.naga_wgsl_fns.specs.Literals.{i32_text, literal_text, i64_text, i16_text};
 ghost use Rattle.naga_wgsl_fns.specs.Literals.{u16_text};

@@ -4,7 +4,7 @@ ghost use Rattle.std.specs.Prelude.{◌≡◌, ◌<◌, IsTrue, Some, length, sl
 ghost use Rattle.std.specs.Option.{is_some};
 ghost use Rattle.module_meaning.specs.AlikeTypes.{is_spelled};
 ghost use Rattle.module_meaning.specs.ExpressionOperators.{is_atomic_pointer};
-ghost use Rattle.module_meaning.specs.WrittenSoFar.{expression_is_written};
+ghost use Rattle.module_meaning.specs.ExpressionForms.{expression_is_written};
 ghost use Rattle.module_meaning.specs.Ranges.{resolution_fits};
 ghost use Rattle.naga_form.specs.Expressions.{scalar_pointed};
 ghost use Rattle.naga_ir.specs.declared.expression.Expression.TheVariants.{CooperativeLoad, Load};

@@ -16,7 +16,7 @@ ghost use Rattle.naga_wgsl_fns.specs.Expressions.{has_components, is_vector_at, 
 ghost use Rattle.naga_wgsl_fns.specs.Expressions.{struct_at, struct_known};
 ghost use Rattle.module_meaning.specs.ExpressionOperators.{type_known};
 ghost use Rattle.module_meaning.specs.Names.{module_names, name_in};
-ghost use Rattle.module_meaning.specs.WrittenSoFar.{expression_is_written};
+ghost use Rattle.module_meaning.specs.ExpressionForms.{expression_is_written};
 ghost use Rattle.naga_names.specs.Keys.{names_in};
 ghost use Rattle.naga_names.specs.declared.key.NameKey.TheVariants as key;
 ghost use Rattle.naga_ir.specs.declared.expression.Expression.TheVariants.{AccessIndex};

@@ -6,7 +6,7 @@ use Rattle.std.specs.Prelude.{◌⊎◌, Err, IfErr, IsErrAnd, IsSomeAnd, Ok, Re
 use Rattle.std.specs.Prelude.{string_bytes}
 use Rattle.module_meaning.specs.ExpressionOperators.{has_parts}
 use Rattle.module_meaning.specs.LackingScalars.{lacking_scalar}
-use Rattle.module_meaning.specs.WrittenSoFar.{known_passes}
+use Rattle.module_meaning.specs.ExpressionForms.{known_passes}
 use Rattle.module_meaning.specs.Undeclared.{names_undeclared}
 use Rattle.naga_info.specs.declared.info.TypeResolution.{TypeResolution}
 use Rattle.naga_info.specs.declared.info.TypeResolution.TheVariants.{Handle}

@@ -22,7 +22,7 @@ use Rattle.naga_names.proofs.Refusal.{run_out_unfit}
 use Rattle.naga_names.specs.Refusal.{HasLongStruct}
 use Rattle.naga_names.specs.Reset.{members_of}
 use Rattle.naga_names.specs.declared.key.NameKey.TheVariants as key
-use Rattle.module_meaning.proofs.WrittenSoFar.{spelled_of_spellable}
+use Rattle.module_meaning.proofs.ExpressionForms.{spelled_of_spellable}
 use Rattle.module_meaning.specs.AlikeTypes.{is_spelled}
 use Rattle.module_meaning.specs.DeclarationForms.{DeclarationsHaveForms, IsDeclaredType}
 use Rattle.module_meaning.specs.DeclarationForms.{IsMemberBinding, binding_has_form}

@@ -5,7 +5,7 @@ ghost use Rattle.std.specs.Prelude.{◌≡◌, ℕ, IsTrue, Some};
 ghost use Rattle.module_meaning.specs.AlikeTypes.{is_spelled};
 ghost use Rattle.module_meaning.specs.DeclarationForms.{DeclarationsHaveForms};
 ghost use Rattle.module_meaning.specs.Names.{HasNamesOf};
-ghost use Rattle.module_meaning.specs.WrittenSoFar.{global_is_written};
+ghost use Rattle.module_meaning.specs.ExpressionForms.{global_is_written};
 ghost use Rattle.naga_info.specs.declared.info.TypeResolution.TheVariants as resolution;
 ghost use Rattle.naga_names.specs.Keys.{names_in};
 ghost use Rattle.naga_words.specs.Output.{Writes};

@@ -1,6 +1,6 @@
 use Rattle.std.proofs.Common.{◌≡◌, ◌<◌, ap, arith, length, sym, subst, ◌∙◌}
 use Rattle.std.specs.Prelude.{slice_get}
-use Rattle.module_meaning.specs.WrittenSoFar.{global_is_written}
+use Rattle.module_meaning.specs.ExpressionForms.{global_is_written}
 use Rattle.naga_scope.proofs.WrittenConstants.{MarksBelow, all_below, global_by, no_global_beyond}
 use Rattle.naga_scope.proofs.WrittenConstants.{none_below, one_below}
 use Rattle.naga_scope.proofs.global_expressions.mark_globals.Goals as goal

@@ -1,5 +1,5 @@
 use Rattle.std.proofs.Common.{length}
-use Rattle.module_meaning.specs.WrittenSoFar.{global_is_written}
+use Rattle.module_meaning.specs.ExpressionForms.{global_is_written}
 use Rattle.naga_scope.proofs.WrittenConstants.{MarksBelow}
 use Rattle.naga_scope.proofs.global_expressions.mark_globals.Given as goal
 

@@ -1,7 +1,7 @@
 use Rattle.std.proofs.Common.{◌≡◌, ◌<◌, ◌≤◌, ◌-◌, suc, arith, ap, sym, subst, ◌∙◌, length}
 use Rattle.std.proofs.Common.{slice_get}
 use Rattle.std.specs.Prelude.{IsFalse, IsSomeAnd}
-use Rattle.module_meaning.specs.WrittenSoFar.{expression_has_form}
+use Rattle.module_meaning.specs.ExpressionForms.{expression_has_form}
 use Rattle.naga_scope.proofs.Sweeping.{Swept, begun, ended, next, passed}
 use Rattle.naga_scope.specs.Marks.{is_marked}
 use Rattle.naga_scope.proofs.written.sweep.Goals as goal

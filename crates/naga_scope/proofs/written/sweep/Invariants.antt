@@ -1,5 +1,5 @@
 use Rattle.std.proofs.Common.{◌≡◌, ◌≤◌, ℕ, List, length}
-use Rattle.module_meaning.specs.WrittenSoFar.{expression_has_form}
+use Rattle.module_meaning.specs.ExpressionForms.{expression_has_form}
 use Rattle.naga_scope.proofs.Sweeping.{Swept}
 use Rattle.naga_scope.specs.Marks.{MarksJust}
 use Rattle.naga_scope.proofs.written.sweep.Given as goal

@@ -5,7 +5,7 @@ use Rattle.naga_ir.specs.declared.module.Module.{Module}
 use Rattle.naga_info.specs.declared.info.ExpressionInfo.{ExpressionInfo}
 use Rattle.naga_info.specs.declared.info.TypeResolution.{TypeResolution}
 use Rattle.module_meaning.specs.AlikeTypes.{is_spelled}
-use Rattle.module_meaning.specs.WrittenSoFar.{expression_has_form, expression_is_written}
+use Rattle.module_meaning.specs.ExpressionForms.{expression_has_form, expression_is_written}
 use Rattle.module_meaning.specs.Sampling.{own_offset_is_written}
 use Rattle.module_meaning.specs.Undeclared.{is_spellable, names_undeclared}
 use Rattle.naga_ir.specs.declared.expression.Expression.{Expression}
