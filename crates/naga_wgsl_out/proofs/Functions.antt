@@ -1,5 +1,5 @@
 -- The text of a module from those of its functions and entry points.
-use Rattle.std.proofs.Common.{◌≡◌, ◌+◌, ◌-◌, ◌<◌, ◌≤◌, ◌∙◌, ◌++◌, ℕ, zero, suc, List, [], ◌∷◌, Some}
+use Rattle.std.proofs.Common.{◌≡◌, ◌+◌, ◌-◌, ◌<◌, ◌≤◌, ◌∙◌, ◌++◌, ◌^◌, ℕ, zero, suc, List, [], ◌∷◌, Some}
 use Rattle.std.proofs.Common.{Bool, true, false, None, Option, nat_lt}
 use Rattle.std.proofs.Common.{append-nil, append_assoc, add-one, ap, arith, below_more, codes, drop}
 use Rattle.std.proofs.Common.{drop-cons, get_or, inl, inr, length, pred, refl, slice_get, subst}
@@ -7,7 +7,7 @@ use Rattle.std.proofs.Common.{Err, Ok, Result, sym, take, unwrap_or}
 use Rattle.std.specs.Prelude.{◌⊎◌, IsErrAnd, IsTrue, if◌then◌else◌}
 use Rattle.std.specs.List.{enumerate_from}
 use Rattle.std.specs.Option.{option_map_or}
-use Rattle.std.proofs.lemmas.Bool.{le-ltb, lt-ltb}
+use Rattle.std.proofs.lemmas.Bool.{ltb-false, ltb-true}
 use Rattle.std.proofs.lemmas.Grind.{flat_map-append}
 use Rattle.std.proofs.lemmas.List.{get_or_default, take-append-drop, take_all, take_more}
 use Rattle.std.proofs.lemmas.List.FromFn.{length-enumerate_from}
@@ -18,18 +18,17 @@ use Rattle.naga_info.specs.declared.info.ExpressionInfo.{ExpressionInfo}
 use Rattle.naga_info.specs.declared.info.ModuleInfo.{ModuleInfo}
 use Rattle.module_meaning.specs.Accepted.{is_accepted}
 use Rattle.module_meaning.specs.DeclarationForms.{entry_point_numbered}
-use Rattle.module_meaning.specs.FunctionNumbers.{all_functions, entry_functions}
+use Rattle.module_meaning.specs.FunctionNumbers.{all_functions, entry_functions, function_type}
+use Rattle.naga_back.specs.declared.context.FunctionType.{FunctionType}
+use Rattle.naga_back.specs.declared.context.FunctionType.TheVariants as item
 use Rattle.wgsl_text.specs.Attributes.{attributes_pieces}
 use Rattle.wgsl_text.specs.Token.{LineEnd, Piece}
-use Rattle.wgsl_text.specs.Declarations.{constants_pieces, enables_pieces, globals_pieces}
-use Rattle.wgsl_text.specs.Declarations.{overrides_pieces, structs_pieces}
 use Rattle.wgsl_text.specs.Functions.{entry_point_pieces, entry_points_pieces, function_pieces}
-use Rattle.wgsl_text.specs.Functions.{functions_pieces, group_end, more_entry_points_pieces}
+use Rattle.wgsl_text.specs.Functions.{functions_pieces, more_entry_points_pieces}
 use Rattle.wgsl_text.specs.Functions.{EntryPoint as EntryPointTree, Function as FunctionTree}
 use Rattle.naga_form.specs.Attributes.{stage_attributes}
 use Rattle.naga_form.specs.Declarations.{entry_point_form, entry_points_form, written_program}
 use Rattle.naga_form.specs.Functions.{function_form, functions_form}
-use Rattle.wgsl_text.proofs.Declarations.{program_text}
 use Rattle.wgsl_text.proofs.Text.{text-append}
 use Rattle.naga_names.proofs.Refusal.{element}
 use Rattle.naga_form.proofs.AcceptedFunctions.{entry_points_counted, functions_counted}
@@ -40,8 +39,8 @@ use Rattle.naga_scope.specs.ExpressionNames.{NamesLabels}
 use Rattle.naga_scope.specs.Plans.{IsPlanOf, Planned}
 use Rattle.module_meaning.specs.Enables.{needed_enables}
 use Rattle.module_meaning.specs.Names.{expression_name, labels_before, labels_named_in}
-use Rattle.module_meaning.specs.Names.{module_names}
-use Rattle.naga_wgsl_fns.specs.Appends.{StoppedWithin, Wrote}
+use Rattle.module_meaning.specs.Names.{module_names, wgsl_names}
+use Rattle.naga_wgsl_fns.specs.Appends.{Appends, StoppedWithin, Wrote}
 use Rattle.naga_wgsl_fns.specs.Attributes.{attributes_text}
 use Rattle.naga_wgsl_fns.specs.FunctionText.{annotates_types}
 use Rattle.naga_wgsl_fns.specs.Functions.{known_of, text_of, text_of_function}
@@ -51,18 +50,22 @@ use Rattle.naga_wgsl_fns.specs.declared.error.Error.TheVariants.{Memory}
 use Rattle.naga_wgsl_fns.proofs.Appending.{stopped_first, stopped_then, wrote_nothing, wrote_then}
 use Rattle.naga_back.specs.declared.flags.WriterFlags.{WriterFlags}
 use Rattle.naga_wgsl_fns.specs.Refusals.{IsFault, IsPlanRefusal, TellsOfModule}
-use Rattle.naga_wgsl_out.specs.Constants.{constants_of, overrides_of}
-use Rattle.naga_wgsl_out.specs.Declarations.{declarations_text}
+use Rattle.naga_wgsl_out.specs.Declarations.{declarations_of, declarations_text}
+use Rattle.naga_wgsl_out.specs.Enables.{enables_text}
+use Rattle.naga_wgsl_out.proofs.DeclarationRows.{layout_row}
 use Rattle.naga_wgsl_out.specs.ModuleRefusals.{HasNamedBefore}
-use Rattle.naga_wgsl_out.specs.Structs.{structs_of}
-use Rattle.naga_wgsl_out.specs.Variables.{globals_of}
-use Rattle.naga_wgsl_out.specs.Writing.{HasPlan, IsNamedPlan, MetNoPlan, WritesFunctions}
-use Rattle.naga_wgsl_out.specs.Writing.{WroteFunctions, front_text, line_before, line_behind}
+use Rattle.naga_wgsl_out.specs.Writing.{HasNoPlan, HasPlan, IsNamedPlan, MetNoPlan}
+use Rattle.naga_wgsl_out.specs.Writing.{WritesFunctions, WritesNext, WroteFunctions, WroteNext}
+use Rattle.naga_wgsl_out.specs.Writing.{front_text, line_at, with_lines}
 use Rattle.naga_wgsl_out.specs.Writing.{line_of, lines_before, lines_of, module_lines, written_text}
 use Rattle.naga_wgsl_out.proofs.ExpressionNames.{named_plan, none_full}
 use Rattle.naga_wgsl_fns.proofs.PlanRefusals.{fault_fails}
 use Rattle.naga_wgsl_out.proofs.ModuleScopes.{has_plan_holds}
-use Rattle.module_meaning.proofs.FunctionNumbers.{info_among}
+use Rattle.module_meaning.proofs.FunctionNumbers.{info_among, type_of_entry_point, type_of_function}
+use Rattle.naga_form.proofs.DeclaredPrograms.{entry_point_there}
+use Rattle.naga_wgsl_fns.proofs.FunctionRows.{no_entry_point}
+use Rattle.naga_names.proofs.Refusal.{run_out_unfit}
+use Rattle.naga_wgsl_out.specs.ModuleRefusals.{KeyIsOutOfRange}
 
 -- behind the numbered items of a list stand those of another, numbered on
 numbered_on : {X : Type 0} (n : ℕ) (xs ys : List X) →
@@ -74,48 +77,36 @@ numbered_on n (x ∷ xs) ys =
     (numbered_on (n + 1) xs ys ∙ ap (λ k. enumerate_from (n + 1) xs ++ enumerate_from k ys) moved)
 
 -- ---- the lines of functions and of entry points
-module _ (m : Module) (info : ModuleInfo) (flags : WriterFlags) where
+module _ (m : Module) (info : ModuleInfo) (flags : WriterFlags)
+    (accepted : IsTrue (is_accepted m info)) where
   -- a function by its number, of whose expressions this is known
   abbrev own_text : ℕ → Function → List ExpressionInfo → List ℕ
   own_text g f es =
       text (function_pieces (function_form (annotates_types flags) (module_names m) (expression_name m g) m info g f es))
 
-  lines_are : (g : ℕ) (f : Function) (before behind : Bool) (stage : Option EntryPoint) →
-      nat_lt (length m.functions) g ≡ before → nat_lt g (length m.functions) ≡ behind →
-      entry_point_numbered m g ≡ stage →
+  lines_are : (g : ℕ) (f : Function) (ty : FunctionType) (stage : Option EntryPoint) →
+      function_type m g ≡ ty → entry_point_numbered m g ≡ stage →
       line_of m info flags (g, f) ≡
-      (if before then codes "\n" else []) ++
-      ((option_map_or (stage_text m) stage [] ++ own_text g f (known_of info g)) ++ (if behind then codes "\n" else []))
-  lines_are g f before behind stage is_before is_behind is =
-      λ i. (if is_before i then codes "\n" else []) ++
-      ((option_map_or (stage_text m) (is i) [] ++ own_text g f (known_of info g)) ++ (if is_behind i then codes "\n" else []))
+      with_lines ty (option_map_or (stage_text m) stage [] ++ own_text g f (known_of info g))
+  lines_are g f ty stage ty_is is =
+      λ i. with_lines (ty_is i) (option_map_or (stage_text m) (is i) [] ++ own_text g f (known_of info g))
 
   function_line : (h : ℕ) (f : Function) → h < length m.functions →
       line_of m info flags (h, f) ≡ own_text h f (known_of info h) ++ codes "\n"
   function_line h f lt =
-      let here = lt-ltb h (length m.functions) lt in
-      lines_are h f false true None (le-ltb (length m.functions) h (omega (arith, lt))) here
-      (ap (λ b. if b then None else slice_get m.entry_points.items (h - length m.functions)) here)
+      lines_are h f (item.Function h) None (type_of_function m h lt) (no_entry_point m h lt)
 
-  entry_point_line : (j : ℕ) (p : EntryPoint) → slice_get m.entry_points.items j ≡ Some p →
+  entry_point_line : (j : ℕ) (p : EntryPoint) →
+      slice_get m.entry_points.items j ≡ Some p →
       line_of m info flags (length m.functions + j, p.function) ≡
       (if nat_lt 0 j then codes "\n" else []) ++
       (stage_text m p ++ own_text (length m.functions + j) p.function (known_of info (length m.functions + j)))
   entry_point_line j p at =
       let g : ℕ = length m.functions + j in
-      let past : length m.functions ≤ g = omega arith in
-      let there = le-ltb g (length m.functions) past in
-      let rest : g - length m.functions ≡ j = omega arith in
-      lines_are g p.function (nat_lt (length m.functions) g) false (Some p) refl there
-      (ap (λ b. if b then None else slice_get m.entry_points.items (g - length m.functions)) there
-      ∙ (ap (slice_get m.entry_points.items) rest ∙ at))
-      ∙ (ap (λ t. (if nat_lt (length m.functions) g then codes "\n" else []) ++ t)
+      lines_are g p.function (item.EntryPoint j) (Some p) (type_of_entry_point m j)
+      (entry_point_there m info accepted j ∙ at)
+      ∙ ap (λ t. (if nat_lt 0 j then codes "\n" else []) ++ t)
       (append-nil (stage_text m p ++ own_text g p.function (known_of info g)))
-      ∙ ap (λ b. (if b then codes "\n" else []) ++ (stage_text m p ++ own_text g p.function (known_of info g))) (moved j))
-    where
-      moved : (j : ℕ) → nat_lt (length m.functions) (length m.functions + j) ≡ nat_lt 0 j
-      moved zero = le-ltb (length m.functions) (length m.functions + 0) (omega arith)
-      moved (suc j) = lt-ltb (length m.functions) (length m.functions + suc j) (omega arith)
 
   functions_text : (g : ℕ) (fs : List Function) (ess : List (List ExpressionInfo)) →
       g + length fs ≤ length m.functions → length fs ≡ length ess →
@@ -213,19 +204,13 @@ module _ (m : Module) (info : ModuleInfo) (flags : WriterFlags) where
           (λ i. ((if nat_lt 0 j then codes "\n" else []) ++ (point_text g p es ∙ ap (λ ks. stage_text m p ++ own_text g p.function ks) (sym same)) i) ++ rest i)
           ∙ ap (λ t. t ++ more) (sym (entry_point_line j p here))
 
--- what stands in front of the functions, and these and the entry points behind
-front_then : (m : Module) (rest : List ℕ) →
+-- what stands in front of the functions, and what stands behind
+front_then : (m : Module) (info : ModuleInfo) (flags : WriterFlags) (rest : List ℕ) →
     front_text m ++ rest ≡
-    text (enables_pieces (needed_enables m)) ++
-    (text (group_end (needed_enables m)) ++
-    (text (structs_pieces (structs_of m)) ++
-    (text (constants_pieces (constants_of m)) ++
-    (text (group_end (constants_of m)) ++
-    (text (overrides_pieces (overrides_of m)) ++
-    (text (group_end (overrides_of m)) ++
-    (text (globals_pieces (globals_of m)) ++ (text (group_end (globals_of m)) ++ rest))))))))
+    enables_text (needed_enables m) ++
+    (declarations_of (written_program m info (annotates_types flags)) ++ rest)
 unfolding declarations_text
-front_then m rest = simp append_assoc
+front_then m info flags rest = append_assoc (enables_text (needed_enables m)) (declarations_text m) rest
 
 -- a module's text is what stands in front of its functions, these and its entry points
 pub written_lines : (m : Module) (info : ModuleInfo) (flags : WriterFlags) → IsTrue (is_accepted m info) →
@@ -237,8 +222,8 @@ written_lines m info flags accepted =
     (ap (lines_of m info flags) (numbered_on 0 m.functions points)
     ∙ (flat_map-append (line_of m info flags) first (enumerate_from (0 + length m.functions) points)
     ∙ sym (λ i. functions_are i ++ points_are i)))
-    ∙ (front_then m (text (functions_pieces functions) ++ text (entry_points_pieces entry_points))
-    ∙ sym (program_text (written_program m info (annotates_types flags))))
+    ∙ (front_then m info flags (text (functions_pieces functions) ++ text (entry_points_pieces entry_points))
+    ∙ sym (layout_row (written_program m info (annotates_types flags))))
   where
     functions : List FunctionTree
     functions = functions_form (annotates_types flags) (module_names m) m info 0 m.functions info.functions.items
@@ -250,7 +235,7 @@ written_lines m info flags accepted =
 
     functions_are : text (functions_pieces functions) ≡ lines_of m info flags (enumerate_from 0 m.functions)
     functions_are =
-        functions_text m info flags 0 m.functions info.functions.items (omega arith)
+        functions_text m info flags accepted 0 m.functions info.functions.items (omega arith)
         (functions_counted m info accepted)
         (λ i es at. let same : i ≡ 0 + i = omega arith in
         subst (λ h. known_of info h ≡ es) same (ap (λ o. unwrap_or o []) (info_among info i es at)))
@@ -262,11 +247,22 @@ written_lines m info flags accepted =
         let none : length m.functions + 0 ≡ length m.functions = omega arith in
         let from : length m.functions + 0 ≡ 0 + length m.functions = omega arith in
         ap (λ g. text (entry_points_pieces (entry_points_form (annotates_types flags) (module_names m) m info g m.entry_points.items info.entry_points.items))) (sym none)
-        ∙ (points_text m info flags 0 m.entry_points.items info.entry_points.items
+        ∙ (points_text m info flags accepted 0 m.entry_points.items info.entry_points.items
         (entry_points_counted m info accepted)
         (λ i p at. let same : i ≡ 0 + i = omega arith in ap (slice_get m.entry_points.items) (sym same) ∙ at)
         (λ i es at. ap (λ o. unwrap_or o []) (entry_info_among m info accepted i es at))
         ∙ ap (λ g. lines_of m info flags (enumerate_from g (entry_functions m.entry_points.items))) from)
+
+-- there are no more entry points than keys tell apart
+pub points_counted : (m : Module) → (KeyIsOutOfRange m → ⊥) → length m.entry_points.items ≤ 2 ^ 16
+points_counted m keys = by (nat_lt (2 ^ 16) (length m.entry_points.items)) refl
+  where
+    by : (b : Bool) → nat_lt (2 ^ 16) (length m.entry_points.items) ≡ b →
+        length m.entry_points.items ≤ 2 ^ 16
+    by true lt =
+        absurd (keys (run_out_unfit wgsl_names m (inl (ltb-true (2 ^ 16) (length m.entry_points.items) lt))))
+    by false is =
+        let past = ltb-false (2 ^ 16) (length m.entry_points.items) is in omega (arith, past)
 
 -- ---- along the functions
 -- what has a number is the function with that number
@@ -349,16 +345,16 @@ module _ (m : Module) (info : ModuleInfo) (flags : WriterFlags) {n : ℕ} {conte
 
     -- its line
     abbrev line : List ℕ
-    line = line_before m n ++ (text_of_function m info flags n ++ line_behind m n)
+    line = line_at m info flags n
 
     line_is : line_of m info flags here ≡ line
     line_is =
         let found = (at_enumerated 0 (all_functions m) n here below stands).1 in
-        let own = λ g. text_of m info flags (expression_name m g) g here.1 (known_of info g) in
-        ap (λ g. line_before m g ++ (own g ++ line_behind m g)) number_is
-        ∙ ap (λ o. line_before m n ++
-        (option_map_or (λ f. text_of m info flags (expression_name m n) n f (known_of info n)) o []
-        ++ line_behind m n)) (sym found)
+        ap (λ g. with_lines (function_type m g)
+        (text_of m info flags (expression_name m g) g here.1 (known_of info g))) number_is
+        ∙ ap (λ o. with_lines (function_type m n)
+        (option_map_or (λ f. text_of m info flags (expression_name m n) n f (known_of info n)) o []))
+        (sym found)
 
     one_more_line : lines_before m info flags n ++ line ≡ lines_before m info flags (n + 1)
     one_more_line =
@@ -377,69 +373,94 @@ module _ (m : Module) (info : ModuleInfo) (flags : WriterFlags) {n : ℕ} {conte
         ∙ sym (ap (lines_of m info flags) split
         ∙ ap (λ q. lines_of m info flags (q ∷ drop (n + 1) all)) (sym stands))
 
-    -- a plan of it with its names
-    pub named_at : (planned : Planned) (next : Names) →
-        IsPlanOf (annotates_types flags) m info n planned →
-        NamesLabels namer [] (labels_named_in m n) next planned.named →
-        IsNamedPlan (annotates_types flags) m info n next planned
-    named_at planned next plan names =
-        named_plan m (annotates_types flags) info n namer next planned lt so_far.named plan names
-
-    -- one more
-    pub up_to_more : (planned : Planned) (next : Names) {now : List ℕ} {failures : ℕ} →
-        IsNamedPlan (annotates_types flags) m info n next planned → Wrote middle among line now failures →
+    -- it was written
+    pub up_to_more : {next : Names} {now : List ℕ} {failures : ℕ} →
+        WroteNext m info flags n next middle among now failures →
         IsUpTo m info flags (n + 1) content failed next now failures
-    up_to_more planned next {now} {failures} plan wrote = record {
+    up_to_more {next} {now} {failures} w = record {
       wrote = subst (λ t. Wrote content failed t now failures) one_more_line
-          (wrote_then so_far.wrote wrote);
-      planned = below_more (HasPlan (annotates_types flags) m info) n so_far.planned (record {
-        planned = planned;
-        plan = plan.plan;
-        nameable = none_full m n next lt plan.namer_is;
-      });
-      named = plan.namer_is;
+          (wrote_then so_far.wrote w.wrote);
+      planned = below_more (HasPlan (annotates_types flags) m info) n so_far.planned w.planned;
+      named = w.named;
     }
 
     -- memory or the sink stopped it
-    pub up_to_stopped : (r : Result Unit Error) (error : Error) {now : List ℕ} {failures : ℕ} →
-        IsErrAnd r (λ e. e ≡ error) → StoppedWithin middle among line now failures error →
-        WritesFunctions m info flags r content failed now failures
-    up_to_stopped r error {now} {failures} reported stopped =
+    stopped_here : {error : Error} {now : List ℕ} {failures : ℕ} →
+        StoppedWithin middle among line now failures error →
+        StoppedWithin content failed (module_lines m info flags) now failures error
+    stopped_here {error} {now} {failures} stopped =
         let whole = ap (λ t. lines_before m info flags n ++ t) line_then ∙ lines_split m info flags n in
-        writes_err r reported
-        (inl (subst (λ t. StoppedWithin content failed t now failures error) whole
-        (stopped_then so_far.wrote (stopped_first (lines_behind m info flags (n + 1)) stopped))))
+        subst (λ t. StoppedWithin content failed t now failures error) whole
+        (stopped_then so_far.wrote (stopped_first (lines_behind m info flags (n + 1)) stopped))
 
     -- it has no plan
-    unplanned : (error : Error) → TellsOfModule error →
-        IsFault (annotates_types flags) m info (labels_before m n) n error →
-        MetNoPlan m info flags content failed middle among error
-    unplanned error tells fault = record {
+    unplanned : {error : Error} {now : List ℕ} {failures : ℕ} →
+        HasNoPlan m info flags n middle among now failures error →
+        MetNoPlan m info flags content failed now failures error
+    unplanned {error} none = record {
       before = record {
         handle = n;
-        fails = fault_fails (annotates_types flags) m info (labels_before m n) n error fault;
+        fails = fault_fails (annotates_types flags) m info (labels_before m n) n error none.fault;
         hold = λ i below. has_plan_holds (annotates_types flags) m info i (so_far.planned i below);
-        written = so_far.wrote.appended;
+        written = none.untouched ∙ so_far.wrote.appended;
       };
-      tells = tells;
-      fault = fault;
-      kept = so_far.wrote.kept;
+      tells = none.tells;
+      fault = none.fault;
+      kept = none.kept ∙ so_far.wrote.kept;
     }
 
-    pub up_to_unplanned : (r : Result Unit Error) (error : Error) → IsErrAnd r (λ e. e ≡ error) →
-        IsPlanRefusal (annotates_types flags) m info (labels_before m n) n error → WritesFunctions m info flags r content failed middle among
-    up_to_unplanned r error reported refusal = writes_err r reported (by error refusal)
-      where
-        by : (error : Error) → IsPlanRefusal (annotates_types flags) m info (labels_before m n) n error →
-            StoppedWithin content failed (module_lines m info flags) middle among error
-            ⊎ MetNoPlan m info flags content failed middle among error
-        by (Memory e) refusal = inl (record {
-          behind = (
-            lines_before m info flags n,
-            lines_behind m info flags n,
-            sym (lines_split m info flags n),
-            so_far.wrote.appended,
-          );
-          reason = tt;
-        })
-        by _ refusal = inr (unplanned _ refusal.0 refusal.1)
+    pub up_to_failed : (r : Result Unit Error) (error : Error) {now : List ℕ} {failures : ℕ} →
+        IsErrAnd r (λ e. e ≡ error) →
+        (StoppedWithin middle among line now failures error
+        ⊎ HasNoPlan m info flags n middle among now failures error) →
+        WritesFunctions m info flags r content failed now failures
+    up_to_failed r error reported (inl stopped) = writes_err r reported (inl (stopped_here stopped))
+    up_to_failed r error reported (inr none) = writes_err r reported (inr (unplanned none))
+
+-- ---- one function
+module _ (m : Module) (info : ModuleInfo) (flags : WriterFlags) (n : ℕ) (content : List ℕ)
+    (failed : ℕ) where
+  -- the answer of a call that ends with an error
+  pub next_err : (r : Result Unit Error) (error : Error) (namer : Names) {now : List ℕ}
+      {failures : ℕ} → IsErrAnd r (λ e. e ≡ error) →
+      (StoppedWithin content failed (line_at m info flags n) now failures error
+      ⊎ HasNoPlan m info flags n content failed now failures error) →
+      WritesNext m info flags n namer r content failed now failures
+  next_err (Ok x) error namer reported w = absurd reported
+  next_err (Err e) error namer {now} {failures} reported w =
+      subst (λ e. WritesNext m info flags n namer (Err e) content failed now failures)
+      (sym reported) w
+
+  -- where it has no plan
+  pub no_plan : (error : Error) →
+      IsPlanRefusal (annotates_types flags) m info (labels_before m n) n error →
+      StoppedWithin content failed (line_at m info flags n) content failed error
+      ⊎ HasNoPlan m info flags n content failed content failed error
+  no_plan (Memory e) refusal = inl (record {
+    behind = ([], line_at m info flags n, refl, sym (append-nil content));
+    reason = tt;
+  })
+  no_plan _ refusal =
+      inr (record { untouched = refl; kept = refl; tells = refusal.0; fault = refusal.1 })
+
+  -- where it has one
+  pub next_written : n < length (all_functions m) → (old next : Names) (planned : Planned)
+      {now : List ℕ} {failures : ℕ} → HasNamedBefore m n old →
+      IsPlanOf (annotates_types flags) m info n planned →
+      NamesLabels old [] (labels_named_in m n) next planned.named →
+      (r : Result Unit Error) →
+      Appends r content failed (line_at m info flags n) now failures →
+      WritesNext m info flags n next r content failed now failures
+  next_written lt old next planned {now} {failures} before plan names r a = by r a
+    where
+      named : IsNamedPlan (annotates_types flags) m info n next planned
+      named = named_plan m (annotates_types flags) info n old next planned lt before plan names
+
+      by : (r : Result Unit Error) → Appends r content failed (line_at m info flags n) now failures →
+          WritesNext m info flags n next r content failed now failures
+      by (Ok x) wrote = record {
+        wrote = wrote;
+        planned = record { planned = planned; plan = plan; nameable = none_full m n next lt named.namer_is };
+        named = named.namer_is;
+      }
+      by (Err e) stopped = inl stopped

@@ -11,19 +11,21 @@ use Rattle.naga_info.specs.declared.info.ModuleInfo.{ModuleInfo}
 use Rattle.naga_scope.specs.Plans.{AreExpressionNames, IsPlanOf, Planned}
 use Rattle.naga_form.specs.Declarations.{written_program}
 use Rattle.module_meaning.specs.Enables.{needed_enables}
-use Rattle.module_meaning.specs.FunctionNumbers.{all_functions}
+use Rattle.module_meaning.specs.FunctionNumbers.{all_functions, function_type}
 use Rattle.module_meaning.specs.Names.{expression_name, labels_before}
 use Rattle.naga_names.specs.Naming.{Names}
 use Rattle.wgsl_text.specs.Reading.{layout}
 use Rattle.naga_wgsl_fns.specs.Appends.{StoppedWithin, Wrote}
 use Rattle.naga_wgsl_fns.specs.FunctionText.{annotates_types}
-use Rattle.naga_wgsl_fns.specs.Functions.{known_of, text_of}
+use Rattle.naga_wgsl_fns.specs.Functions.{known_of, text_of, text_of_function}
 use Rattle.naga_wgsl_fns.specs.declared.error.Error.{Error}
 use Rattle.naga_wgsl_fns.specs.Refusals.{ExpressionNamesAreFullIn, IsFault, IsWritableAt}
 use Rattle.naga_wgsl_fns.specs.Refusals.{TellsOfModule}
 use Rattle.naga_wgsl_out.specs.Declarations.{declarations_text}
 use Rattle.naga_wgsl_out.specs.Enables.{enables_text}
 use Rattle.naga_wgsl_out.specs.ModuleRefusals.{HasNamedBefore}
+use Rattle.naga_back.specs.declared.context.FunctionType.{FunctionType}
+use Rattle.naga_back.specs.declared.context.FunctionType.TheVariants as item
 use Rattle.naga_back.specs.declared.flags.WriterFlags.{WriterFlags}
 
 pub record Writing (W : Type 0) : Type 0 where
@@ -39,17 +41,27 @@ abbrev pub front_text : Module → List ℕ
 front_text m = enables_text (needed_enables m) ++ declarations_text m
 
 -- an empty line stands between two entry points, and behind each function that others may call
-abbrev pub line_before : Module → (number : ℕ) → List ℕ
-line_before m number = if nat_lt (length m.functions) number then codes "\n" else []
+abbrev pub line_before : FunctionType → List ℕ
+line_before (item.Function handle) = []
+line_before (item.EntryPoint index) = if nat_lt 0 index then codes "\n" else []
 
-abbrev pub line_behind : Module → (number : ℕ) → List ℕ
-line_behind m number = if nat_lt number (length m.functions) then codes "\n" else []
+abbrev pub line_behind : FunctionType → List ℕ
+line_behind (item.Function handle) = codes "\n"
+line_behind (item.EntryPoint index) = []
 
 -- the text of a function or of an entry point, with these empty lines
+abbrev pub with_lines : FunctionType → (own : List ℕ) → List ℕ
+with_lines ty own = line_before ty ++ (own ++ line_behind ty)
+
 abbrev pub line_of : Module → ModuleInfo → WriterFlags → ℕ × Function → List ℕ
 line_of m info flags p =
-    let own = text_of m info flags (expression_name m p.0) p.0 p.1 (known_of info p.0) in
-    line_before m p.0 ++ (own ++ line_behind m p.0)
+    with_lines (function_type m p.0)
+    (text_of m info flags (expression_name m p.0) p.0 p.1 (known_of info p.0))
+
+-- the same of the one with this number
+abbrev pub line_at : Module → ModuleInfo → WriterFlags → (number : ℕ) → List ℕ
+line_at m info flags number =
+    with_lines (function_type m number) (text_of_function m info flags number)
 
 -- those of these functions, of the module, and of it in front of this function
 abbrev pub lines_of : Module → ModuleInfo → WriterFlags → List (ℕ × Function) → List ℕ
@@ -86,6 +98,30 @@ pub record IsNamedPlan (explicit : Bool) (m : Module) (info : ModuleInfo) (handl
   pub plan : IsPlanOf explicit m info handle planned
   pub names : AreExpressionNames m handle planned.named
   pub namer_is : HasNamedBefore m (handle + 1) namer
+
+-- the function with this number stands behind what the sink held, written by a plan of it
+pub record WroteNext (m : Module) (info : ModuleInfo) (flags : WriterFlags) (number : ℕ)
+    (namer : Names) (content : List ℕ) (failed : ℕ) (now : List ℕ) (failures : ℕ) : Type 0 where
+  pub wrote : Wrote content failed (line_at m info flags number) now failures
+  pub planned : HasPlan (annotates_types flags) m info number
+  pub named : HasNamedBefore m (number + 1) namer
+
+-- it has no plan, and that is told
+pub record HasNoPlan (m : Module) (info : ModuleInfo) (flags : WriterFlags) (number : ℕ)
+    (content : List ℕ) (failed : ℕ) (now : List ℕ) (failures : ℕ) (error : Error) : Type 0 where
+  pub untouched : now ≡ content
+  pub kept : failures ≡ failed
+  pub tells : TellsOfModule error
+  pub fault : IsFault (annotates_types flags) m info (labels_before m number) number error
+
+-- what a call that writes this function did, by its answer
+abbrev pub WritesNext : Module → ModuleInfo → WriterFlags → (number : ℕ) → Names →
+    Result Unit Error → (content : List ℕ) (failed : ℕ) (now : List ℕ) (failures : ℕ) → Type 0
+WritesNext m info flags number namer (Ok _) content failed now failures =
+    WroteNext m info flags number namer content failed now failures
+WritesNext m info flags number namer (Err error) content failed now failures =
+    StoppedWithin content failed (line_at m info flags number) now failures error
+    ⊎ HasNoPlan m info flags number content failed now failures error
 
 -- all functions stand behind what the sink held, each written by a plan of it
 pub record WroteFunctions (m : Module) (info : ModuleInfo) (flags : WriterFlags) (content : List ℕ)

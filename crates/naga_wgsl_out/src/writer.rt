@@ -1,10 +1,10 @@
 //! The writer of modules.
 
-ghost use Rattle.std.specs.Prelude.{◌≡◌, ◌<◌, ◌++◌, [], IfErr, IfOk, IsTrue, OnErr, OnOk};
-ghost use Rattle.std.specs.Prelude.{codes, length, string_bytes};
+ghost use Rattle.std.specs.Prelude.{◌≡◌, ◌++◌, [], IfErr, IfOk, IsTrue, OnErr, OnOk};
+ghost use Rattle.std.specs.Prelude.{string_bytes};
 ghost use Rattle.module_meaning.specs.Accepted.{is_accepted};
 ghost use Rattle.module_meaning.specs.DeclarationForms.{DeclarationsHaveForms};
-ghost use Rattle.module_meaning.specs.FunctionNumbers.{all_functions, function_type};
+ghost use Rattle.module_meaning.specs.FunctionNumbers.{IsFunctionOf, function_number};
 ghost use Rattle.naga_names.specs.Keys.{names_in};
 ghost use Rattle.naga_words.specs.Sink.{IsBehind};
 ghost use Rattle.naga_names.specs.Refusal.{IsResetRefusal};
@@ -15,7 +15,6 @@ ghost use Rattle.naga_scope.specs.Marks.{MarksGlobals};
 ghost use Rattle.naga_scope.specs.Plans.{AreExpressionNames, IsPlanOf};
 ghost use Rattle.naga_wgsl_fns.specs.Appends.{Appends};
 ghost use Rattle.naga_wgsl_fns.specs.FunctionText.{annotates_types};
-ghost use Rattle.naga_wgsl_fns.specs.Functions.{text_of_function};
 ghost use Rattle.naga_wgsl_out.specs.Headline.{EachReading, FaithfulWriting, answer_of, text_of};
 ghost use Rattle.naga_wgsl_fns.specs.Items.{HasNamedItemsOf};
 ghost use Rattle.naga_wgsl_fns.specs.ModuleText.{CanWriteOf};
@@ -23,8 +22,9 @@ ghost use Rattle.naga_wgsl_fns.specs.Refusals.{TellsOfModule};
 ghost use Rattle.naga_wgsl_out.specs.ModuleRefusals.{ComesBeforeText, HasAllNames};
 ghost use Rattle.naga_wgsl_out.specs.ModuleRefusals.{HasNamedBefore, IsNamesRefusal};
 ghost use Rattle.naga_wgsl_out.specs.ModuleRefusals.{TellsOfFunction};
-ghost use Rattle.naga_wgsl_out.specs.Writing.{WritesFunctions, Writing, WroteFunctionsBefore};
-ghost use Rattle.naga_wgsl_out.specs.Writing.{front_text, line_before, line_behind, written_text};
+ghost use Rattle.naga_wgsl_out.specs.Writing.{WritesFunctions, WritesNext, Writing};
+ghost use Rattle.naga_wgsl_out.specs.Writing.{WroteFunctionsBefore, front_text, line_at, line_before};
+ghost use Rattle.naga_wgsl_out.specs.Writing.{line_behind, written_text};
 
 use crate::declarations::write_declarations;
 use crate::enables::write_enables;
@@ -192,77 +192,88 @@ fn write_functions<W: TextSink>(
     ensures { WritesFunctions «module».now info.now flags result (W.text out.old)
         (W.failures out.old) (W.text out.new) (W.failures out.new) }
 {
-    for number in 0..module.functions.len() + module.entry_points.len() {
-        let ty = function_numbered(module, number);
-        let plan = plan_of(alloc, module, info, &ty, globals, names, flags, namer)?;
-        write_function_line(alloc, module, info, names, flags, number, &ty, plan, out)?;
+    for index in 0..module.functions.len() {
+        let ty = FunctionType::Function(Place::from_index(index));
+        write_next(alloc, module, info, globals, names, &ty, namer, flags, out)?;
+    }
+    for index in 0..module.entry_points.len() {
+        let ty = FunctionType::EntryPoint(index as u16);
+        write_next(alloc, module, info, globals, names, &ty, namer, flags, out)?;
     }
     Ok(())
 }
 
-/// The function with this number: behind those that others may call stand those of entry points.
-fn function_numbered(module: &Module, number: usize) -> FunctionType
-    requires counted { vec_len «module».now.entry_points ≤ 2 ^ 16 }
-    requires there { number < length (all_functions «module».now) }
-    ensures { result ≡ function_type «module».now number }
+/// Writes the next function, or the next entry point, if there is a plan of it.
+fn write_next<W: TextSink>(
+    alloc: Global,
+    module: &Module,
+    info: &ModuleInfo,
+    globals: &GlobalExpressions,
+    names: &HashMap<NameKey, String>,
+    ty: &FunctionType,
+    namer: &mut Namer,
+    flags: WriterFlags,
+    out: &mut W,
+) -> Result<(), Error>
+    requires accepted { IsTrue (is_accepted «module».now info.now) }
+    requires declared { DeclarationsHaveForms «module».now }
+    requires there { IsFunctionOf ty.now «module».now }
+    requires globals { MarksGlobals «module».now globals.now }
+    requires names { HasNamesOf «module».now (names_in names.now) }
+    requires namer { HasNamedBefore «module».now (function_number «module».now ty.now) namer.old }
+    ensures { WritesNext «module».now info.now flags (function_number «module».now ty.now)
+        namer.new result (W.text out.old) (W.failures out.old) (W.text out.new)
+        (W.failures out.new) }
 {
-    if number < module.functions.len() {
-        FunctionType::Function(Place::from_index(number))
-    } else {
-        FunctionType::EntryPoint((number - module.functions.len()) as u16)
-    }
+    let plan = plan_of(alloc, module, info, ty, globals, names, flags, namer)?;
+    write_with_lines(alloc, module, info, names, flags, ty, plan, out)
 }
 
-/// A function or an entry point, by its number, with its empty lines.
-fn write_function_line<W: TextSink>(
+/// A function or an entry point by its plan, with its empty lines.
+fn write_with_lines<W: TextSink>(
     alloc: Global,
     module: &Module,
     info: &ModuleInfo,
     names: &HashMap<NameKey, String>,
     flags: WriterFlags,
-    number: usize,
     ty: &FunctionType,
     plan: Plan,
     out: &mut W,
 ) -> Result<(), Error>
     requires accepted { IsTrue (is_accepted «module».now info.now) }
     requires declared { DeclarationsHaveForms «module».now }
-    requires there { number < length (all_functions «module».now) }
-    requires ty { ty.now ≡ function_type «module».now number }
+    requires there { IsFunctionOf ty.now «module».now }
     requires names { HasNamesOf «module».now (names_in names.now) }
-    requires planned { IsPlanOf (annotates_types flags) «module».now info.now number plan }
-    requires named { AreExpressionNames «module».now number plan.named }
+    requires planned { IsPlanOf (annotates_types flags) «module».now info.now
+        (function_number «module».now ty.now) plan }
+    requires named { AreExpressionNames «module».now (function_number «module».now ty.now)
+        plan.named }
     ensures { Appends result (W.text out.old) (W.failures out.old)
-        (line_before «module».now number
-        ++ (text_of_function «module».now info.now flags number ++ line_behind «module».now number))
+        (line_at «module».now info.now flags (function_number «module».now ty.now))
         (W.text out.new) (W.failures out.new) }
 {
-    write_line_before(module, number, out)?;
+    put(line_before(ty), out)?;
     write_planned(alloc, module, info, names, flags, ty, plan, out)?;
-    write_line_behind(module, number, out)
+    put(line_behind(ty), out)
 }
 
 /// The empty line between two entry points.
-fn write_line_before<W: TextSink>(module: &Module, number: usize, out: &mut W) -> Result<(), Error>
-    ensures { Appends result (W.text out.old) (W.failures out.old)
-        (line_before «module».now number) (W.text out.new) (W.failures out.new) }
+fn line_before(ty: &FunctionType) -> &'static str
+    ensures { result.now ≡ line_before ty.now }
 {
-    if module.functions.len() < number {
-        put("\n", out)
-    } else {
-        Ok(())
+    match ty {
+        FunctionType::EntryPoint(index) if *index > 0 => "\n",
+        _ => "",
     }
 }
 
 /// The empty line behind a function that others may call.
-fn write_line_behind<W: TextSink>(module: &Module, number: usize, out: &mut W) -> Result<(), Error>
-    ensures { Appends result (W.text out.old) (W.failures out.old)
-        (line_behind «module».now number) (W.text out.new) (W.failures out.new) }
+fn line_behind(ty: &FunctionType) -> &'static str
+    ensures { result.now ≡ line_behind ty.now }
 {
-    if number < module.functions.len() {
-        put("\n", out)
-    } else {
-        Ok(())
+    match ty {
+        FunctionType::Function(_) => "\n",
+        FunctionType::EntryPoint(_) => "",
     }
 }
 
