@@ -2,6 +2,7 @@
 //! that is being built for it: what the programs and tests of this repository write and ask about.
 #![tactic(auto)]
 
+mod declaration_rows;
 mod expression_rows;
 pub mod rows;
 pub mod sample;

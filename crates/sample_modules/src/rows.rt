@@ -1,5 +1,9 @@
 //! The rows: sample modules under their names.
 
+use crate::declaration_rows::{
+    build_atomic, build_compute, build_constant, build_flat, build_global, build_operator,
+    build_override, build_struct, build_vertex,
+};
 use crate::expression_rows::{
     build_double, build_float, build_idle, build_modf, build_negate, build_pointer, build_sample,
     build_select,
@@ -80,6 +84,24 @@ pub enum Row {
     /// A function with a loop whose `continuing` uses another sum that a `continue` skips, which is
     /// refused.
     Continue,
+    /// A compute stage that does nothing.
+    Compute,
+    /// A struct with a member whose label is a keyword.
+    Struct,
+    /// An override with a number and without a label.
+    Override,
+    /// A buffer that may be read and written.
+    Global,
+    /// A vertex stage that gives a struct without a label.
+    Vertex,
+    /// A constant with a label.
+    Constant,
+    /// A fragment stage that takes a value which is not interpolated.
+    Flat,
+    /// A compute stage that counts in one step.
+    Atomic,
+    /// An override whose value is a sum, which is refused.
+    Operator,
 }
 
 impl Row {
@@ -118,6 +140,15 @@ impl Row {
             "tail" => Some(Row::Tail),
             "folded" => Some(Row::Folded),
             "continue" => Some(Row::Continue),
+            "compute" => Some(Row::Compute),
+            "struct" => Some(Row::Struct),
+            "override" => Some(Row::Override),
+            "global" => Some(Row::Global),
+            "vertex" => Some(Row::Vertex),
+            "const" => Some(Row::Constant),
+            "flat" => Some(Row::Flat),
+            "atomic" => Some(Row::Atomic),
+            "operator" => Some(Row::Operator),
             _ => None,
         }
     }
@@ -157,6 +188,15 @@ impl Row {
             Row::Tail => build_tail(alloc, shader),
             Row::Folded => build_folded(alloc, shader),
             Row::Continue => build_continue(alloc, shader),
+            Row::Compute => build_compute(alloc, shader),
+            Row::Struct => build_struct(alloc, shader),
+            Row::Override => build_override(shader),
+            Row::Global => build_global(alloc, shader),
+            Row::Vertex => build_vertex(alloc, shader),
+            Row::Constant => build_constant(alloc, shader),
+            Row::Flat => build_flat(alloc, shader),
+            Row::Atomic => build_atomic(alloc, shader),
+            Row::Operator => build_operator(alloc, shader),
         }
     }
 }

@@ -348,6 +348,63 @@ a = _e3;\n        continuing {\n            a = (1i + 1i);\n            break if
     ),
 ];
 
+/// The same of rows with declarations and entry points.
+const DECLARATION_ROWS: &[(&[&str], &str, &str, u8)] = &[
+    (&["compute"], "@compute @workgroup_size(64, 1, 1) \nfn main() {\n}\n", "", 0),
+    (&["compute", "explicit"], "@compute @workgroup_size(64, 1, 1) \nfn main() {\n}\n", "", 0),
+    (&["struct"], "struct S {\n    fract: i32,\n    fn_: i32,\n}\n\n", "", 0),
+    (&["struct", "explicit"], "struct S {\n    fract: i32,\n    fn_: i32,\n}\n\n", "", 0),
+    (&["override"], "@id(3) override override_type: u32;\n\n", "", 0),
+    (&["override", "explicit"], "@id(3) override override_type: u32;\n\n", "", 0),
+    (&["global"], "@group(0) @binding(1) \nvar<storage, read_write> buf: array<u32>;\n\n", "", 0),
+    (
+        &["global", "explicit"],
+        "@group(0) @binding(1) \nvar<storage, read_write> buf: array<u32>;\n\n",
+        "",
+        0,
+    ),
+    (
+        &["vertex"],
+        "struct VertexOutput {\n    @builtin(position) pos: vec4<f32>,\n}\n\n@vertex \nfn main() -> VertexOutput {\n    return VertexOutput();\n}\n",
+        "",
+        0,
+    ),
+    (
+        &["vertex", "explicit"],
+        "struct VertexOutput {\n    @builtin(position) pos: vec4<f32>,\n}\n\n@vertex \nfn main() -> VertexOutput {\n    return VertexOutput();\n}\n",
+        "",
+        0,
+    ),
+    (&["const"], "const N: i32 = 7i;\n\n", "", 0),
+    (&["const", "explicit"], "const N: i32 = 7i;\n\n", "", 0),
+    (&["flat"], "@fragment \nfn main(@location(0) @interpolate(flat) i: u32) {\n}\n", "", 0),
+    (
+        &["flat", "explicit"],
+        "@fragment \nfn main(@location(0) @interpolate(flat) i: u32) {\n}\n",
+        "",
+        0,
+    ),
+    (
+        &["atomic"],
+        "var<workgroup> c: atomic<u32>;\n\n@compute @workgroup_size(1, 1, 1) \nfn main() {\n    let _e2 = atomicAdd((&c), 1u);\n}\n",
+        "",
+        0,
+    ),
+    (
+        &["atomic", "explicit"],
+        "var<workgroup> c: atomic<u32>;\n\n@compute @workgroup_size(1, 1, 1) \nfn main() {\n    let _e2: u32 = atomicAdd((&c), 1u);\n}\n",
+        "",
+        0,
+    ),
+    (&["operator"], "", "refused: operator in a constant\n", 1),
+    (
+        &["operator", "explicit"],
+        "",
+        "refused: operator in a constant\n",
+        1,
+    ),
+];
+
 /// The program's status on these words.
 fn status<O: Write, E: Write>(
     alloc: Global,
@@ -401,6 +458,17 @@ fn rows_with_branches_are_answered(rt: HostRuntime) -> Result<(), Fail> {
 #[test]
 fn rows_with_loops_are_answered(rt: HostRuntime) -> Result<(), Fail> {
     for (words, text, told, want) in LOOP_ROWS {
+        assert!(rt;
+            gives(rt.alloc(), *words, *text, *told, *want)?,
+            "{words:?}"
+        );
+    }
+    Ok(())
+}
+
+#[test]
+fn rows_with_declarations_are_answered(rt: HostRuntime) -> Result<(), Fail> {
+    for (words, text, told, want) in DECLARATION_ROWS {
         assert!(rt;
             gives(rt.alloc(), *words, *text, *told, *want)?,
             "{words:?}"
