@@ -2,7 +2,8 @@
 -- mean the same in each function.
 --
 -- Throughout, m is a module, of which info is known, w is a word, f a function with the number g, of
--- whose expressions es is known, i an index, and behind are functions.
+-- whose expressions es is known, i an index, behind are functions, and labels tells the names of the
+-- labels that front ends gave.
 use Rattle.std.proofs.Common.{◌≡◌, ◌≢◌, ⊎_elim, ℕ, ◌+◌, ◌<◌, Bool, true, false, List, [], ◌∷◌, ◌++◌}
 use Rattle.std.proofs.Common.{Some, refl, sym, ap, subst, ◌∙◌, arith, length, map, slice_get}
 use Rattle.std.proofs.Common.{true≢false}
@@ -28,8 +29,8 @@ use Rattle.module_meaning.specs.ExpressionLabels.{expression_labels}
 use Rattle.module_meaning.specs.FunctionNumbers.{all_functions, function_type}
 use Rattle.module_meaning.specs.FunctionShapes.{function_shapes}
 use Rattle.module_meaning.specs.ModuleShapes.{module_shape}
-use Rattle.module_meaning.specs.Names.{argument_name, expression_name, local_name, module_names}
-use Rattle.module_meaning.specs.Names.{name_in, numbered_name, wgsl_names}
+use Rattle.module_meaning.specs.Names.{AreLabelNames, AreLabelNamesOf, argument_name, LabelNames}
+use Rattle.module_meaning.specs.Names.{local_name, module_names, name_in, numbered_name, wgsl_names}
 use Rattle.module_meaning.specs.Namings.{function_naming, namings_from, outer_names}
 use Rattle.module_meaning.specs.Types.{declared_type, type_names}
 use Rattle.module_meaning.proofs.FunctionNumbers.{in_append}
@@ -40,7 +41,7 @@ use Rattle.shader_runs.specs.Text.{TextFunction}
 use Rattle.text_meaning.specs.Resolution.{is_in_no_type, own_names}
 use Rattle.wgsl_text.specs.Declarations.{Program}
 use Rattle.naga_form.proofs.DeclaredStructs.{name_from, struct_names}
-use Rattle.naga_form.proofs.ExpressionNames.{named_no_item}
+use Rattle.naga_form.proofs.ExpressionNames.{label_no_item}
 use Rattle.naga_form.proofs.Facts.{further}
 use Rattle.naga_form.proofs.Fits.{mapped_length, named_by_all_is}
 use Rattle.naga_form.proofs.GivenNames.{own_names_pass}
@@ -48,7 +49,7 @@ use Rattle.naga_form.proofs.ItemNames.{other_name}
 use Rattle.naga_form.proofs.ListPlaces.{made_from, place_none}
 use Rattle.naga_form.proofs.Names.{argument_item, argument_there, item_not_numbered, local_item}
 use Rattle.naga_form.proofs.Names.{local_there}
-use Rattle.naga_form.specs.Declarations.{override_form, written_program}
+use Rattle.naga_form.specs.Declarations.{override_form, program_under}
 
 -- ---- keys
 -- the key of what a type may name
@@ -65,9 +66,9 @@ local_in_none : (ty : FunctionType) (i : ℕ) → is_in_types (local_key ty i) �
 local_in_none (item.Function h) i = refl
 local_in_none (item.EntryPoint j) i = refl
 
-module _ (m : Module) (info : ModuleInfo) (explicit : Bool) where
+module _ (m : Module) (info : ModuleInfo) (explicit : Bool) (labels : LabelNames) where
   abbrev program : Program
-  program = written_program m info explicit
+  program = program_under labels m info explicit
 
   -- ---- names
   abbrev override_names : List (List ℕ)
@@ -106,9 +107,9 @@ module _ (m : Module) (info : ModuleInfo) (explicit : Bool) where
   hides_none f = list_all (is_in_no_type program) (own_names f)
 
   module _ (g : ℕ) (f : ir_function.Function) (found : slice_get (all_functions m) g ≡ Some f)
-      (es : List ExpressionInfo) where
+      (are : AreLabelNamesOf m f (labels g)) (es : List ExpressionInfo) where
     abbrev own : Naming
-    own = function_naming (module_names m) (expression_name m g) m info g f es
+    own = function_naming (module_names m) (labels g) m info g f es
 
     arguments : (i : ℕ) → i < argument_count own.function →
         is_in_no_type program (argument_name m (module_names m) g i) ≡ true
@@ -133,12 +134,12 @@ module _ (m : Module) (info : ModuleInfo) (explicit : Bool) where
         true≢false (sym is ∙ (ap is_in_types same ∙ local_in_none (function_type m g) i))))
 
     named : (k : ℕ) → k < named_by_all own.function own.function.body 0 →
-        is_in_no_type program (expression_name m g k) ≡ true
+        is_in_no_type program (labels g k) ≡ true
     named k lt =
         let all = named_by_all_is m info f es f.body 0 in
         let within : k < length (expression_labels f) = omega (arith, lt, all) in
-        free_if (expression_name m g k)
-        (λ item s is. named_no_item m g f found k within item s)
+        free_if (labels g k)
+        (λ item s is. label_no_item m f (labels g) are k within item s)
 
     function_hides_none : hides_none (form_function own) ≡ true
     function_hides_none =
@@ -147,21 +148,21 @@ module _ (m : Module) (info : ModuleInfo) (explicit : Bool) where
         (λ h. free_if (numbered_name h) (λ item s is. item_not_numbered m item h s)) named
 
   -- each behind those before it
-  pub functions_hide_none : (g : ℕ) (fs : List ir_function.Function)
+  pub functions_hide_none : AreLabelNames m labels → (g : ℕ) (fs : List ir_function.Function)
       (ess : List (List ExpressionInfo)) →
       ((i : ℕ) (f : ir_function.Function) → slice_get fs i ≡ Some f →
       slice_get (all_functions m) (g + i) ≡ Some f) → (behind : List Naming) →
       list_all hides_none (form_functions behind) ≡ true →
       list_all hides_none
       (form_functions
-      (reverse_aux (namings_from (module_names m) m g (function_shapes m info fs ess)) behind))
+      (reverse_aux (namings_from labels (module_names m) m g (function_shapes m info fs ess)) behind))
       ≡ true
-  functions_hide_none g [] ess there behind all = all
-  functions_hide_none g (f ∷ fs) [] there behind all = all
-  functions_hide_none g (f ∷ fs) (es ∷ ess) there behind all =
+  functions_hide_none are g [] ess there behind all = all
+  functions_hide_none are g (f ∷ fs) [] there behind all = all
+  functions_hide_none are g (f ∷ fs) (es ∷ ess) there behind all =
       let here : g + 0 ≡ g = omega arith in
       let found = subst (λ h. slice_get (all_functions m) h ≡ Some f) here (there 0 f refl) in
-      let one = function_naming (module_names m) (expression_name m g) m info g f es in
-      functions_hide_none (g + 1) fs ess (further (all_functions m) g f fs there) (one ∷ behind)
+      let one = function_naming (module_names m) (labels g) m info g f es in
+      functions_hide_none are (g + 1) fs ess (further (all_functions m) g f fs there) (one ∷ behind)
       (and_from (hides_none (form_function one)) (list_all hides_none (form_functions behind))
-      (function_hides_none g f found es) all)
+      (function_hides_none g f found (are g f found) es) all)

@@ -26,8 +26,8 @@ use Rattle.module_meaning.specs.Namings.{named_handles, numbered_key}
 use Rattle.shader_runs.specs.Program as shapes
 use Rattle.wgsl_text.specs.Words.{is_builtin}
 use Rattle.naga_form.proofs.NamedConstants.{IsNumberedIn, OfConstant, OfOverride, which_constant}
-use Rattle.naga_form.proofs.Names.{function_there, item_is_identifier, items_tell, name_is}
-use Rattle.naga_form.proofs.Names.{names_another}
+use Rattle.naga_form.proofs.Names.{function_there, identifier_is_another, item_is_identifier}
+use Rattle.naga_form.proofs.Names.{items_tell}
 use Rattle.naga_form.proofs.OperatingWords.{is_signed, names_no_item}
 
 -- A program of shapes has as many functions, constants with overrides, and variables as the module.
@@ -105,11 +105,8 @@ module _ (m : Module) where
   pub item_is_no_word : (w : List ℕ) → (not (is_word w) || is_builtin w) ≡ true → (k : NameKey) →
       HasItem k → name_in (module_names m) k ≢ w
   item_is_no_word w other k has =
-      names_another (name_in (module_names m) k) w
-      (ap is_word (name_is m (k, has.0) has.1) ∙
-      name_after_is_word wgsl_names (labels_of (take has.1.place (labelled_items wgsl_names m)))
-      has.0)
-      (item_is_identifier m (k, has.0) has.1).own other
+      identifier_is_another (name_in (module_names m) k) w (item_is_identifier m (k, has.0) has.1)
+      other
 
   -- the word is the name of no item but of a type
   abbrev pub IsNoItem : List ℕ → Type 0
