@@ -87,10 +87,6 @@ labels_before m g = item_labels m ++ all_expression_labels (take g (all_function
 abbrev pub labels_named_in : Module → (function : ℕ) → List (List ℕ)
 labels_named_in m g = option_map_or expression_labels (slice_get (all_functions m) g) []
 
--- and these are all labels of the module
-abbrev pub module_labels : Module → List (List ℕ)
-module_labels m = item_labels m ++ all_expression_labels (all_functions m)
-
 -- The names that front ends gave in a function, in the order of its text: each the name of its
 -- label behind all labels in front of it.
 unfoldable pub expression_name : Module → (function : ℕ) → (number : ℕ) → List ℕ

@@ -9,8 +9,6 @@ use Rattle.std.proofs.lemmas.List.{map-append}
 use Rattle.std.proofs.lemmas.Option.{same_Some}
 use Rattle.naga_info.specs.declared.info.ModuleInfo.{ModuleInfo}
 use Rattle.naga_ir.specs.declared.module.Module.{Module}
-use Rattle.naga_names.proofs.NamedItems.{type_stands}
-use Rattle.naga_names.specs.Reset.{type_label}
 use Rattle.naga_names.specs.declared.key.NameKey.TheVariants as key
 use Rattle.naga_words.specs.Spelling.{is_struct}
 use Rattle.module_meaning.specs.Accepted.{is_accepted}
@@ -18,7 +16,7 @@ use Rattle.module_meaning.specs.DeclarationForms.{DeclarationsHaveForms, OfOverr
 use Rattle.module_meaning.specs.DeclaredItems.{initialiser_meant, module_initialiser_targets}
 use Rattle.module_meaning.specs.DeclaredItems.{module_stage_targets, resolution_items}
 use Rattle.module_meaning.specs.FunctionNumbers.{all_functions, all_infos}
-use Rattle.module_meaning.specs.Names.{AreLabelNames, LabelNames, module_names, wgsl_names}
+use Rattle.module_meaning.specs.Names.{AreLabelNames, LabelNames, module_names}
 use Rattle.module_meaning.specs.Premises.{ScopesHold}
 use Rattle.module_meaning.specs.Resolution.{MembersResolve, TypesResolve}
 use Rattle.module_meaning.specs.Types.{type_names}
@@ -45,7 +43,7 @@ use Rattle.naga_form.proofs.DeclaredStructs.{members_found, override_not_found, 
 use Rattle.naga_form.proofs.DistinguishedItems.{types_are_distinguished}
 use Rattle.naga_form.proofs.Facts.{from_start}
 use Rattle.naga_form.proofs.HiddenNames.{functions_hide_none, hides_none}
-use Rattle.naga_form.proofs.ItemNames.{no_word}
+use Rattle.naga_form.proofs.ItemKeys.{item_is_no_word, no_word_of_item, type_has}
 use Rattle.naga_form.proofs.ItemTargets.{initialiser_found, override_found, program_reads}
 use Rattle.naga_form.proofs.ItemTargets.{variable_found}
 use Rattle.naga_form.proofs.OperatingWords.{names_no_item, operates_freely, plain_types_free}
@@ -134,8 +132,9 @@ module _ (m : Module) (info : ModuleInfo) (explicit : Bool) (labels : LabelNames
                 (ap (struct_named program.structs) name
                 ∙ struct_found m info explicit h t at both),
             false_from_ne_true (stands_in plain_type_words w)
-                (λ plain. no_word m (key.Type_ h, type_label m.entry_points.items h t) w
-                (type_stands wgsl_names m h t at) (plain_names_no_item w plain) (sym name)),
+                (λ plain.
+                item_is_no_word m w (no_word_of_item w (plain_names_no_item w plain))
+                (key.Type_ h) (type_has m h t at) (sym name)),
           );
       overrides = λ o lt.
           let name = or_nothing (module_names m (key.Override o)) in

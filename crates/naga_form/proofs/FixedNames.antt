@@ -2,7 +2,7 @@
 -- alike.
 --
 -- Throughout, named tells the names of the labels that front ends gave in the function.
-use Rattle.std.proofs.Common.{◌≡◌, ℕ, ◌<◌, List, length, Some, None, Option, refl, sym, ap, ◌∙◌, subst}
+use Rattle.std.proofs.Common.{◌≡◌, ◌≢◌, ℕ, ◌<◌, List, length, Some, None, Option, refl, sym, ap, ◌∙◌, subst}
 use Rattle.std.specs.Prelude.{slice_get}
 use Rattle.std.proofs.lemmas.Option.{none-some, same_Some}
 use Rattle.naga_back.specs.FunctionContext.{argument_key, function_key, local_key}
@@ -18,7 +18,7 @@ use Rattle.naga_names.proofs.Refusal.{element}
 use Rattle.module_meaning.specs.ExpressionContexts.{constant_number, override_number}
 use Rattle.module_meaning.specs.FunctionNumbers.{all_functions, function_type}
 use Rattle.module_meaning.specs.FunctionShapes.{function_shape}
-use Rattle.module_meaning.specs.Names.{module_names, name_in}
+use Rattle.module_meaning.specs.Names.{global_name, module_names, name_in}
 use Rattle.module_meaning.specs.Namings.{inner_names, numbered_key}
 use Rattle.module_meaning.specs.Types.{declared_type}
 use Rattle.shader_runs.specs.Premises.{ArgumentName, ConstantName, FixedName, fixed_name, GlobalName}
@@ -70,6 +70,9 @@ fixed_named m g named (LocalName l) = refl
 fixed_named m g named (ConstantName i) = refl
 fixed_named m g named (GlobalName v) = refl
 
+one_variable : (u v : ℕ) → key.GlobalVariable u ≡ key.GlobalVariable v → u ≡ v
+one_variable u v e = cc
+
 -- that of a function is none
 pub function_is_none : (m : Module) (ty : FunctionType) → fixed_of m (function_key ty) ≡ None
 function_is_none m (function.Function h) = refl
@@ -98,6 +101,27 @@ module _ (m : Module) (p : shapes.Module) (counts : CountsItems m p) where
       (sym (numbered_is i li) ∙ (ap (fixed_of m) same ∙ numbered_is k lk)) in
       cc
 
+  -- nor have two variables
+  has_variable : (v : ℕ) → v < length p.globals → HasItem m (key.GlobalVariable v)
+  has_variable v lt = global_has m v (subst (λ n. v < n) counts.globals lt)
+
+  pub variables_tell : (u v : ℕ) → u < length p.globals → v < length p.globals →
+      global_name (module_names m) u ≡ global_name (module_names m) v → u ≡ v
+  variables_tell u v lu lv e =
+      one_variable u v
+      (keys_tell m (key.GlobalVariable u) (key.GlobalVariable v) (has_variable u lu)
+      (has_variable v lv) e)
+
+  -- nor has a variable that of a constant or of an override
+  pub constant_no_variable : (i v : ℕ) → i < length p.constant_types → v < length p.globals →
+      name_in (module_names m) (numbered_key m i) ≢ global_name (module_names m) v
+  constant_no_variable i v li lv e =
+      let same = keys_tell m (numbered_key m i) (key.GlobalVariable v)
+      (numbered_has m i (subst (λ n. i < n) counts.constants li)) (has_variable v lv) e in
+      let fixed = same_Some (ConstantName i) (GlobalName v)
+      (sym (numbered_is i li) ∙ ap (fixed_of m) same) in
+      cc
+
   -- ---- in one function
   module _ (info : ModuleInfo) (g : ℕ) (f : ir_function.Function)
       (found : slice_get (all_functions m) g ≡ Some f) (es : List ExpressionInfo) where
@@ -115,7 +139,7 @@ module _ (m : Module) (p : shapes.Module) (counts : CountsItems m p) where
         (subst (λ k. l < k) (mapped_length (λ v. v.init) f.local_variables) is) in
         (_, local_there m g f l a.0 found a.1)
     fixed_has (ConstantName i) is = numbered_has m i (subst (λ n. i < n) counts.constants is)
-    fixed_has (GlobalName v) is = global_has m v (subst (λ n. v < n) counts.globals is)
+    fixed_has (GlobalName v) is = has_variable v is
 
     -- and that of this name alone
     fixed_is : (x : FixedName) → IsFixedName p shape x → fixed_of m (fixed_key m g x) ≡ Some x

@@ -45,10 +45,9 @@ use Rattle.naga_form.proofs.ExpressionNames.{label_no_item}
 use Rattle.naga_form.proofs.Facts.{further}
 use Rattle.naga_form.proofs.Fits.{mapped_length, named_by_all_is}
 use Rattle.naga_form.proofs.GivenNames.{own_names_pass}
-use Rattle.naga_form.proofs.ItemNames.{other_name}
+use Rattle.naga_form.proofs.ItemKeys.{keys_tell}
 use Rattle.naga_form.proofs.ListPlaces.{made_from, place_none}
-use Rattle.naga_form.proofs.Names.{argument_item, argument_there, item_not_numbered, local_item}
-use Rattle.naga_form.proofs.Names.{local_there}
+use Rattle.naga_form.proofs.Names.{argument_there, item_not_numbered, local_there}
 use Rattle.naga_form.specs.Declarations.{override_form, program_under}
 
 -- ---- keys
@@ -117,10 +116,10 @@ module _ (m : Module) (info : ModuleInfo) (explicit : Bool) (labels : LabelNames
         let counted = mapped_length (λ a. declared_type m a.ty) f.arguments.items in
         let a = element f.arguments.items i (subst (λ k. i < k) counted lt) in
         free_if (argument_name m (module_names m) g i)
-        (λ item s is. other_name m item (argument_item m g i a.0) s
-        (argument_there m g f i a.0 found a.1)
-        (λ same.
-        true≢false (sym is ∙ (ap is_in_types same ∙ argument_in_none (function_type m g) i))))
+        (λ item s is e.
+        let same = keys_tell m item.0 (argument_key (function_type m g) i) (item.1, s)
+        (_, argument_there m g f i a.0 found a.1) e in
+        true≢false (sym is ∙ (ap is_in_types same ∙ argument_in_none (function_type m g) i)))
 
     locals : (i : ℕ) → i < local_count own.function →
         is_in_no_type program (local_name m (module_names m) g i) ≡ true
@@ -128,10 +127,10 @@ module _ (m : Module) (info : ModuleInfo) (explicit : Bool) (labels : LabelNames
         let counted = mapped_length (λ v. v.init) f.local_variables in
         let v = element f.local_variables i (subst (λ k. i < k) counted lt) in
         free_if (local_name m (module_names m) g i)
-        (λ item s is. other_name m item (local_item m g i v.0) s
-        (local_there m g f i v.0 found v.1)
-        (λ same.
-        true≢false (sym is ∙ (ap is_in_types same ∙ local_in_none (function_type m g) i))))
+        (λ item s is e.
+        let same = keys_tell m item.0 (local_key (function_type m g) i) (item.1, s)
+        (_, local_there m g f i v.0 found v.1) e in
+        true≢false (sym is ∙ (ap is_in_types same ∙ local_in_none (function_type m g) i)))
 
     named : (k : ℕ) → k < named_by_all own.function own.function.body 0 →
         is_in_no_type program (labels g k) ≡ true

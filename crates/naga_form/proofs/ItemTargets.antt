@@ -36,8 +36,8 @@ use Rattle.naga_form.proofs.ConstantForms.{global_read, names_are_read}
 use Rattle.naga_form.proofs.ConstantTrees.{globals_are}
 use Rattle.naga_form.proofs.DistinguishedItems.{types_are_distinguished}
 use Rattle.naga_form.proofs.Fits.{mapped_length}
-use Rattle.naga_form.proofs.ItemNames.{one_variable_each, value_no_variable}
-use Rattle.naga_form.proofs.ModuleFits.{global_words, module_fits_under}
+use Rattle.naga_form.proofs.FixedNames.{constant_no_variable, variables_tell}
+use Rattle.naga_form.proofs.ModuleFits.{counts, global_words, module_fits_under}
 use Rattle.naga_form.proofs.NamedConstants.{override_within}
 use Rattle.naga_form.proofs.Operators.{SpellsTypes}
 use Rattle.naga_form.proofs.Runs.{reads_as_shapes_under}
@@ -81,8 +81,8 @@ module _ (m : Module) (info : ModuleInfo) (explicit : Bool) (named : LabelNames)
         let counted = mapped_length (variable_shape m) m.global_variables in
         let within = subst (λ k. v < k) (sym counted) lt in
         ap (λ t. text_names t (global_name (module_names m) v)) program_reads
-        ∙ global_stands p n fs fits (one_variable_each m info) v within
-        (λ i li. value_no_variable m info i v li within)
+        ∙ global_stands p n fs fits (variables_tell m p (counts m info accepted)) v within
+        (λ i li. constant_no_variable m p (counts m info accepted) i v li within)
 
     pub override_found : (o : ℕ) → o < length m.overrides →
         names ((type_names m).override_name o) ≡ Some (ConstantTarget (override_number m o))

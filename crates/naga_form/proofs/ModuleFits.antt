@@ -97,7 +97,7 @@ module _ (m : Module) (info : ModuleInfo) (accepted : IsTrue (is_accepted m info
       ∙ shapes_counted m info (all_functions m) (all_infos info) (all_counted m info accepted)
 
   -- its program of shapes has what it declares
-  counts : CountsItems m p
+  pub counts : CountsItems m p
   counts = record {
     functions = functions_shaped;
     constants = constants_length m info;
