@@ -130,7 +130,7 @@ module _ (m : Module) (info : ModuleInfo) (explicit : Bool) (labels : LabelNames
           let w = (type_names m).struct_name h in (
             ap (λ o. option_or (option_map StructItem o) (option_map ValueItem (names w)))
                 (ap (struct_named program.structs) name
-                ∙ struct_found m info explicit h t at both),
+                ∙ struct_found m info explicit labels h t at both),
             false_from_ne_true (stands_in plain_type_words w)
                 (λ plain.
                 item_is_no_word m w (no_word_of_item w (plain_names_no_item w plain))
@@ -140,7 +140,7 @@ module _ (m : Module) (info : ModuleInfo) (explicit : Bool) (labels : LabelNames
           let name = or_nothing (module_names m (key.Override o)) in
           let w = (type_names m).override_name o in
           ap (λ k. option_or (option_map StructItem k) (option_map ValueItem (names w)))
-          (ap (struct_named program.structs) name ∙ override_not_found m info explicit o lt)
+          (ap (struct_named program.structs) name ∙ override_not_found m info explicit labels o lt)
           ∙ ap (option_map ValueItem)
           (override_found m info explicit labels are accepted declarations have scope o lt);
     }
@@ -168,4 +168,4 @@ module _ (m : Module) (info : ModuleInfo) (explicit : Bool) (labels : LabelNames
 
     -- ---- members
     pub members_resolve : MembersResolve m program
-    members_resolve = members_found m info explicit
+    members_resolve = members_found m info explicit labels

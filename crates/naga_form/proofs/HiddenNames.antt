@@ -87,13 +87,13 @@ module _ (m : Module) (info : ModuleInfo) (explicit : Bool) (labels : LabelNames
       is_in_types item.0 ≡ true → name_in (module_names m) item.0 ≢ w) →
       is_in_no_type program w ≡ true
   free_if w differs =
-      ap is_none (place_none w (struct_names m info explicit ++ override_names)
+      ap is_none (place_none w (struct_names m info explicit labels ++ override_names)
       (λ j at. ⊎_elim (λ here. in_structs j here) (λ there. in_overrides there.0 there.2)
-      (in_append (struct_names m info explicit) override_names j w at)))
+      (in_append (struct_names m info explicit labels) override_names j w at)))
     where
-      in_structs : (j : ℕ) → slice_get (struct_names m info explicit) j ≡ Some w → ⊥
+      in_structs : (j : ℕ) → slice_get (struct_names m info explicit labels) j ≡ Some w → ⊥
       in_structs j at =
-          let x = name_from m info explicit j w at in
+          let x = name_from m info explicit labels j w at in
           differs _ (type_stands wgsl_names m x.1.handle x.1.type x.1.there) refl
           (sym x.1.name ∙ x.2)
 

@@ -3,12 +3,12 @@
 -- Throughout, m is a module, info what is known of it, names are those of its items, t its types with
 -- their names, g the number of a function, ty the handle of a type, b a binding, k the handle of a
 -- declaration, and declarations go by their first letters.
-use Rattle.std.proofs.Common.{◌≡◌, ℕ, zero, suc, ◌+◌, ◌-◌, ◌<◌, Bool, true, false, List, [], ◌∷◌, length}
-use Rattle.std.proofs.Common.{refl, sym, ap, ◌∙◌, map, Option, Some, None, pred, arith, subst}
+use Rattle.std.proofs.Common.{◌≡◌, ℕ, suc, ◌+◌, ◌<◌, Bool, true, false, List, [], ◌∷◌, length}
+use Rattle.std.proofs.Common.{refl, sym, ap, ◌∙◌, map, Option, Some, None, pred, arith}
 use Rattle.std.specs.Prelude.{IsTrue, slice_get, unwrap_or, if◌then◌else◌, ◌==◌}
 use Rattle.std.specs.List.{cons_option, enumerate_from, filter_map, list_all}
 use Rattle.std.specs.Option.{is_some, option_and_then, option_map, option_map_or}
-use Rattle.std.proofs.lemmas.Bool.{and_parts, eqb-true, le-ltb}
+use Rattle.std.proofs.lemmas.Bool.{and_parts, eqb-true}
 use Rattle.std.proofs.lemmas.Option.{slice_get_within}
 use Rattle.naga_ir.specs.declared.binding.Binding.{Binding}
 use Rattle.naga_ir.specs.declared.expression.Expression as ir
@@ -39,7 +39,6 @@ use Rattle.wgsl_text.specs.Requests.{is_request}
 use Rattle.wgsl_text.specs.Types.{TypeSpecifier, Named}
 use Rattle.wgsl_text.proofs.Text.{text-append}
 use Rattle.shader_runs.specs.Constants.{module_initialiser_value, text_initialiser_value}
-use Rattle.shader_runs.specs.Form as runs
 use Rattle.shader_runs.specs.Form.{form_module}
 use Rattle.shader_runs.specs.Premises.{IsTyped, SettingsFit}
 use Rattle.shader_runs.specs.Program as shapes
@@ -50,7 +49,7 @@ use Rattle.shader_runs.specs.Value.{Value}
 use Rattle.shader_runs.specs.World.{Meaning, Settings, World}
 use Rattle.shader_runs.proofs.Calls.{initialisers_are_alike}
 use Rattle.text_meaning.specs.Abstraction.{expression_read, program_read}
-use Rattle.text_meaning.specs.Attributes.{alignment_read, behind_alignment, behind_size, size_read}
+use Rattle.text_meaning.specs.Attributes.{alignment_read, behind_alignment}
 use Rattle.text_meaning.specs.Attributes.{stage_binding_read, stage_read}
 use Rattle.text_meaning.specs.Interface.{access_read, constant_interface_read}
 use Rattle.text_meaning.specs.Interface.{entry_point_interface_read, function_interface_read}
@@ -66,7 +65,7 @@ use Rattle.module_meaning.specs.ExpressionContexts.{global_tree}
 use Rattle.module_meaning.specs.Faithful.{HasInterfaceOf}
 use Rattle.module_meaning.specs.FunctionNumbers.{all_functions}
 use Rattle.module_meaning.specs.Interface.{argument_passed, body_interface, constant_interface}
-use Rattle.module_meaning.specs.Interface.{entry_point_interface, function_interface}
+use Rattle.module_meaning.specs.Interface.{entry_point_interface}
 use Rattle.module_meaning.specs.Interface.{function_interfaces, global_expression_value}
 use Rattle.module_meaning.specs.Interface.{global_interface, member_interface}
 use Rattle.module_meaning.specs.Interface.{override_interface, result_passed, stage_of}
@@ -78,7 +77,6 @@ use Rattle.module_meaning.specs.Names.{override_name}
 use Rattle.module_meaning.specs.Namings.{function_naming, namings_under, outer_names}
 use Rattle.module_meaning.specs.Numbers.{fits_32_bits}
 use Rattle.module_meaning.specs.Premises.{ScopesHold}
-use Rattle.module_meaning.specs.StageBindings.{stage_binding}
 use Rattle.module_meaning.specs.Types.{spelled_type, type_names}
 use Rattle.module_meaning.specs.Undeclared.{is_declared}
 use Rattle.module_meaning.specs.Written.{AllWrittenHaveForms}

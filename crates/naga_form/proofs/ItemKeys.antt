@@ -1,7 +1,7 @@
 -- The items of a module by the keys of their names: no two with different keys have one name, and none
 -- has a word of WGSL's own, or no word at all, for its name.
 use Rattle.std.proofs.Common.{◌≡◌, ◌≢◌, ℕ, ◌+◌, ◌-◌, ◌<◌, Bool, true, false, List, [], ◌∷◌, length}
-use Rattle.std.proofs.Common.{Option, Some, None, nat_eq, refl, sym, ap, ◌∙◌, subst, take}
+use Rattle.std.proofs.Common.{Option, Some, None, nat_eq, refl, sym, ap, ◌∙◌, subst}
 use Rattle.std.specs.Prelude.{not, slice_get, ◌&&◌, ◌||◌}
 use Rattle.std.specs.Option.{option_map_or}
 use Rattle.std.proofs.lemmas.Bool.{and_parts, true≢false}
@@ -12,12 +12,11 @@ use Rattle.naga_ir.specs.declared.module.Module.{Module}
 use Rattle.naga_ir.specs.declared.module.Override.{Override}
 use Rattle.naga_ir.specs.declared.types.Type_.{Type_}
 use Rattle.naga_keywords.specs.Plain.{is_word}
-use Rattle.naga_names.specs.Reset.{labelled_items, labels_of}
+use Rattle.naga_names.specs.Reset.{labelled_items}
 use Rattle.naga_names.specs.declared.key.NameKey.{NameKey}
 use Rattle.naga_names.specs.declared.key.NameKey.TheVariants as key
 use Rattle.naga_names.proofs.NamedItems.{Stands, constant_stands, global_stands, override_stands}
 use Rattle.naga_names.proofs.NamedItems.{type_stands}
-use Rattle.naga_names.proofs.NameShapes.{name_after_is_word}
 use Rattle.naga_names.proofs.Refusal.{element}
 use Rattle.module_meaning.specs.ExpressionContexts.{named_count}
 use Rattle.module_meaning.specs.FunctionNumbers.{all_functions, function_type}
