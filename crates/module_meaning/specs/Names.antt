@@ -97,8 +97,9 @@ expression_name m g = name_of_label wgsl_names (labels_before m g) (labels_named
 abbrev pub LabelNames : Type 0
 LabelNames = (function label : ℕ) → List ℕ
 
--- What is asked of the names of one function's labels: each is an identifier, no two are one, and none
--- is that of an item of the module, but for the members of structs, or that of a handle.
+-- What is asked of the names of the labels of one function: each is an identifier, no two labels have
+-- one name, and neither an item of the module nor a handle has it. The members of structs, which are
+-- named by themselves, may have it.
 pub record AreLabelNamesOf (m : Module) (f : ir_function.Function) (named : (label : ℕ) → List ℕ) :
     Type 0 where
   pub identifiers : (k : ℕ) → k < length (expression_labels f) → IsIdentifier (named k)
