@@ -1,4 +1,7 @@
 -- Which `let`s a function's text has, and the types that they tell.
+--
+-- Throughout, m is a module, info what is known of it, named tells the names of the labels that front
+-- ends gave, and explicit says whether types are to be told.
 use Rattle.std.specs.Prelude.{◌≡◌, ℕ, List, [], ◌∷◌, map, Bool, Option}
 use Rattle.naga_ir.specs.declared.module.Module.{Module}
 use Rattle.naga_info.specs.declared.info.ExpressionInfo.{ExpressionInfo}
@@ -8,11 +11,11 @@ use Rattle.shader_runs.specs.Scope.{Naming}
 use Rattle.shader_runs.specs.Bindings.{text_lets, function_bindings, bound_names}
 use Rattle.wgsl_text.specs.Functions.{Function}
 use Rattle.wgsl_text.specs.Declarations.{Program}
-use Rattle.module_meaning.specs.Names.{module_names}
+use Rattle.module_meaning.specs.Names.{expression_name, LabelNames, module_names}
 use Rattle.module_meaning.specs.Types.{annotated_spelling, type_names}
 use Rattle.module_meaning.specs.FunctionNumbers.{all_functions, all_infos}
 use Rattle.module_meaning.specs.FunctionShapes.{function_shapes}
-use Rattle.module_meaning.specs.Namings.{namings_from, namings}
+use Rattle.module_meaning.specs.Namings.{namings_from, namings_under}
 use Rattle.text_meaning.specs.Abstraction.{functions_of, program_read}
 use Rattle.text_meaning.specs.Bindings.{statements_annotations}
 
@@ -26,9 +29,10 @@ module_annotations explicit m t (f ∷ fs) (es ∷ ess) =
 module_annotations explicit m t _ _ = []
 
 -- the module's functions and entry points with their names, in their order
-abbrev pub functions_named : Module → ModuleInfo → List Naming
-functions_named m info =
-    namings_from (module_names m) m 0 (function_shapes m info (all_functions m) (all_infos info))
+abbrev pub functions_named : LabelNames → Module → ModuleInfo → List Naming
+functions_named named m info =
+    namings_from named (module_names m) m 0
+    (function_shapes m info (all_functions m) (all_infos info))
 
 -- the `let`s of a program: the names of those of each function, the last one first, and the types
 -- that those of each function tell, in the functions' order
@@ -46,14 +50,19 @@ lets_read p =
 -- those of a module: of its handles that are bound, in their order, each under its handle's name.
 -- Each tells its handle's type where types are to be told, but for one that no text can name, and else
 -- none does
-abbrev pub module_lets : Module → ModuleInfo → (explicit : Bool) → Lets
-module_lets m info explicit =
+abbrev pub module_lets : LabelNames → Module → ModuleInfo → (explicit : Bool) → Lets
+module_lets named m info explicit =
     record {
-      names = map bound_names (namings (module_names m) m info);
+      names = map bound_names (namings_under named (module_names m) m info);
       annotations =
-          module_annotations explicit m (type_names m) (functions_named m info) (all_infos info);
+          module_annotations explicit m (type_names m) (functions_named named m info)
+          (all_infos info);
     }
 
--- The program has the module's `let`s.
+-- The program has the module's `let`s, where labels have these names.
+abbrev pub BindsUnder : LabelNames → Module → ModuleInfo → (explicit : Bool) → Program → Type 0
+BindsUnder named m info explicit program = lets_read program ≡ module_lets named m info explicit
+
+-- It has them where labels have the names that they have in a text of the whole module.
 abbrev pub BindsAs : Module → ModuleInfo → (explicit : Bool) → Program → Type 0
-BindsAs m info explicit program = lets_read program ≡ module_lets m info explicit
+BindsAs m info explicit program = BindsUnder (expression_name m) m info explicit program

@@ -1,7 +1,7 @@
 -- The names that a module's items and expressions have in its WGSL text.
-use Rattle.std.specs.Prelude.{◌≡◌, ℕ, Bool, true, false, ◌<◌, ◌≤◌, ◌^◌, List, [], ◌∷◌, ◌++◌, length}
-use Rattle.std.specs.Prelude.{replicate, slice_get, nat_lt, None, Some, codes, decimal, unwrap_or}
-use Rattle.std.specs.Prelude.{IsTrue, take}
+use Rattle.std.specs.Prelude.{◌≡◌, ◌≢◌, ℕ, Bool, true, false, ◌<◌, ◌≤◌, ◌==◌, ◌^◌, List, [], ◌∷◌, ◌++◌}
+use Rattle.std.specs.Prelude.{length, replicate, slice_get, nat_lt, None, Some, codes, decimal}
+use Rattle.std.specs.Prelude.{unwrap_or, IsFalse, IsTrue, if◌then◌else◌, take}
 use Rattle.std.specs.FinSet as set
 use Rattle.std.specs.Map.{update_all}
 use Rattle.std.specs.Option.{option_map_or}
@@ -11,7 +11,8 @@ use Rattle.naga_ir.specs.declared.types.StructMember.{StructMember}
 use Rattle.naga_ir.specs.declared.types.Type_.{Type_}
 use Rattle.naga_names.specs.Naming.{Names, new_names}
 use Rattle.naga_names.specs.Keys.{NameMap, same_key}
-use Rattle.naga_names.specs.Reset.{labelled_items, labels_of, members_of, named_items}
+use Rattle.naga_names.specs.Reset.{is_member, labelled_items, LabelledItem, labels_of, members_of}
+use Rattle.naga_names.specs.Reset.{named_items}
 use Rattle.naga_names.specs.declared.key.NameKey.{NameKey}
 use Rattle.naga_names.specs.declared.key.NameKey.TheVariants as key
 use Rattle.naga_words.specs.Spelling.{is_struct}
@@ -20,6 +21,7 @@ use Rattle.module_meaning.specs.ExpressionLabels.{name_of_label}
 use Rattle.module_meaning.specs.FunctionNumbers.{all_functions, function_type}
 use Rattle.naga_back.specs.FunctionContext.{argument_key, function_key, local_key}
 use Rattle.wgsl_text.specs.Keywords.{reserved_words, builtin_words}
+use Rattle.wgsl_text.specs.Words.{IsIdentifier}
 
 -- what no name begins with
 abbrev pub reserved_prefixes : List (List ℕ)
@@ -85,14 +87,39 @@ labels_before m g = item_labels m ++ all_expression_labels (take g (all_function
 abbrev pub labels_named_in : Module → (function : ℕ) → List (List ℕ)
 labels_named_in m g = option_map_or expression_labels (slice_get (all_functions m) g) []
 
--- and these are all labels of the module
-abbrev pub module_labels : Module → List (List ℕ)
-module_labels m = item_labels m ++ all_expression_labels (all_functions m)
-
 -- The names that front ends gave in a function, in the order of its text: each the name of its
 -- label behind all labels in front of it.
 unfoldable pub expression_name : Module → (function : ℕ) → (number : ℕ) → List ℕ
 expression_name m g = name_of_label wgsl_names (labels_before m g) (labels_named_in m g)
+
+-- ---- other names of these labels
+-- names of labels, by the function's number and the label's in its text
+abbrev pub LabelNames : Type 0
+LabelNames = (function label : ℕ) → List ℕ
+
+-- What is asked of the names of the labels of one function: each is an identifier, no two labels have
+-- one name, and neither an item of the module nor a handle has it. The members of structs, which are
+-- named by themselves, may have it.
+pub record AreLabelNamesOf (m : Module) (f : ir_function.Function) (named : (label : ℕ) → List ℕ) :
+    Type 0 where
+  pub identifiers : (k : ℕ) → k < length (expression_labels f) → IsIdentifier (named k)
+  pub distinct : (j k : ℕ) → j < length (expression_labels f) → k < length (expression_labels f) →
+      named j ≡ named k → j ≡ k
+  pub no_item : (k : ℕ) → k < length (expression_labels f) → (place : ℕ) (item : LabelledItem) →
+      slice_get (labelled_items wgsl_names m) place ≡ Some item → IsFalse (is_member item.0) →
+      name_in (module_names m) item.0 ≢ named k
+  pub not_numbered : (k : ℕ) → k < length (expression_labels f) → (h : ℕ) →
+      named k ≢ numbered_name h
+
+-- and of those of all functions
+abbrev pub AreLabelNames : Module → LabelNames → Type 0
+AreLabelNames m named =
+    (g : ℕ) (f : ir_function.Function) → slice_get (all_functions m) g ≡ Some f →
+    AreLabelNamesOf m f (named g)
+
+-- those that front ends gave, but for one function, whose labels have names of their own
+abbrev pub named_apart : Module → (number : ℕ) → (own : (label : ℕ) → List ℕ) → LabelNames
+named_apart m number own g = if g == number then own else expression_name m g
 
 -- ---- names that tell what they name
 -- Structs and overrides have names of their own, so that the spelling of a type tells them apart.

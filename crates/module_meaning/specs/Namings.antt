@@ -2,7 +2,8 @@
 --
 -- Throughout, names are those of the module m, info is what is known of it, c a constant (cs are
 -- several), i a number of the runs, f a function with the number g, es is what is known of its
--- expressions, and given tells the names that front ends gave in it, in the order of its text.
+-- expressions, and named tells the names of the labels that front ends gave, in one function by the
+-- label's number in the order of its text.
 use Rattle.std.specs.Prelude.{ℕ, suc, ◌+◌, ◌-◌, List, [], ◌∷◌, reverse, if◌then◌else◌, slice_get}
 use Rattle.std.specs.Option.{is_some, option_map_or}
 use Rattle.naga_ir.specs.declared.module.Constant as ir_constant
@@ -16,7 +17,7 @@ use Rattle.naga_names.specs.declared.key.NameKey.TheVariants as key
 use Rattle.module_meaning.specs.FunctionNumbers.{all_functions, all_infos}
 use Rattle.module_meaning.specs.FunctionShapes.{function_shape, function_shapes}
 use Rattle.module_meaning.specs.Names.{function_name, argument_name, expression_name, global_name}
-use Rattle.module_meaning.specs.Names.{local_name, name_in, numbered_name}
+use Rattle.module_meaning.specs.Names.{LabelNames, local_name, name_in, numbered_name}
 use Rattle.module_meaning.specs.ExpressionContexts.{named_count}
 use Rattle.shader_runs.specs.Program.{Function}
 use Rattle.shader_runs.specs.Scope.{ModuleNames, Names, Naming}
@@ -64,14 +65,20 @@ abbrev pub function_naming :
 function_naming names named m info g f es =
     record { function = function_shape m info f es; names = inner_names names m named g }
 
--- the functions with their names, from this number on, in a text of the whole module
-abbrev pub namings_from : NameMap → ir_module.Module → ℕ → List Function → List Naming
-namings_from names m g [] = []
-namings_from names m g (f ∷ fs) =
-    record { function = f; names = inner_names names m (expression_name m g) g }
-    ∷ namings_from names m (g + 1) fs
+-- the functions with their names, from this number on
+abbrev pub namings_from :
+    LabelNames → NameMap → ir_module.Module → ℕ → List Function → List Naming
+namings_from named names m g [] = []
+namings_from named names m g (f ∷ fs) =
+    record { function = f; names = inner_names names m (named g) g }
+    ∷ namings_from named names m (g + 1) fs
 
 -- the functions and entry points with their names, the last one first
+abbrev pub namings_under : LabelNames → NameMap → ir_module.Module → ModuleInfo → List Naming
+namings_under named names m info =
+    reverse
+    (namings_from named names m 0 (function_shapes m info (all_functions m) (all_infos info)))
+
+-- so they are in a text of the whole module
 abbrev pub namings : NameMap → ir_module.Module → ModuleInfo → List Naming
-namings names m info =
-    reverse (namings_from names m 0 (function_shapes m info (all_functions m) (all_infos info)))
+namings names m info = namings_under (expression_name m) names m info

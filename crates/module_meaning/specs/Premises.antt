@@ -10,9 +10,9 @@ use Rattle.shader_runs.specs.Program as shapes
 use Rattle.shader_runs.specs.Scope.{fits_function}
 use Rattle.shader_runs.specs.ScopeRules.{ScopeHolds}
 use Rattle.module_meaning.specs.FunctionNumbers.{all_functions}
-use Rattle.module_meaning.specs.Names.{module_names}
+use Rattle.module_meaning.specs.Names.{expression_name, LabelNames, module_names}
 use Rattle.module_meaning.specs.ModuleShapes.{module_shape}
-use Rattle.module_meaning.specs.Namings.{namings}
+use Rattle.module_meaning.specs.Namings.{namings_under}
 
 -- the operands of each expression stand before it
 abbrev pub OperandsStandBefore : List Expression → Type 0
@@ -28,9 +28,14 @@ EachScopeHolds (f ∷ fs) = ScopeHolds f × EachScopeHolds fs
 abbrev pub ScopesHold : Module → ModuleInfo → Type 0
 ScopesHold m info = EachScopeHolds (module_shape m info).functions
 
--- the check of these rules
+-- the check of these rules, where labels have these names
+abbrev pub scope_holds_under : LabelNames → Module → ModuleInfo → Bool
+scope_holds_under named m info =
+    list_all fits_function (namings_under named (module_names m) m info)
+
+-- and where they have those of a text of the whole module
 abbrev pub scope_holds : Module → ModuleInfo → Bool
-scope_holds m info = list_all fits_function (namings (module_names m) m info)
+scope_holds m info = scope_holds_under (expression_name m) m info
 
 -- handles are less than 2 ^ 64, as a `usize` is
 abbrev pub handles_are_counted : Module → Bool

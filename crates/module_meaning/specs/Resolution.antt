@@ -15,9 +15,9 @@ use Rattle.wgsl_text.specs.Reading.{type_layout}
 use Rattle.wgsl_text.specs.Types.{TypeSpecifier, IsType}
 use Rattle.module_meaning.specs.DeclaredItems.{module_initialiser_targets, module_stage_targets}
 use Rattle.module_meaning.specs.DeclaredItems.{resolution_items}
-use Rattle.module_meaning.specs.Names.{module_names, name_in}
+use Rattle.module_meaning.specs.Names.{expression_name, LabelNames, module_names, name_in}
 use Rattle.module_meaning.specs.ModuleShapes.{module_shape}
-use Rattle.module_meaning.specs.Namings.{namings}
+use Rattle.module_meaning.specs.Namings.{namings_under}
 use Rattle.module_meaning.specs.Ranges.{resolution_fits}
 use Rattle.module_meaning.specs.Types.{spelled_resolution, type_names}
 use Rattle.module_meaning.specs.Undeclared.{is_declared, is_spellable}
@@ -26,12 +26,13 @@ use Rattle.text_meaning.specs.Resolution.{item_named, member_named, program_init
 use Rattle.text_meaning.specs.Resolution.{stage_targets, type_items, types_are_not_hidden}
 
 -- Each identifier and each word of each function and of each named constant, in their order, stands
--- for what the module means there: a constant, variable, function, argument, local or `let`, or an
--- operator, a constructor, a request, a part or a literal.
-abbrev pub BodiesResolve : Module → ModuleInfo → Program → Type 0
-BodiesResolve m info program =
+-- for what the module means there, where labels have these names: a constant, variable, function,
+-- argument, local or `let`, or an operator, a constructor, a request, a part or a literal.
+abbrev pub BodiesResolve : LabelNames → Module → ModuleInfo → Program → Type 0
+BodiesResolve named m info program =
     text_targets (program_read program)
-    ≡ map (map Some) (module_targets (module_shape m info) (namings (module_names m) m info))
+    ≡ map (map Some)
+    (module_targets (module_shape m info) (namings_under named (module_names m) m info))
 
 -- The identifiers of a type stand for the structs and overrides that the module's type is over,
 -- wherever a text has a type of this spelling.
@@ -52,8 +53,10 @@ MembersResolve m program =
     (name_in (module_names m) (key.StructMember h i))
     ≡ Some i
 
-pub record ResolvesAs (m : Module) (info : ModuleInfo) (program : Program) : Type 0 where
-  pub bodies : BodiesResolve m info program
+-- Each name does, where labels have these names.
+pub record ResolvesUnder (named : LabelNames) (m : Module) (info : ModuleInfo) (program : Program) :
+    Type 0 where
+  pub bodies : BodiesResolve named m info program
   -- the initialisers of overrides and of variables
   pub initialisers : program_initialiser_targets program
       ≡ map (map Some) (module_initialiser_targets m info)
@@ -63,3 +66,7 @@ pub record ResolvesAs (m : Module) (info : ModuleInfo) (program : Program) : Typ
   pub types : TypesResolve m program
   pub not_hidden : IsTrue (types_are_not_hidden program)
   pub members : MembersResolve m program
+
+-- Each name does where labels have the names that they have in a text of the whole module.
+abbrev pub ResolvesAs : Module → ModuleInfo → Program → Type 0
+ResolvesAs m info program = ResolvesUnder (expression_name m) m info program

@@ -34,8 +34,8 @@ use Rattle.naga_form.specs.Statements.{let_form, then_if, lets_form, return_line
 use Rattle.naga_form.specs.Statements.{act_line, barrier_lines, optional_form}
 use Rattle.naga_form.specs.Statements.{loop_form, label_form, line_form, lines_form, cases_form}
 use Rattle.naga_form.proofs.SimpleShapes.{has_no_blocks, no_blocks}
-use Rattle.naga_form.specs.Functions.{functions_form}
-use Rattle.naga_form.specs.Declarations.{written_program}
+use Rattle.naga_form.specs.Functions.{functions_under}
+use Rattle.naga_form.specs.Declarations.{program_under, written_program}
 use Rattle.wgsl_text.proofs.Text.{text-append}
 use Rattle.naga_form.proofs.TypeTrees.{resolution_row}
 use Rattle.wgsl_text.specs.Expressions as tree_expressions
@@ -47,19 +47,19 @@ use Rattle.naga_info.specs.declared.info.TypeResolution.{TypeResolution}
 use Rattle.naga_form.specs.TypeTrees.{resolution_tree}
 use Rattle.naga_form.specs.Types.{annotated_type}
 use Rattle.module_meaning.specs.Types.{annotated_spelling, spelled_resolution}
-use Rattle.module_meaning.specs.Names.{expression_name, module_names}
+use Rattle.module_meaning.specs.Names.{expression_name, LabelNames, module_names}
 use Rattle.module_meaning.specs.FunctionShapes.{statement_shape, statements_shape, cases_shape}
 use Rattle.module_meaning.specs.FunctionShapes.{function_shapes}
 use Rattle.module_meaning.specs.ModuleShapes.{module_shape}
-use Rattle.module_meaning.specs.Namings.{namings_from, namings, outer_names, function_naming}
+use Rattle.module_meaning.specs.Namings.{function_naming, namings_from, namings_under, outer_names}
 use Rattle.module_meaning.specs.StatementShapes.{simple_shape}
 use Rattle.text_meaning.specs.Bindings.{statement_annotations, statements_annotations, optional_annotations}
 use Rattle.text_meaning.specs.Bindings.{cases_annotations}
-use Rattle.module_meaning.specs.Bindings.{module_annotations, BindsAs}
+use Rattle.module_meaning.specs.Bindings.{BindsAs, BindsUnder, module_annotations}
 use Rattle.module_meaning.specs.FunctionNumbers.{all_functions, all_infos}
 use Rattle.naga_form.proofs.AcceptedFunctions.{functions_counted}
-use Rattle.naga_form.proofs.Runs.{reads_as_shapes}
-use Rattle.naga_form.proofs.WrittenFunctions.{all_functions_form}
+use Rattle.naga_form.proofs.Runs.{reads_as_shapes_under}
+use Rattle.naga_form.proofs.WrittenFunctions.{all_functions_under}
 use Rattle.module_meaning.specs.Written.{AllWrittenHaveForms}
 
 module _ (n : Naming) (annotated : ℕ → Option TypeSpecifier) (source : Source) where
@@ -211,30 +211,37 @@ annotated_spells true m t es h = by (slice_get es h)
     by None = refl
     by (Some k) = row k.ty (names_undeclared m k.ty)
 
-functions_tell : (explicit : Bool) (names : NameMap) (m : Module) (info : ModuleInfo) (g : ℕ)
-    (fs : List ir_function.Function) (ess : List (List ExpressionInfo)) →
+functions_tell : (explicit : Bool) (named : LabelNames) (names : NameMap) (m : Module)
+    (info : ModuleInfo) (g : ℕ) (fs : List ir_function.Function) (ess : List (List ExpressionInfo)) →
     map (λ (f : tree_functions.Function). statements_annotations f.body)
-    (functions_form explicit names m info g fs ess) ≡ module_annotations explicit m
-    (names_of m.types names) (namings_from names m g (function_shapes m info fs ess)) ess
-functions_tell explicit names m info g [] ess = refl
-functions_tell explicit names m info g (f ∷ fs) [] = refl
-functions_tell explicit names m info g (f ∷ fs) (es ∷ ess) =
-    let n = function_naming names (expression_name m g) m info g f es in
+    (functions_under named explicit names m info g fs ess) ≡ module_annotations explicit m
+    (names_of m.types names) (namings_from named names m g (function_shapes m info fs ess)) ess
+functions_tell explicit named names m info g [] ess = refl
+functions_tell explicit named names m info g (f ∷ fs) [] = refl
+functions_tell explicit named names m info g (f ∷ fs) (es ∷ ess) =
+    let n = function_naming names (named g) m info g f es in
     let t = names_of m.types names in
     let line = lines_tell n (annotated_type explicit m t es) (function_source m info f es) 0 f.body (at_start n.function)
     ∙ (λ i. map (λ b. annotated_spells explicit m t es b.handle i) (function_bindings n)) in
-    λ i. line i ∷ functions_tell explicit names m info (g + 1) fs ess i
+    λ i. line i ∷ functions_tell explicit named names m info (g + 1) fs ess i
+
+-- under whatever names labels have
+pub binds_as_under : (m : Module) (info : ModuleInfo) (explicit : Bool) (named : LabelNames) →
+    IsTrue (is_accepted m info) → DeclarationsHaveForms m → AllWrittenHaveForms explicit m info →
+    BindsUnder named m info explicit (program_under named m info explicit)
+binds_as_under m info explicit named accepted declarations have =
+    let names =
+    ap text_lets (reads_as_shapes_under m info explicit named accepted declarations have)
+    ∙ binds_as_meant (module_shape m info) (outer_names (module_names m) m)
+    (namings_under named (module_names m) m info) in
+    let annotations =
+    ap (map (λ (f : tree_functions.Function). statements_annotations f.body))
+    (all_functions_under m info explicit named (functions_counted m info accepted))
+    ∙ functions_tell explicit named (module_names m) m info 0 (all_functions m) (all_infos info) in
+    λ i. record { names = names i; annotations = annotations i }
 
 pub binds_as : (m : Module) (info : ModuleInfo) (explicit : Bool) → IsTrue (is_accepted m info) →
     DeclarationsHaveForms m → AllWrittenHaveForms explicit m info →
     BindsAs m info explicit (written_program m info explicit)
 binds_as m info explicit accepted declarations have =
-    let names =
-    ap text_lets (reads_as_shapes m info explicit accepted declarations have)
-    ∙ binds_as_meant (module_shape m info) (outer_names (module_names m) m)
-    (namings (module_names m) m info) in
-    let annotations =
-    ap (map (λ (f : tree_functions.Function). statements_annotations f.body))
-    (all_functions_form m info explicit (functions_counted m info accepted))
-    ∙ functions_tell explicit (module_names m) m info 0 (all_functions m) (all_infos info) in
-    λ i. record { names = names i; annotations = annotations i }
+    binds_as_under m info explicit (expression_name m) accepted declarations have

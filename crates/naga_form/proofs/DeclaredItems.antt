@@ -9,8 +9,6 @@ use Rattle.std.proofs.lemmas.List.{map-append}
 use Rattle.std.proofs.lemmas.Option.{same_Some}
 use Rattle.naga_info.specs.declared.info.ModuleInfo.{ModuleInfo}
 use Rattle.naga_ir.specs.declared.module.Module.{Module}
-use Rattle.naga_names.proofs.NamedItems.{type_stands}
-use Rattle.naga_names.specs.Reset.{type_label}
 use Rattle.naga_names.specs.declared.key.NameKey.TheVariants as key
 use Rattle.naga_words.specs.Spelling.{is_struct}
 use Rattle.module_meaning.specs.Accepted.{is_accepted}
@@ -18,7 +16,7 @@ use Rattle.module_meaning.specs.DeclarationForms.{DeclarationsHaveForms, OfOverr
 use Rattle.module_meaning.specs.DeclaredItems.{initialiser_meant, module_initialiser_targets}
 use Rattle.module_meaning.specs.DeclaredItems.{module_stage_targets, resolution_items}
 use Rattle.module_meaning.specs.FunctionNumbers.{all_functions, all_infos}
-use Rattle.module_meaning.specs.Names.{module_names, wgsl_names}
+use Rattle.module_meaning.specs.Names.{AreLabelNames, LabelNames, module_names}
 use Rattle.module_meaning.specs.Premises.{ScopesHold}
 use Rattle.module_meaning.specs.Resolution.{MembersResolve, TypesResolve}
 use Rattle.module_meaning.specs.Types.{type_names}
@@ -45,7 +43,7 @@ use Rattle.naga_form.proofs.DeclaredStructs.{members_found, override_not_found, 
 use Rattle.naga_form.proofs.DistinguishedItems.{types_are_distinguished}
 use Rattle.naga_form.proofs.Facts.{from_start}
 use Rattle.naga_form.proofs.HiddenNames.{functions_hide_none, hides_none}
-use Rattle.naga_form.proofs.ItemNames.{no_word}
+use Rattle.naga_form.proofs.ItemKeys.{item_is_no_word, no_word_of_item, type_has}
 use Rattle.naga_form.proofs.ItemTargets.{initialiser_found, override_found, program_reads}
 use Rattle.naga_form.proofs.ItemTargets.{variable_found}
 use Rattle.naga_form.proofs.OperatingWords.{names_no_item, operates_freely, plain_types_free}
@@ -55,7 +53,7 @@ use Rattle.naga_form.proofs.StageTargets.{stages_named}
 use Rattle.naga_form.proofs.TypeItems.{ItemsAreNamed, resolution_named}
 use Rattle.naga_form.proofs.WrittenTypes.{tree_there}
 use Rattle.naga_form.specs.ConstantForms.{global_form}
-use Rattle.naga_form.specs.Declarations.{override_form, variable_form, written_program}
+use Rattle.naga_form.specs.Declarations.{override_form, program_under, variable_form}
 
 -- a word of the table of types names no item
 plain_names_no_item : (w : List ℕ) → stands_in plain_type_words w ≡ true → names_no_item w ≡ true
@@ -66,12 +64,13 @@ plain_names_no_item w plain =
     ∙ (and_parts (not (is_request (type_layout (Named w)))) (names_no_item (type_layout (Named w)))
     free).1
 
-module _ (m : Module) (info : ModuleInfo) (explicit : Bool) (accepted : IsTrue (is_accepted m info))
+module _ (m : Module) (info : ModuleInfo) (explicit : Bool) (labels : LabelNames)
+    (are : AreLabelNames m labels) (accepted : IsTrue (is_accepted m info))
     (declarations : DeclarationsHaveForms m) (have : AllWrittenHaveForms explicit m info)
     (scope : ScopesHold m info)
   where
     abbrev program : Program
-    program = written_program m info explicit
+    program = program_under labels m info explicit
 
     abbrev names : Lookup
     names = text_names (program_read program)
@@ -82,7 +81,7 @@ module _ (m : Module) (info : ModuleInfo) (explicit : Bool) (accepted : IsTrue (
         ≡ map Some (initialiser_meant m info o)
     one_resolves None is = refl
     one_resolves (Some h) is =
-        initialiser_found m info explicit accepted declarations have scope h (is h refl)
+        initialiser_found m info explicit labels are accepted declarations have scope h (is h refl)
 
     -- those of declarations in their order, each made of an item by a form that has its initialiser
     each_resolves : {X Y : Type 0} (form : ℕ × X → Y) (value : Y → Option Expression)
@@ -115,7 +114,7 @@ module _ (m : Module) (info : ModuleInfo) (explicit : Bool) (accepted : IsTrue (
     pub stages_resolve : stage_targets program ≡ map (map Some) (module_stage_targets m)
     stages_resolve =
         stages_named (module_names m) names (length m.global_variables)
-        (variable_found m info explicit accepted declarations have scope) explicit m info
+        (variable_found m info explicit labels are accepted declarations have scope) explicit labels m info
         (length m.functions) m.entry_points.items info.entry_points.items
         (entry_points_counted m info accepted) (stage_variables_within m info accepted)
 
@@ -131,18 +130,19 @@ module _ (m : Module) (info : ModuleInfo) (explicit : Bool) (accepted : IsTrue (
           let w = (type_names m).struct_name h in (
             ap (λ o. option_or (option_map StructItem o) (option_map ValueItem (names w)))
                 (ap (struct_named program.structs) name
-                ∙ struct_found m info explicit h t at both),
+                ∙ struct_found m info explicit labels h t at both),
             false_from_ne_true (stands_in plain_type_words w)
-                (λ plain. no_word m (key.Type_ h, type_label m.entry_points.items h t) w
-                (type_stands wgsl_names m h t at) (plain_names_no_item w plain) (sym name)),
+                (λ plain.
+                item_is_no_word m w (no_word_of_item w (plain_names_no_item w plain))
+                (key.Type_ h) (type_has m h t at) (sym name)),
           );
       overrides = λ o lt.
           let name = or_nothing (module_names m (key.Override o)) in
           let w = (type_names m).override_name o in
           ap (λ k. option_or (option_map StructItem k) (option_map ValueItem (names w)))
-          (ap (struct_named program.structs) name ∙ override_not_found m info explicit o lt)
+          (ap (struct_named program.structs) name ∙ override_not_found m info explicit labels o lt)
           ∙ ap (option_map ValueItem)
-          (override_found m info explicit accepted declarations have scope o lt);
+          (override_found m info explicit labels are accepted declarations have scope o lt);
     }
 
     pub types_resolve : TypesResolve m program
@@ -161,11 +161,11 @@ module _ (m : Module) (info : ModuleInfo) (explicit : Bool) (accepted : IsTrue (
 
     pub not_hidden : IsTrue (types_are_not_hidden program)
     not_hidden =
-        ap (λ t. list_all (hides_none m info explicit) t.functions)
-        (program_reads m info explicit accepted declarations have scope)
-        ∙ functions_hide_none m info explicit 0 (all_functions m) (all_infos info)
+        ap (λ t. list_all (hides_none m info explicit labels) t.functions)
+        (program_reads m info explicit labels are accepted declarations have scope)
+        ∙ functions_hide_none m info explicit labels are 0 (all_functions m) (all_infos info)
         (from_start (all_functions m)) [] refl
 
     -- ---- members
     pub members_resolve : MembersResolve m program
-    members_resolve = members_found m info explicit
+    members_resolve = members_found m info explicit labels

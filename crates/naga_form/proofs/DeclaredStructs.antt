@@ -1,7 +1,8 @@
 -- The structs that are written for a module, each at its number under its name, and their members.
 --
 -- Throughout, m is a module, of which info is known, h and k are handles of types, t and u types, s is
--- a struct that is written, i and j are places, o is an override, and w a word.
+-- a struct that is written, i and j are places, o is an override, w a word, and labels tells the names
+-- of the labels that front ends gave.
 use Rattle.std.proofs.Common.{◌≡◌, ℕ, ◌<◌, Bool, true, List, Some, None, sym, ap, ◌∙◌, length, map}
 use Rattle.std.proofs.Common.{not, slice_get, take}
 use Rattle.std.specs.List.{enumerate_from, filter}
@@ -16,20 +17,20 @@ use Rattle.naga_names.specs.Reset.{members_of}
 use Rattle.naga_names.specs.declared.key.NameKey.TheVariants as key
 use Rattle.naga_words.specs.Spelling.{is_struct}
 use Rattle.module_meaning.specs.DeclaredItems.{struct_number}
-use Rattle.module_meaning.specs.Names.{module_names, name_in, override_name}
+use Rattle.module_meaning.specs.Names.{LabelNames, module_names, name_in, override_name}
 use Rattle.module_meaning.specs.Resolution.{MembersResolve}
 use Rattle.module_meaning.specs.Types.{type_names}
 use Rattle.module_meaning.specs.Undeclared.{is_declared, is_undeclared}
 use Rattle.text_meaning.specs.Resolution.{place_among, struct_named}
-use Rattle.wgsl_text.specs.Declarations.{Program, Struct, StructMember}
+use Rattle.wgsl_text.specs.Declarations.{Program, Struct}
 use Rattle.naga_form.proofs.DistinguishedItems.{items_are_distinguished}
 use Rattle.naga_form.proofs.ListPlaces.{formed_at, formed_from, made_at, made_from, numbered_at}
 use Rattle.naga_form.proofs.ListPlaces.{numbered_from, numbered_taken, place_found, place_none}
-use Rattle.naga_form.specs.Declarations.{member_form, written_program}
+use Rattle.naga_form.specs.Declarations.{member_form, program_under}
 
-module _ (m : Module) (info : ModuleInfo) (explicit : Bool) where
+module _ (m : Module) (info : ModuleInfo) (explicit : Bool) (labels : LabelNames) where
   abbrev program : Program
-  program = written_program m info explicit
+  program = program_under labels m info explicit
 
   abbrev struct_name : ℕ → List ℕ
   struct_name h = name_in (module_names m) (key.Type_ h)

@@ -1,6 +1,8 @@
 -- The names that a function's text uses from its start on are those of items of the module: no two are
 -- alike.
-use Rattle.std.proofs.Common.{◌≡◌, ℕ, ◌<◌, List, length, Some, None, Option, refl, sym, ap, ◌∙◌, subst}
+--
+-- Throughout, named tells the names of the labels that front ends gave in the function.
+use Rattle.std.proofs.Common.{◌≡◌, ◌≢◌, ℕ, ◌<◌, List, length, Some, None, Option, refl, sym, ap, ◌∙◌, subst}
 use Rattle.std.specs.Prelude.{slice_get}
 use Rattle.std.proofs.lemmas.Option.{none-some, same_Some}
 use Rattle.naga_back.specs.FunctionContext.{argument_key, function_key, local_key}
@@ -16,7 +18,7 @@ use Rattle.naga_names.proofs.Refusal.{element}
 use Rattle.module_meaning.specs.ExpressionContexts.{constant_number, override_number}
 use Rattle.module_meaning.specs.FunctionNumbers.{all_functions, function_type}
 use Rattle.module_meaning.specs.FunctionShapes.{function_shape}
-use Rattle.module_meaning.specs.Names.{expression_name, module_names, name_in}
+use Rattle.module_meaning.specs.Names.{global_name, module_names, name_in}
 use Rattle.module_meaning.specs.Namings.{inner_names, numbered_key}
 use Rattle.module_meaning.specs.Types.{declared_type}
 use Rattle.shader_runs.specs.Premises.{ArgumentName, ConstantName, FixedName, fixed_name, GlobalName}
@@ -58,15 +60,18 @@ fixed_key m g (ConstantName i) = numbered_key m i
 fixed_key m g (GlobalName v) = key.GlobalVariable v
 
 -- and its names
-abbrev names_in : Module → (number : ℕ) → Names
-names_in m g = inner_names (module_names m) m (expression_name m g) g
+abbrev names_in : Module → (number : ℕ) → (named : ℕ → List ℕ) → Names
+names_in m g named = inner_names (module_names m) m named g
 
-pub fixed_named : (m : Module) (g : ℕ) (x : FixedName) →
-    fixed_name (names_in m g) x ≡ name_in (module_names m) (fixed_key m g x)
-fixed_named m g (ArgumentName n) = refl
-fixed_named m g (LocalName l) = refl
-fixed_named m g (ConstantName i) = refl
-fixed_named m g (GlobalName v) = refl
+pub fixed_named : (m : Module) (g : ℕ) (named : ℕ → List ℕ) (x : FixedName) →
+    fixed_name (names_in m g named) x ≡ name_in (module_names m) (fixed_key m g x)
+fixed_named m g named (ArgumentName n) = refl
+fixed_named m g named (LocalName l) = refl
+fixed_named m g named (ConstantName i) = refl
+fixed_named m g named (GlobalName v) = refl
+
+one_variable : (u v : ℕ) → key.GlobalVariable u ≡ key.GlobalVariable v → u ≡ v
+one_variable u v e = cc
 
 -- that of a function is none
 pub function_is_none : (m : Module) (ty : FunctionType) → fixed_of m (function_key ty) ≡ None
@@ -96,6 +101,27 @@ module _ (m : Module) (p : shapes.Module) (counts : CountsItems m p) where
       (sym (numbered_is i li) ∙ (ap (fixed_of m) same ∙ numbered_is k lk)) in
       cc
 
+  -- nor have two variables
+  has_variable : (v : ℕ) → v < length p.globals → HasItem m (key.GlobalVariable v)
+  has_variable v lt = global_has m v (subst (λ n. v < n) counts.globals lt)
+
+  pub variables_tell : (u v : ℕ) → u < length p.globals → v < length p.globals →
+      global_name (module_names m) u ≡ global_name (module_names m) v → u ≡ v
+  variables_tell u v lu lv e =
+      one_variable u v
+      (keys_tell m (key.GlobalVariable u) (key.GlobalVariable v) (has_variable u lu)
+      (has_variable v lv) e)
+
+  -- nor has a variable that of a constant or of an override
+  pub constant_no_variable : (i v : ℕ) → i < length p.constant_types → v < length p.globals →
+      name_in (module_names m) (numbered_key m i) ≢ global_name (module_names m) v
+  constant_no_variable i v li lv e =
+      let same = keys_tell m (numbered_key m i) (key.GlobalVariable v)
+      (numbered_has m i (subst (λ n. i < n) counts.constants li)) (has_variable v lv) e in
+      let fixed = same_Some (ConstantName i) (GlobalName v)
+      (sym (numbered_is i li) ∙ ap (fixed_of m) same) in
+      cc
+
   -- ---- in one function
   module _ (info : ModuleInfo) (g : ℕ) (f : ir_function.Function)
       (found : slice_get (all_functions m) g ≡ Some f) (es : List ExpressionInfo) where
@@ -113,7 +139,7 @@ module _ (m : Module) (p : shapes.Module) (counts : CountsItems m p) where
         (subst (λ k. l < k) (mapped_length (λ v. v.init) f.local_variables) is) in
         (_, local_there m g f l a.0 found a.1)
     fixed_has (ConstantName i) is = numbered_has m i (subst (λ n. i < n) counts.constants is)
-    fixed_has (GlobalName v) is = global_has m v (subst (λ n. v < n) counts.globals is)
+    fixed_has (GlobalName v) is = has_variable v is
 
     -- and that of this name alone
     fixed_is : (x : FixedName) → IsFixedName p shape x → fixed_of m (fixed_key m g x) ≡ Some x
@@ -123,16 +149,19 @@ module _ (m : Module) (p : shapes.Module) (counts : CountsItems m p) where
     fixed_is (GlobalName v) is = refl
 
     -- so no two are alike
-    pub fixed_tell : (x y : FixedName) → IsFixedName p shape x → IsFixedName p shape y →
-        fixed_name (names_in m g) x ≡ fixed_name (names_in m g) y → x ≡ y
-    fixed_tell x y is_x is_y e =
+    pub fixed_tell : (named : ℕ → List ℕ) (x y : FixedName) → IsFixedName p shape x →
+        IsFixedName p shape y → fixed_name (names_in m g named) x ≡ fixed_name (names_in m g named) y →
+        x ≡ y
+    fixed_tell named x y is_x is_y e =
         let same = keys_tell m (fixed_key m g x) (fixed_key m g y) (fixed_has x is_x) (fixed_has y is_y)
-        (sym (fixed_named m g x) ∙ (e ∙ fixed_named m g y)) in
+        (sym (fixed_named m g named x) ∙ (e ∙ fixed_named m g named y)) in
         same_Some x y (sym (fixed_is x is_x) ∙ (ap (fixed_of m) same ∙ fixed_is y is_y))
 
     -- and none is the name of an item that has another key
-    pub fixed_no_item : (k : NameKey) → HasItem m k → fixed_of m k ≡ None → (x : FixedName) →
-        IsFixedName p shape x → fixed_name (names_in m g) x ≡ name_in (module_names m) k → ⊥
-    fixed_no_item k has none x is e =
-        let same = keys_tell m (fixed_key m g x) k (fixed_has x is) has (sym (fixed_named m g x) ∙ e) in
+    pub fixed_no_item : (named : ℕ → List ℕ) (k : NameKey) → HasItem m k → fixed_of m k ≡ None →
+        (x : FixedName) → IsFixedName p shape x →
+        fixed_name (names_in m g named) x ≡ name_in (module_names m) k → ⊥
+    fixed_no_item named k has none x is e =
+        let same = keys_tell m (fixed_key m g x) k (fixed_has x is) has
+        (sym (fixed_named m g named x) ∙ e) in
         none-some x (sym none ∙ (sym (ap (fixed_of m) same) ∙ fixed_is x is))

@@ -2,7 +2,8 @@
 -- mean the same in each function.
 --
 -- Throughout, m is a module, of which info is known, w is a word, f a function with the number g, of
--- whose expressions es is known, i an index, and behind are functions.
+-- whose expressions es is known, i an index, behind are functions, and labels tells the names of the
+-- labels that front ends gave.
 use Rattle.std.proofs.Common.{◌≡◌, ◌≢◌, ⊎_elim, ℕ, ◌+◌, ◌<◌, Bool, true, false, List, [], ◌∷◌, ◌++◌}
 use Rattle.std.proofs.Common.{Some, refl, sym, ap, subst, ◌∙◌, arith, length, map, slice_get}
 use Rattle.std.proofs.Common.{true≢false}
@@ -28,8 +29,8 @@ use Rattle.module_meaning.specs.ExpressionLabels.{expression_labels}
 use Rattle.module_meaning.specs.FunctionNumbers.{all_functions, function_type}
 use Rattle.module_meaning.specs.FunctionShapes.{function_shapes}
 use Rattle.module_meaning.specs.ModuleShapes.{module_shape}
-use Rattle.module_meaning.specs.Names.{argument_name, expression_name, local_name, module_names}
-use Rattle.module_meaning.specs.Names.{name_in, numbered_name, wgsl_names}
+use Rattle.module_meaning.specs.Names.{AreLabelNames, AreLabelNamesOf, argument_name, LabelNames}
+use Rattle.module_meaning.specs.Names.{local_name, module_names, name_in, numbered_name, wgsl_names}
 use Rattle.module_meaning.specs.Namings.{function_naming, namings_from, outer_names}
 use Rattle.module_meaning.specs.Types.{declared_type, type_names}
 use Rattle.module_meaning.proofs.FunctionNumbers.{in_append}
@@ -40,15 +41,14 @@ use Rattle.shader_runs.specs.Text.{TextFunction}
 use Rattle.text_meaning.specs.Resolution.{is_in_no_type, own_names}
 use Rattle.wgsl_text.specs.Declarations.{Program}
 use Rattle.naga_form.proofs.DeclaredStructs.{name_from, struct_names}
-use Rattle.naga_form.proofs.ExpressionNames.{named_no_item}
+use Rattle.naga_form.proofs.ExpressionNames.{label_no_item}
 use Rattle.naga_form.proofs.Facts.{further}
 use Rattle.naga_form.proofs.Fits.{mapped_length, named_by_all_is}
 use Rattle.naga_form.proofs.GivenNames.{own_names_pass}
-use Rattle.naga_form.proofs.ItemNames.{other_name}
+use Rattle.naga_form.proofs.ItemKeys.{keys_tell}
 use Rattle.naga_form.proofs.ListPlaces.{made_from, place_none}
-use Rattle.naga_form.proofs.Names.{argument_item, argument_there, item_not_numbered, local_item}
-use Rattle.naga_form.proofs.Names.{local_there}
-use Rattle.naga_form.specs.Declarations.{override_form, written_program}
+use Rattle.naga_form.proofs.Names.{argument_there, item_not_numbered, local_there}
+use Rattle.naga_form.specs.Declarations.{override_form, program_under}
 
 -- ---- keys
 -- the key of what a type may name
@@ -65,9 +65,9 @@ local_in_none : (ty : FunctionType) (i : ℕ) → is_in_types (local_key ty i) �
 local_in_none (item.Function h) i = refl
 local_in_none (item.EntryPoint j) i = refl
 
-module _ (m : Module) (info : ModuleInfo) (explicit : Bool) where
+module _ (m : Module) (info : ModuleInfo) (explicit : Bool) (labels : LabelNames) where
   abbrev program : Program
-  program = written_program m info explicit
+  program = program_under labels m info explicit
 
   -- ---- names
   abbrev override_names : List (List ℕ)
@@ -87,13 +87,13 @@ module _ (m : Module) (info : ModuleInfo) (explicit : Bool) where
       is_in_types item.0 ≡ true → name_in (module_names m) item.0 ≢ w) →
       is_in_no_type program w ≡ true
   free_if w differs =
-      ap is_none (place_none w (struct_names m info explicit ++ override_names)
+      ap is_none (place_none w (struct_names m info explicit labels ++ override_names)
       (λ j at. ⊎_elim (λ here. in_structs j here) (λ there. in_overrides there.0 there.2)
-      (in_append (struct_names m info explicit) override_names j w at)))
+      (in_append (struct_names m info explicit labels) override_names j w at)))
     where
-      in_structs : (j : ℕ) → slice_get (struct_names m info explicit) j ≡ Some w → ⊥
+      in_structs : (j : ℕ) → slice_get (struct_names m info explicit labels) j ≡ Some w → ⊥
       in_structs j at =
-          let x = name_from m info explicit j w at in
+          let x = name_from m info explicit labels j w at in
           differs _ (type_stands wgsl_names m x.1.handle x.1.type x.1.there) refl
           (sym x.1.name ∙ x.2)
 
@@ -106,9 +106,9 @@ module _ (m : Module) (info : ModuleInfo) (explicit : Bool) where
   hides_none f = list_all (is_in_no_type program) (own_names f)
 
   module _ (g : ℕ) (f : ir_function.Function) (found : slice_get (all_functions m) g ≡ Some f)
-      (es : List ExpressionInfo) where
+      (are : AreLabelNamesOf m f (labels g)) (es : List ExpressionInfo) where
     abbrev own : Naming
-    own = function_naming (module_names m) (expression_name m g) m info g f es
+    own = function_naming (module_names m) (labels g) m info g f es
 
     arguments : (i : ℕ) → i < argument_count own.function →
         is_in_no_type program (argument_name m (module_names m) g i) ≡ true
@@ -116,10 +116,10 @@ module _ (m : Module) (info : ModuleInfo) (explicit : Bool) where
         let counted = mapped_length (λ a. declared_type m a.ty) f.arguments.items in
         let a = element f.arguments.items i (subst (λ k. i < k) counted lt) in
         free_if (argument_name m (module_names m) g i)
-        (λ item s is. other_name m item (argument_item m g i a.0) s
-        (argument_there m g f i a.0 found a.1)
-        (λ same.
-        true≢false (sym is ∙ (ap is_in_types same ∙ argument_in_none (function_type m g) i))))
+        (λ item s is e.
+        let same = keys_tell m item.0 (argument_key (function_type m g) i) (item.1, s)
+        (_, argument_there m g f i a.0 found a.1) e in
+        true≢false (sym is ∙ (ap is_in_types same ∙ argument_in_none (function_type m g) i)))
 
     locals : (i : ℕ) → i < local_count own.function →
         is_in_no_type program (local_name m (module_names m) g i) ≡ true
@@ -127,18 +127,18 @@ module _ (m : Module) (info : ModuleInfo) (explicit : Bool) where
         let counted = mapped_length (λ v. v.init) f.local_variables in
         let v = element f.local_variables i (subst (λ k. i < k) counted lt) in
         free_if (local_name m (module_names m) g i)
-        (λ item s is. other_name m item (local_item m g i v.0) s
-        (local_there m g f i v.0 found v.1)
-        (λ same.
-        true≢false (sym is ∙ (ap is_in_types same ∙ local_in_none (function_type m g) i))))
+        (λ item s is e.
+        let same = keys_tell m item.0 (local_key (function_type m g) i) (item.1, s)
+        (_, local_there m g f i v.0 found v.1) e in
+        true≢false (sym is ∙ (ap is_in_types same ∙ local_in_none (function_type m g) i)))
 
     named : (k : ℕ) → k < named_by_all own.function own.function.body 0 →
-        is_in_no_type program (expression_name m g k) ≡ true
+        is_in_no_type program (labels g k) ≡ true
     named k lt =
         let all = named_by_all_is m info f es f.body 0 in
         let within : k < length (expression_labels f) = omega (arith, lt, all) in
-        free_if (expression_name m g k)
-        (λ item s is. named_no_item m g f found k within item s)
+        free_if (labels g k)
+        (λ item s is. label_no_item m f (labels g) are k within item s)
 
     function_hides_none : hides_none (form_function own) ≡ true
     function_hides_none =
@@ -147,21 +147,21 @@ module _ (m : Module) (info : ModuleInfo) (explicit : Bool) where
         (λ h. free_if (numbered_name h) (λ item s is. item_not_numbered m item h s)) named
 
   -- each behind those before it
-  pub functions_hide_none : (g : ℕ) (fs : List ir_function.Function)
+  pub functions_hide_none : AreLabelNames m labels → (g : ℕ) (fs : List ir_function.Function)
       (ess : List (List ExpressionInfo)) →
       ((i : ℕ) (f : ir_function.Function) → slice_get fs i ≡ Some f →
       slice_get (all_functions m) (g + i) ≡ Some f) → (behind : List Naming) →
       list_all hides_none (form_functions behind) ≡ true →
       list_all hides_none
       (form_functions
-      (reverse_aux (namings_from (module_names m) m g (function_shapes m info fs ess)) behind))
+      (reverse_aux (namings_from labels (module_names m) m g (function_shapes m info fs ess)) behind))
       ≡ true
-  functions_hide_none g [] ess there behind all = all
-  functions_hide_none g (f ∷ fs) [] there behind all = all
-  functions_hide_none g (f ∷ fs) (es ∷ ess) there behind all =
+  functions_hide_none are g [] ess there behind all = all
+  functions_hide_none are g (f ∷ fs) [] there behind all = all
+  functions_hide_none are g (f ∷ fs) (es ∷ ess) there behind all =
       let here : g + 0 ≡ g = omega arith in
       let found = subst (λ h. slice_get (all_functions m) h ≡ Some f) here (there 0 f refl) in
-      let one = function_naming (module_names m) (expression_name m g) m info g f es in
-      functions_hide_none (g + 1) fs ess (further (all_functions m) g f fs there) (one ∷ behind)
+      let one = function_naming (module_names m) (labels g) m info g f es in
+      functions_hide_none are (g + 1) fs ess (further (all_functions m) g f fs there) (one ∷ behind)
       (and_from (hides_none (form_function one)) (list_all hides_none (form_functions behind))
-      (function_hides_none g f found es) all)
+      (function_hides_none g f found (are g f found) es) all)

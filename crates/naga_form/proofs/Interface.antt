@@ -71,9 +71,10 @@ use Rattle.module_meaning.specs.Interface.{global_interface, member_interface}
 use Rattle.module_meaning.specs.Interface.{override_interface, result_passed, stage_of}
 use Rattle.module_meaning.specs.Interface.{struct_interface}
 use Rattle.module_meaning.specs.ModuleShapes.{module_shape}
-use Rattle.module_meaning.specs.Names.{constant_name, expression_name, function_name, global_name}
-use Rattle.module_meaning.specs.Names.{module_names, name_in, override_name}
-use Rattle.module_meaning.specs.Namings.{function_naming, namings, outer_names}
+use Rattle.module_meaning.specs.Names.{AreLabelNames, constant_name, expression_name, function_name}
+use Rattle.module_meaning.specs.Names.{global_name, LabelNames, module_names, name_in}
+use Rattle.module_meaning.specs.Names.{override_name}
+use Rattle.module_meaning.specs.Namings.{function_naming, namings_under, outer_names}
 use Rattle.module_meaning.specs.Numbers.{fits_32_bits, workgroup_fits_32_bits}
 use Rattle.module_meaning.specs.Premises.{ScopesHold}
 use Rattle.module_meaning.specs.Ranges.{is_below}
@@ -86,12 +87,12 @@ use Rattle.module_meaning.proofs.FunctionNumbers.{entry_point_among, function_am
 use Rattle.module_meaning.proofs.FunctionNumbers.{type_of_entry_point}
 use Rattle.naga_form.specs.Attributes.{stage_attributes}
 use Rattle.naga_form.specs.ConstantForms.{global_form}
-use Rattle.naga_form.specs.Declarations.{constant_form, entry_points_form, member_form}
+use Rattle.naga_form.specs.Declarations.{constant_form, entry_points_under, member_form}
 use Rattle.naga_form.specs.Declarations.{override_form, space_form, space_of_words, struct_form}
-use Rattle.naga_form.specs.Declarations.{variable_form, written_program}
+use Rattle.naga_form.specs.Declarations.{program_under, variable_form, written_program}
 use Rattle.naga_form.specs.Expressions.{Source, function_source}
-use Rattle.naga_form.specs.Functions.{function_form, functions_form, locals_form, parameters_form}
-use Rattle.naga_form.specs.Functions.{result_form}
+use Rattle.naga_form.specs.Functions.{function_form, functions_under, locals_form}
+use Rattle.naga_form.specs.Functions.{parameters_form, result_form}
 use Rattle.naga_form.specs.TypeTrees.{type_tree}
 use Rattle.naga_form.specs.Types.{type_form}
 use Rattle.naga_form.proofs.AcceptedFunctions.{entry_point_is_in_range, entry_points_counted}
@@ -100,10 +101,11 @@ use Rattle.naga_form.proofs.AcceptedGroups.{declarations_are}
 use Rattle.naga_form.proofs.Attributes.{coherent_is_read, gives_no_room, id_is_read, passing_read}
 use Rattle.naga_form.proofs.Attributes.{resource_is_read, stage_is_read, volatile_is_read}
 use Rattle.naga_form.proofs.Facts.{from_start, further}
-use Rattle.naga_form.proofs.ModuleFits.{global_in_range, global_words, module_fits}
+use Rattle.naga_form.proofs.ExpressionNames.{expression_names_are}
+use Rattle.naga_form.proofs.ModuleFits.{global_in_range, global_words, module_fits_under}
 use Rattle.naga_form.proofs.ReadDeclarations.{initialisers_read, written_is_read}
-use Rattle.naga_form.proofs.Runs.{reads_as_shapes}
-use Rattle.naga_form.proofs.ScopeRules.{scopes_are_checked}
+use Rattle.naga_form.proofs.Runs.{reads_as_shapes_under}
+use Rattle.naga_form.proofs.ScopeRules.{scopes_are_checked_under}
 use Rattle.naga_form.proofs.TypeTrees.{type_row}
 use Rattle.naga_form.proofs.WrittenFunctions.{entry_point_at}
 
@@ -334,7 +336,8 @@ module _ (m : Module) where
         } ∷ rest i
 
   -- ---- functions
-  module _ (explicit : Bool) (info : ModuleInfo) (declarations : DeclarationsHaveForms m) where
+  module _ (explicit : Bool) (labels : LabelNames) (info : ModuleInfo)
+      (declarations : DeclarationsHaveForms m) where
     body_declared : (named : ℕ → List ℕ) (g : ℕ) (f : ir_function.Function)
         (es : List ExpressionInfo) → slice_get (all_functions m) g ≡ Some f →
         function_interface_read (function_form explicit names named m info g f es) ≡
@@ -362,7 +365,7 @@ module _ (m : Module) where
         length fs ≡ length ess →
         ((i : ℕ) (f : ir_function.Function) → slice_get fs i ≡ Some f →
         slice_get m.functions (g + i) ≡ Some f) →
-        map function_interface_read (functions_form explicit names m info g fs ess) ≡
+        map function_interface_read (functions_under labels explicit names m info g fs ess) ≡
         function_interfaces names m g fs
     functions_declared g [] [] size there = refl
     functions_declared g [] (es ∷ ess) size there = refl
@@ -370,7 +373,7 @@ module _ (m : Module) where
     functions_declared g (f ∷ fs) (es ∷ ess) size there =
         let here : g + 0 ≡ g = omega arith in
         let at = ap (slice_get m.functions) (sym here) ∙ there 0 f refl in
-        λ i. body_declared (expression_name m g) g f es (function_among m g f at) i
+        λ i. body_declared (labels g) g f es (function_among m g f at) i
         ∷ functions_declared (g + 1) fs ess (ap pred size) (further m.functions g f fs there) i
 
     -- ---- entry points
@@ -408,7 +411,7 @@ module _ (m : Module) where
           ((i : ℕ) (p : EntryPoint) → slice_get ps i ≡ Some p →
           slice_get m.entry_points.items (j + i) ≡ Some p) →
           map entry_point_interface_read
-          (entry_points_form explicit names m info (length m.functions + j) ps ess) ≡
+          (entry_points_under labels explicit names m info (length m.functions + j) ps ess) ≡
           map (entry_point_interface names t) (enumerate_from j ps)
       entry_points_declared j [] [] size there = refl
       entry_points_declared j [] (es ∷ ess) size there = refl
@@ -419,13 +422,14 @@ module _ (m : Module) where
           let number = length m.functions + j in
           let next : number + 1 ≡ length m.functions + (j + 1) = omega arith in
           let function =
-          body_declared (expression_name m number) number p.function es (entry_point_among m j p at)
+          body_declared (labels number) number p.function es (entry_point_among m j p at)
           ∙ ap (λ ty. body_interface t (name_in names (function_key ty)) p.function)
           (type_of_entry_point m j) in
           let rest =
           ap
           (λ n.
-          map entry_point_interface_read (entry_points_form explicit names m info n ps ess)) next
+          map entry_point_interface_read
+          (entry_points_under labels explicit names m info n ps ess)) next
           ∙ entry_points_declared (j + 1) ps ess (ap pred size)
           (further m.entry_points.items j p ps there) in
           λ i. record { stage = stage_declared j p at i; function = function i } ∷ rest i
@@ -451,7 +455,8 @@ initialiser_has_tree m info accepted h is =
     (read.0, read.1)
 
 -- ---- modules
-module _ (m : Module) (info : ModuleInfo) (explicit : Bool) (accepted : IsTrue (is_accepted m info))
+module _ (m : Module) (info : ModuleInfo) (explicit : Bool) (labels : LabelNames)
+    (are : AreLabelNames m labels) (accepted : IsTrue (is_accepted m info))
     (declarations : DeclarationsHaveForms m) (have : AllWrittenHaveForms explicit m info)
     (scopes : ScopesHold m info) where
   abbrev program_of_shapes : shapes.Module
@@ -461,14 +466,14 @@ module _ (m : Module) (info : ModuleInfo) (explicit : Bool) (accepted : IsTrue (
   outer = outer_names (module_names m) m
 
   abbrev named : List Naming
-  named = namings (module_names m) m info
+  named = namings_under labels (module_names m) m info
 
   -- and so one value on both sides
   values_alike : (settings : Settings) → SettingsFit program_of_shapes settings →
       (meaning : Meaning) → IsTyped program_of_shapes meaning → (world : World) → (h : ℕ) →
       IsInitialiser m h →
-      text_initialiser_value (program_read (written_program m info explicit)) settings world meaning
-      is_request (expression_read (global_form m (type_names m) h)) ≡
+      text_initialiser_value (program_read (program_under labels m info explicit)) settings world
+      meaning is_request (expression_read (global_form m (type_names m) h)) ≡
       global_expression_value m info settings meaning h
   values_alike settings fit meaning typed world h initial =
       let own = (declarations_are m info accepted).size in
@@ -477,24 +482,24 @@ module _ (m : Module) (info : ModuleInfo) (explicit : Bool) (accepted : IsTrue (
       (λ (text : TextModule).
       text_initialiser_value text settings world meaning is_request
       (expression_read (global_form m (type_names m) h)))
-      (reads_as_shapes m info explicit accepted declarations have)
+      (reads_as_shapes_under m info explicit labels accepted declarations have)
       ∙ (ap
       (text_initialiser_value (form_module program_of_shapes outer named) settings world meaning
       is_request) read.2
       ∙ (initialisers_are_alike program_of_shapes outer named
-      (module_fits m info accepted declarations explicit have
-      ((scopes_are_checked m info accepted).1 scopes)) settings fit meaning typed world read.0
+      (module_fits_under m info accepted declarations explicit have labels are
+      ((scopes_are_checked_under m info accepted labels).1 scopes)) settings fit meaning typed world read.0
       (global_words m info accepted declarations h read.0 read.1)
       (global_in_range m info accepted h read.0
       (written_within m h (declarations.initialisers h initial)) read.1)
       ∙ sym (ap (option_and_then (module_initialiser_value program_of_shapes settings meaning))
       read.1)))
 
-  pub has_interface : HasInterfaceOf m info (written_program m info explicit)
-  has_interface settings fit meaning typed world =
+  pub has_interface_under : HasInterfaceOf m info (program_under labels m info explicit)
+  has_interface_under settings fit meaning typed world =
       let read : Expression → Option Value = λ e.
-      text_initialiser_value (program_read (written_program m info explicit)) settings world meaning
-      is_request (expression_read e) in
+      text_initialiser_value (program_read (program_under labels m info explicit)) settings world
+      meaning is_request (expression_read e) in
       let value = global_expression_value m info settings meaning in
       let same = values_alike settings fit meaning typed world in
       let first : length m.functions + 0 ≡ length m.functions = omega arith in
@@ -503,9 +508,10 @@ module _ (m : Module) (info : ModuleInfo) (explicit : Bool) (accepted : IsTrue (
       ap
       (λ n.
       map entry_point_interface_read
-      (entry_points_form explicit names m info n m.entry_points.items info.entry_points.items))
+      (entry_points_under labels explicit names m info n m.entry_points.items
+      info.entry_points.items))
       (sym first)
-      ∙ entry_points_declared m explicit info declarations accepted 0 m.entry_points.items
+      ∙ entry_points_declared m explicit labels info declarations accepted 0 m.entry_points.items
       info.entry_points.items (entry_points_counted m info accepted)
       (from_start m.entry_points.items) in
       λ i. record {
@@ -518,7 +524,13 @@ module _ (m : Module) (info : ModuleInfo) (explicit : Bool) (accepted : IsTrue (
         globals =
             globals_from m read value same 0 m.global_variables (from_start m.global_variables) i;
         functions =
-            functions_declared m explicit info declarations 0 m.functions info.functions.items
+            functions_declared m explicit labels info declarations 0 m.functions info.functions.items
             (functions_counted m info accepted) (from_start m.functions) i;
         entry_points = entry_points i;
       }
+
+pub has_interface : (m : Module) (info : ModuleInfo) (explicit : Bool) →
+    IsTrue (is_accepted m info) → DeclarationsHaveForms m → AllWrittenHaveForms explicit m info →
+    ScopesHold m info → HasInterfaceOf m info (written_program m info explicit)
+has_interface m info explicit =
+    has_interface_under m info explicit (expression_name m) (expression_names_are m)

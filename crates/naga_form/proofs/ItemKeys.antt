@@ -1,7 +1,7 @@
 -- The items of a module by the keys of their names: no two with different keys have one name, and none
 -- has a word of WGSL's own, or no word at all, for its name.
 use Rattle.std.proofs.Common.{◌≡◌, ◌≢◌, ℕ, ◌+◌, ◌-◌, ◌<◌, Bool, true, false, List, [], ◌∷◌, length}
-use Rattle.std.proofs.Common.{Option, Some, None, nat_eq, refl, sym, ap, ◌∙◌, subst, take}
+use Rattle.std.proofs.Common.{Option, Some, None, nat_eq, refl, sym, ap, ◌∙◌, subst}
 use Rattle.std.specs.Prelude.{not, slice_get, ◌&&◌, ◌||◌}
 use Rattle.std.specs.Option.{option_map_or}
 use Rattle.std.proofs.lemmas.Bool.{and_parts, true≢false}
@@ -12,12 +12,11 @@ use Rattle.naga_ir.specs.declared.module.Module.{Module}
 use Rattle.naga_ir.specs.declared.module.Override.{Override}
 use Rattle.naga_ir.specs.declared.types.Type_.{Type_}
 use Rattle.naga_keywords.specs.Plain.{is_word}
-use Rattle.naga_names.specs.Reset.{labelled_items, labels_of}
+use Rattle.naga_names.specs.Reset.{labelled_items}
 use Rattle.naga_names.specs.declared.key.NameKey.{NameKey}
 use Rattle.naga_names.specs.declared.key.NameKey.TheVariants as key
 use Rattle.naga_names.proofs.NamedItems.{Stands, constant_stands, global_stands, override_stands}
 use Rattle.naga_names.proofs.NamedItems.{type_stands}
-use Rattle.naga_names.proofs.NameShapes.{name_after_is_word}
 use Rattle.naga_names.proofs.Refusal.{element}
 use Rattle.module_meaning.specs.ExpressionContexts.{named_count}
 use Rattle.module_meaning.specs.FunctionNumbers.{all_functions, function_type}
@@ -26,8 +25,8 @@ use Rattle.module_meaning.specs.Namings.{named_handles, numbered_key}
 use Rattle.shader_runs.specs.Program as shapes
 use Rattle.wgsl_text.specs.Words.{is_builtin}
 use Rattle.naga_form.proofs.NamedConstants.{IsNumberedIn, OfConstant, OfOverride, which_constant}
-use Rattle.naga_form.proofs.Names.{function_there, item_is_identifier, items_tell, name_is}
-use Rattle.naga_form.proofs.Names.{names_another}
+use Rattle.naga_form.proofs.Names.{function_there, identifier_is_another, item_is_identifier}
+use Rattle.naga_form.proofs.Names.{items_tell}
 use Rattle.naga_form.proofs.OperatingWords.{is_signed, names_no_item}
 
 -- A program of shapes has as many functions, constants with overrides, and variables as the module.
@@ -105,11 +104,8 @@ module _ (m : Module) where
   pub item_is_no_word : (w : List ℕ) → (not (is_word w) || is_builtin w) ≡ true → (k : NameKey) →
       HasItem k → name_in (module_names m) k ≢ w
   item_is_no_word w other k has =
-      names_another (name_in (module_names m) k) w
-      (ap is_word (name_is m (k, has.0) has.1) ∙
-      name_after_is_word wgsl_names (labels_of (take has.1.place (labelled_items wgsl_names m)))
-      has.0)
-      (item_is_identifier m (k, has.0) has.1).own other
+      identifier_is_another (name_in (module_names m) k) w (item_is_identifier m (k, has.0) has.1)
+      other
 
   -- the word is the name of no item but of a type
   abbrev pub IsNoItem : List ℕ → Type 0

@@ -15,8 +15,8 @@ use Rattle.module_meaning.specs.DeclarationForms.{DeclarationsHaveForms}
 use Rattle.module_meaning.specs.ExpressionContexts.{expression_context, global_tree}
 use Rattle.module_meaning.specs.ExpressionContexts.{override_number}
 use Rattle.module_meaning.specs.ModuleShapes.{module_shape, variable_shape}
-use Rattle.module_meaning.specs.Names.{global_name, module_names}
-use Rattle.module_meaning.specs.Namings.{namings, outer_names}
+use Rattle.module_meaning.specs.Names.{AreLabelNames, global_name, LabelNames, module_names}
+use Rattle.module_meaning.specs.Namings.{namings_under, outer_names}
 use Rattle.module_meaning.specs.Premises.{ScopesHold}
 use Rattle.module_meaning.specs.Types.{type_names}
 use Rattle.module_meaning.specs.Written.{AllWrittenHaveForms}
@@ -36,17 +36,18 @@ use Rattle.naga_form.proofs.ConstantForms.{global_read, names_are_read}
 use Rattle.naga_form.proofs.ConstantTrees.{globals_are}
 use Rattle.naga_form.proofs.DistinguishedItems.{types_are_distinguished}
 use Rattle.naga_form.proofs.Fits.{mapped_length}
-use Rattle.naga_form.proofs.ItemNames.{one_variable_each, value_no_variable}
-use Rattle.naga_form.proofs.ModuleFits.{global_words, module_fits}
+use Rattle.naga_form.proofs.FixedNames.{constant_no_variable, variables_tell}
+use Rattle.naga_form.proofs.ModuleFits.{counts, global_words, module_fits_under}
 use Rattle.naga_form.proofs.NamedConstants.{override_within}
 use Rattle.naga_form.proofs.Operators.{SpellsTypes}
-use Rattle.naga_form.proofs.Runs.{reads_as_shapes}
-use Rattle.naga_form.proofs.ScopeRules.{scopes_are_checked}
+use Rattle.naga_form.proofs.Runs.{reads_as_shapes_under}
+use Rattle.naga_form.proofs.ScopeRules.{scopes_are_checked_under}
 use Rattle.naga_form.proofs.TypeTrees.{resolution_row}
 use Rattle.naga_form.specs.ConstantForms.{global_form}
-use Rattle.naga_form.specs.Declarations.{written_program}
+use Rattle.naga_form.specs.Declarations.{program_under}
 
-module _ (m : Module) (info : ModuleInfo) (explicit : Bool) (accepted : IsTrue (is_accepted m info))
+module _ (m : Module) (info : ModuleInfo) (explicit : Bool) (named : LabelNames)
+    (are : AreLabelNames m named) (accepted : IsTrue (is_accepted m info))
     (declarations : DeclarationsHaveForms m) (have : AllWrittenHaveForms explicit m info)
     (scope : ScopesHold m info)
   where
@@ -57,18 +58,18 @@ module _ (m : Module) (info : ModuleInfo) (explicit : Bool) (accepted : IsTrue (
     n = outer_names (module_names m) m
 
     abbrev fs : List Naming
-    fs = namings (module_names m) m info
+    fs = namings_under named (module_names m) m info
 
     abbrev program : Program
-    program = written_program m info explicit
+    program = program_under named m info explicit
 
     pub program_reads : program_read program ≡ form_module p n fs
-    program_reads = reads_as_shapes m info explicit accepted declarations have
+    program_reads = reads_as_shapes_under m info explicit named accepted declarations have
 
     fits : ModuleFits p n fs
     fits =
-        module_fits m info accepted declarations explicit have
-        ((scopes_are_checked m info accepted).1 scope)
+        module_fits_under m info accepted declarations explicit have named are
+        ((scopes_are_checked_under m info accepted named).1 scope)
 
     -- what each name stands for
     abbrev names : Lookup
@@ -80,8 +81,8 @@ module _ (m : Module) (info : ModuleInfo) (explicit : Bool) (accepted : IsTrue (
         let counted = mapped_length (variable_shape m) m.global_variables in
         let within = subst (λ k. v < k) (sym counted) lt in
         ap (λ t. text_names t (global_name (module_names m) v)) program_reads
-        ∙ global_stands p n fs fits (one_variable_each m info) v within
-        (λ i li. value_no_variable m info i v li within)
+        ∙ global_stands p n fs fits (variables_tell m p (counts m info accepted)) v within
+        (λ i li. constant_no_variable m p (counts m info accepted) i v li within)
 
     pub override_found : (o : ℕ) → o < length m.overrides →
         names ((type_names m).override_name o) ≡ Some (ConstantTarget (override_number m o))

@@ -37,7 +37,6 @@ pub mod HiddenNames
 pub mod Images
 pub mod Interface
 pub mod ItemKeys
-pub mod ItemNames
 pub mod ItemTargets
 mod LeafExamples
 pub mod Leaves

@@ -24,11 +24,10 @@ use Rattle.shader_runs.specs.Premises.{ConstantsFit}
 use Rattle.shader_runs.specs.Correct.{ModuleFits}
 use Rattle.shader_runs.proofs.Names.{length-functions_of}
 use Rattle.shader_runs.proofs.Update.{and_left, and_right}
-use Rattle.module_meaning.specs.Premises.{scope_holds}
-use Rattle.module_meaning.specs.Names.{module_names}
-use Rattle.module_meaning.specs.Names.{expression_name}
+use Rattle.module_meaning.specs.Premises.{scope_holds_under}
+use Rattle.module_meaning.specs.Names.{AreLabelNames, LabelNames, module_names}
 use Rattle.module_meaning.specs.FunctionShapes.{function_shapes}
-use Rattle.module_meaning.specs.Namings.{namings_from, namings, outer_names, function_naming}
+use Rattle.module_meaning.specs.Namings.{function_naming, namings_from, namings_under, outer_names}
 use Rattle.module_meaning.specs.StatementForms.{block_has_forms}
 use Rattle.module_meaning.specs.Written.{AllWrittenHaveForms}
 use Rattle.naga_form.proofs.Facts.{further, from_start}
@@ -98,33 +97,37 @@ module _ (m : Module) (info : ModuleInfo) (accepted : IsTrue (is_accepted m info
       ∙ shapes_counted m info (all_functions m) (all_infos info) (all_counted m info accepted)
 
   -- its program of shapes has what it declares
-  counts : CountsItems m p
+  pub counts : CountsItems m p
   counts = record {
     functions = functions_shaped;
     constants = constants_length m info;
     globals = mapped_length (variable_shape m) m.global_variables;
   }
 
-  -- nothing is left of each function, behind those before it
-  all_free : (g : ℕ) (fs : List ir_function.Function) (ess : List (List ExpressionInfo)) →
-      ((i : ℕ) (f : ir_function.Function) → slice_get fs i ≡ Some f →
-      slice_get (all_functions m) (g + i) ≡ Some f) →
-      IsTrue (list_all fits_function
-      (namings_from (module_names m) m g (function_shapes m info fs ess))) →
-      (behind : List Naming) → length behind ≡ g → AllBehind (IsFree false p names) behind →
-      AllBehind (IsFree false p names)
-      (reverse_aux (namings_from (module_names m) m g (function_shapes m info fs ess)) behind)
-  all_free g [] ess there scoped behind at so_far = so_far
-  all_free g (f ∷ fs) [] there scoped behind at so_far = so_far
-  all_free g (f ∷ fs) (es ∷ ess) there scoped behind at so_far =
-      let here : g + 0 ≡ g = omega arith in
-      let found = subst (λ h. slice_get (all_functions m) h ≡ Some f) here (there 0 f refl) in
-      let own = function_naming (module_names m) (expression_name m g) m info g f es in
-      let scopes = and_parts (fits_function own) (list_all fits_function (namings_from (module_names m) m (g + 1) (function_shapes m info fs ess))) scoped in
-      let this = is_free m info (types_are_fit m info accepted) p counts g f found es
-      (functions_of behind) (length-functions_of behind ∙ at) scopes.0 in
-      all_free (g + 1) fs ess (further (all_functions m) g f fs there) scopes.1 (own ∷ behind)
-      (ap suc at ∙ sym (add-one g)) (this, so_far)
+  module _ (named : LabelNames) (are : AreLabelNames m named) where
+    -- nothing is left of each function, behind those before it
+    all_free : (g : ℕ) (fs : List ir_function.Function) (ess : List (List ExpressionInfo)) →
+        ((i : ℕ) (f : ir_function.Function) → slice_get fs i ≡ Some f →
+        slice_get (all_functions m) (g + i) ≡ Some f) →
+        IsTrue (list_all fits_function
+        (namings_from named (module_names m) m g (function_shapes m info fs ess))) →
+        (behind : List Naming) → length behind ≡ g → AllBehind (IsFree false p names) behind →
+        AllBehind (IsFree false p names)
+        (reverse_aux (namings_from named (module_names m) m g (function_shapes m info fs ess)) behind)
+    all_free g [] ess there scoped behind at so_far = so_far
+    all_free g (f ∷ fs) [] there scoped behind at so_far = so_far
+    all_free g (f ∷ fs) (es ∷ ess) there scoped behind at so_far =
+        let here : g + 0 ≡ g = omega arith in
+        let found = subst (λ h. slice_get (all_functions m) h ≡ Some f) here (there 0 f refl) in
+        let own = function_naming (module_names m) (named g) m info g f es in
+        let scopes =
+        and_parts (fits_function own)
+        (list_all fits_function
+        (namings_from named (module_names m) m (g + 1) (function_shapes m info fs ess))) scoped in
+        let this = is_free m info (types_are_fit m info accepted) p counts g f found (named g)
+        (are g f found) es (functions_of behind) (length-functions_of behind ∙ at) scopes.0 in
+        all_free (g + 1) fs ess (further (all_functions m) g f fs there) scopes.1 (own ∷ behind)
+        (ap suc at ∙ sym (add-one g)) (this, so_far)
 
   constants_typed : (k : ℕ) (f : ir_function.Function) (es : List ExpressionInfo) →
       slice_get (functions_known m info) k ≡ Some (f, es) → ConstantsAreTyped m info f es
@@ -170,18 +173,23 @@ module _ (m : Module) (info : ModuleInfo) (accepted : IsTrue (is_accepted m info
           (have k f es both.0 both.1).statements
 
       -- what the law of runs asks: all is said by acceptance but what names, words and scope show
-      pub module_fits : IsTrue (scope_holds m info) →
+      pub module_fits_under : (named : LabelNames) → AreLabelNames m named →
+          IsTrue (scope_holds_under named m info) →
           ModuleFits (module_shape m info) (outer_names (module_names m) m)
-          (namings (module_names m) m info)
-      module_fits scope =
-          let listed = namings_from (module_names m) m 0 (function_shapes m info (all_functions m) (all_infos info)) in
+          (namings_under named (module_names m) m info)
+      module_fits_under named are scope =
+          let listed =
+          namings_from named (module_names m) m 0
+          (function_shapes m info (all_functions m) (all_infos info)) in
           record {
-            functions = same_functions m info;
+            functions = same_functions m info named;
             distinct = functions_tell;
             constants = constants;
             all = all_fit_freely m info accepted (types_are_distinguished m) constants_typed
                 (λ k f es at. no_case_falls f.body (forms_at k f es at)) names
-                (namings (module_names m) m info) (same_functions m info) false forms_at
-                (all_free 0 (all_functions m) (all_infos info) (from_start (all_functions m))
+                (namings_under named (module_names m) m info) (same_functions m info named) false
+                forms_at
+                (all_free named are 0 (all_functions m) (all_infos info)
+                (from_start (all_functions m))
                 (all_reversed fits_function listed [] scope) [] refl tt);
           }

@@ -1,4 +1,6 @@
 -- What acceptance leaves to be shown of a function under the names of its module: its words and names.
+--
+-- Throughout, named tells the names of the labels that front ends gave in the function.
 use Rattle.std.proofs.Common.{[], ◌≡◌, ◌≢◌, ℕ, suc, zero, Bool, true, false, ◌<◌, List, ◌∷◌}
 use Rattle.std.proofs.Common.{length, Some, refl, sym, ap, subst, ◌∙◌, arith}
 use Rattle.std.proofs.Common.{replicate, nat_eq, true≢false}
@@ -51,7 +53,7 @@ use Rattle.naga_form.proofs.Names.{numbered_distinct, item_is_identifier}
 use Rattle.naga_form.proofs.Names.{item_not_numbered}
 use Rattle.module_meaning.specs.Names.{numbered_name, module_names}
 use Rattle.module_meaning.specs.Names.{name_in, function_name, numbered_text}
-use Rattle.module_meaning.specs.Names.{expression_name}
+use Rattle.module_meaning.specs.Names.{AreLabelNamesOf}
 use Rattle.module_meaning.specs.FunctionShapes.{function_shape, statements_shape}
 use Rattle.module_meaning.specs.Namings.{outer_names, function_naming}
 use Rattle.naga_ir.specs.declared.expression.Expression.TheVariants as expression
@@ -61,8 +63,7 @@ use Rattle.naga_names.specs.declared.key.NameKey.TheVariants as key
 use Rattle.wgsl_text.specs.Requests.{is_request}
 use Rattle.wgsl_text.specs.Words.{is_builtin}
 use Rattle.naga_form.proofs.Fits.{named_by_all_is}
-use Rattle.naga_form.proofs.ExpressionNames.{named_no_item, named_no_word, named_not_numbered}
-use Rattle.naga_form.proofs.ExpressionNames.{named_tell}
+use Rattle.naga_form.proofs.ExpressionNames.{label_no_item, label_no_word}
 use Rattle.module_meaning.specs.ExpressionLabels.{expression_labels}
 use Rattle.naga_form.proofs.WellFormed.{any_shape}
 use Rattle.naga_form.proofs.FunctionsFit.{IsFree}
@@ -121,9 +122,10 @@ sign_not_numbered h c rest one two e = not_numbered _ h c rest one two e
 -- ---- one function
 module _ (m : Module) (info : ModuleInfo) (types : TypesAreFit m) (p : shapes.Module)
     (counts : CountsItems m p) (g : ℕ) (f : ir_function.Function)
-    (found : slice_get (all_functions m) g ≡ Some f) (es : List ExpressionInfo) where
+    (found : slice_get (all_functions m) g ≡ Some f) (named : (label : ℕ) → List ℕ)
+    (are : AreLabelNamesOf m f named) (es : List ExpressionInfo) where
   abbrev own : Naming
-  own = function_naming (module_names m) (expression_name m g) m info g f es
+  own = function_naming (module_names m) named m info g f es
 
   abbrev shape : shapes.Function
   shape = function_shape m info f es
@@ -152,9 +154,9 @@ module _ (m : Module) (info : ModuleInfo) (types : TypesAreFit m) (p : shapes.Mo
       no_name : IsNoName p own (c ∷ rest)
       no_name (FixedKey x) is e =
           item_is_no_word m (c ∷ rest) other (fixed_key m g x) (has_item x is)
-          (sym (fixed_named m g x) ∙ e)
+          (sym (fixed_named m g named x) ∙ e)
       no_name (NumberedKey h) is e = sign_not_numbered h c rest one two e
-      no_name (NamedKey k) is e = named_no_word m g f found k (named_in k is) (c ∷ rest) other e
+      no_name (NamedKey k) is e = label_no_word m f named are k (named_in k is) (c ∷ rest) other e
 
   free_word : (w : List ℕ) → names_no_item w ≡ true → StandsFree p own w
   free_word [] free = absurd (cc)
@@ -181,9 +183,9 @@ module _ (m : Module) (info : ModuleInfo) (types : TypesAreFit m) (p : shapes.Mo
   item_is_no_name k has none = by
     where
       by : IsNoName p own (name_in (module_names m) k)
-      by (FixedKey x) is e = fixed_no_item m p counts info g f found es k has none x is e
+      by (FixedKey x) is e = fixed_no_item m p counts info g f found es named k has none x is e
       by (NumberedKey h) is e = item_not_numbered m (k, has.0) h has.1 (sym e)
-      by (NamedKey j) is e = named_no_item m g f found j (named_in j is) (k, has.0) has.1 (sym e)
+      by (NamedKey j) is e = label_no_item m f named are j (named_in j is) (k, has.0) has.1 (sym e)
 
   -- nor is that of a struct, which asks for nothing
   struct_operates : (h : ℕ) (t : Type_) → slice_get m.types h ≡ Some t →
@@ -397,20 +399,21 @@ module _ (m : Module) (info : ModuleInfo) (types : TypesAreFit m) (p : shapes.Mo
       fixed_name own.names x ≢ numbered_name h
   fixed_not_numbered x h is e =
       let has = has_item x is in
-      item_not_numbered m (fixed_key m g x, has.0) h has.1 (sym (fixed_named m g x) ∙ e)
+      item_not_numbered m (fixed_key m g x, has.0) h has.1 (sym (fixed_named m g named x) ∙ e)
 
   fixed_not_named : (x : FixedName) (k : ℕ) → IsFixedName p shape x →
-      k < length (expression_labels f) → fixed_name own.names x ≢ expression_name m g k
+      k < length (expression_labels f) → fixed_name own.names x ≢ named k
   fixed_not_named x k is lt e =
       let has = has_item x is in
-      named_no_item m g f found k lt (fixed_key m g x, has.0) has.1 (sym (fixed_named m g x) ∙ e)
+      label_no_item m f named are k lt (fixed_key m g x, has.0) has.1
+      (sym (fixed_named m g named x) ∙ e)
 
   distinct : AreDistinct p own
   distinct (FixedKey x) (FixedKey y) la lb e =
-      ap FixedKey (fixed_tell m p counts info g f found es x y la lb e)
+      ap FixedKey (fixed_tell m p counts info g f found es named x y la lb e)
   distinct (NumberedKey h) (NumberedKey k) la lb e = ap NumberedKey (numbered_distinct h k e)
   distinct (NamedKey j) (NamedKey k) la lb e =
-      ap NamedKey (named_tell m g f found j k (named_in j la) (named_in k lb) e)
+      ap NamedKey (are.distinct j k (named_in j la) (named_in k lb) e)
   distinct (FixedKey x) (NumberedKey h) la lb e = absurd (fixed_not_numbered x h la e)
   distinct (NumberedKey h) (FixedKey x) la lb e = absurd (fixed_not_numbered x h lb (sym e))
   distinct (FixedKey x) (NamedKey k) la lb e =
@@ -418,9 +421,9 @@ module _ (m : Module) (info : ModuleInfo) (types : TypesAreFit m) (p : shapes.Mo
   distinct (NamedKey k) (FixedKey x) la lb e =
       absurd (fixed_not_named x k lb (named_in k la) (sym e))
   distinct (NamedKey k) (NumberedKey h) la lb e =
-      absurd (named_not_numbered m g f found k h (named_in k la) e)
+      absurd (are.not_numbered k (named_in k la) h e)
   distinct (NumberedKey h) (NamedKey k) la lb e =
-      absurd (named_not_numbered m g f found k h (named_in k lb) (sym e))
+      absurd (are.not_numbered k (named_in k lb) h (sym e))
 
   -- so nothing is left where its handles are in scope
   pub is_free : (behind : List shapes.Function) → length behind ≡ g → IsTrue (fits_function own) →

@@ -1,14 +1,14 @@
 -- The names of a module's items: identifiers of WGSL, no two alike, and none that a handle has.
 use Rattle.std.proofs.Common.{◌≡◌, ℕ, ◌<◌, suc, Bool, true, false, not, List, [], ◌∷◌, ◌++◌, length}
 use Rattle.std.proofs.Common.{take, drop, refl, sym, ap, subst, ◌∙◌, ◌||◌, zero, codes, nat_lt, map}
-use Rattle.std.proofs.Common.{Some, None, ◌^◌, decimal, nat_eq, true≢false, ◌≢◌, replicate}
+use Rattle.std.proofs.Common.{Some, None, ◌^◌, decimal, nat_eq, true≢false, ◌≢◌, replicate, arith}
 use Rattle.std.specs.Prelude.{slice_get, string_bytes, ◌==◌, unwrap_or}
 use Rattle.std.specs.FinSet as set
 use Rattle.std.specs.Bool.{one_answer}
 use Rattle.std.specs.Char.{is_ascii_digit, is_ascii_uppercase, is_ascii_lowercase}
 use Rattle.std.specs.List.{list_all, list_any}
 use Rattle.std.specs.Str.{bytes_eq}
-use Rattle.std.proofs.lemmas.Bool.{and_from, ltb-true}
+use Rattle.std.proofs.lemmas.Bool.{and_from, and_parts, ltb-true}
 use Rattle.std.proofs.lemmas.Fmt.{decimal_injective}
 use Rattle.std.proofs.lemmas.Slice.Eq.{bytes_eq-Decides}
 use Rattle.naga_ir.specs.declared.module.Function as ir_function
@@ -75,6 +75,41 @@ word_text (c ∷ w) e =
     (and_right chars (not (is_ascii_digit c)) e))
     (all_bytes w (and_right (is_identifier_char c) (list_all is_identifier_char w) each))
 
+-- a letter is such a character, and no digit
+char_of : (d u l s : Bool) → (l || (u || s)) ≡ true → (((d || u) || l) || s) ≡ true
+char_of true u l s e = refl
+char_of false true l s e = refl
+char_of false false true s e = refl
+char_of false false false s e = e
+
+any_char_of : (d u l s : Bool) → ((l || (u || s)) || d) ≡ true → (((d || u) || l) || s) ≡ true
+any_char_of true u l s e = refl
+any_char_of false true l s e = refl
+any_char_of false false true s e = refl
+any_char_of false false false true e = refl
+any_char_of false false false false e = e
+
+letter_no_digit : (c : ℕ) → is_letter c ≡ true → not (is_ascii_digit c) ≡ true
+letter_no_digit c e = grind arith
+
+all_chars : (w : List ℕ) → all_word_bytes w ≡ true → list_all is_identifier_char w ≡ true
+all_chars [] e = refl
+all_chars (c ∷ w) e =
+    let both = and_parts (is_word_byte c) (all_word_bytes w) e in
+    and_from (is_identifier_char c) (list_all is_identifier_char w)
+    (any_char_of (is_ascii_digit c) (is_ascii_uppercase c) (is_ascii_lowercase c) (c == 95) both.0)
+    (all_chars w both.1)
+
+text_is_word : (w : List ℕ) → is_word_text w ≡ true → is_word w ≡ true
+text_is_word [] e = e
+text_is_word (c ∷ w) e =
+    let both = and_parts (is_letter c) (all_word_bytes w) e in
+    and_from (list_all is_identifier_char (c ∷ w)) (not (is_ascii_digit c))
+    (and_from (is_identifier_char c) (list_all is_identifier_char w)
+    (char_of (is_ascii_digit c) (is_ascii_uppercase c) (is_ascii_lowercase c) (c == 95) both.0)
+    (all_chars w both.1))
+    (letter_no_digit c both.0)
+
 -- ---- the two tables
 same_either_way : (a b : List ℕ) → bytes_eq a b ≡ bytes_eq b a
 same_either_way a b = one_answer (bytes_eq a b) (bytes_eq b a) (bytes_eq-Decides a b) ((λ e. sym ((bytes_eq-Decides b a).0 e)), (λ e. (bytes_eq-Decides b a).1 (sym e)))
@@ -116,11 +151,12 @@ is_identifier earlier label = record {
   own = keeps_off_builtin earlier label;
 }
 
--- what is no word, or one of WGSL's own, is another
-pub names_another : (name w : List ℕ) → is_word name ≡ true → is_builtin name ≡ false →
+-- what is no word, or one of WGSL's own, is no identifier
+pub identifier_is_another : (name w : List ℕ) → IsIdentifier name →
     (not (is_word w) || is_builtin w) ≡ true → name ≢ w
-names_another name w word own other e =
-    by (is_word w) (is_builtin w) (sym (ap is_word e) ∙ word) (sym (ap is_builtin e) ∙ own) other
+identifier_is_another name w is other e =
+    by (is_word w) (is_builtin w) (sym (ap is_word e) ∙ text_is_word name is.word.text)
+    (sym (ap is_builtin e) ∙ is.own) other
   where
     by : (a b : Bool) → a ≡ true → b ≡ false → (not a || b) ≡ true → ⊥
     by true false one two other = absurd (cc)

@@ -36,14 +36,14 @@ use Rattle.wgsl_text.specs.Expressions.{IsExpression}
 use Rattle.wgsl_text.specs.Functions.{IsValue, IsParameter, IsResult, IsLocal, Each, IsEntryPoint}
 use Rattle.wgsl_text.specs.Functions.{IsFunction}
 use Rattle.naga_names.proofs.Refusal.{element}
-use Rattle.naga_form.specs.Declarations.{entry_points_form, written_program}
+use Rattle.naga_form.specs.Declarations.{entry_points_under, program_under, written_program}
 use Rattle.naga_form.specs.Expressions.{plain_form, value_form, unnamed_form, Source}
 use Rattle.naga_form.specs.Expressions.{function_source}
 use Rattle.naga_form.specs.Functions.{locals_form, parameters_form, result_form, function_form}
-use Rattle.naga_form.specs.Functions.{functions_form}
+use Rattle.naga_form.specs.Functions.{functions_under}
 use Rattle.module_meaning.specs.Premises.{handles_are_counted}
-use Rattle.module_meaning.specs.Names.{module_names, numbered_name, expression_name}
-use Rattle.module_meaning.specs.Names.{function_name}
+use Rattle.module_meaning.specs.Names.{AreLabelNames, expression_name, function_name, LabelNames}
+use Rattle.module_meaning.specs.Names.{module_names, numbered_name}
 use Rattle.module_meaning.specs.Types.{type_names}
 use Rattle.naga_form.specs.Types.{annotated_type}
 use Rattle.naga_form.proofs.AcceptedGroups.{known_fits, types_are_fit}
@@ -68,7 +68,7 @@ use Rattle.naga_ir.specs.declared.module.LocalVariable.{LocalVariable}
 use Rattle.shader_runs.specs.Program.{binds}
 use Rattle.shader_runs.specs.Scope.{Handles, Naming, at_start}
 use Rattle.module_meaning.specs.Namings.{function_naming}
-use Rattle.naga_form.proofs.ExpressionNames.{named_is_identifier}
+use Rattle.naga_form.proofs.ExpressionNames.{expression_names_are}
 use Rattle.module_meaning.specs.ExpressionLabels.{expression_labels}
 use Rattle.module_meaning.specs.StatementForms.{block_has_forms}
 use Rattle.module_meaning.specs.StatementsFit.{body_is_sound}
@@ -218,13 +218,14 @@ module _ (explicit : Bool) (m : Module) (info : ModuleInfo) (accepted : IsTrue (
       (known_fits m info accepted g es here) demands explicit have.types few named named_are
       (written_constants m info accepted) have.statements
 
-  module _ (have : AllWrittenHaveForms explicit m info) (few : IsTrue (handles_are_counted m)) where
+  module _ (have : AllWrittenHaveForms explicit m info) (few : IsTrue (handles_are_counted m))
+      (named : LabelNames) (are : AreLabelNames m named) where
     -- one in a text of the whole module
     one_there : (g : ℕ) (f : ir_function.Function) (es : List ExpressionInfo) →
         slice_get (all_functions m) g ≡ Some f → slice_get (all_infos info) g ≡ Some es →
-        IsFunction (function_form explicit (module_names m) (expression_name m g) m info g f es)
+        IsFunction (function_form explicit (module_names m) (named g) m info g f es)
     one_there g f es found known =
-        one_is (expression_name m g) g f found es known (named_is_identifier m g f found)
+        one_is (named g) g f found es known (are g f found).identifiers
         (have g f es found known)
         (leb-true (length f.expressions) (2 ^ 64)
         (list_all_at (λ f. nat_le (length f.expressions) (2 ^ 64)) (all_functions m) g f few found))
@@ -234,7 +235,7 @@ module _ (explicit : Bool) (m : Module) (info : ModuleInfo) (accepted : IsTrue (
         slice_get m.functions (g + i) ≡ Some f) →
         ((i : ℕ) (es : List ExpressionInfo) → slice_get ess i ≡ Some es →
         slice_get info.functions.items (g + i) ≡ Some es) →
-        Each IsFunction (functions_form explicit (module_names m) m info g fs ess)
+        Each IsFunction (functions_under named explicit (module_names m) m info g fs ess)
     functions_are g [] [] there known = tt
     functions_are g [] (es ∷ ess) there known = tt
     functions_are g (f ∷ fs) [] there known = tt
@@ -251,7 +252,7 @@ module _ (explicit : Bool) (m : Module) (info : ModuleInfo) (accepted : IsTrue (
         slice_get m.entry_points.items (j + i) ≡ Some p) →
         ((i : ℕ) (es : List ExpressionInfo) → slice_get ess i ≡ Some es →
         slice_get info.entry_points.items (j + i) ≡ Some es) →
-        Each IsEntryPoint (entry_points_form explicit (module_names m) m info g ps ess)
+        Each IsEntryPoint (entry_points_under named explicit (module_names m) m info g ps ess)
     entry_points_are declarations g j at [] [] there known = tt
     entry_points_are declarations g j at [] (es ∷ ess) there known = tt
     entry_points_are declarations g j at (p ∷ ps) [] there known = tt
@@ -283,10 +284,12 @@ enables_are needs (x ∷ xs) all = by (needs x) (enables_are needs xs all.1)
     by true more = (all.0, more)
     by false more = more
 
-pub is_program : (m : Module) (info : ModuleInfo) (explicit : Bool) → IsTrue (is_accepted m info) →
-    DeclarationsHaveForms m → AllWrittenHaveForms explicit m info →
-    IsTrue (handles_are_counted m) → IsProgram (written_program m info explicit)
-is_program m info explicit accepted declarations have few =
+-- under whatever names labels may have
+pub is_program_under : (m : Module) (info : ModuleInfo) (explicit : Bool) (named : LabelNames) →
+    AreLabelNames m named → IsTrue (is_accepted m info) → DeclarationsHaveForms m →
+    AllWrittenHaveForms explicit m info → IsTrue (handles_are_counted m) →
+    IsProgram (program_under named m info explicit)
+is_program_under m info explicit named are accepted declarations have few =
     let first : length m.functions ≡ length m.functions + 0 = omega arith in
     record {
       enables = enables_are (is_needed m) extensions
@@ -295,9 +298,16 @@ is_program m info explicit accepted declarations have few =
       constants = constants_are m info accepted declarations;
       overrides = overrides_are m info accepted declarations;
       globals = variables_are m info accepted declarations;
-      functions = functions_are explicit m info accepted have few 0 m.functions info.functions.items
-          (from_start m.functions) (from_start info.functions.items);
-      entry_points = entry_points_are explicit m info accepted have few declarations
+      functions = functions_are explicit m info accepted have few named are 0 m.functions
+          info.functions.items (from_start m.functions) (from_start info.functions.items);
+      entry_points = entry_points_are explicit m info accepted have few named are declarations
           (length m.functions) 0 first m.entry_points.items info.entry_points.items
           (from_start m.entry_points.items) (from_start info.entry_points.items);
     }
+
+pub is_program : (m : Module) (info : ModuleInfo) (explicit : Bool) → IsTrue (is_accepted m info) →
+    DeclarationsHaveForms m → AllWrittenHaveForms explicit m info →
+    IsTrue (handles_are_counted m) → IsProgram (written_program m info explicit)
+is_program m info explicit accepted declarations have few =
+    is_program_under m info explicit (expression_name m) (expression_names_are m) accepted
+    declarations have few

@@ -24,27 +24,28 @@ use Rattle.shader_runs.specs.Resolution.{text_targets}
 use Rattle.shader_runs.specs.Identifiers.{LeafStands, LeavesStand}
 use Rattle.shader_runs.proofs.Resolution.{resolves_as_meant}
 use Rattle.module_meaning.specs.FunctionNumbers.{all_functions, all_infos}
-use Rattle.module_meaning.specs.Names.{expression_name, module_names}
+use Rattle.module_meaning.specs.Names.{AreLabelNames, expression_name, LabelNames, module_names}
 use Rattle.module_meaning.specs.Types.{declared_type}
 use Rattle.module_meaning.specs.ExpressionOperators.{is_atomic_pointer}
 use Rattle.module_meaning.specs.ExpressionShapes.{Declared, shape_of, applied_shape, applied_or}
 use Rattle.module_meaning.specs.ExpressionShapes.{part_shape, part_selector}
 use Rattle.module_meaning.specs.FunctionShapes.{function_shape, function_shapes}
-use Rattle.module_meaning.specs.Namings.{function_naming, namings_from, namings, outer_names}
+use Rattle.module_meaning.specs.Namings.{function_naming, namings_from, namings_under, outer_names}
 use Rattle.module_meaning.specs.ModuleShapes.{module_shape}
 use Rattle.module_meaning.specs.OperatorTable.{Operator, BinarySign, AtomicLoad}
 use Rattle.module_meaning.specs.ExpressionContexts.{declared, types_known}
 use Rattle.module_meaning.specs.DeclarationForms.{DeclarationsHaveForms}
-use Rattle.naga_form.specs.Declarations.{written_program}
+use Rattle.naga_form.specs.Declarations.{program_under, written_program}
 use Rattle.module_meaning.specs.Premises.{ScopesHold}
-use Rattle.module_meaning.specs.Resolution.{BodiesResolve, ResolvesAs}
+use Rattle.module_meaning.specs.Resolution.{BodiesResolve, ResolvesAs, ResolvesUnder}
 use Rattle.naga_form.proofs.DeclaredItems.{initialisers_resolve, members_resolve, stages_resolve}
 use Rattle.naga_form.proofs.DeclaredItems.{not_hidden, types_resolve}
 use Rattle.naga_form.proofs.Fits.{mapped_length}
 use Rattle.naga_form.proofs.WellFormed.{any_shape, applied_any}
-use Rattle.naga_form.proofs.ScopeRules.{scopes_are_checked}
-use Rattle.naga_form.proofs.ModuleFits.{module_fits}
-use Rattle.naga_form.proofs.Runs.{reads_as_shapes}
+use Rattle.naga_form.proofs.ExpressionNames.{expression_names_are}
+use Rattle.naga_form.proofs.ScopeRules.{scopes_are_checked_under}
+use Rattle.naga_form.proofs.ModuleFits.{module_fits_under}
+use Rattle.naga_form.proofs.Runs.{reads_as_shapes_under}
 use Rattle.module_meaning.specs.Written.{AllWrittenHaveForms}
 
 -- the arguments and locals of a function in range are its own
@@ -89,9 +90,10 @@ module _ (m : Module) (info : ModuleInfo) (callees : ℕ) (f : ir_function.Funct
   leaves_are_own : (h : ℕ) → LeafStands own (expression_of own h)
   leaves_are_own h = any_shape m info f es h (λ o. LeafStands own o) tt (leaf_stands h)
 
-module _ (m : Module) (info : ModuleInfo) (accepted : IsTrue (is_accepted m info)) where
+module _ (m : Module) (info : ModuleInfo) (named : LabelNames)
+    (accepted : IsTrue (is_accepted m info)) where
   leaves_stand : (g : ℕ) (fs : List ir_function.Function) (ess : List (List ExpressionInfo)) → ((i : ℕ) (f : ir_function.Function) → slice_get fs i ≡ Some f → slice_get (all_functions m) (g + i) ≡ Some f) →
-      (behind : List Naming) → LeavesStand behind → LeavesStand (reverse_aux (namings_from (module_names m) m g (function_shapes m info fs ess)) behind)
+      (behind : List Naming) → LeavesStand behind → LeavesStand (reverse_aux (namings_from named (module_names m) m g (function_shapes m info fs ess)) behind)
   leaves_stand g [] ess there behind all = all
   leaves_stand g (f ∷ fs) [] there behind all = all
   leaves_stand g (f ∷ fs) (es ∷ ess) there behind all =
@@ -99,28 +101,39 @@ module _ (m : Module) (info : ModuleInfo) (accepted : IsTrue (is_accepted m info
       let known = function_there m info accepted g f (subst (λ h. slice_get (all_functions m) h ≡ Some f) here (there 0 f refl)) in
       let is = accepted_at m info accepted g f known.0 known.1 in
       leaves_stand (g + 1) fs ess (further (all_functions m) g f fs there)
-      (function_naming (module_names m) (expression_name m g) m info g f es ∷ behind)
+      (function_naming (module_names m) (named g) m info g f es ∷ behind)
       (leaves_are_own m info is.callees f is.ranges es, all)
 
-bodies_resolve : (m : Module) (info : ModuleInfo) (explicit : Bool) → IsTrue (is_accepted m info) →
-    DeclarationsHaveForms m → AllWrittenHaveForms explicit m info → ScopesHold m info →
-    BodiesResolve m info (written_program m info explicit)
-bodies_resolve m info explicit accepted declarations have scope =
+bodies_resolve : (m : Module) (info : ModuleInfo) (explicit : Bool) (named : LabelNames) →
+    AreLabelNames m named → IsTrue (is_accepted m info) → DeclarationsHaveForms m →
+    AllWrittenHaveForms explicit m info → ScopesHold m info →
+    BodiesResolve named m info (program_under named m info explicit)
+bodies_resolve m info explicit named are accepted declarations have scope =
     let names = module_names m in
-    ap text_targets (reads_as_shapes m info explicit accepted declarations have)
-    ∙ resolves_as_meant (module_shape m info) (outer_names names m) (namings names m info)
-    (module_fits m info accepted declarations explicit have ((scopes_are_checked m info accepted).1 scope))
-    (leaves_stand m info accepted 0 (all_functions m) (all_infos info)
+    ap text_targets (reads_as_shapes_under m info explicit named accepted declarations have)
+    ∙ resolves_as_meant (module_shape m info) (outer_names names m) (namings_under named names m info)
+    (module_fits_under m info accepted declarations explicit have named are
+    ((scopes_are_checked_under m info accepted named).1 scope))
+    (leaves_stand m info named accepted 0 (all_functions m) (all_infos info)
     (from_start (all_functions m)) [] tt)
+
+-- under whatever names labels may have
+pub resolves_under : (m : Module) (info : ModuleInfo) (explicit : Bool) (named : LabelNames) →
+    AreLabelNames m named → IsTrue (is_accepted m info) → DeclarationsHaveForms m →
+    AllWrittenHaveForms explicit m info → ScopesHold m info →
+    ResolvesUnder named m info (program_under named m info explicit)
+resolves_under m info explicit named are accepted declarations have scope = record {
+  bodies = bodies_resolve m info explicit named are accepted declarations have scope;
+  initialisers = initialisers_resolve m info explicit named are accepted declarations have scope;
+  stages = stages_resolve m info explicit named are accepted declarations have scope;
+  types = types_resolve m info explicit named are accepted declarations have scope;
+  not_hidden = not_hidden m info explicit named are accepted declarations have scope;
+  members = members_resolve m info explicit named are accepted declarations have scope;
+}
 
 pub resolves : (m : Module) (info : ModuleInfo) (explicit : Bool) → IsTrue (is_accepted m info) →
     DeclarationsHaveForms m → AllWrittenHaveForms explicit m info → ScopesHold m info →
     ResolvesAs m info (written_program m info explicit)
-resolves m info explicit accepted declarations have scope = record {
-  bodies = bodies_resolve m info explicit accepted declarations have scope;
-  initialisers = initialisers_resolve m info explicit accepted declarations have scope;
-  stages = stages_resolve m info explicit accepted declarations have scope;
-  types = types_resolve m info explicit accepted declarations have scope;
-  not_hidden = not_hidden m info explicit accepted declarations have scope;
-  members = members_resolve m info explicit accepted declarations have scope;
-}
+resolves m info explicit accepted declarations have scope =
+    resolves_under m info explicit (expression_name m) (expression_names_are m) accepted declarations
+    have scope

@@ -1,4 +1,6 @@
 -- The program that is written for a module does what the module does.
+--
+-- Throughout, named tells the names of the labels that front ends gave.
 use Rattle.std.proofs.Common.{[], ◌≡◌, ℕ, suc, ◌+◌, Bool, List, ◌∷◌, map, length, Some, refl, sym, ap}
 use Rattle.std.proofs.Common.{◌∙◌}
 use Rattle.std.specs.Prelude.{IsTrue, slice_get, reverse}
@@ -20,60 +22,62 @@ use Rattle.module_meaning.specs.Faithful.{RunsAs}
 use Rattle.module_meaning.specs.FunctionNumbers.{all_functions, all_infos}
 use Rattle.module_meaning.specs.FunctionShapes.{function_shapes}
 use Rattle.module_meaning.specs.ModuleShapes.{module_shape}
-use Rattle.module_meaning.specs.Names.{expression_name, function_name, module_names}
-use Rattle.module_meaning.specs.Namings.{namings_from, namings, outer_names}
+use Rattle.module_meaning.specs.Names.{AreLabelNames, expression_name, function_name, LabelNames}
+use Rattle.module_meaning.specs.Names.{module_names}
+use Rattle.module_meaning.specs.Namings.{namings, namings_from, namings_under, outer_names}
 use Rattle.module_meaning.specs.Premises.{ScopesHold}
 use Rattle.module_meaning.specs.Written.{AllWrittenHaveForms, WrittenHaveForms}
-use Rattle.naga_form.specs.Declarations.{written_program}
-use Rattle.naga_form.specs.Functions.{functions_form}
+use Rattle.naga_form.specs.Declarations.{program_under, written_program}
+use Rattle.naga_form.specs.Functions.{functions_under}
 use Rattle.naga_form.proofs.Abstraction.{function_reads}
 use Rattle.naga_form.proofs.AcceptedFunctions.{functions_counted, of_number}
 use Rattle.naga_form.proofs.AcceptedGroups.{declarations_are}
-use Rattle.naga_form.proofs.ModuleFits.{module_fits}
+use Rattle.naga_form.proofs.ExpressionNames.{expression_names_are}
+use Rattle.naga_form.proofs.ModuleFits.{module_fits_under}
 use Rattle.naga_form.proofs.ReadDeclarations.{constants_read, overrides_read, variables_read}
-use Rattle.naga_form.proofs.ScopeRules.{scopes_are_checked}
-use Rattle.naga_form.proofs.WrittenFunctions.{all_functions_form}
+use Rattle.naga_form.proofs.ScopeRules.{scopes_are_checked_under}
+use Rattle.naga_form.proofs.WrittenFunctions.{all_functions_under}
 
 -- ---- what is read
 form_functions-map : (ns : List Naming) → form_functions ns ≡ map form_function ns
 form_functions-map [] = refl
 form_functions-map (n ∷ ns) = ap (λ fs. form_function n ∷ fs) (form_functions-map ns)
 
-functions_read : (explicit : Bool) (m : Module) (info : ModuleInfo) →
+functions_read : (explicit : Bool) (named : LabelNames) (m : Module) (info : ModuleInfo) →
     length m.global_expressions ≡ length info.const_expression_types.items →
     (g : ℕ) (fs : List ir_function.Function) (ess : List (List ExpressionInfo)) →
     ((i : ℕ) (f : ir_function.Function) (es : List ExpressionInfo) → slice_get fs i ≡ Some f →
     slice_get ess i ≡ Some es → WrittenHaveForms explicit m info f es) →
     ((i : ℕ) (f : ir_function.Function) (es : List ExpressionInfo) → slice_get fs i ≡ Some f →
     slice_get ess i ≡ Some es → length f.expressions ≡ length es) →
-    map function_read (functions_form explicit (module_names m) m info g fs ess) ≡
-    map form_function (namings_from (module_names m) m g (function_shapes m info fs ess))
-functions_read explicit m info own g [] [] have sizes = refl
-functions_read explicit m info own g [] (es ∷ ess) have sizes = refl
-functions_read explicit m info own g (f ∷ fs) [] have sizes = refl
-functions_read explicit m info own g (f ∷ fs) (es ∷ ess) have sizes =
-    λ i. function_reads explicit (expression_name m g) m info g f es own (have 0 f es refl refl)
+    map function_read (functions_under named explicit (module_names m) m info g fs ess) ≡
+    map form_function (namings_from named (module_names m) m g (function_shapes m info fs ess))
+functions_read explicit named m info own g [] [] have sizes = refl
+functions_read explicit named m info own g [] (es ∷ ess) have sizes = refl
+functions_read explicit named m info own g (f ∷ fs) [] have sizes = refl
+functions_read explicit named m info own g (f ∷ fs) (es ∷ ess) have sizes =
+    λ i. function_reads explicit (named g) m info g f es own (have 0 f es refl refl)
     (sizes 0 f es refl refl) i
-    ∷ functions_read explicit m info own (g + 1) fs ess
+    ∷ functions_read explicit named m info own (g + 1) fs ess
     (λ i f es here known. have (suc i) f es here known)
     (λ i f es here known. sizes (suc i) f es here known) i
 
 -- the square: what is written of the module is read as its program of shapes is
-pub reads_as_shapes : (m : Module) (info : ModuleInfo) (explicit : Bool) →
+pub reads_as_shapes_under : (m : Module) (info : ModuleInfo) (explicit : Bool) (named : LabelNames) →
     IsTrue (is_accepted m info) → DeclarationsHaveForms m →
-    AllWrittenHaveForms explicit m info → program_read (written_program m info explicit) ≡
+    AllWrittenHaveForms explicit m info → program_read (program_under named m info explicit) ≡
     form_module (module_shape m info) (outer_names (module_names m) m)
-    (namings (module_names m) m info)
-reads_as_shapes m info explicit accepted declarations have =
+    (namings_under named (module_names m) m info)
+reads_as_shapes_under m info explicit named accepted declarations have =
     let own = (declarations_are m info accepted).size in
     let listed =
-    namings_from (module_names m) m 0
+    namings_from named (module_names m) m 0
     (function_shapes m info (all_functions m) (all_infos info)) in
-    let each : map function_read (functions_of (written_program m info explicit)) ≡
+    let each : map function_read (functions_of (program_under named m info explicit)) ≡
     map form_function listed =
     ap (map function_read)
-    (all_functions_form m info explicit (functions_counted m info accepted))
-    ∙ functions_read explicit m info own 0 (all_functions m) (all_infos info) have
+    (all_functions_under m info explicit named (functions_counted m info accepted))
+    ∙ functions_read explicit named m info own 0 (all_functions m) (all_infos info) have
     (λ i f es here known. (of_number m info accepted i f es here known).size) in
     λ i. record {
       constants = constants_read m info own declarations i;
@@ -84,19 +88,35 @@ reads_as_shapes m info explicit accepted declarations have =
           ∙ sym (form_functions-map (reverse listed) ∙ map-reverse form_function listed)) i;
     }
 
+pub reads_as_shapes : (m : Module) (info : ModuleInfo) (explicit : Bool) →
+    IsTrue (is_accepted m info) → DeclarationsHaveForms m →
+    AllWrittenHaveForms explicit m info → program_read (written_program m info explicit) ≡
+    form_module (module_shape m info) (outer_names (module_names m) m)
+    (namings (module_names m) m info)
+reads_as_shapes m info explicit accepted declarations have =
+    reads_as_shapes_under m info explicit (expression_name m) accepted declarations have
+
 -- ---- runs
-pub runs_as : (m : Module) (info : ModuleInfo) (explicit : Bool) → IsTrue (is_accepted m info) →
-    DeclarationsHaveForms m → AllWrittenHaveForms explicit m info → ScopesHold m info →
-    RunsAs m info (written_program m info explicit)
-runs_as m info explicit accepted declarations have scope settings fit meaning typed g f found
-    arguments typed_arguments world turns past keeps =
+pub runs_as_under : (m : Module) (info : ModuleInfo) (explicit : Bool) (named : LabelNames) →
+    AreLabelNames m named → IsTrue (is_accepted m info) → DeclarationsHaveForms m →
+    AllWrittenHaveForms explicit m info → ScopesHold m info →
+    RunsAs m info (program_under named m info explicit)
+runs_as_under m info explicit named are accepted declarations have scope settings fit meaning typed g
+    f found arguments typed_arguments world turns past keeps =
     ap
     (λ (text : TextModule).
     follow_module text settings world meaning is_request turns
     (function_name m (module_names m) g) arguments past)
-    (reads_as_shapes m info explicit accepted declarations have)
+    (reads_as_shapes_under m info explicit named accepted declarations have)
     ∙ runs_alike (module_shape m info) (outer_names (module_names m) m)
-    (namings (module_names m) m info)
-    (module_fits m info accepted declarations explicit have
-    ((scopes_are_checked m info accepted).1 scope)) settings fit meaning typed g f found arguments
-    typed_arguments world turns past keeps
+    (namings_under named (module_names m) m info)
+    (module_fits_under m info accepted declarations explicit have named are
+    ((scopes_are_checked_under m info accepted named).1 scope)) settings fit meaning typed g f found
+    arguments typed_arguments world turns past keeps
+
+pub runs_as : (m : Module) (info : ModuleInfo) (explicit : Bool) → IsTrue (is_accepted m info) →
+    DeclarationsHaveForms m → AllWrittenHaveForms explicit m info → ScopesHold m info →
+    RunsAs m info (written_program m info explicit)
+runs_as m info explicit accepted declarations have scope =
+    runs_as_under m info explicit (expression_name m) (expression_names_are m) accepted declarations
+    have scope

@@ -17,10 +17,10 @@ use Rattle.shader_runs.specs.Premises.{AllBelow}
 use Rattle.shader_runs.proofs.ScopeRules.{scope_check_is_the_rules}
 use Rattle.shader_runs.proofs.Update.{and_left, and_right}
 use Rattle.module_meaning.specs.FunctionNumbers.{all_functions, all_infos}
-use Rattle.module_meaning.specs.Names.{module_names}
-use Rattle.module_meaning.specs.Premises.{scope_holds, EachScopeHolds, ScopesHold}
+use Rattle.module_meaning.specs.Names.{expression_name, LabelNames, module_names}
+use Rattle.module_meaning.specs.Premises.{EachScopeHolds, scope_holds, scope_holds_under, ScopesHold}
 use Rattle.module_meaning.specs.FunctionShapes.{function_shapes}
-use Rattle.module_meaning.specs.Namings.{namings_from, namings}
+use Rattle.module_meaning.specs.Namings.{namings_from, namings_under}
 use Rattle.module_meaning.specs.ModuleShapes.{module_shape}
 use Rattle.naga_form.proofs.AcceptedFunctions.{accepted_at}
 use Rattle.naga_form.proofs.FunctionsFit.{AllBehind, all_from, all_distinguished, shape_numbered}
@@ -31,18 +31,21 @@ pub functions_of-map : (ns : List Naming) → functions_of ns ≡ map (λ n. n.f
 functions_of-map [] = refl
 functions_of-map (n ∷ ns) = ap (λ fs. n.function ∷ fs) (functions_of-map ns)
 
-pub functions_of_namings : (names : NameMap) (m : Module) (g : ℕ) (fs : List shapes.Function) → map (λ n. n.function) (namings_from names m g fs) ≡ fs
-functions_of_namings names m g [] = refl
-functions_of_namings names m g (f ∷ fs) = ap (λ fs. f ∷ fs) (functions_of_namings names m (g + 1) fs)
+pub functions_of_namings : (named : LabelNames) (names : NameMap) (m : Module) (g : ℕ)
+    (fs : List shapes.Function) → map (λ n. n.function) (namings_from named names m g fs) ≡ fs
+functions_of_namings named names m g [] = refl
+functions_of_namings named names m g (f ∷ fs) =
+    ap (λ fs. f ∷ fs) (functions_of_namings named names m (g + 1) fs)
 
 -- the functions of the namings are the module's
-pub same_functions : (m : Module) (info : ModuleInfo) → functions_of (namings (module_names m) m info) ≡ (module_shape m info).functions
-same_functions m info =
+pub same_functions : (m : Module) (info : ModuleInfo) (named : LabelNames) →
+    functions_of (namings_under named (module_names m) m info) ≡ (module_shape m info).functions
+same_functions m info named =
     let shapes = function_shapes m info (all_functions m) (all_infos info) in
-    let listed = namings_from (module_names m) m 0 shapes in
+    let listed = namings_from named (module_names m) m 0 shapes in
     functions_of-map (reverse listed)
     ∙ (map-reverse (λ n. n.function) listed
-    ∙ ap reverse (functions_of_namings (module_names m) m 0 shapes))
+    ∙ ap reverse (functions_of_namings named (module_names m) m 0 shapes))
 
 -- operands stand before their expressions
 abbrev IsOrdered : List shapes.Function → Naming → Type 0
@@ -62,16 +65,25 @@ each_is_checked (n ∷ ns) all =
     )
 
 module _ (m : Module) (info : ModuleInfo) (accepted : IsTrue (is_accepted m info)) where
-  all_are_ordered : AllBehind IsOrdered (namings (module_names m) m info)
-  all_are_ordered =
-      all_from m info accepted (λ callees n. Unit {0}) IsOrdered
-      (λ k f es at names callees number tells none.
-      let is = accepted_at m info accepted k f es at in ordered m info is.callees f es is.ranges)
-      (namings (module_names m) m info)
-      (subst (Tells (shape_numbered m info accepted)) (sym (same_functions m info)) (all_distinguished m info accepted))
-      (nothing_asked (namings (module_names m) m info))
+  -- under whatever names labels have
+  module _ (named : LabelNames) where
+    abbrev all_named : List Naming
+    all_named = namings_under named (module_names m) m info
+
+    all_are_ordered : AllBehind IsOrdered all_named
+    all_are_ordered =
+        all_from m info accepted (λ callees n. Unit {0}) IsOrdered
+        (λ k f es at names callees number tells none.
+        let is = accepted_at m info accepted k f es at in ordered m info is.callees f es is.ranges)
+        all_named
+        (subst (Tells (shape_numbered m info accepted)) (sym (same_functions m info named))
+        (all_distinguished m info accepted))
+        (nothing_asked all_named)
+
+    pub scopes_are_checked_under : IsTrue (scope_holds_under named m info) ↔ ScopesHold m info
+    scopes_are_checked_under =
+        subst (λ fs. IsTrue (scope_holds_under named m info) ↔ EachScopeHolds fs)
+        (same_functions m info named) (each_is_checked all_named all_are_ordered)
 
   pub scopes_are_checked : IsTrue (scope_holds m info) ↔ ScopesHold m info
-  scopes_are_checked =
-      subst (λ fs. IsTrue (scope_holds m info) ↔ EachScopeHolds fs) (same_functions m info)
-      (each_is_checked (namings (module_names m) m info) all_are_ordered)
+  scopes_are_checked = scopes_are_checked_under (expression_name m)

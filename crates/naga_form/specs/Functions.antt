@@ -1,7 +1,8 @@
 -- The function that is written for a function of a module, under the module's names.
 --
 -- Throughout, m is a module, info what is known of it, f a function with the number g, es what is
--- known of its expressions, and t are the names that types are spelled with.
+-- known of its expressions, t are the names that types are spelled with, and named tells the names of
+-- the labels that front ends gave.
 use Rattle.std.specs.Prelude.{ℕ, Bool, List, [], ◌∷◌, Option, None, Some, ◌+◌}
 use Rattle.std.specs.Option.{option_map}
 use Rattle.naga_ir.specs.declared.module.Function as ir_function
@@ -10,7 +11,7 @@ use Rattle.naga_ir.specs.declared.module.FunctionResult.{FunctionResult}
 use Rattle.naga_ir.specs.declared.module.Module.{Module}
 use Rattle.naga_names.specs.Keys.{NameMap}
 use Rattle.wgsl_text.specs.Functions.{Parameter, Result, NoResult, ResultOf, Local, Function}
-use Rattle.module_meaning.specs.Names.{function_name, argument_name, expression_name}
+use Rattle.module_meaning.specs.Names.{function_name, argument_name, expression_name, LabelNames}
 use Rattle.naga_words.specs.Contexts.{names_of, Names as TypeNames}
 use Rattle.naga_form.specs.Attributes.{passing_attributes}
 use Rattle.naga_form.specs.Types.{type_form, annotated_type}
@@ -51,7 +52,7 @@ abbrev pub result_form : TypeNames → Option FunctionResult → Result
 result_form t None = NoResult
 result_form t (Some r) = ResultOf (passing_attributes r.binding) (type_form t r.ty)
 
--- a function, with what is known of its expressions; given tells the names that front ends gave in it
+-- a function, with what is known of its expressions
 abbrev pub function_form :
     (explicit : Bool) → NameMap → (named : ℕ → List ℕ) → Module → ModuleInfo → ℕ →
     ir_function.Function → List ExpressionInfo → Function
@@ -67,12 +68,18 @@ function_form explicit names named m info g f es =
       body = lines_form n (annotated_type explicit m t es) source 0 f.body (at_start n.function);
     }
 
--- the functions from this number on, each with what is known of its expressions, in a text of the whole
--- module
+-- the functions from this number on, each with what is known of its expressions
+abbrev pub functions_under :
+    LabelNames → (explicit : Bool) → NameMap → Module → ModuleInfo → ℕ →
+    List ir_function.Function → List (List ExpressionInfo) → List Function
+functions_under named explicit names m info g (f ∷ fs) (es ∷ ess) =
+    function_form explicit names (named g) m info g f es
+    ∷ functions_under named explicit names m info (g + 1) fs ess
+functions_under named explicit names m info g _ _ = []
+
+-- so they are in a text of the whole module
 abbrev pub functions_form :
     (explicit : Bool) → NameMap → Module → ModuleInfo → ℕ → List ir_function.Function →
     List (List ExpressionInfo) → List Function
-functions_form explicit names m info g (f ∷ fs) (es ∷ ess) =
-    function_form explicit names (expression_name m g) m info g f es
-    ∷ functions_form explicit names m info (g + 1) fs ess
-functions_form explicit names m info g _ _ = []
+functions_form explicit names m info g fs ess =
+    functions_under (expression_name m) explicit names m info g fs ess

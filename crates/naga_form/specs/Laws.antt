@@ -2,7 +2,7 @@
 --
 -- Throughout, m is a module, t a type's tree, r a type of an expression, and n are the names that
 -- types are spelled with.
-use Rattle.std.specs.Prelude.{◌≡◌, ◌↔◌, ℕ, List, Some, None, IsTrue, true, Bool, length}
+use Rattle.std.specs.Prelude.{◌≡◌, ◌↔◌, ℕ, ◌++◌, List, Some, None, IsTrue, true, Bool, length}
 use Rattle.std.specs.List.{list_all}
 use Rattle.std.specs.Option.{option_map}
 use Rattle.naga_ir.specs.declared.expression.Literal.{Literal}
@@ -22,14 +22,14 @@ use Rattle.naga_words.specs.Spelling.{inner_segments, type_segments}
 use Rattle.wgsl_text.specs.Types.{TypeSpecifier, IsType}
 use Rattle.naga_form.specs.Functions.{function_form}
 use Rattle.wgsl_text.specs.Declarations.{Program, IsProgram}
-use Rattle.naga_form.specs.Declarations.{written_program}
+use Rattle.naga_form.specs.Declarations.{program_under}
 use Rattle.wgsl_text.specs.Reading.{HasOneReading, ReadsType, type_layout}
 use Rattle.wgsl_text.specs.Requests.{is_request}
 use Rattle.shader_runs.specs.Form.{form_function, form_module}
 use Rattle.text_meaning.specs.Abstraction.{function_read, program_read}
 use Rattle.module_meaning.specs.Accepted.{is_accepted}
 use Rattle.module_meaning.specs.AlikeTypes.{are_alike}
-use Rattle.module_meaning.specs.Bindings.{BindsAs}
+use Rattle.module_meaning.specs.Bindings.{BindsUnder}
 use Rattle.module_meaning.specs.DeclarationForms.{DeclarationsHaveForms}
 use Rattle.module_meaning.specs.Faithful.{HasInterfaceOf, RunsAs}
 use Rattle.module_meaning.specs.Written.{AllWrittenHaveForms, WrittenHaveForms}
@@ -38,12 +38,15 @@ use Rattle.module_meaning.specs.Literals.{literal_value}
 use Rattle.module_meaning.specs.Meanings.{OperatorsAreConsistent, HasTypedMeaning, HasTypedWorld}
 use Rattle.module_meaning.specs.Meanings.{IsNeverStuck, NoRunIsStuck}
 use Rattle.module_meaning.specs.Writable.{IsWritable}
-use Rattle.module_meaning.specs.Names.{ItemsAreDistinguished, module_names}
+use Rattle.module_meaning.specs.ExpressionLabels.{name_of_label}
+use Rattle.module_meaning.specs.Names.{AreLabelNames, expression_name, item_labels, LabelNames}
+use Rattle.module_meaning.specs.Names.{ItemsAreDistinguished, labels_named_in, module_names}
+use Rattle.module_meaning.specs.Names.{named_apart, wgsl_names}
 use Rattle.module_meaning.specs.Ranges.{resolution_fits}
 use Rattle.module_meaning.specs.Premises.{handles_are_counted, scope_holds, ScopesHold}
-use Rattle.module_meaning.specs.Resolution.{ResolvesAs}
+use Rattle.module_meaning.specs.Resolution.{ResolvesUnder}
 use Rattle.module_meaning.specs.ModuleShapes.{module_shape}
-use Rattle.module_meaning.specs.Namings.{function_naming, outer_names, namings}
+use Rattle.module_meaning.specs.Namings.{function_naming, namings_under, outer_names}
 use Rattle.module_meaning.specs.TypeIdentity.{identity}
 use Rattle.module_meaning.specs.Types.{spelled_resolution, type_names, type_of_values}
 use Rattle.module_meaning.specs.OperatorTable.{Operator, TypeIsSound, asks, is_distinguished}
@@ -54,42 +57,56 @@ use Rattle.naga_form.specs.Readable.{is_readable}
 use Rattle.naga_form.specs.TypeTrees.{inner_tree, resolution_tree, type_tree}
 
 -- of an accepted module of which all that it declares has a form, and all that is written of its
--- functions, and of what is written for it with the types of its `let`s told or not
-abbrev pub OfAccepted : (Module → ModuleInfo → Program → Type 0) → Type 0
+-- functions, and of what is written for it with the types of its `let`s told or not, under whatever
+-- names of the labels that front ends gave
+abbrev pub OfAccepted :
+    (LabelNames → Module → ModuleInfo → (explicit : Bool) → Program → Type 0) → Type 0
 OfAccepted Holds =
-    (m : Module) (info : ModuleInfo) (explicit : Bool) → IsTrue (is_accepted m info) →
-    DeclarationsHaveForms m → AllWrittenHaveForms explicit m info →
-    Holds m info (written_program m info explicit)
+    (m : Module) (info : ModuleInfo) (explicit : Bool) (named : LabelNames) →
+    IsTrue (is_accepted m info) → DeclarationsHaveForms m → AllWrittenHaveForms explicit m info →
+    Holds named m info explicit (program_under named m info explicit)
 
--- the same where the rules of scope hold
-abbrev pub OfAcceptedInScope : (Module → ModuleInfo → Program → Type 0) → Type 0
+-- the same where the rules of scope hold and the names of labels are such as they may have
+abbrev pub OfAcceptedInScope : (LabelNames → Module → ModuleInfo → Program → Type 0) → Type 0
 OfAcceptedInScope Holds =
-    (m : Module) (info : ModuleInfo) (explicit : Bool) → IsTrue (is_accepted m info) →
-    DeclarationsHaveForms m → AllWrittenHaveForms explicit m info → ScopesHold m info →
-    Holds m info (written_program m info explicit)
+    (m : Module) (info : ModuleInfo) (explicit : Bool) (named : LabelNames) →
+    AreLabelNames m named → IsTrue (is_accepted m info) → DeclarationsHaveForms m →
+    AllWrittenHaveForms explicit m info → ScopesHold m info →
+    Holds named m info (program_under named m info explicit)
+
+-- the names that labels have in a text of the whole module are such as they may have
+abbrev pub NamesAreLabelNames : Type 0
+NamesAreLabelNames = (m : Module) → AreLabelNames m (expression_name m)
+
+-- and so they are where those of one function are named behind any others, in front of which those of
+-- the module's items are named
+abbrev pub NamesBehindAreLabelNames : Type 0
+NamesBehindAreLabelNames =
+    (m : Module) (number : ℕ) (later : List (List ℕ)) →
+    AreLabelNames m
+    (named_apart m number
+    (name_of_label wgsl_names (item_labels m ++ later) (labels_named_in m number)))
 
 -- the program is one of the grammar, so that its text has one reading
 abbrev pub IsAProgram : Type 0
 IsAProgram =
-    (m : Module) (info : ModuleInfo) (explicit : Bool) → IsTrue (is_accepted m info) →
-    DeclarationsHaveForms m → AllWrittenHaveForms explicit m info →
-    IsTrue (handles_are_counted m) → IsProgram (written_program m info explicit)
+    (m : Module) (info : ModuleInfo) (explicit : Bool) (named : LabelNames) →
+    AreLabelNames m named → IsTrue (is_accepted m info) → DeclarationsHaveForms m →
+    AllWrittenHaveForms explicit m info → IsTrue (handles_are_counted m) →
+    IsProgram (program_under named m info explicit)
 
 -- it declares what the module declares
 abbrev pub HasTheInterface : Type 0
-HasTheInterface = OfAcceptedInScope HasInterfaceOf
+HasTheInterface = OfAcceptedInScope (λ named. HasInterfaceOf)
 
 -- each of its identifiers and words stands for what it was written for
 abbrev pub ResolvesAsMeant : Type 0
-ResolvesAsMeant = OfAcceptedInScope ResolvesAs
+ResolvesAsMeant = OfAcceptedInScope ResolvesUnder
 
 -- its `let`s are those of the emitted handles that are bound and of the results of statements, each
 -- under its handle's name, and each tells its handle's type where types are to be told
 abbrev pub BindsAsCounted : Type 0
-BindsAsCounted =
-    (m : Module) (info : ModuleInfo) (explicit : Bool) → IsTrue (is_accepted m info) →
-    DeclarationsHaveForms m → AllWrittenHaveForms explicit m info →
-    BindsAs m info explicit (written_program m info explicit)
+BindsAsCounted = OfAccepted BindsUnder
 
 -- what is written of a function, of which what is written has a form, is read as its shape is written,
 -- whatever the module declares, whatever type is known of each of its expressions and of the module's,
@@ -106,14 +123,14 @@ FunctionsAreRead =
 
 -- what the program does is what the program of shapes says that is written for the module
 abbrev pub IsReadAsItsShapes : Type 0
-IsReadAsItsShapes = OfAccepted (λ m info program.
+IsReadAsItsShapes = OfAccepted (λ named m info explicit program.
     program_read program
     ≡ form_module (module_shape m info) (outer_names (module_names m) m)
-    (namings (module_names m) m info))
+    (namings_under named (module_names m) m info))
 
 -- it does what the module does
 abbrev pub RunsAsTheModule : Type 0
-RunsAsTheModule = OfAcceptedInScope RunsAs
+RunsAsTheModule = OfAcceptedInScope (λ named. RunsAs)
 
 -- the check of scope decides the rules
 abbrev pub ScopesAreChecked : Type 0
@@ -138,7 +155,10 @@ NamesTell = (m : Module) → ItemsAreDistinguished m
 
 -- one world answers by the right types in every run of the module
 abbrev pub HasAWorld : Type 0
-HasAWorld = OfAcceptedInScope (λ m info program. HasTypedWorld m info)
+HasAWorld =
+    (m : Module) (info : ModuleInfo) (explicit : Bool) → IsTrue (is_accepted m info) →
+    DeclarationsHaveForms m → AllWrittenHaveForms explicit m info → ScopesHold m info →
+    HasTypedWorld m info
 
 -- what holds of every accepted module that holds nothing that no text is ever written for, and in
 -- which the rules of scope hold
@@ -153,7 +173,7 @@ EveryHasAWorld = OfEveryWritable HasTypedWorld
 
 -- neither the module's runs nor those of its program are stuck
 abbrev pub IsNotStuck : Type 0
-IsNotStuck = OfAcceptedInScope IsNeverStuck
+IsNotStuck = OfAcceptedInScope (λ named. IsNeverStuck)
 
 -- no run of the module is
 abbrev pub EveryIsNotStuck : Type 0

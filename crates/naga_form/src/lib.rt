@@ -4,6 +4,7 @@
 
 pub mod types;
 
+ghost use Rattle.naga_form.specs.Laws.{NamesAreLabelNames, NamesBehindAreLabelNames};
 ghost use Rattle.naga_form.specs.Laws.{IsAProgram, HasTheInterface, ResolvesAsMeant};
 ghost use Rattle.naga_form.specs.Laws.{BindsAsCounted, FunctionsAreRead, IsReadAsItsShapes};
 ghost use Rattle.naga_form.specs.Laws.{RunsAsTheModule, ScopesAreChecked, IsConsistent};
@@ -13,8 +14,16 @@ ghost use Rattle.naga_form.specs.Laws.{AlikeAreDistinguished};
 ghost use Rattle.naga_form.specs.Laws.{UnspelledAreDistinguished, LiteralsAreDistinguished, WordsAreDistinguished, WordsAreKept};
 ghost use Rattle.naga_form.specs.Laws.{OperandsAreDistinguished, RequestsAreDistinguished};
 
+/// The names that front ends' labels have in the text of a whole module are identifiers, different in
+/// each function, and neither an item nor a handle has one of them. So it is where those of one
+/// function are named behind any labels, in front of which those of the items are named.
+pub fn names_are_of_labels()
+    ensures whole { NamesAreLabelNames }
+    ensures behind { NamesBehindAreLabelNames }
+{}
+
 /// The program that is written for an accepted module is one of the grammar, so that its text has
-/// one reading.
+/// one reading. Here and below, labels have any such names.
 pub fn is_a_program()
     ensures { IsAProgram }
 {}

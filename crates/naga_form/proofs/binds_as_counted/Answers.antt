@@ -1,5 +1,5 @@
-use Rattle.naga_form.proofs.Bindings.{binds_as}
+use Rattle.naga_form.proofs.Bindings.{binds_as_under}
 use Rattle.naga_form.proofs.binds_as_counted.Goals as goal
 
 pub returns : goal.returns
-returns c = binds_as
+returns c = binds_as_under

@@ -4,8 +4,7 @@ use Rattle.naga_form.proofs.DistinguishedItems.{types_are_distinguished}
 use Rattle.naga_form.proofs.has_a_typed_world.Goals as goal
 
 pub returns-clause-written : goal.returns-clause-written
-returns-clause-written c = λ m info explicit accepted declarations have scopes.
-    has_world m info explicit accepted declarations have scopes
+returns-clause-written c = has_world
 
 pub returns-clause-every : goal.returns-clause-every
 returns-clause-every c = λ m info accepted writable scopes.

@@ -1,5 +1,5 @@
-use Rattle.naga_form.proofs.Interface.{has_interface}
+use Rattle.naga_form.proofs.Interface.{has_interface_under}
 use Rattle.naga_form.proofs.has_the_interface.Goals as goal
 
 pub returns : goal.returns
-returns c = has_interface
+returns c = has_interface_under

@@ -1,5 +1,5 @@
-use Rattle.naga_form.proofs.Runs.{reads_as_shapes}
+use Rattle.naga_form.proofs.Runs.{reads_as_shapes_under}
 use Rattle.naga_form.proofs.is_read_as_its_shapes.Goals as goal
 
 pub returns : goal.returns
-returns c = reads_as_shapes
+returns c = reads_as_shapes_under

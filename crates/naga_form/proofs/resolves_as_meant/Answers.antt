@@ -1,5 +1,5 @@
-use Rattle.naga_form.proofs.Resolution.{resolves}
+use Rattle.naga_form.proofs.Resolution.{resolves_under}
 use Rattle.naga_form.proofs.resolves_as_meant.Goals as goal
 
 pub returns : goal.returns
-returns c = λ m info explicit accepted written. resolves m info explicit accepted written
+returns c = resolves_under
