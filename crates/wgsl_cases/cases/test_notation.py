@@ -171,7 +171,8 @@ ANSWERS = [
      "== a\na\n", "== a, with types\nb\n\nrefused: c\n"),
     (POINT + "  gives nothing\n", "== a\n"),
     # a blank behind a line of attributes alone
-    (POINT + "  gives\n    @fragment\n    fn f(@a b: c) {\n    }\n", "== a\n@fragment \nfn f(@a b: c) {\n}\n"),
+    (POINT + "  gives\n    @fragment\n    fn f(@a b: c) {\n    }\n",
+     "== a\n@fragment \nfn f(@a b: c) {\n}\n"),
     (POINT + "  gives\n    @compute @workgroup_size(1, 1, 1)\n    a\n",
      "== a\n@compute @workgroup_size(1, 1, 1) \na\n"),
     (FUNCTION + "  gives\n    @group(0) @binding(1)\n    var a: b;\n    @id(1) a\n",
