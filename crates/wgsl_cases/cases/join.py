@@ -20,6 +20,8 @@ EXPECTATION = re.compile(
     r"(gives nothing|gives with types|gives)|(refused with types|refused|not accepted): (.+)"
 )
 ONLY_WITH_TYPES = re.compile(r"\[(: [^\[\]]+)\]")
+# A line of attributes alone, in front of an entry point or a variable that is bound.
+ATTRIBUTES = re.compile(r"@\w+(?:\([^()]*\))?(?: @\w+(?:\([^()]*\))?)*")
 
 
 class Line:
@@ -96,13 +98,18 @@ def sections(case):
 
 
 def block_text(lines):
-    """The text of a block: its lines without the indentation that they share, and an empty line."""
+    """The text of a block: its lines without the indentation that they share, a blank behind each of
+    attributes alone, and an empty line."""
     while lines and not lines[-1].text:
         lines = lines[:-1]
     if not lines:
         return ""
     depth = min(line.indent for line in lines if line.text)
-    return "\n".join(line.raw[depth:] for line in lines) + "\n\n"
+    return "\n".join(with_blank(line.raw[depth:]) for line in lines) + "\n\n"
+
+
+def with_blank(line):
+    return line + " " if ATTRIBUTES.fullmatch(line) else line
 
 
 def has_nothing_below(case, lines):
@@ -153,19 +160,22 @@ class Expected:
         if plain == (None, None) and typed != (None, None):
             raise case.error("with types alone: what is written without them is not told")
 
-    def answers(self):
+    def answers(self, has_entry_points):
         """What the program prints without the types of `let`s and with them."""
         if self.only is not None:
             return [self.only, self.only]
-        plain = self.texts[0] or ""
-        first = self._told(ONLY_WITH_TYPES.sub("", plain), self.refusals[0])
-        if self.texts[1] is None and self.refusals[1] is None:
-            return [first, self._told(ONLY_WITH_TYPES.sub(r"\1", plain), self.refusals[0])]
-        return [first, self._told(self.texts[1] or "", self.refusals[1])]
 
-    @staticmethod
-    def _told(text, refusal):
-        return text + (f"refused: {refusal}\n" if refusal is not None else "")
+        def told(text, refusal):
+            if refusal is not None:
+                return f"{text}refused: {refusal}\n"
+            # no empty line stands behind the last entry point
+            return text.removesuffix("\n") if has_entry_points else text
+
+        plain = self.texts[0] or ""
+        first = told(ONLY_WITH_TYPES.sub("", plain), self.refusals[0])
+        if self.texts[1] is None and self.refusals[1] is None:
+            return [first, told(ONLY_WITH_TYPES.sub(r"\1", plain), self.refusals[0])]
+        return [first, told(self.texts[1] or "", self.refusals[1])]
 
 
 def with_definitions(case):
@@ -334,7 +344,7 @@ class Joined:
             self.accepted_kinds |= kinds
         told = {"name": case.name, **told}
         self.input.append(json.dumps(told, ensure_ascii=False, separators=(",", ":")) + "\n")
-        plain, typed = expected.answers()
+        plain, typed = expected.answers(bool(told["module"].get("entry_points")))
         self.output.append(f"== {case.name}\n{plain}")
         if typed != plain:
             self.output.append(f"== {case.name}, with types\n{typed}")

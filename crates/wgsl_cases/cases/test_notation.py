@@ -1,7 +1,8 @@
 #!/usr/bin/env python3
-"""Tries what join.py refuses: each row is a case file, and the message that it gets.
+"""Tries what join.py refuses, and what it makes of texts: rows of case files, each with the message that it
+gets or the answers that are wanted.
 
-`test_notation.py` prints nothing and ends with 0 where each row gets its message.
+`test_notation.py` prints nothing and ends with 0 where each row gets what it has.
 """
 
 import sys
@@ -154,6 +155,30 @@ ALIKE = [
      "  Kill =>\n  If 0 => If 0 ;; > Kill\n  gives nothing\n"),
 ]
 
+POINT = """
+case a
+  @compute(1, 1, 1) fn f()
+"""
+# The answers that are wanted of a case: where blanks and empty lines stand that are left out.
+ANSWERS = [
+    (FUNCTION + "  gives\n    a\n", "== a\na\n\n"),
+    (FUNCTION + "  gives\n    a[: i32];\n", "== a\na;\n\n", "== a, with types\na: i32;\n\n"),
+    (FUNCTION + "  gives\n    a\n  refused: b\n", "== a\na\n\nrefused: b\n"),
+    # no empty line behind the last entry point, and one behind what stands in front of a refusal
+    (POINT + "  gives\n    a\n", "== a\na\n"),
+    (POINT + "  gives\n    a\n  refused: b\n", "== a\na\n\nrefused: b\n"),
+    (POINT + "  gives\n    a\n  gives with types\n    b\n  refused with types: c\n",
+     "== a\na\n", "== a, with types\nb\n\nrefused: c\n"),
+    (POINT + "  gives nothing\n", "== a\n"),
+    # a blank behind a line of attributes alone
+    (POINT + "  gives\n    @fragment\n    fn f(@a b: c) {\n    }\n",
+     "== a\n@fragment \nfn f(@a b: c) {\n}\n"),
+    (POINT + "  gives\n    @compute @workgroup_size(1, 1, 1)\n    a\n",
+     "== a\n@compute @workgroup_size(1, 1, 1) \na\n"),
+    (FUNCTION + "  gives\n    @group(0) @binding(1)\n    var a: b;\n    @id(1) a\n",
+     "== a\n@group(0) @binding(1) \nvar a: b;\n@id(1) a\n\n"),
+]
+
 
 def joined(folder, text):
     """What is made of a case file with this text."""
@@ -182,6 +207,10 @@ def main():
         for first, second in ALIKE:
             if joined(folder, first) != joined(folder, second):
                 wrong.append(f"{first}\nis read otherwise than\n{second}\n")
+        for text, *wanted in ANSWERS:
+            found = joined(folder, text)[1]
+            if found != wanted:
+                wrong.append(f"{text}\nwants {wanted}\nbut gets {found}\n")
     for each in wrong:
         print(each, file=sys.stderr)
     return 1 if wrong else 0
