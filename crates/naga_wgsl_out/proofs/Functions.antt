@@ -7,7 +7,7 @@ use Rattle.std.proofs.Common.{Err, Ok, Result, sym, take, unwrap_or}
 use Rattle.std.specs.Prelude.{◌⊎◌, IsErrAnd, IsTrue, if◌then◌else◌}
 use Rattle.std.specs.List.{enumerate_from}
 use Rattle.std.specs.Option.{option_map_or}
-use Rattle.std.proofs.lemmas.Bool.{ltb-false, ltb-true}
+use Rattle.std.proofs.lemmas.Bool.{le-ltb, lt-ltb, ltb-false, ltb-true}
 use Rattle.std.proofs.lemmas.Grind.{flat_map-append}
 use Rattle.std.proofs.lemmas.List.{get_or_default, take-append-drop, take_all, take_more}
 use Rattle.std.proofs.lemmas.List.FromFn.{length-enumerate_from}
@@ -24,7 +24,7 @@ use Rattle.naga_back.specs.declared.context.FunctionType.TheVariants as item
 use Rattle.wgsl_text.specs.Attributes.{attributes_pieces}
 use Rattle.wgsl_text.specs.Token.{LineEnd, Piece}
 use Rattle.wgsl_text.specs.Functions.{entry_point_pieces, entry_points_pieces, function_pieces}
-use Rattle.wgsl_text.specs.Functions.{functions_pieces, more_entry_points_pieces}
+use Rattle.wgsl_text.specs.Functions.{functions_pieces}
 use Rattle.wgsl_text.specs.Functions.{EntryPoint as EntryPointTree, Function as FunctionTree}
 use Rattle.naga_form.specs.Attributes.{stage_attributes}
 use Rattle.naga_form.specs.Declarations.{entry_point_form, entry_points_form, written_program}
@@ -56,7 +56,7 @@ use Rattle.naga_wgsl_out.proofs.DeclarationRows.{layout_row}
 use Rattle.naga_wgsl_out.specs.ModuleRefusals.{HasNamedBefore}
 use Rattle.naga_wgsl_out.specs.Writing.{HasNoPlan, HasPlan, IsNamedPlan, MetNoPlan}
 use Rattle.naga_wgsl_out.specs.Writing.{WritesFunctions, WritesNext, WroteFunctions, WroteNext}
-use Rattle.naga_wgsl_out.specs.Writing.{front_text, line_at, with_lines}
+use Rattle.naga_wgsl_out.specs.Writing.{front_text, line_at, line_behind}
 use Rattle.naga_wgsl_out.specs.Writing.{line_of, lines_before, lines_of, module_lines, written_text}
 use Rattle.naga_wgsl_out.proofs.ExpressionNames.{named_plan, none_full}
 use Rattle.naga_wgsl_fns.proofs.PlanRefusals.{fault_fails}
@@ -87,26 +87,22 @@ module _ (m : Module) (info : ModuleInfo) (flags : WriterFlags)
   lines_are : (g : ℕ) (f : Function) (ty : FunctionType) (stage : Option EntryPoint) →
       function_type m g ≡ ty → entry_point_numbered m g ≡ stage →
       line_of m info flags (g, f) ≡
-      with_lines ty (option_map_or (stage_text m) stage [] ++ own_text g f (known_of info g))
+      (option_map_or (stage_text m) stage [] ++ own_text g f (known_of info g)) ++ line_behind m ty
   lines_are g f ty stage ty_is is =
-      λ i. with_lines (ty_is i) (option_map_or (stage_text m) (is i) [] ++ own_text g f (known_of info g))
+      λ i. (option_map_or (stage_text m) (is i) [] ++ own_text g f (known_of info g)) ++ line_behind m (ty_is i)
 
   function_line : (h : ℕ) (f : Function) → h < length m.functions →
       line_of m info flags (h, f) ≡ own_text h f (known_of info h) ++ codes "\n"
   function_line h f lt =
       lines_are h f (item.Function h) None (type_of_function m h lt) (no_entry_point m h lt)
 
-  entry_point_line : (j : ℕ) (p : EntryPoint) →
-      slice_get m.entry_points.items j ≡ Some p →
+  entry_point_line : (j : ℕ) (p : EntryPoint) → slice_get m.entry_points.items j ≡ Some p →
       line_of m info flags (length m.functions + j, p.function) ≡
-      (if nat_lt 0 j then codes "\n" else []) ++
       (stage_text m p ++ own_text (length m.functions + j) p.function (known_of info (length m.functions + j)))
+      ++ line_behind m (item.EntryPoint j)
   entry_point_line j p at =
-      let g : ℕ = length m.functions + j in
-      lines_are g p.function (item.EntryPoint j) (Some p) (type_of_entry_point m j)
-      (entry_point_there m info accepted j ∙ at)
-      ∙ ap (λ t. (if nat_lt 0 j then codes "\n" else []) ++ t)
-      (append-nil (stage_text m p ++ own_text g p.function (known_of info g)))
+      lines_are (length m.functions + j) p.function (item.EntryPoint j) (Some p)
+      (type_of_entry_point m j) (entry_point_there m info accepted j ∙ at)
 
   functions_text : (g : ℕ) (fs : List Function) (ess : List (List ExpressionInfo)) →
       g + length fs ≤ length m.functions → length fs ≡ length ess →
@@ -135,11 +131,6 @@ module _ (m : Module) (info : ModuleInfo) (flags : WriterFlags)
           let moved : g + suc i ≡ (g + 1) + i = omega arith in
           subst (λ h. known_of info h ≡ ks) moved (known (suc i) ks at)
 
-  -- the entry points from the one with this index on, behind an empty line where it is not the first
-  abbrev points_pieces : ℕ → List EntryPointTree → List Piece
-  points_pieces zero points = entry_points_pieces points
-  points_pieces (suc j) points = more_entry_points_pieces points
-
   point_text : (g : ℕ) (p : EntryPoint) (es : List ExpressionInfo) →
       text (entry_point_pieces (entry_point_form (annotates_types flags) (module_names m) m info g p es)) ≡
       stage_text m p ++ own_text g p.function es
@@ -149,60 +140,58 @@ module _ (m : Module) (info : ModuleInfo) (flags : WriterFlags)
       let own = function_pieces (function_form (annotates_types flags) (module_names m) (expression_name m g) m info g p.function es) in
       text-append stage (LineEnd ∷ own) ∙ sym (append_assoc (text stage) (codes "\n") (text own))
 
+  -- the line of one, by whether another comes behind it
+  point_line : (j : ℕ) (p : EntryPoint) (es : List ExpressionInfo) (more : Bool) →
+      slice_get m.entry_points.items (j + 0) ≡ Some p →
+      known_of info (length m.functions + (j + 0)) ≡ es →
+      nat_lt (j + 1) (length m.entry_points.items) ≡ more →
+      text (entry_point_pieces (entry_point_form (annotates_types flags) (module_names m) m info (length m.functions + j) p es))
+      ++ (if more then codes "\n" else []) ≡ line_of m info flags (length m.functions + j, p.function)
+  point_line j p es more there known is =
+      let g : ℕ = length m.functions + j in
+      let first : j + 0 ≡ j = omega arith in
+      let here = ap (slice_get m.entry_points.items) (sym first) ∙ there in
+      let same : known_of info g ≡ es = ap (λ k. known_of info (length m.functions + k)) (sym first) ∙ known in
+      ap (λ t. t ++ (if more then codes "\n" else []))
+      (point_text g p es ∙ ap (λ ks. stage_text m p ++ own_text g p.function ks) (sym same))
+      ∙ ap (λ b. (stage_text m p ++ own_text g p.function (known_of info g)) ++ (if b then codes "\n" else [])) (sym is)
+      ∙ sym (entry_point_line j p here)
+
   points_text : (j : ℕ) (ps : List EntryPoint) (ess : List (List ExpressionInfo)) → length ps ≡ length ess →
+      j + length ps ≡ length m.entry_points.items →
       ((i : ℕ) (p : EntryPoint) → slice_get ps i ≡ Some p → slice_get m.entry_points.items (j + i) ≡ Some p) →
       ((i : ℕ) (es : List ExpressionInfo) → slice_get ess i ≡ Some es → known_of info (length m.functions + (j + i)) ≡ es) →
-      text (points_pieces j
+      text (entry_points_pieces
       (entry_points_form (annotates_types flags) (module_names m) m info (length m.functions + j) ps ess)) ≡
       lines_of m info flags (enumerate_from (length m.functions + j) (entry_functions ps))
-  points_text zero [] [] size there known = refl
-  points_text (suc j) [] [] size there known = refl
-  points_text j [] (es ∷ ess) size there known = absurd (cc)
-  points_text j (p ∷ ps) [] size there known = absurd (cc)
-  points_text j (p ∷ ps) (es ∷ ess) size there known = front j ∙ line
-    where
-      g : ℕ
-      g = length m.functions + j
-
-      point : List Piece
-      point = entry_point_pieces (entry_point_form (annotates_types flags) (module_names m) m info g p es)
-
-      behind : List Piece
-      behind = more_entry_points_pieces (entry_points_form (annotates_types flags) (module_names m) m info (g + 1) ps ess)
-
-      more : List ℕ
-      more = lines_of m info flags (enumerate_from (g + 1) (entry_functions ps))
-
-      front : (j : ℕ) → text (points_pieces j (entry_points_form (annotates_types flags) (module_names m) m info g (p ∷ ps) (es ∷ ess))) ≡
-          ((if nat_lt 0 j then codes "\n" else []) ++ text point) ++ text behind
-      front zero = text-append point behind
-      front (suc j) = ap (λ t. 10 ∷ t) (text-append point behind)
-
-      here : slice_get m.entry_points.items j ≡ Some p
-      here = let same : j + 0 ≡ j = omega arith in ap (slice_get m.entry_points.items) (sym same) ∙ there 0 p refl
-
-      same : known_of info g ≡ es
-      same =
-          let first : length m.functions + (j + 0) ≡ length m.functions + j = omega arith in
-          ap (known_of info) (sym first) ∙ known 0 es refl
-
-      rest : text behind ≡ more
-      rest =
-          let next : length m.functions + suc j ≡ (length m.functions + j) + 1 = omega arith in
-          subst
-          (λ h. text (more_entry_points_pieces (entry_points_form (annotates_types flags) (module_names m) m info h ps ess)) ≡
-          lines_of m info flags (enumerate_from h (entry_functions ps)))
-          next
-          (points_text (suc j) ps ess (ap pred size)
-          (λ i q at. let moved : j + suc i ≡ suc j + i = omega arith in ap (slice_get m.entry_points.items) (sym moved) ∙ there (suc i) q at)
-          (λ i ks at. let moved : length m.functions + (j + suc i) ≡ length m.functions + (suc j + i) = omega arith in
-          subst (λ h. known_of info h ≡ ks) moved (known (suc i) ks at)))
-
-      line : ((if nat_lt 0 j then codes "\n" else []) ++ text point) ++ text behind ≡
-          line_of m info flags (g, p.function) ++ more
-      line =
-          (λ i. ((if nat_lt 0 j then codes "\n" else []) ++ (point_text g p es ∙ ap (λ ks. stage_text m p ++ own_text g p.function ks) (sym same)) i) ++ rest i)
-          ∙ ap (λ t. t ++ more) (sym (entry_point_line j p here))
+  points_text j [] [] size counted there known = refl
+  points_text j [] (es ∷ ess) size counted there known = absurd (cc)
+  points_text j (p ∷ ps) [] size counted there known = absurd (cc)
+  points_text j (p ∷ []) (es ∷ ks ∷ ess) size counted there known = absurd (cc)
+  points_text j (p ∷ q ∷ ps) (es ∷ []) size counted there known = absurd (cc)
+  points_text j (p ∷ []) (es ∷ []) size counted there known =
+      let last : length m.entry_points.items ≤ j + 1 = omega (arith, counted) in
+      ap (λ t. t ++ [])
+      (sym (append-nil _)
+      ∙ point_line j p es false (there 0 p refl) (known 0 es refl)
+      (le-ltb (j + 1) (length m.entry_points.items) last))
+  points_text j (p ∷ q ∷ ps) (es ∷ ks ∷ ess) size counted there known =
+      let more : j + 1 < length m.entry_points.items = omega (arith, counted) in
+      let all : (j + 1) + length (q ∷ ps) ≡ length m.entry_points.items = omega (arith, counted) in
+      let next : length m.functions + (j + 1) ≡ (length m.functions + j) + 1 = omega arith in
+      let point = entry_point_pieces (entry_point_form (annotates_types flags) (module_names m) m info (length m.functions + j) p es) in
+      let behind = λ h. entry_points_pieces (entry_points_form (annotates_types flags) (module_names m) m info h (q ∷ ps) (ks ∷ ess)) in
+      let rest =
+      subst
+      (λ h. text (behind h) ≡ lines_of m info flags (enumerate_from h (entry_functions (q ∷ ps)))) next
+      (points_text (j + 1) (q ∷ ps) (ks ∷ ess) (ap pred size) all
+      (λ i r at. let moved : j + suc i ≡ (j + 1) + i = omega arith in ap (slice_get m.entry_points.items) (sym moved) ∙ there (suc i) r at)
+      (λ i rs at. let moved : length m.functions + (j + suc i) ≡ length m.functions + ((j + 1) + i) = omega arith in
+      subst (λ h. known_of info h ≡ rs) moved (known (suc i) rs at))) in
+      text-append point (LineEnd ∷ behind ((length m.functions + j) + 1))
+      ∙ (sym (append_assoc (text point) (codes "\n") (text (behind ((length m.functions + j) + 1))))
+      ∙ (λ i. point_line j p es true (there 0 p refl) (known 0 es refl)
+      (lt-ltb (j + 1) (length m.entry_points.items) more) i ++ rest i))
 
 -- what stands in front of the functions, and what stands behind
 front_then : (m : Module) (info : ModuleInfo) (flags : WriterFlags) (rest : List ℕ) →
@@ -248,7 +237,7 @@ written_lines m info flags accepted =
         let from : length m.functions + 0 ≡ 0 + length m.functions = omega arith in
         ap (λ g. text (entry_points_pieces (entry_points_form (annotates_types flags) (module_names m) m info g m.entry_points.items info.entry_points.items))) (sym none)
         ∙ (points_text m info flags accepted 0 m.entry_points.items info.entry_points.items
-        (entry_points_counted m info accepted)
+        (entry_points_counted m info accepted) refl
         (λ i p at. let same : i ≡ 0 + i = omega arith in ap (slice_get m.entry_points.items) (sym same) ∙ at)
         (λ i es at. ap (λ o. unwrap_or o []) (entry_info_among m info accepted i es at))
         ∙ ap (λ g. lines_of m info flags (enumerate_from g (entry_functions m.entry_points.items))) from)
@@ -350,11 +339,11 @@ module _ (m : Module) (info : ModuleInfo) (flags : WriterFlags) {n : ℕ} {conte
     line_is : line_of m info flags here ≡ line
     line_is =
         let found = (at_enumerated 0 (all_functions m) n here below stands).1 in
-        ap (λ g. with_lines (function_type m g)
-        (text_of m info flags (expression_name m g) g here.1 (known_of info g))) number_is
-        ∙ ap (λ o. with_lines (function_type m n)
-        (option_map_or (λ f. text_of m info flags (expression_name m n) n f (known_of info n)) o []))
-        (sym found)
+        ap (λ g. text_of m info flags (expression_name m g) g here.1 (known_of info g)
+        ++ line_behind m (function_type m g)) number_is
+        ∙ ap (λ o. option_map_or
+        (λ f. text_of m info flags (expression_name m n) n f (known_of info n)) o []
+        ++ line_behind m (function_type m n)) (sym found)
 
     one_more_line : lines_before m info flags n ++ line ≡ lines_before m info flags (n + 1)
     one_more_line =

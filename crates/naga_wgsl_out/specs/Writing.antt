@@ -40,28 +40,22 @@ written_text m info flags = layout (written_program m info (annotates_types flag
 abbrev pub front_text : Module → List ℕ
 front_text m = enables_text (needed_enables m) ++ declarations_text m
 
--- an empty line stands between two entry points, and behind each function that others may call
-abbrev pub line_before : FunctionType → List ℕ
-line_before (item.Function handle) = []
-line_before (item.EntryPoint index) = if nat_lt 0 index then codes "\n" else []
+-- an empty line stands behind each function that others may call, and between two entry points
+abbrev pub line_behind : Module → FunctionType → List ℕ
+line_behind m (item.Function handle) = codes "\n"
+line_behind m (item.EntryPoint index) =
+    if nat_lt (index + 1) (length m.entry_points.items) then codes "\n" else []
 
-abbrev pub line_behind : FunctionType → List ℕ
-line_behind (item.Function handle) = codes "\n"
-line_behind (item.EntryPoint index) = []
-
--- the text of a function or of an entry point, with these empty lines
-abbrev pub with_lines : FunctionType → (own : List ℕ) → List ℕ
-with_lines ty own = line_before ty ++ (own ++ line_behind ty)
-
+-- the text of a function or of an entry point, with its empty line
 abbrev pub line_of : Module → ModuleInfo → WriterFlags → ℕ × Function → List ℕ
 line_of m info flags p =
-    with_lines (function_type m p.0)
-    (text_of m info flags (expression_name m p.0) p.0 p.1 (known_of info p.0))
+    text_of m info flags (expression_name m p.0) p.0 p.1 (known_of info p.0)
+    ++ line_behind m (function_type m p.0)
 
 -- the same of the one with this number
 abbrev pub line_at : Module → ModuleInfo → WriterFlags → (number : ℕ) → List ℕ
 line_at m info flags number =
-    with_lines (function_type m number) (text_of_function m info flags number)
+    text_of_function m info flags number ++ line_behind m (function_type m number)
 
 -- those of these functions, of the module, and of it in front of this function
 abbrev pub lines_of : Module → ModuleInfo → WriterFlags → List (ℕ × Function) → List ℕ

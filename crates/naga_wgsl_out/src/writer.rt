@@ -23,7 +23,7 @@ ghost use Rattle.naga_wgsl_out.specs.ModuleRefusals.{ComesBeforeText, HasAllName
 ghost use Rattle.naga_wgsl_out.specs.ModuleRefusals.{HasNamedBefore, IsNamesRefusal};
 ghost use Rattle.naga_wgsl_out.specs.ModuleRefusals.{TellsOfFunction};
 ghost use Rattle.naga_wgsl_out.specs.Writing.{WritesFunctions, WritesNext, Writing};
-ghost use Rattle.naga_wgsl_out.specs.Writing.{WroteFunctionsBefore, front_text, line_at, line_before};
+ghost use Rattle.naga_wgsl_out.specs.Writing.{WroteFunctionsBefore, front_text, line_at};
 ghost use Rattle.naga_wgsl_out.specs.Writing.{line_behind, written_text};
 
 use crate::declarations::write_declarations;
@@ -226,11 +226,11 @@ fn write_next<W: TextSink>(
         (W.failures out.new) }
 {
     let plan = plan_of(alloc, module, info, ty, globals, names, flags, namer)?;
-    write_with_lines(alloc, module, info, names, flags, ty, plan, out)
+    write_with_line(alloc, module, info, names, flags, ty, plan, out)
 }
 
-/// A function or an entry point by its plan, with its empty lines.
-fn write_with_lines<W: TextSink>(
+/// A function or an entry point by its plan, with its empty line.
+fn write_with_line<W: TextSink>(
     alloc: Global,
     module: &Module,
     info: &ModuleInfo,
@@ -252,28 +252,23 @@ fn write_with_lines<W: TextSink>(
         (line_at «module».now info.now flags (function_number «module».now ty.now))
         (W.text out.new) (W.failures out.new) }
 {
-    put(line_before(ty), out)?;
     write_planned(alloc, module, info, names, flags, ty, plan, out)?;
-    put(line_behind(ty), out)
+    put(line_behind(module, ty), out)
 }
 
-/// The empty line between two entry points.
-fn line_before(ty: &FunctionType) -> &'static str
-    ensures { result.now ≡ line_before ty.now }
-{
-    match ty {
-        FunctionType::EntryPoint(index) if *index > 0 => "\n",
-        _ => "",
-    }
-}
-
-/// The empty line behind a function that others may call.
-fn line_behind(ty: &FunctionType) -> &'static str
-    ensures { result.now ≡ line_behind ty.now }
+/// The empty line behind a function that others may call, and between two entry points.
+fn line_behind(module: &Module, ty: &FunctionType) -> &'static str
+    ensures { result.now ≡ line_behind «module».now ty.now }
 {
     match ty {
         FunctionType::Function(_) => "\n",
-        FunctionType::EntryPoint(_) => "",
+        FunctionType::EntryPoint(index) => {
+            if *index as usize + 1 < module.entry_points.len() {
+                "\n"
+            } else {
+                ""
+            }
+        }
     }
 }
 

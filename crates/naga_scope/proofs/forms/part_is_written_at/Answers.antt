@@ -8,7 +8,7 @@ has_member_word-requires c =
     let index = c.args.index in
     let members = c.in-Struct.members in
     let lt : index < length members.items =
-    omega (arith, c.if-index-len-2.true, c.len-else-not-is_undeclared.ensures, members.ok.0) in
+    omega (arith, c.if-index-len-2.true, c.len-in-Struct.ensures, members.ok.0) in
     let member = element members.items index lt in
     record {
       named =
