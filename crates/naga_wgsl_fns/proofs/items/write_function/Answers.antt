@@ -3,3 +3,25 @@ use Rattle.module_meaning.specs.FunctionNumbers.{function_number}
 use Rattle.naga_wgsl_fns.proofs.SingleFunctions.{for_head, items_named, none_named, refused}
 use Rattle.naga_wgsl_fns.proofs.items.write_function.Goals as goal
 
+pub write_by_plan-requires-clause-words : goal.write_by_plan-requires-clause-words
+write_by_plan-requires-clause-words g c = c.requires.namer.named.words
+
+pub returns-in-Some-clause-function : goal.returns-in-Some-clause-function
+returns-in-Some-clause-function g c =
+    λ earlier has.
+    let m = c.args.«module».now in
+    let info = c.args.info.now in
+    let content = g.W.TextSink.text c.args.out.now in
+    let before = g.W.TextSink.failures c.args.out.now in
+    refused m info c.args.flags earlier c.args.ty content before _ c.head_without_form.result
+    c.args.namer.now refl
+    (for_head m info c.args.flags earlier c.args.ty content before c.head_without_form.result
+    (c.head_without_form.ensures m (function_number m c.args.ty) c.in-Some.ensures.some))
+    (none_named m info c.args.flags earlier c.args.ty c.args.namer.now has)
+
+pub returns-in-None-clause-named : goal.returns-in-None-clause-named
+returns-in-None-clause-named g c =
+    items_named c.args.«module».now (function_number c.args.«module».now c.args.ty)
+    c.args.namer.now c.write_by_plan.new.namer
+    c.requires.namer c.write_by_plan.ensures.words c.write_by_plan.result
+    (λ earlier has. let w = c.write_by_plan.ensures.function earlier has in (w.named_ok, w.named_err))
