@@ -18,7 +18,7 @@ use std::alloc::Global;
 pub struct Written {
     /// Whether the module is written, or why not.
     pub answer: Result<(), Error>,
-    /// Its text, or where it is refused what it enables and the functions in front of the refused one.
+    /// Its text, or where it is refused what stands in front of the refused function or entry point.
     pub text: String,
 }
 
