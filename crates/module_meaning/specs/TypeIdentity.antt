@@ -155,7 +155,6 @@ identity_code Nothing = 0 ∷ []
 identity_code (StructAt h) = 1 ∷ h ∷ []
 identity_code (Itself it) = 2 ∷ inner_code it
 
--- the word of a type that no text spells so far: it begins with a blank, which no word of a text
--- does
+-- the word of a type that no text spells: it begins with a blank, which no word of a text does
 abbrev pub word_of_unspelled_type : Identity → List ℕ
 word_of_unspelled_type i = 32 ∷ identity_code i

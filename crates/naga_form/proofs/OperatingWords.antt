@@ -1,5 +1,5 @@
--- Words of operators that no name hides: the signs, words and types of the operators that are written
--- so far.
+-- Words of operators that no name hides: the signs, words and types of the operators that are
+-- written.
 use Rattle.std.proofs.Common.{◌≡◌, ℕ, Bool, true, false, List, [], ◌∷◌, refl, nat_eq, sym, ap, ◌∙◌}
 use Rattle.std.proofs.Common.{codes, ◌++◌}
 use Rattle.std.specs.Char.{is_ascii_digit}

@@ -109,7 +109,7 @@ operator_type a t (expression.CooperativeLoad columns rows role place) =
     matrix_tree t columns rows role place.row_major (scalar_pointed a place.pointer)
 operator_type a t _ = None
 
--- what has no form so far, and a handle without an expression
+-- what has no form, and a handle without an expression
 abbrev pub no_form : PlainForm
 no_form = ValueForm (Constant (Truth false))
 

@@ -1,5 +1,6 @@
 //! Where the expressions of a function are in scope, which of them a `let` binds, and the plan of a
-//! function, which refuses an operand out of scope before the function's text.
+//! function, which refuses an operand out of scope before the function's text; and which of a
+//! module's declarations have no form.
 #![tactic(auto)]
 
 pub mod binding;

@@ -1,5 +1,6 @@
-//! The WGSL texts of functions, their expressions and their statements; why a module is not
-//! written; and how literals are written, and words that WGSL may lack.
+//! The WGSL texts of functions and entry points, their stages, expressions and statements, of
+//! bindings and of a module's own expressions; why a module is not written; and how literals are
+//! written, and words that WGSL may lack.
 //!
 //! Users take these through the crate `naga_wgsl_out`.
 #![tactic(auto)]
