@@ -14,6 +14,7 @@ pub mod ImageRows
 pub mod Literals
 pub mod LoadRows
 pub mod LoopRows
+pub mod MeantFunctions
 pub mod Members
 pub mod ModuleTexts
 pub mod NameRows

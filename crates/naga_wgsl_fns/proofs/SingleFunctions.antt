@@ -1,6 +1,6 @@
 -- A function that is written by itself.
 use Rattle.std.proofs.Common.{◌≡◌, ◌<◌, ◌^◌, ◌∙◌, ◌++◌, ℕ, Bool, List, [], None, Some, append-nil}
-use Rattle.std.proofs.Common.{ap, append_assoc, arith, inl, inr, length, refl, slice_get, subst, sym}
+use Rattle.std.proofs.Common.{ap, append_assoc, arith, drop, inl, inr, length, refl, slice_get, subst, sym}
 use Rattle.std.proofs.Common.{codes, take, unwrap_or, ◌∷◌}
 use Rattle.std.specs.Prelude.{Err, IfErr, IsErrAnd, IsTrue, Ok, OnErr, OnOk, Result, vec_len}
 use Rattle.std.specs.Option.{option_map_or}
@@ -12,7 +12,7 @@ use Rattle.naga_info.specs.declared.info.ExpressionInfo.{ExpressionInfo}
 use Rattle.naga_info.specs.declared.info.ModuleInfo.{ModuleInfo}
 use Rattle.naga_names.specs.Naming.{HasNamed, Names, name_after}
 use Rattle.naga_names.proofs.Refusal.{element}
-use Rattle.module_meaning.proofs.FunctionNumbers.{number_within}
+use Rattle.module_meaning.proofs.FunctionNumbers.{entry_point_among, function_among, number_within}
 use Rattle.module_meaning.specs.Accepted.{is_accepted}
 use Rattle.module_meaning.specs.ExpressionLabels.{expression_labels, name_of_label}
 use Rattle.module_meaning.specs.Names.{item_labels, labels_named_in, module_names, wgsl_names}
@@ -21,6 +21,7 @@ use Rattle.module_meaning.specs.FunctionNumbers.{IsFunctionOf, all_functions, al
 use Rattle.module_meaning.specs.FunctionNumbers.{function_number}
 use Rattle.naga_form.proofs.AcceptedFunctions.{all_counted}
 use Rattle.naga_form.proofs.DeclaredPrograms.{entry_point_there, stage_written}
+use Rattle.naga_form.proofs.ExpressionNames.{apart_there}
 use Rattle.naga_form.proofs.Names.{is_identifier}
 use Rattle.naga_form.proofs.Programs.{one_is}
 use Rattle.naga_form.specs.Attributes.{stage_attributes}
@@ -35,7 +36,8 @@ use Rattle.wgsl_text.specs.Attributes.{attributes_pieces}
 use Rattle.wgsl_text.specs.Functions.{EntryPoint, Function, IsFunction, function_pieces}
 use Rattle.wgsl_text.specs.Reading.{HasOneReading, ReadsEntryPoint, ReadsFunction}
 use Rattle.wgsl_text.specs.Reading.{entry_point_layout, function_layout}
-use Rattle.wgsl_text.specs.Text.{LineEnd, text}
+use Rattle.wgsl_text.specs.Text.{text, tokens}
+use Rattle.wgsl_text.specs.Token.{LineEnd}
 use Rattle.wgsl_text.specs.Words.{IsIdentifier}
 use Rattle.wgsl_text.proofs.Reading.{entry_point_has_one_reading, function_has_one_reading}
 use Rattle.wgsl_text.proofs.Text.{text-append}
@@ -45,13 +47,15 @@ use Rattle.naga_wgsl_fns.specs.Errors.{IsWant}
 use Rattle.naga_wgsl_fns.specs.FunctionText.{annotates_types}
 use Rattle.naga_wgsl_fns.specs.Functions.{known_of, names_of, stage_before, text_of, text_under}
 use Rattle.naga_wgsl_fns.specs.Items.{AppendsOne, FunctionWriting, IsFunctionRefusal}
-use Rattle.naga_wgsl_fns.specs.Items.{HasNamedItemsOf, named_behind, text_behind}
+use Rattle.naga_wgsl_fns.specs.Items.{HasNamedItemsOf, StandsIn, named_behind, names_behind}
+use Rattle.naga_wgsl_fns.specs.Items.{program_behind, text_behind}
 use Rattle.naga_wgsl_fns.specs.Refusals.{IsPlanRefusal, TellsOfModule}
 use Rattle.naga_wgsl_fns.specs.Stages.{stage_text}
 use Rattle.naga_wgsl_fns.specs.declared.error.Error.{Error}
 use Rattle.naga_wgsl_fns.specs.declared.error.Error.TheVariants.{FmtError, Memory}
 use Rattle.naga_wgsl_fns.proofs.ExpressionNames.{named_are, none_full}
 use Rattle.naga_wgsl_fns.proofs.FunctionRows.{no_entry_point}
+use Rattle.naga_wgsl_fns.proofs.MeantFunctions.{means_the_module, own_function, own_point}
 use Rattle.naga_wgsl_fns.proofs.PlanRefusals.{head_is_no_sink, planned_holds}
 
 -- what comes from the sink or from memory tells of no module
@@ -105,6 +109,133 @@ point_within m j lt =
     let counted : m.entry_points.len ≡ length m.entry_points.items = m.entry_points.ok.0 in
     omega (arith, lt, counted)
 
+-- what stands behind the same text is the same
+pub same_behind : (content a b : List ℕ) → content ++ a ≡ content ++ b → a ≡ b
+same_behind [] a b e = e
+same_behind (x ∷ content) a b e = same_behind content a b (ap (drop 1) e)
+
+-- ---- what is read of its text
+module _ (m : Module) (info : ModuleInfo) (flags : WriterFlags) (earlier : List (List ℕ))
+    (accepted : IsTrue (is_accepted m info)) where
+  abbrev form_at : (number : ℕ) → ir_function.Function → Function
+  form_at number f =
+      function_form (annotates_types flags) (module_names m) (named_behind m earlier number) m info number f
+      (known_of info number)
+
+  text_at : (number : ℕ) (f : ir_function.Function) → slice_get (all_functions m) number ≡ Some f →
+      text_behind m info flags earlier number ≡
+      stage_before m number ++ function_layout (form_at number f)
+  text_at number f stands =
+      ap
+      (λ o. option_map_or
+      (λ f. text_of m info flags (named_behind m earlier number) number f (known_of info number)) o [])
+      stands
+
+  function_text_is : (h : ℕ) (f : ir_function.Function) → h < length m.functions →
+      slice_get (all_functions m) h ≡ Some f →
+      text_behind m info flags earlier h ≡ function_layout (form_at h f)
+  function_text_is h f lt stands =
+      text_at h f stands
+      ∙ ap (λ o. option_map_or (stage_text m) o [] ++ function_layout (form_at h f)) (no_entry_point m h lt)
+
+  abbrev point_at : (index : ℕ) → ir_entry_point.EntryPoint → EntryPoint
+  point_at index p = record {
+    stage = stage_attributes (module_names m) p p.stage;
+    function = form_at (length m.functions + index) p.function;
+  }
+
+  point_text_is : (j : ℕ) (p : ir_entry_point.EntryPoint) →
+      slice_get m.entry_points.items j ≡ Some p →
+      text_behind m info flags earlier (length m.functions + j) ≡ entry_point_layout (point_at j p)
+  point_text_is j p at =
+      let form = form_at (length m.functions + j) p.function in
+      text_at (length m.functions + j) p.function (entry_point_among m j p at)
+      ∙ (ap (λ o. option_map_or (stage_text m) o [] ++ function_layout form)
+      (entry_point_there m info accepted j ∙ at)
+      ∙ sym (point_layout m p form))
+
+  -- the function is one of the grammar
+  abbrev IsWellFormed : FunctionType → Type 0
+  IsWellFormed ty =
+      (f : ir_function.Function) → slice_get (all_functions m) (function_number m ty) ≡ Some f →
+      IsFunction (form_at (function_number m ty) f)
+
+  function_reading : (h : ℕ) → IsWellFormed (item.Function h) → (f : ir_function.Function) →
+      h < length m.functions → slice_get (all_functions m) h ≡ Some f →
+      HasOneReading ReadsFunction (text_behind m info flags earlier h) (form_at h f)
+  function_reading h is f lt stands =
+      subst (λ t. HasOneReading ReadsFunction t (form_at h f)) (sym (function_text_is h f lt stands))
+      (function_has_one_reading (form_at h f) (is f stands))
+
+  point_reading : (j : ℕ) → IsWellFormed (item.EntryPoint j) →
+      HeadHasForm m (length m.functions + j) → (p : ir_entry_point.EntryPoint) →
+      slice_get m.entry_points.items j ≡ Some p →
+      HasOneReading ReadsEntryPoint (text_behind m info flags earlier (length m.functions + j))
+      (point_at j p)
+  point_reading j is head p at =
+      let stage =
+      stage_written m info accepted j p at (head.stage p (entry_point_there m info accepted j ∙ at)) in
+      subst (λ t. HasOneReading ReadsEntryPoint t (point_at j p)) (sym (point_text_is j p at))
+      (entry_point_has_one_reading (point_at j p) (record {
+        attributes = stage.0;
+        stage = stage.1;
+        function = is p.function (entry_point_among m j p at);
+      }))
+
+  -- one reading, as what it is
+  reads_one : (ty : FunctionType) → IsFunctionOf ty m → HeadHasForm m (function_number m ty) →
+      IsWellFormed ty → (content now : List ℕ) →
+      now ≡ content ++ text_behind m info flags earlier (function_number m ty) →
+      AppendsOne ty content now
+  reads_one (item.Function h) lt head is content now appended =
+      let f = element m.functions h lt in
+      record {
+        text = text_behind m info flags earlier h;
+        appended = appended;
+        function = form_at h f.0;
+        reading = function_reading h is f.0 lt (function_among m h f.0 f.1);
+      }
+  reads_one (item.EntryPoint j) lt head is content now appended =
+      let p = element m.entry_points.items j (point_within m j lt) in
+      record {
+        text = text_behind m info flags earlier (length m.functions + j);
+        appended = appended;
+        entry_point = point_at j p.0;
+        reading = point_reading j is head p.0 p.1;
+      }
+
+  -- and it is that of the program
+  stands_in : (ty : FunctionType) → IsFunctionOf ty m → HeadHasForm m (function_number m ty) →
+      IsWellFormed ty → (content now : List ℕ) →
+      now ≡ content ++ text_behind m info flags earlier (function_number m ty) →
+      StandsIn ty content now
+      (program_behind (annotates_types flags) m info earlier (function_number m ty))
+  stands_in (item.Function h) lt head is content now appended text behind function reads =
+      let f = element m.functions h lt in
+      let stands = function_among m h f.0 f.1 in
+      let same = same_behind content text (text_behind m info flags earlier h) (sym behind ∙ appended) in
+      let only =
+      (function_reading h is f.0 lt stands).only function
+      (subst (λ t. ReadsFunction (tokens t) function) same reads) in
+      own_function (names_behind m earlier h) (annotates_types flags) m info accepted h lt f.0 stands
+      ∙ ap (λ own. Some (function_form (annotates_types flags) (module_names m) own m info h f.0 (known_of info h)))
+      (apart_there m h (named_behind m earlier h))
+      ∙ ap Some (sym only)
+  stands_in (item.EntryPoint j) lt head is content now appended text behind point reads =
+      let p = element m.entry_points.items j (point_within m j lt) in
+      let number = length m.functions + j in
+      let same = same_behind content text (text_behind m info flags earlier number) (sym behind ∙ appended) in
+      let only =
+      (point_reading j is head p.0 p.1).only point
+      (subst (λ t. ReadsEntryPoint (tokens t) point) same reads) in
+      own_point (names_behind m earlier number) (annotates_types flags) m info accepted j p.0 p.1
+      ∙ ap (λ own. Some (record {
+        stage = stage_attributes (module_names m) p.0 p.0.stage;
+        function = function_form (annotates_types flags) (module_names m) own m info number
+            p.0.function (known_of info number);
+      })) (apart_there m number (named_behind m earlier number))
+      ∙ ap Some (sym only)
+
 -- ---- one function
 module _ (m : Module) (info : ModuleInfo) (flags : WriterFlags) (earlier : List (List ℕ))
     (ty : FunctionType) where
@@ -145,6 +276,7 @@ module _ (m : Module) (info : ModuleInfo) (flags : WriterFlags) (earlier : List 
       refusals = subst (IsFunctionRefusal explicit m info earlier g before before) (sym reported) refusal;
       text_ok = tt;
       reading = tt;
+      meaning = tt;
       failures_ok = tt;
       text_err = ([], whole, refl, sym (append-nil content));
       untouched = λ tells. (refl, refl);
@@ -187,23 +319,13 @@ module _ (m : Module) (info : ModuleInfo) (flags : WriterFlags) (earlier : List 
     within : g < length (all_functions m)
     within = number_within m ty there
 
-    abbrev f : ir_function.Function
-    f = (element (all_functions m) g within).0
-
-    stands : slice_get (all_functions m) g ≡ Some f
-    stands = (element (all_functions m) g within).1
-
     known : (es : List ExpressionInfo) × (slice_get (all_infos info) g ≡ Some es)
     known =
         let counted = all_counted m info accepted in
         element (all_infos info) g (omega (arith, within, counted))
 
-    abbrev form : Function
-    form = function_form explicit (module_names m) (named_behind m earlier g) m info g f
-        (known_of info g)
-
-    is_function : IsFunction form
-    is_function =
+    well_formed : IsWellFormed m info flags earlier accepted ty
+    well_formed f stands =
         let here = plan f known.0 stands known.1 in
         let same : known_of info g ≡ known.0 = ap (λ o. unwrap_or o []) known.1 in
         subst
@@ -212,47 +334,6 @@ module _ (m : Module) (info : ModuleInfo) (flags : WriterFlags) (earlier : List 
         (sym same)
         (one_is explicit m info accepted (named_behind m earlier g) g f stands known.0
         known.1 (identifiers f stands) here.formed (leb-true (length f.expressions) (2 ^ 64) here.counted))
-
-    -- its text, behind that of its stage
-    whole_is : whole ≡ stage_before m g ++ function_layout form
-    whole_is =
-        ap
-        (λ o. option_map_or
-        (λ f. text_of m info flags (named_behind m earlier g) g f (known_of info g)) o [])
-        stands
-
-    -- one reading, as what it is
-    reads_one : (content now : List ℕ) → now ≡ content ++ whole → AppendsOne ty content now
-    reads_one content now appended = by ty there refl
-      where
-        by : (t : FunctionType) → IsFunctionOf t m → ty ≡ t → AppendsOne t content now
-        by (item.Function h) lt is = record {
-          text = whole;
-          appended = appended;
-          function = form;
-          reading = subst (λ t. HasOneReading ReadsFunction t form)
-              (sym (whole_is ∙ ap (λ t. t ++ function_layout form)
-              (ap (λ o. option_map_or (stage_text m) o [])
-              (ap (entry_point_numbered m) (ap (function_number m) is) ∙ no_entry_point m h lt))))
-              (function_has_one_reading form is_function);
-        }
-        by (item.EntryPoint j) lt is =
-            let p = element m.entry_points.items j (point_within m j lt) in
-            let point : EntryPoint = record { stage = stage_attributes (module_names m) p.0 p.0.stage; function = form } in
-            let found = ap (entry_point_numbered m) (ap (function_number m) is)
-            ∙ (entry_point_there m info accepted j ∙ p.1) in
-            let stage = stage_written m info accepted j p.0 p.1 (head.stage p.0 found) in
-            record {
-              text = whole;
-              appended = appended;
-              entry_point = point;
-              reading = subst (λ t. HasOneReading ReadsEntryPoint t point)
-                  (sym (whole_is
-                  ∙ ap (λ o. option_map_or (stage_text m) o [] ++ function_layout form) found
-                  ∙ sym (point_layout m p.0 form)))
-                  (entry_point_has_one_reading point
-                  (record { attributes = stage.0; stage = stage.1; function = is_function }));
-            }
 
     -- the names of the plan are those behind the earlier labels
     text_same : text_under m info flags (names_of planned) g ≡ whole
@@ -280,7 +361,12 @@ module _ (m : Module) (info : ModuleInfo) (flags : WriterFlags) (earlier : List 
                 (none_full m g earlier new new_words new_named);
           };
           text_ok = appended;
-          reading = reads_one content now appended;
+          reading = reads_one m info flags earlier accepted ty there head well_formed content now appended;
+          meaning = λ later is. record {
+            stands = stands_in m info flags earlier accepted ty there head well_formed content now appended;
+            meaning = λ declarations have scopes.
+                means_the_module explicit m info accepted g earlier later is declarations have scopes;
+          };
           failures_ok = kept;
           text_err = tt;
           untouched = tt;
@@ -291,6 +377,7 @@ module _ (m : Module) (info : ModuleInfo) (flags : WriterFlags) (earlier : List 
       refusals = for_want before after e reason;
       text_ok = tt;
       reading = tt;
+      meaning = tt;
       failures_ok = tt;
       text_err = subst (λ t. IsBehind content t now) text_same text_err;
       untouched = λ tells. absurd (want_tells_nothing before after e reason tells);

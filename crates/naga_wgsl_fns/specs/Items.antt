@@ -3,16 +3,25 @@
 -- Throughout, m is the module, earlier are labels that were named before, ty says which of its functions
 -- is meant and number is that of it, and explicit says whether `let`s tell types.
 use Rattle.std.specs.Prelude.{◌≡◌, ⊤, ℕ, ◌++◌, Bool, List, ◌⊎◌, Ok, Err, IfErr, OnErr, OnOk}
-use Rattle.std.specs.Prelude.{Result}
+use Rattle.std.specs.Prelude.{Result, Some, slice_get}
 use Rattle.naga_ir.specs.declared.module.Module.{Module}
 use Rattle.naga_info.specs.declared.info.ModuleInfo.{ModuleInfo}
 use Rattle.naga_names.specs.Naming.{HasNamed, Names}
-use Rattle.module_meaning.specs.DeclarationForms.{HeadHasForm}
+use Rattle.module_meaning.specs.Bindings.{BindsUnder}
+use Rattle.module_meaning.specs.DeclarationForms.{DeclarationsHaveForms, HeadHasForm}
 use Rattle.module_meaning.specs.ExpressionLabels.{name_of_label}
 use Rattle.module_meaning.specs.FunctionNumbers.{function_number}
-use Rattle.module_meaning.specs.Names.{item_labels, labels_named_in, wgsl_names}
+use Rattle.module_meaning.specs.Faithful.{HasInterfaceOf, RunsAs}
+use Rattle.module_meaning.specs.Names.{LabelNames, item_labels, labels_named_in, named_apart}
+use Rattle.module_meaning.specs.Names.{wgsl_names}
+use Rattle.module_meaning.specs.Premises.{ScopesHold}
+use Rattle.module_meaning.specs.Resolution.{ResolvesUnder}
+use Rattle.module_meaning.specs.Written.{AllWrittenHaveForms}
+use Rattle.naga_form.specs.Declarations.{program_under}
+use Rattle.wgsl_text.specs.Declarations.{Program}
 use Rattle.wgsl_text.specs.Functions.{EntryPoint, Function}
 use Rattle.wgsl_text.specs.Reading.{HasOneReading, ReadsEntryPoint, ReadsFunction}
+use Rattle.wgsl_text.specs.Text.{tokens}
 use Rattle.naga_back.specs.declared.context.FunctionType.{FunctionType}
 use Rattle.naga_back.specs.declared.context.FunctionType.TheVariants as item
 use Rattle.naga_back.specs.declared.flags.WriterFlags.{WriterFlags}
@@ -84,6 +93,45 @@ abbrev pub AppendsOne : FunctionType → (content now : List ℕ) → Type 0
 AppendsOne (item.Function handle) content now = AppendsOneFunction content now
 AppendsOne (item.EntryPoint index) content now = AppendsOneEntryPoint content now
 
+-- ---- what the function means
+-- the names of labels where those of this function are named behind the earlier ones
+abbrev pub names_behind : Module → (earlier : List (List ℕ)) → (number : ℕ) → LabelNames
+names_behind m earlier number = named_apart m number (named_behind m earlier number)
+
+-- the program of the module where labels have these names
+abbrev pub program_behind :
+    (explicit : Bool) → Module → ModuleInfo → (earlier : List (List ℕ)) → (number : ℕ) → Program
+program_behind explicit m info earlier number =
+    program_under (names_behind m earlier number) m info explicit
+
+-- What was appended is read as just this function, or this entry point, of the program.
+abbrev pub StandsIn : FunctionType → (content now : List ℕ) → Program → Type 0
+StandsIn (item.Function handle) content now program =
+    (text : List ℕ) → now ≡ content ++ text → (function : Function) →
+    ReadsFunction (tokens text) function → slice_get program.functions handle ≡ Some function
+StandsIn (item.EntryPoint index) content now program =
+    (text : List ℕ) → now ≡ content ++ text → (point : EntryPoint) →
+    ReadsEntryPoint (tokens text) point → slice_get program.entry_points index ≡ Some point
+
+-- The program has the module's interface and its `let`s, each of its identifiers and words stands for
+-- what the module means, and it does what the module does.
+pub record MeansTheModule (named : LabelNames) (explicit : Bool) (m : Module) (info : ModuleInfo)
+    (program : Program) : Type 0 where
+  pub interface : HasInterfaceOf m info program
+  pub bindings : BindsUnder named m info explicit program
+  pub resolution : ResolvesUnder named m info program
+  pub runs : RunsAs m info program
+
+-- What was appended stands in a program that does what the module does, given that the rest of the
+-- module has forms too, and that the rules of scope hold there.
+pub record IsMeant (explicit : Bool) (m : Module) (info : ModuleInfo) (earlier : List (List ℕ))
+    (ty : FunctionType) (content now : List ℕ) : Type 0 where
+  pub stands : StandsIn ty content now
+      (program_behind explicit m info earlier (function_number m ty))
+  pub meaning : DeclarationsHaveForms m → AllWrittenHaveForms explicit m info → ScopesHold m info →
+      MeansTheModule (names_behind m earlier (function_number m ty)) explicit m info
+      (program_behind explicit m info earlier (function_number m ty))
+
 -- A call was asked to write the function behind the text that its sink held; it answered, and the
 -- sink holds another text now. The sink had failed so often before, and has failed so often now.
 -- The namer is that behind the call.
@@ -97,6 +145,10 @@ pub record FunctionWriting (m : Module) (info : ModuleInfo) (flags : WriterFlags
   -- Otherwise it appends the function's text, which has exactly one reading.
   pub text_ok : OnOk answer (now ≡ content ++ text_behind m info flags earlier (function_number m ty))
   pub reading : OnOk answer (AppendsOne ty content now)
+  -- Where the earlier labels begin with those of the module's items, the text is meant so: its `let`s,
+  -- what its identifiers and words stand for, and its runs are the module's.
+  pub meaning : OnOk answer ((later : List (List ℕ)) → earlier ≡ item_labels m ++ later →
+      IsMeant (annotates_types flags) m info earlier ty content now)
   pub failures_ok : OnOk answer (after ≡ before)
   -- A call that gives up leaves a beginning of it, and nothing where it tells of the module.
   pub text_err : OnErr answer

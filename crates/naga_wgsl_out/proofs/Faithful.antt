@@ -26,6 +26,7 @@ use Rattle.module_meaning.specs.Resolution.{ResolvesAs}
 use Rattle.naga_form.proofs.Runs.{runs_as}
 use Rattle.naga_words.specs.Sink.{IsBehind}
 use Rattle.naga_words.proofs.Writing.{behind_then}
+use Rattle.naga_wgsl_fns.proofs.SingleFunctions.{same_behind}
 use Rattle.naga_wgsl_fns.proofs.Appending.{stopped_first, stopped_then, wrote_then}
 use Rattle.naga_wgsl_fns.specs.Appends.{StoppedWithin, Wrote}
 use Rattle.naga_wgsl_fns.specs.Errors.{IsWant}
@@ -54,11 +55,6 @@ pub refused_behind_nothing : (r : Result Unit Error) (content piece : List ℕ) 
     OnErr r (IsBehind content piece content)
 refused_behind_nothing (Ok x) content piece = tt
 refused_behind_nothing (Err e) content piece = behind_nothing content piece
-
--- what stands behind the same text is the same
-same_behind : (content a b : List ℕ) → content ++ a ≡ content ++ b → a ≡ b
-same_behind [] a b e = e
-same_behind (x ∷ content) a b e = same_behind content a b (ap (drop 1) e)
 
 -- a refusal
 pub refused : (explicit : Bool) (m : Module) (info : ModuleInfo) (error : Error)

@@ -1,0 +1,133 @@
+-- The program in which a function stands that is written by itself.
+--
+-- Throughout, fs are functions from the number g on, ps are entry points, ess says what is known of
+-- each, i is the place of one among them, and named tells the names of the labels that front ends gave.
+use Rattle.std.proofs.Common.{◌≡◌, ℕ, zero, suc, ◌+◌, ◌∙◌, Bool, List, [], ◌∷◌, ◌++◌, Some, ap, arith}
+use Rattle.std.proofs.Common.{◌<◌, length, slice_get, subst, sym, unwrap_or}
+use Rattle.std.specs.Prelude.{IsTrue}
+use Rattle.std.proofs.lemmas.Option.{same_Some, slice_get_within}
+use Rattle.naga_info.specs.declared.info.ExpressionInfo.{ExpressionInfo}
+use Rattle.naga_info.specs.declared.info.ModuleInfo.{ModuleInfo}
+use Rattle.naga_ir.specs.declared.module.EntryPoint as ir_entry_point
+use Rattle.naga_ir.specs.declared.module.Function as ir_function
+use Rattle.naga_ir.specs.declared.module.Module.{Module}
+use Rattle.naga_names.specs.Keys.{NameMap}
+use Rattle.module_meaning.specs.Accepted.{is_accepted}
+use Rattle.module_meaning.specs.DeclarationForms.{DeclarationsHaveForms}
+use Rattle.module_meaning.specs.Names.{AreLabelNames, LabelNames, item_labels, module_names}
+use Rattle.module_meaning.specs.Premises.{ScopesHold}
+use Rattle.module_meaning.specs.Written.{AllWrittenHaveForms}
+use Rattle.naga_form.specs.Declarations.{entry_point_under, entry_points_under, program_under}
+use Rattle.naga_form.specs.Functions.{function_form, functions_under}
+use Rattle.module_meaning.specs.FunctionNumbers.{all_functions}
+use Rattle.module_meaning.proofs.FunctionNumbers.{function_among, info_among}
+use Rattle.naga_form.proofs.AcceptedFunctions.{entry_info_among, entry_points_counted}
+use Rattle.naga_form.proofs.AcceptedFunctions.{functions_counted}
+use Rattle.naga_form.proofs.Bindings.{binds_as_under}
+use Rattle.naga_names.proofs.Refusal.{element}
+use Rattle.naga_wgsl_fns.specs.Functions.{known_of}
+use Rattle.naga_form.proofs.ExpressionNames.{names_behind_are}
+use Rattle.naga_form.proofs.Interface.{has_interface_under}
+use Rattle.naga_form.proofs.Resolution.{resolves_under}
+use Rattle.naga_form.proofs.Runs.{runs_as_under}
+use Rattle.naga_wgsl_fns.specs.Items.{MeansTheModule, names_behind, program_behind}
+
+module _ (named : LabelNames) (explicit : Bool) (names : NameMap) (m : Module) (info : ModuleInfo) where
+  -- one of the functions
+  function_at : (g : ℕ) (fs : List ir_function.Function) (ess : List (List ExpressionInfo)) (i : ℕ)
+      (f : ir_function.Function) (es : List ExpressionInfo) → slice_get fs i ≡ Some f →
+      slice_get ess i ≡ Some es →
+      slice_get (functions_under named explicit names m info g fs ess) i ≡
+      Some (function_form explicit names (named (g + i)) m info (g + i) f es)
+  function_at g [] ess i f es at known = absurd cc
+  function_at g (x ∷ fs) [] i f es at known = absurd cc
+  function_at g (x ∷ fs) (ks ∷ ess) zero f es at known =
+      let here : g ≡ g + 0 = omega arith in
+      λ j. Some (function_form explicit names (named (here j)) m info (here j) (same_Some x f at j) (same_Some ks es known j))
+  function_at g (x ∷ fs) (ks ∷ ess) (suc i) f es at known =
+      let next : (g + 1) + i ≡ g + suc i = omega arith in
+      function_at (g + 1) fs ess i f es at known
+      ∙ ap (λ h. Some (function_form explicit names (named h) m info h f es)) next
+
+  -- one of the entry points
+  point_at : (g : ℕ) (ps : List ir_entry_point.EntryPoint) (ess : List (List ExpressionInfo)) (i : ℕ)
+      (p : ir_entry_point.EntryPoint) (es : List ExpressionInfo) → slice_get ps i ≡ Some p →
+      slice_get ess i ≡ Some es →
+      slice_get (entry_points_under named explicit names m info g ps ess) i ≡
+      Some (entry_point_under named explicit names m info (g + i) p es)
+  point_at g [] ess i p es at known = absurd cc
+  point_at g (x ∷ ps) [] i p es at known = absurd cc
+  point_at g (x ∷ ps) (ks ∷ ess) zero p es at known =
+      let here : g ≡ g + 0 = omega arith in
+      λ j. Some (entry_point_under named explicit names m info (here j) (same_Some x p at j) (same_Some ks es known j))
+  point_at g (x ∷ ps) (ks ∷ ess) (suc i) p es at known =
+      let next : (g + 1) + i ≡ g + suc i = omega arith in
+      point_at (g + 1) ps ess i p es at known
+      ∙ ap (λ h. Some (entry_point_under named explicit names m info h p es)) next
+
+module _ (named : LabelNames) (explicit : Bool) (m : Module) (info : ModuleInfo) where
+  pub function_in_program : (h : ℕ) (f : ir_function.Function) (es : List ExpressionInfo) →
+      slice_get m.functions h ≡ Some f → slice_get info.functions.items h ≡ Some es →
+      slice_get (program_under named m info explicit).functions h ≡
+      Some (function_form explicit (module_names m) (named h) m info h f es)
+  function_in_program h f es at known =
+      let first : 0 + h ≡ h = omega arith in
+      function_at named explicit (module_names m) m info 0 m.functions info.functions.items h f es at known
+      ∙ ap (λ k. Some (function_form explicit (module_names m) (named k) m info k f es)) first
+
+  pub point_in_program : (j : ℕ) (p : ir_entry_point.EntryPoint) (es : List ExpressionInfo) →
+      slice_get m.entry_points.items j ≡ Some p → slice_get info.entry_points.items j ≡ Some es →
+      slice_get (program_under named m info explicit).entry_points j ≡
+      Some (entry_point_under named explicit (module_names m) m info (length m.functions + j) p es)
+  point_in_program j p es at known =
+      point_at named explicit (module_names m) m info (length m.functions) m.entry_points.items
+      info.entry_points.items j p es at known
+
+-- the same by numbers
+module _ (named : LabelNames) (explicit : Bool) (m : Module) (info : ModuleInfo)
+    (accepted : IsTrue (is_accepted m info)) where
+  pub own_function : (h : ℕ) → h < length m.functions → (f : ir_function.Function) →
+      slice_get (all_functions m) h ≡ Some f →
+      slice_get (program_under named m info explicit).functions h ≡
+      Some (function_form explicit (module_names m) (named h) m info h f (known_of info h))
+  own_function h lt f at =
+      let counted = functions_counted m info accepted in
+      let own = element m.functions h lt in
+      let known = element info.functions.items h (omega (arith, lt, counted)) in
+      let same : own.0 ≡ f = same_Some own.0 f (sym (function_among m h own.0 own.1) ∙ at) in
+      let alike : known.0 ≡ known_of info h =
+      sym (ap (λ o. unwrap_or o []) (info_among info h known.0 known.1)) in
+      function_in_program named explicit m info h own.0 known.0 own.1 known.1
+      ∙ (λ i. Some (function_form explicit (module_names m) (named h) m info h (same i) (alike i)))
+
+  pub own_point : (j : ℕ) (p : ir_entry_point.EntryPoint) → slice_get m.entry_points.items j ≡ Some p →
+      slice_get (program_under named m info explicit).entry_points j ≡
+      Some (entry_point_under named explicit (module_names m) m info (length m.functions + j) p
+      (known_of info (length m.functions + j)))
+  own_point j p at =
+      let counted = entry_points_counted m info accepted in
+      let within = slice_get_within m.entry_points.items j p at in
+      let known = element info.entry_points.items j (omega (arith, within, counted)) in
+      let alike : known.0 ≡ known_of info (length m.functions + j) =
+      sym (ap (λ o. unwrap_or o []) (entry_info_among m info accepted j known.0 known.1)) in
+      point_in_program named explicit m info j p known.0 at known.1
+      ∙ ap (λ es. Some (entry_point_under named explicit (module_names m) m info (length m.functions + j) p es))
+      alike
+
+-- behind the labels of the items and any others
+pub means_the_module : (explicit : Bool) (m : Module) (info : ModuleInfo) →
+    IsTrue (is_accepted m info) → (number : ℕ) (earlier later : List (List ℕ)) →
+    earlier ≡ item_labels m ++ later → DeclarationsHaveForms m →
+    AllWrittenHaveForms explicit m info → ScopesHold m info →
+    MeansTheModule (names_behind m earlier number) explicit m info
+    (program_behind explicit m info earlier number)
+means_the_module explicit m info accepted number earlier later is declarations have scopes =
+    let named = names_behind m earlier number in
+    let are : AreLabelNames m named =
+    subst (λ e. AreLabelNames m (names_behind m e number)) (sym is) (names_behind_are m number later) in
+    record {
+      interface = has_interface_under m info explicit named are accepted declarations have scopes;
+      bindings = binds_as_under m info explicit named accepted declarations have;
+      resolution = resolves_under m info explicit named are accepted declarations have scopes;
+      runs = runs_as_under m info explicit named are accepted declarations have scopes;
+    }
