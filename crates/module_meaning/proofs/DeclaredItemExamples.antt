@@ -18,7 +18,7 @@ use Rattle.naga_names.specs.Keys.{NameMap}
 use Rattle.naga_names.specs.declared.key.NameKey.TheVariants as key
 use Rattle.shader_runs.specs.Resolution.{ConstantTarget, GlobalTarget}
 use Rattle.wgsl_text.specs.Attributes as attributes
-use Rattle.wgsl_text.specs.Attributes.{Plain, WorkgroupSize}
+use Rattle.wgsl_text.specs.Attributes.{WorkgroupSize}
 use Rattle.wgsl_text.specs.Declarations.{Program, no_declarations}
 use Rattle.wgsl_text.specs.Functions.{NoResult}
 use Rattle.wgsl_text.specs.Types.{TypeSpecifier, of_two}

@@ -5,7 +5,7 @@
 -- an override, v that of a variable, k what stands there, j the index of an entry point p, and i an
 -- index.
 use Rattle.std.proofs.Common.{◌≡◌, ℕ, suc, ◌+◌, Bool, true, false, List, [], ◌∷◌, length, map}
-use Rattle.std.proofs.Common.{refl, sym, ap, subst, ◌∙◌, arith, zero-add, codes, Option, Some, None}
+use Rattle.std.proofs.Common.{refl, sym, subst, ◌∙◌, arith, zero-add, codes, Option, Some, None}
 use Rattle.std.specs.Prelude.{IsTrue, slice_get, nat_lt, if◌then◌else◌}
 use Rattle.std.specs.List.{cons_option, enumerate_from, filter_map, list_all}
 use Rattle.std.specs.Option.{is_some, option_map, option_map_or}

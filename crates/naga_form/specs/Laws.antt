@@ -104,7 +104,7 @@ abbrev pub HasTheInterface : Type 0
 HasTheInterface = OfAcceptedInScope (λ named. HasInterfaceOf)
 
 -- Each initialiser of the module has a value, under all values of overrides of their types and every
--- typed meaning of operators: so the interface tells one.
+-- typed meaning of operators, so that the interface tells one.
 abbrev pub InitialisersHaveValues : Type 0
 InitialisersHaveValues =
     (m : Module) (info : ModuleInfo) → IsTrue (is_accepted m info) → DeclarationsHaveForms m →

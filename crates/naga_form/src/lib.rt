@@ -33,8 +33,8 @@ pub fn has_the_interface()
     ensures { HasTheInterface }
 {}
 
-/// Each initialiser of an accepted module has a value, where what it declares has forms. So where
-/// the interfaces tell the values of initialisers, there are values on both sides.
+/// Each initialiser of an accepted module has a value, where all that the module declares has
+/// forms. So the interface tells a value of each, on both sides.
 pub fn initialisers_have_values()
     ensures { InitialisersHaveValues }
 {}
