@@ -61,10 +61,10 @@ abbrev pub words_of_members : NameMap → (h : ℕ) → Type_ → List (List ℕ
 words_of_members names h t =
     map (λ p. name_in names (key.StructMember h p.0)) (enumerate_from 0 (members_of t.inner))
 
--- WGSL has some structs of itself, such as the result of `modf`, and no text declares them. It gives
--- their members the words that those of the module have, and a text names them by these. So a
--- member's word stands for that member, where among the words of its struct the first that is the
--- same stands at its place.
+-- No text declares the structs that WGSL has of itself, such as the result of `modf`, nor those of
+-- external textures. A text names the members of the first by the words that the module's members
+-- have. Such a word stands for its member: among the words of the struct's members, the first that is
+-- the same stands at the member's place.
 abbrev pub OwnMembersResolve : Module → Type 0
 OwnMembersResolve m =
     (h : ℕ) (t : Type_) → slice_get m.types h ≡ Some t →
@@ -86,7 +86,7 @@ pub record ResolvesUnder (named : LabelNames) (m : Module) (info : ModuleInfo) (
   -- what types name, which no name that a function gives hides
   pub types : TypesResolve m program
   pub not_hidden : IsTrue (types_are_not_hidden program)
-  -- the members of the structs that the text declares, and of those that WGSL has of itself
+  -- the members of the structs that the text declares, and of those that no text declares
   pub members : MembersResolve m program
   pub own_members : OwnMembersResolve m
 
