@@ -1,7 +1,8 @@
 -- Examples of what the names of declarations stand for, computed: in types, in the attributes of
 -- entry points and of members, in a text and as a module means it.
-use Rattle.std.proofs.Common.{◌≡◌, true, false, List, [], ◌∷◌, Option, Some, None, refl, map, Vec, Global, String}
-use Rattle.std.specs.Prelude.{codes}
+use Rattle.std.proofs.Common.{◌≡◌, ◌==◌, ℕ, true, false, List, [], ◌∷◌, Option, Some, None, refl, map, Vec}
+use Rattle.std.proofs.Common.{Global, String}
+use Rattle.std.specs.Prelude.{codes, if◌then◌else◌}
 use Rattle.indexmap.specs.IndexMap.{with_entries}
 use Rattle.naga_ir.specs.declared.module.EntryPoint as ir_entry_point
 use Rattle.naga_ir.specs.declared.module.Module as ir_module
@@ -13,18 +14,22 @@ use Rattle.naga_ir.specs.declared.types.ScalarKind.TheVariants as kind
 use Rattle.naga_ir.specs.declared.types.StructMember as ir_member
 use Rattle.naga_ir.specs.declared.types.TypeInner.TheVariants as inner
 use Rattle.naga_info.specs.declared.info.TypeResolution.TheVariants.{Value}
+use Rattle.naga_names.specs.Keys.{NameMap}
+use Rattle.naga_names.specs.declared.key.NameKey.TheVariants as key
 use Rattle.shader_runs.specs.Resolution.{ConstantTarget, GlobalTarget}
 use Rattle.wgsl_text.specs.Attributes as attributes
-use Rattle.wgsl_text.specs.Attributes.{Plain, WorkgroupSize}
+use Rattle.wgsl_text.specs.Attributes.{WorkgroupSize}
 use Rattle.wgsl_text.specs.Declarations.{Program, no_declarations}
 use Rattle.wgsl_text.specs.Functions.{NoResult}
 use Rattle.wgsl_text.specs.Types.{TypeSpecifier, of_two}
 use Rattle.wgsl_text.specs.WorkedTrees as worked
 use Rattle.text_meaning.specs.Resolution.{Item, StructItem, ValueItem, item_named, member_named}
-use Rattle.text_meaning.specs.Resolution.{program_initialiser_targets, stage_targets, type_items}
+use Rattle.text_meaning.specs.Resolution.{place_among, program_initialiser_targets, stage_targets}
+use Rattle.text_meaning.specs.Resolution.{type_items}
 use Rattle.text_meaning.specs.Resolution.{types_are_not_hidden}
 use Prim.Native.String as native
 use Rattle.module_meaning.specs.DeclaredItems.{handle_items, resolution_items, stage_variables}
+use Rattle.module_meaning.specs.Resolution.{words_of_members}
 use Rattle.module_meaning.proofs.InterfaceExamples.{two}
 
 -- ---- a text
@@ -148,6 +153,20 @@ module _ (other : ir_module.Module) (label : String Global) (members : Vec ir_me
 
     scalar_meant : handle_items m 0 ≡ []
     scalar_meant = refl
+
+    -- the members of a struct are named in their order, and a word is found at its member's place
+    abbrev of_result : NameMap
+    of_result (key.StructMember h i) = Some (if i == 0 then codes "fract" else codes "whole")
+    of_result other = None
+
+    abbrev own_words : List (List ℕ)
+    own_words = words_of_members of_result 1 (record { name = None; inner = struct })
+
+    own_members : own_words ≡ codes "fract" ∷ codes "whole" ∷ []
+    own_members = refl
+
+    own_member_found : place_among (codes "whole") own_words ≡ Some 1
+    own_member_found = refl
 
     -- a stage names what it has in a text alone
     abbrev point : ir_entry_point.EntryPoint

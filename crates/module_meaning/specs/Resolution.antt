@@ -1,12 +1,14 @@
 -- Each name of a program stands for what it was written for. What the identifiers and words of
 -- functions stand for is told of the abstract text. It forgets the types of declarations, and which
 -- struct has a member: these are told by themselves.
-use Rattle.std.specs.Prelude.{◌≡◌, ℕ, map, Some, IsTrue, slice_get, length}
+use Rattle.std.specs.Prelude.{◌≡◌, ℕ, List, map, Some, IsTrue, slice_get, length}
+use Rattle.std.specs.List.{enumerate_from}
 use Rattle.naga_ir.specs.declared.module.Module.{Module}
 use Rattle.naga_ir.specs.declared.types.StructMember.{StructMember}
 use Rattle.naga_ir.specs.declared.types.Type_.{Type_}
 use Rattle.naga_info.specs.declared.info.ModuleInfo.{ModuleInfo}
 use Rattle.naga_info.specs.declared.info.TypeResolution.{TypeResolution}
+use Rattle.naga_names.specs.Keys.{NameMap}
 use Rattle.naga_names.specs.Reset.{members_of}
 use Rattle.naga_names.specs.declared.key.NameKey.TheVariants as key
 use Rattle.shader_runs.specs.Resolution.{text_targets, module_targets}
@@ -20,10 +22,11 @@ use Rattle.module_meaning.specs.ModuleShapes.{module_shape}
 use Rattle.module_meaning.specs.Namings.{namings_under}
 use Rattle.module_meaning.specs.Ranges.{resolution_fits}
 use Rattle.module_meaning.specs.Types.{spelled_resolution, type_names}
-use Rattle.module_meaning.specs.Undeclared.{is_declared, is_spellable}
+use Rattle.module_meaning.specs.Undeclared.{is_declared, is_spellable, is_undeclared}
 use Rattle.text_meaning.specs.Abstraction.{program_read}
-use Rattle.text_meaning.specs.Resolution.{item_named, member_named, program_initialiser_targets}
-use Rattle.text_meaning.specs.Resolution.{stage_targets, type_items, types_are_not_hidden}
+use Rattle.text_meaning.specs.Resolution.{item_named, member_named, place_among}
+use Rattle.text_meaning.specs.Resolution.{program_initialiser_targets, stage_targets, type_items}
+use Rattle.text_meaning.specs.Resolution.{types_are_not_hidden}
 
 -- Each identifier and each word of each function and of each named constant, in their order, stands
 -- for what the module means there, where labels have these names: a constant, variable, function,
@@ -53,6 +56,24 @@ MembersResolve m program =
     (name_in (module_names m) (key.StructMember h i))
     ≡ Some i
 
+-- the words that names give to the members of the struct at a handle, in their order
+abbrev pub words_of_members : NameMap → (h : ℕ) → Type_ → List (List ℕ)
+words_of_members names h t =
+    map (λ p. name_in names (key.StructMember h p.0)) (enumerate_from 0 (members_of t.inner))
+
+-- No text declares the structs that WGSL has of itself, such as the result of `modf`, nor those of
+-- external textures. A text names the members of the first by the words that the module's members
+-- have. Such a word stands for its member: among the words of the struct's members, the first that is
+-- the same stands at the member's place.
+abbrev pub OwnMembersResolve : Module → Type 0
+OwnMembersResolve m =
+    (h : ℕ) (t : Type_) → slice_get m.types h ≡ Some t →
+    IsTrue (is_undeclared m.special_types h) →
+    (i : ℕ) (member : StructMember) → slice_get (members_of t.inner) i ≡ Some member →
+    place_among (name_in (module_names m) (key.StructMember h i))
+    (words_of_members (module_names m) h t)
+    ≡ Some i
+
 -- Each name does, where labels have these names.
 pub record ResolvesUnder (named : LabelNames) (m : Module) (info : ModuleInfo) (program : Program) :
     Type 0 where
@@ -65,7 +86,9 @@ pub record ResolvesUnder (named : LabelNames) (m : Module) (info : ModuleInfo) (
   -- what types name, which no name that a function gives hides
   pub types : TypesResolve m program
   pub not_hidden : IsTrue (types_are_not_hidden program)
+  -- the members of the structs that the text declares, and of those that no text declares
   pub members : MembersResolve m program
+  pub own_members : OwnMembersResolve m
 
 -- Each name does where labels have the names that they have in a text of the whole module.
 abbrev pub ResolvesAs : Module → ModuleInfo → Program → Type 0

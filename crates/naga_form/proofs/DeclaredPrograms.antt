@@ -4,13 +4,13 @@
 -- Throughout, m is a module, h the handle of a type t, s a member, c the handle of a constant, o that of
 -- an override, v that of a variable, k what stands there, j the index of an entry point p, and i an
 -- index.
-use Rattle.std.proofs.Common.{◌≡◌, ℕ, suc, ◌+◌, ◌-◌, ◌≤◌, Bool, true, false, List, [], ◌∷◌, length, map}
-use Rattle.std.proofs.Common.{refl, sym, ap, subst, ◌∙◌, arith, zero-add, codes, Option, Some, None}
+use Rattle.std.proofs.Common.{◌≡◌, ℕ, suc, ◌+◌, Bool, true, false, List, [], ◌∷◌, length, map}
+use Rattle.std.proofs.Common.{refl, sym, subst, ◌∙◌, arith, zero-add, codes, Option, Some, None}
 use Rattle.std.specs.Prelude.{IsTrue, slice_get, nat_lt, if◌then◌else◌}
 use Rattle.std.specs.List.{cons_option, enumerate_from, filter_map, list_all}
 use Rattle.std.specs.Option.{is_some, option_map, option_map_or}
 use Rattle.std.specs.Str.{bytes_eq}
-use Rattle.std.proofs.lemmas.Bool.{and_from, and_parts, le-ltb, ltb-true}
+use Rattle.std.proofs.lemmas.Bool.{and_from, and_parts, ltb-true}
 use Rattle.std.proofs.lemmas.Option.{same_Some}
 use Rattle.std.proofs.lemmas.Slice.Eq.{bytes_eq-Decides}
 use Rattle.naga_ir.specs.declared.expression.Expression.TheVariants as expression
@@ -33,7 +33,7 @@ use Rattle.naga_words.specs.Contexts.{Names as TypeNames}
 use Rattle.module_meaning.specs.Accepted.{is_accepted}
 use Rattle.module_meaning.specs.AlikeTypes.{is_spelled}
 use Rattle.module_meaning.specs.DeclarationForms.{stage_has_form, DeclarationsHaveForms, IsDeclaredType}
-use Rattle.module_meaning.specs.DeclarationForms.{IsInitialiser, entry_point_numbered}
+use Rattle.module_meaning.specs.DeclarationForms.{IsInitialiser}
 use Rattle.module_meaning.specs.Names.{module_names, name_in, wgsl_names}
 use Rattle.module_meaning.specs.Numbers.{binding_fits_32_bits, fits_32_bits, member_fits_32_bits}
 use Rattle.module_meaning.specs.Numbers.{type_fits_32_bits, workgroup_fits_32_bits}
@@ -69,6 +69,7 @@ use Rattle.naga_form.proofs.Operators.{HasFormAt}
 use Rattle.naga_form.proofs.SameValues.{TypesAreFit, constant_identifier, global_identifier}
 use Rattle.naga_form.proofs.SameValues.{override_identifier, tree_is}
 use Rattle.naga_form.proofs.TypeTrees.{storage_is}
+use Rattle.naga_form.proofs.WrittenFunctions.{entry_point_at}
 use Rattle.naga_form.proofs.WrittenOut.{declared_in_range, global_names_in_range}
 use Rattle.naga_form.proofs.WrittenTypes.{is_type_at, tree_there}
 use Rattle.naga_form.specs.Attributes.{stage_attributes}
@@ -295,17 +296,6 @@ module _ (m : Module) (info : ModuleInfo) (accepted : IsTrue (is_accepted m info
         each_form IsGlobal (variable_form names spelled m) m.global_variables variable_is
 
   -- ---- entry points
-  -- the one with this index has this number
-  pub entry_point_there : (j : ℕ) →
-      entry_point_numbered m (length m.functions + j) ≡ slice_get m.entry_points.items j
-  entry_point_there j =
-      let behind : length m.functions ≤ length m.functions + j = omega arith in
-      let rest : (length m.functions + j) - length m.functions ≡ j = omega arith in
-      ap (λ b. if b then None
-      else slice_get m.entry_points.items ((length m.functions + j) - length m.functions))
-      (le-ltb (length m.functions + j) (length m.functions) behind)
-      ∙ ap (slice_get m.entry_points.items) rest
-
   -- its stage, where that has a form
   pub stage_written : (j : ℕ) (p : ir_entry_point.EntryPoint) →
       slice_get m.entry_points.items j ≡ Some p → stage_has_form p p.stage ≡ true →
@@ -331,4 +321,4 @@ module _ (m : Module) (info : ModuleInfo) (accepted : IsTrue (is_accepted m info
       (is_stage (stage_attributes names p p.stage) ≡ true)
   stage_there declarations j p at =
       stage_written j p at
-      ((declarations.heads (length m.functions + j)).stage p (entry_point_there j ∙ at))
+      ((declarations.heads (length m.functions + j)).stage p (entry_point_at m j ∙ at))

@@ -12,13 +12,14 @@ use Rattle.std.proofs.lemmas.Option.{slice_get-map}
 use Rattle.naga_info.proofs.Options.{map_some}
 use Rattle.naga_info.specs.declared.info.ModuleInfo.{ModuleInfo}
 use Rattle.naga_ir.specs.declared.module.Module.{Module}
+use Rattle.naga_ir.specs.declared.types.StructMember.{StructMember}
 use Rattle.naga_ir.specs.declared.types.Type_.{Type_}
 use Rattle.naga_names.specs.Reset.{members_of}
 use Rattle.naga_names.specs.declared.key.NameKey.TheVariants as key
 use Rattle.naga_words.specs.Spelling.{is_struct}
 use Rattle.module_meaning.specs.DeclaredItems.{struct_number}
 use Rattle.module_meaning.specs.Names.{LabelNames, module_names, name_in, override_name}
-use Rattle.module_meaning.specs.Resolution.{MembersResolve}
+use Rattle.module_meaning.specs.Resolution.{MembersResolve, OwnMembersResolve, words_of_members}
 use Rattle.module_meaning.specs.Types.{type_names}
 use Rattle.module_meaning.specs.Undeclared.{is_declared, is_undeclared}
 use Rattle.text_meaning.specs.Resolution.{place_among, struct_named}
@@ -144,3 +145,14 @@ module _ (m : Module) (info : ModuleInfo) (explicit : Bool) (labels : LabelNames
       let x = made_from make (members_of t.inner) j l.0 l.1 in
       (items_are_distinguished m).members h t at j i x.0 member x.1 there
       (ap (λ l. l.name) x.2 ∙ l.2)))
+
+-- ---- members of structs that no text declares
+pub own_members_found : (m : Module) → OwnMembersResolve m
+own_members_found m h t at own i member there =
+    let name : ℕ × StructMember → List ℕ = λ p. name_in (module_names m) (key.StructMember h p.0) in
+    let word = name (i, member) in
+    place_found word (words_of_members (module_names m) h t) i
+    (made_at name (members_of t.inner) i member there)
+    (λ j other.
+    let x = made_from name (members_of t.inner) j word other in
+    (items_are_distinguished m).members h t at j i x.0 member x.1 there x.2)

@@ -436,7 +436,7 @@ module _ (m : Module) where
 
 -- ---- initialisers
 -- what is written is one of the module's own expressions
-written_within : (m : Module) (h : ℕ) → global_is_written m h ≡ true →
+pub written_within : (m : Module) (h : ℕ) → global_is_written m h ≡ true →
     h < length m.global_expressions
 written_within m h is = by (slice_get m.global_expressions h) refl is
   where

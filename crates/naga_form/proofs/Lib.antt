@@ -35,6 +35,7 @@ pub mod ExpressionNames
 pub mod GivenNames
 pub mod HiddenNames
 pub mod Images
+pub mod InitialiserValues
 pub mod Interface
 pub mod ItemKeys
 pub mod ItemTargets

@@ -154,7 +154,8 @@ module _ (m : Module) (info : ModuleInfo) (accepted : IsTrue (is_accepted m info
         EachWord (OperatesOutside p names) e
     global_words = global_words_outside m info (types_are_fit m info accepted) p counts
 
-    constants : ConstantsFit p names
+    -- what is asked of its named constants
+    pub constants : ConstantsFit p names
     constants =
         constants_fit m info accepted (types_are_distinguished m) (are_written_out m declarations)
         names

@@ -40,6 +40,7 @@ use Rattle.module_meaning.specs.Premises.{ScopesHold}
 use Rattle.module_meaning.specs.Resolution.{BodiesResolve, ResolvesAs, ResolvesUnder}
 use Rattle.naga_form.proofs.DeclaredItems.{initialisers_resolve, members_resolve, stages_resolve}
 use Rattle.naga_form.proofs.DeclaredItems.{not_hidden, types_resolve}
+use Rattle.naga_form.proofs.DeclaredStructs.{own_members_found}
 use Rattle.naga_form.proofs.Fits.{mapped_length}
 use Rattle.naga_form.proofs.WellFormed.{any_shape, applied_any}
 use Rattle.naga_form.proofs.ExpressionNames.{expression_names_are}
@@ -129,6 +130,7 @@ resolves_under m info explicit named are accepted declarations have scope = reco
   types = types_resolve m info explicit named are accepted declarations have scope;
   not_hidden = not_hidden m info explicit named are accepted declarations have scope;
   members = members_resolve m info explicit named are accepted declarations have scope;
+  own_members = own_members_found m;
 }
 
 pub resolves : (m : Module) (info : ModuleInfo) (explicit : Bool) → IsTrue (is_accepted m info) →

@@ -26,14 +26,18 @@ use Rattle.naga_form.specs.Declarations.{program_under}
 use Rattle.wgsl_text.specs.Reading.{HasOneReading, ReadsType, type_layout}
 use Rattle.wgsl_text.specs.Requests.{is_request}
 use Rattle.shader_runs.specs.Form.{form_function, form_module}
+use Rattle.shader_runs.specs.Premises.{IsTyped, SettingsFit}
+use Rattle.shader_runs.specs.Value.{Value}
+use Rattle.shader_runs.specs.World.{Meaning, Settings}
 use Rattle.text_meaning.specs.Abstraction.{function_read, program_read}
 use Rattle.module_meaning.specs.Accepted.{is_accepted}
 use Rattle.module_meaning.specs.AlikeTypes.{are_alike}
 use Rattle.module_meaning.specs.Bindings.{BindsUnder}
-use Rattle.module_meaning.specs.DeclarationForms.{DeclarationsHaveForms}
+use Rattle.module_meaning.specs.DeclarationForms.{DeclarationsHaveForms, IsInitialiser}
 use Rattle.module_meaning.specs.Faithful.{HasInterfaceOf, RunsAs}
 use Rattle.module_meaning.specs.Written.{AllWrittenHaveForms, WrittenHaveForms}
 use Rattle.module_meaning.specs.InfoSizes.{type_is_fit, resolution_is_fit}
+use Rattle.module_meaning.specs.Interface.{global_expression_value}
 use Rattle.module_meaning.specs.Literals.{literal_value}
 use Rattle.module_meaning.specs.Meanings.{OperatorsAreConsistent, HasTypedMeaning, HasTypedWorld}
 use Rattle.module_meaning.specs.Meanings.{IsNeverStuck, NoRunIsStuck}
@@ -98,6 +102,17 @@ IsAProgram =
 -- it declares what the module declares
 abbrev pub HasTheInterface : Type 0
 HasTheInterface = OfAcceptedInScope (λ named. HasInterfaceOf)
+
+-- Each initialiser of the module has a value, under all values of overrides of their types and every
+-- typed meaning of operators, so that the interface tells one.
+abbrev pub InitialisersHaveValues : Type 0
+InitialisersHaveValues =
+    (m : Module) (info : ModuleInfo) → IsTrue (is_accepted m info) → DeclarationsHaveForms m →
+    let shape = module_shape m info in
+    (settings : Settings) → SettingsFit shape settings →
+    (meaning : Meaning) → IsTyped shape meaning →
+    (handle : ℕ) → IsInitialiser m handle →
+    (v : Value) × (global_expression_value m info settings meaning handle ≡ Some v)
 
 -- each of its identifiers and words stands for what it was written for
 abbrev pub ResolvesAsMeant : Type 0

@@ -5,7 +5,7 @@
 pub mod types;
 
 ghost use Rattle.naga_form.specs.Laws.{NamesAreLabelNames, NamesBehindAreLabelNames};
-ghost use Rattle.naga_form.specs.Laws.{IsAProgram, HasTheInterface, ResolvesAsMeant};
+ghost use Rattle.naga_form.specs.Laws.{IsAProgram, HasTheInterface, InitialisersHaveValues, ResolvesAsMeant};
 ghost use Rattle.naga_form.specs.Laws.{BindsAsCounted, FunctionsAreRead, IsReadAsItsShapes};
 ghost use Rattle.naga_form.specs.Laws.{RunsAsTheModule, ScopesAreChecked, IsConsistent};
 ghost use Rattle.naga_form.specs.Laws.{HasAMeaning, HasAWorld, NamesTell};
@@ -31,6 +31,12 @@ pub fn is_a_program()
 /// It declares what the module declares, where the rules of scope hold in the module.
 pub fn has_the_interface()
     ensures { HasTheInterface }
+{}
+
+/// Each initialiser of an accepted module has a value, where all that the module declares has
+/// forms. So the interface tells a value of each, on both sides.
+pub fn initialisers_have_values()
+    ensures { InitialisersHaveValues }
 {}
 
 /// Each of its identifiers and words stands for what it was written for, where the rules of scope
