@@ -77,6 +77,8 @@ class BodyMaker:
         self.f.body = body
 
     def some_result(self):
+        if self.maker.wanted is not None:
+            return self.maker.wanted
         types = [e.type for e in self.f.expressions if not points(e.type) or self.chance(0.05)]
         types = [ty for ty in types if not self.module.names_undeclared(ty) or self.chance(0.02)]
         if not types or self.chance(0.35):

@@ -1,0 +1,2 @@
+def check_declaration_rows():
+    pass
