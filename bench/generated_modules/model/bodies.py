@@ -58,7 +58,9 @@ class BodyMaker:
 
     def zero(self, ty):
         self.module.handle_of(ty)
-        return self.f.add(Expression("zero", ty, [ty]))
+        e = Expression("zero", ty, [ty])
+        e.by_handle = ty[0] == "struct"
+        return self.f.add(e)
 
     def new_local(self, ty):
         self.module.handle_of(ty)

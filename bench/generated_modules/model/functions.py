@@ -135,8 +135,9 @@ class FunctionMaker:
             self.put("literal", ("scalar", LITERALS[number]), [number, value])
 
     def make_locals(self):
+        structs = [self.module.types[h] for h in self.module.declared_structs()]
         for _ in range(self.r.randint(0, 3)):
-            ty = self.r.choice(self.types)
+            ty = self.r.choice(structs if structs and self.chance(0.25) else self.types)
             init = self.some_of(self.of_type(ty)) if self.chance(0.6) else None
             self.f.locals.append((self.label("a"), ty, init))
         for local, (_, ty, _) in enumerate(self.f.locals):
@@ -196,7 +197,11 @@ class FunctionMaker:
             (0.03, self.make_query), (0.03, self.make_length), (0.01, self.make_sum_of_products),
             (0.02, self.make_cooperative_load), (0.003, self.make_found)]
         if self.structs():
-            makers.append((0.3, self.make_split))
+            makers.append((0.25, self.make_split))
+        if self.module.variables:
+            makers.append((0.12, self.make_use_of_variable))
+        if self.module.declared_structs():
+            makers.append((0.12, self.make_declared_member))
         weights = [share for share, _ in makers]
         self.r.choices(makers, weights)[0][1]()
 
@@ -373,6 +378,31 @@ class FunctionMaker:
         if bases:
             self.make_part_of(self.some_of(bases[-3:]))
 
+    # ---- what is declared
+    def make_use_of_variable(self):
+        """A part of a variable of the module, or of a part of it, and what is loaded there."""
+        variables = self.handles(lambda e: e.kind == "global")
+        h = self.some_of(variables) if self.chance(0.6) else None
+        if h is None:
+            h = self.put_named("global", self.r.randrange(len(self.module.variables)))
+        for _ in range(3):
+            if has_parts(self.f.type_of(h)) and self.chance(0.7):
+                h = self.make_part_of(h) or h
+        if points(self.f.type_of(h)) and self.chance(0.6):
+            self.put("load", held(pointed_at(self.f.type_of(h))), [], [h])
+
+    def make_declared_member(self):
+        """A member of a struct that a text declares, or of one that is pointed at, most often what it holds."""
+        structs = [self.module.types[h] for h in self.module.declared_structs() if self.module.types[h][1]]
+        bases = self.handles(lambda e: whole_of(e.type) in structs)
+        h = self.some_of([h for h in bases if points(self.f.type_of(h)) or self.chance(0.4)])
+        if h is None and structs:
+            h = self.put_typed("zero", self.r.choice(structs))
+        if h is not None:
+            h = self.make_part_of(h)
+        if h is not None and points(self.f.type_of(h)) and self.chance(0.6):
+            self.put("load", held(pointed_at(self.f.type_of(h))), [], [h])
+
     # ---- parts
     def make_part(self):
         """A part at a computed or a known index; now and then of what has none, or where none is."""
@@ -387,17 +417,16 @@ class FunctionMaker:
     def make_part_of(self, base):
         of = self.f.type_of(base)
         if has_parts(of) and count_of_parts(of) == 0 and not self.chance(0.01):
-            return
+            return None
         indexes = self.handles(lambda e: e.type in INTEGERS or self.chance(0.0005))
         # no member has a computed index
         is_computed = indexes and self.chance(0.4 if whole_of(of)[0] != "struct" else 0.001)
         if not has_parts(of):
-            self.put("access index", of, [self.r.randrange(3)], [base])
-        elif is_computed:
-            self.put("access", part_of(of) or of, [], [base, self.r.choice(indexes)])
-        else:
-            index = self.some_index(count_of_parts(of))
-            self.put("access index", part_of(of, index) or of, [index], [base])
+            return self.put("access index", of, [self.r.randrange(3)], [base])
+        if is_computed:
+            return self.put("access", part_of(of) or of, [], [base, self.r.choice(indexes)])
+        index = self.some_index(count_of_parts(of))
+        return self.put("access index", part_of(of, index) or of, [index], [base])
 
     def some_index(self, count):
         if count is None:
