@@ -1,10 +1,10 @@
 """Generates whole modules, asks a program for their texts, and compares these with a model.
 
-The model was written from the rules, apart from the writer: which modules are accepted, the names of labels, the count
-of uses, what a `let` binds, what is in scope, the text, and for which constructs a module is refused. It reads each text
-and compares what it declares with what the module does. It runs each module and each text, from each function and entry
-point, over terms in which each operator stands for any function, in worlds that tell of each condition whether it holds,
-and compares the events, the endings and the results.
+The model was written from the rules, apart from the writer: which modules are accepted, the names of labels, the
+count of uses, what a `let` binds, what is in scope, the text, and for which constructs a module is refused. It reads
+each text and compares what it declares with what the module does. It runs each module and each text, from each function
+and entry point, over terms in which each operator stands for any function, in worlds that tell of each condition
+whether it holds, and compares the events, the endings and the results.
 
 Where several constructs stand for which a module is refused, any one of them may be told: of those in what a module
 declares, in front of any text, else of those in a function, behind the functions in front of it.

@@ -13,9 +13,9 @@ LABELS = [
 # those that what is declared gets where it has none, and what is put together of these
 DECLARED_LABELS = [
     "VertexOutput", "FragmentOutput", "ComputeOutput", "VertexOutput_1", "const_type", "const_i32", "override_type",
-    "override_", "const_", "global", "global_1", "member", "global_plane0", "global__plane0", "global_params", "t__params",
-    "main", "main", "S", "coherent", "volatile", "workgroup", "storage", "position", "vertex", "var", "const", "override",
-    "struct", "enable", "f16"]
+    "override_", "const_", "global", "global_1", "member", "global_plane0", "global__plane0", "global_params",
+    "t__params", "main", "main", "S", "coherent", "volatile", "workgroup", "storage", "position", "vertex", "var",
+    "const", "override", "struct", "enable", "f16"]
 # labels of members: the good words, what becomes one of these, and others
 MEMBER_LABELS = [
     "fract", "fract", "whole", "exp", "old_value", "exchanged", "fract_", "_fract", "__fract", "1exp", "exp2", "exp:",

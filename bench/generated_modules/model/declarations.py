@@ -35,7 +35,10 @@ class OwnMaker(FunctionMaker):
     def tree(self, ty, depth=0):
         """An expression of this type that can be written, if the type can."""
         known = self.clean(lambda e: e.type == ty)
-        if known and self.chance(0.35):
+        named = [h for h in known if self.f.expressions[h].kind in ("constant", "override")]
+        if named and self.chance(0.3):
+            return self.r.choice(named)
+        if known and self.chance(0.3):
             return self.r.choice(known)
         if depth > 3 or self.chance(0.2):
             return self.zero(ty)
@@ -169,7 +172,8 @@ class EntryPointMaker(FunctionMaker):
         f, wanted = self.f, {"Mesh": ["mesh"], "Task": ["task"]}.get(self.stage, ["ray"])
         wanted = [] if self.stage in ("Vertex", "Fragment", "Compute", "RayGeneration") else wanted
         for part in ("mesh", "task", "ray"):
-            if part in wanted and self.chance(0.995) or self.chance(0.4 if (self.stage, part) == ("Mesh", "task") else 0.04):
+            share = 0.995 if part in wanted else 0.4 if (self.stage, part) == ("Mesh", "task") else 0.04
+            if self.chance(share):
                 setattr(f, part, self.some_variable(part))
 
     def some_variable(self, part):

@@ -503,8 +503,9 @@ class FunctionMaker:
 
     def make_found(self):
         """What a ray query found."""
-        kind = self.r.choice(["intersection", "vertex positions"])
-        self.put(kind, self.r.choice(self.types), [self.chance(0.5)], [self.some_operand()])
+        kind = self.r.choice(["intersection", "vertex positions", "proceed result"])
+        what, operands = ([], []) if kind == "proceed result" else ([self.chance(0.5)], [self.some_operand()])
+        self.put(kind, self.r.choice(self.types), what, operands)
 
     # ---- statements
     def make_body(self):

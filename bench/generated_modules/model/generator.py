@@ -27,7 +27,8 @@ def generate(r):
         for _ in range(r.choice([1, 1, 2, 3])):
             module.entry_points.append(EntryPointMaker(r, module, some_of(r, types)).make())
     if r.random() < 0.2:
-        FaultMaker(r, module, own).make()
+        for _ in range(r.choice([1, 1, 1, 2])):
+            FaultMaker(r, module, own).make()
     return module
 
 

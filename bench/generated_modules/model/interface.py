@@ -55,7 +55,8 @@ def space(word, access):
 def function(f, names, number):
     own = names.bodies[number]
     arguments = [
-        (meant(f.bindings.get(at)), name, told(names, ty)) for at, (name, (_, ty)) in enumerate(zip(own.arguments, f.arguments))]
+        (meant(f.bindings.get(at)), name, told(names, ty))
+        for at, (name, (_, ty)) in enumerate(zip(own.arguments, f.arguments))]
     result = None if f.result is None else (meant(f.bindings.get("result")), told(names, f.result))
     return own.function, arguments, result, [told(names, ty) for _, ty, _ in f.locals]
 

@@ -117,8 +117,8 @@ class Function:
 
 class EntryPoint(Function):
     """A function of a stage, with the size of its workgroups and the numbers of the variables that it has beside: a
-    mesh's output, and the payloads of a task and of a ray, each if there is one. Its name is never absent, and the label
-    that it has as a function counts for nothing."""
+    mesh's output, and the payloads of a task and of a ray, each if there is one. Its name is never absent, and the
+    label that it has as a function counts for nothing."""
 
     def __init__(self, name, stage, module=None, size=(1, 1, 1), mesh=None, task=None, ray=None):
         super().__init__(name, module)

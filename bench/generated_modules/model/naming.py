@@ -2,6 +2,7 @@
 
 import re
 import unicodedata
+from functools import lru_cache
 
 from words import KEYWORDS, RESERVED
 
@@ -15,6 +16,7 @@ def is_plain(character):
     return character.isascii() and (character.isalnum() or character == "_")
 
 
+@lru_cache(10000)
 def base_of(label):
     """What a label becomes before it is told apart from others."""
     while label and unicodedata.category(label[0]) in ("Nd", "Nl", "No"):

@@ -15,6 +15,8 @@ The spelling of a struct is `#s` and its number, and that of an override `#o` an
 place of these in a text.
 """
 
+from functools import lru_cache
+
 from words import FORMATS
 
 SCALAR_KINDS = ["sint", "uint", "float", "bool", "abstract", "abstract float"]
@@ -38,6 +40,7 @@ SPACES = [
     ("task_payload", 0), ("ray_payload", 0), ("incoming_ray_payload", 0)]
 
 
+@lru_cache(10000)
 def spelled(ty):
     """A type's text, or none where it has no form."""
     kind = ty[0]
@@ -223,5 +226,6 @@ def override_of(ty):
     return ty[2][1] if ty[0] in ("array", "binding array") and is_override(ty[2]) else None
 
 
+@lru_cache(10000)
 def has_pointer_to_handle(ty):
     return (ty[0] == "pointer" and ty[2] == HANDLE) or any(has_pointer_to_handle(base) for base in bases_of(ty))

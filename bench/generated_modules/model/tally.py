@@ -140,10 +140,10 @@ class Tally:
         self.add("written, with declared structs without a label", any(module.labels[h] is None for h in structs))
         self.add("written, with types under two labels", len(set(module.types)) < len(module.types) or any(
             (*ty[:2], ty[2] + 1) in module.types for ty in module.types if ty[0] == "struct"))
-        self.add("written, with members that are bound", any(ty in map(module.types.__getitem__, structs)
-                                                             for ty, _ in module.bindings))
-        for word, items in (("constants", module.constants), ("overrides", module.overrides),
-                            ("variables", module.variables)):
+        bound = {ty for ty, _ in module.bindings}
+        self.add("written, with members that are bound", any(module.types[h] in bound for h in structs))
+        every = {"constants": module.constants, "overrides": module.overrides, "variables": module.variables}
+        for word, items in every.items():
             self.add(f"written, with {word}", items != [])
             self.add(f"written, with {word} without a label", any(item.label is None for item in items))
         self.add("written, with overrides with a number", any(o.number is not None for o in module.overrides))
@@ -162,7 +162,8 @@ class Tally:
         for p in module.entry_points:
             self.add(f"EntryPoint of stage: {p.stage}")
             self.add("EntryPoint with a mesh and a payload", p.stage == "Mesh" and p.task is not None)
-            self.add("EntryPoint with variables that no text tells", p.variables() != [] and p.stage in ("Vertex", "Fragment", "Compute", "RayGeneration"))
+            tells = p.stage not in ("Vertex", "Fragment", "Compute", "RayGeneration")
+            self.add("EntryPoint with variables that no text tells", p.variables() != [] and not tells)
             self.add("EntryPoint that calls", any(s.kind == "call" for s in statements_in(p.body)))
             self.add("EntryPoint with locals", p.locals != [])
             if p.result is not None:

@@ -10,8 +10,8 @@ from writer import own_text
 
 def answers_of(module, explicit):
     """Whether the module is written, and its text; or all that may be told of it, since which of the constructs that
-    stand in it is told is open. What the module declares is looked at before there is any text, and each function before
-    its text, so that those in front of the first one that is refused stand in front of the refusal."""
+    stand in it is told is open. What the module declares is looked at before there is any text, and each function
+    before its text, so that those in front of the first one that is refused stand in front of the refusal."""
     standing = standing_in_declarations(module)
     if standing:
         return False, set(map(refusal, standing))
