@@ -12,8 +12,10 @@ declares, in front of any text, else of those in a function, behind the function
 The program answers a line of JSON for each line of JSON, as `yorwethul --lines` does.
 
 Usage: model PROGRAM MODULES SEED
+       model PROGRAM many
 
-Where PROGRAM is `-`, no program is asked: the texts are the model's own, which are read and run all the same.
+Where PROGRAM is `-`, no program is asked: the texts are the model's own, which are read and run all the same. `many`
+asks for the texts of as many entry points as a name's key can tell, and of one more.
 """
 
 import json
@@ -22,7 +24,7 @@ import subprocess
 import sys
 
 from acceptance import is_accepted, is_read
-from declaration_rows import check_declaration_rows
+from declaration_rows import MOST, check_declaration_rows, many
 from generator import generate
 from refusals import refusal
 from rows import check_rows
@@ -39,7 +41,10 @@ def main():
     check_rows()
     check_statement_rows()
     check_declaration_rows()
-    program, modules, seed = sys.argv[1], int(sys.argv[2]), int(sys.argv[3])
+    program = sys.argv[1]
+    if sys.argv[2:] == ["many"]:
+        sys.exit(check_many(program))
+    modules, seed = int(sys.argv[2]), int(sys.argv[3])
     r = random.Random(seed)
     tally = Tally()
     for start in range(0, modules, BATCH):
@@ -49,6 +54,14 @@ def main():
             compare(module, start + number, texts, tally)
     print(tally)
     sys.exit(1 if tally.differ else 0)
+
+
+def check_many(program):
+    """How many of two modules differ."""
+    modules, texts = zip(many(MOST), many(MOST + 1))
+    differ = sum(given != text for given, text in zip(texts_of(program, modules)[::2], texts))
+    print(f"{differ:8} differ")
+    return differ
 
 
 def texts_of(program, samples):

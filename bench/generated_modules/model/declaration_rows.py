@@ -176,8 +176,8 @@ def stages():
     """Two variables, and each stage that wants one of them or may have it."""
     parts = [
         ("Vertex", {}), ("Task", {"task": 0}), ("Mesh", {"mesh": 1}), ("Mesh", {"mesh": 1, "task": 0}),
-        ("Fragment", {}), ("Compute", {"size": (64, 0, 2**32 - 1)}), ("RayGeneration", {}), ("Miss", {"ray": 0}), ("AnyHit", {"ray": 1}),
-        ("ClosestHit", {"ray": 0, "mesh": 1, "task": 1})]
+        ("Fragment", {}), ("Compute", {"size": (64, 0, 2**32 - 1)}), ("RayGeneration", {}), ("Miss", {"ray": 0}),
+        ("AnyHit", {"ray": 1}), ("ClosestHit", {"ray": 0, "mesh": 1, "task": 1})]
     points = [point(stage, label="p", **more) for stage, more in parts]
     variables = [variable("p", INT, PRIVATE), variable("m", INT, PRIVATE)]
     return whole(variables=variables, functions=points)
@@ -611,6 +611,19 @@ def check_others():
         meant = module_interface(module), [module_runs(module, f) for f in module.bodies()]
         assert says(text) == meant, text
         assert (says(text.replace(old, new)) == meant) == is_same, (text, old, new)
+
+
+# ---- as many entry points as a key can tell, and one more
+MOST = 2**16
+
+
+def many(count):
+    """A module of so many entry points, and what is told of it."""
+    module = whole(functions=[point("Compute", label=f"p{number}x") for number in range(count)])
+    if count > MOST:
+        return module, refusal("name key out of range")
+    return module, "\n".join(
+        f"@compute @workgroup_size(1, 1, 1) \nfn p{number}x() {{\n}}\n" for number in range(count))
 
 
 def check_declaration_rows():
