@@ -115,6 +115,9 @@ class Tally:
         variables = [module.variables[e.what[0]] for _, e in written if e.kind == "global"]
         self.add("written, with uses of variables at places", any(v.space != HANDLE for v in variables))
         self.add("written, with uses of held variables", any(v.space == HANDLE for v in variables))
+        calls = [(f, s) for f in module.bodies() for s in statements_in(f.body) if s.kind == "call"]
+        passed = [f.expressions[h].kind for f, s in calls for h in s.operands]
+        self.add("written, with variables as operands of calls", "global" in passed)
         for kind in ("load", "store"):
             self.add(f"written, with {kind}s of variables", any(acts_on_variable(f, kind) for f in module.bodies()))
 
