@@ -497,8 +497,9 @@ class FunctionMaker:
         if pointers:
             what = [*some_tile(self.r), self.r.choice("ABC"), self.chance(0.5)]
             p = self.some_of(pointers)
-            ty = ("cooperative", *what[:2], scalar_of(pointed_at(self.f.type_of(p))), what[2]) \
-                if points(self.f.type_of(p)) else some_type(self.r)
+            of = self.f.type_of(p)
+            scalar = scalar_of(pointed_at(of)) if points(of) else None
+            ty = ("cooperative", *what[:2], scalar or F32, what[2])
             self.put("cooperative load", ty if self.chance(0.9) else some_type(self.r), what, [p, self.some_operand()])
 
     def make_found(self):

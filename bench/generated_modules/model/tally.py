@@ -21,11 +21,13 @@ class Tally:
     """How many modules there were of each kind, and how many differ."""
 
     def __init__(self):
-        self.counts, self.differ = {}, 0
+        # of differences of one kind, the smallest module is kept
+        self.counts, self.differ, self.smallest = {}, 0, {}
 
     def __str__(self):
         counts = "\n".join(f"{self.counts[what]:8} {what}" for what in sorted(self.counts))
-        return f"{counts}\n{self.differ:8} differ"
+        told = "".join(text for text, _ in self.smallest.values())
+        return f"{told}{counts}\n{self.differ:8} differ"
 
     def add(self, what, count=1):
         self.counts[what] = self.counts.get(what, 0) + count
@@ -38,9 +40,12 @@ class Tally:
 
     def tell(self, number, module, what, given, *wanted):
         self.differ += 1
-        print(f"module {number} {what}\n{line_of(module, False)}---- given\n{given}")
-        for text in wanted:
-            print(f"---- wanted\n{text}")
+        line = line_of(module, False)
+        told = "".join(f"---- wanted\n{text}" for text in wanted)
+        kind = what, *sorted(map(kind_of, [given, *wanted]))
+        self.add(f"differ: {', '.join(kind)}")
+        if kind not in self.smallest or len(line) < self.smallest[kind][1]:
+            self.smallest[kind] = f"module {number} {what}\n{line}---- given\n{given}{told}", len(line)
 
     def run(self, number, module, text):
         """Whether the text offers what the module does, and each function's text does what the function does."""
@@ -184,6 +189,12 @@ class Tally:
         self.add(f"Binding: location, {interpolation}, {sampling}")
         self.add("Binding: location, with a source of blending", blend_src is not None)
         self.add("Binding: location, for a primitive", per_primitive)
+
+
+def kind_of(text):
+    """What a text is for a count of differences: what is told at its end, or that it is one."""
+    last = text.rstrip("\n").split("\n")[-1]
+    return last if last.startswith(("refused: ", "not ")) else "a text"
 
 
 def acts_on_variable(f, kind):
