@@ -71,7 +71,7 @@ class OwnMaker(FunctionMaker):
         return self.put("literal", ("scalar", scalar), [LITERALS.index(scalar), value])
 
     def declared(self):
-        """The name of a constant or an override, if there is any."""
+        """The name of a constant or an override, where there is one."""
         named = [("constant", number) for number, c in enumerate(self.module.constants)]
         named += [("override", number) for number in range(len(self.module.overrides))]
         return self.put_named(*self.r.choice(named)) if named else None
@@ -132,8 +132,8 @@ class OwnMaker(FunctionMaker):
         if ty[0] in OPAQUE and self.chance(0.9) or self.chance(0.08):
             return HANDLE
         space = r.choice([space for space in SPACES if space not in (HANDLE, FUNCTION) or self.chance(0.05)])
-        return ("storage", r.choice([LOAD, LOAD | STORE, LOAD | STORE | ATOMIC, STORE, 0])) \
-            if space[0] == "storage" else space
+        accesses = [LOAD, LOAD | STORE, LOAD | STORE | ATOMIC, STORE, 0]
+        return ("storage", r.choice(accesses)) if space[0] == "storage" else space
 
     def make_loose(self):
         """One of the module's own expressions of any kind, and often a constant without a name over it."""

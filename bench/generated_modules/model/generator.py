@@ -63,7 +63,8 @@ def make_twins(r, module, types):
         ty = r.choice(types)
         if ty[0] == "struct":
             twin = None if module.names_undeclared(ty) else StructMaker(r, module).make_twin(ty)
-            types += [] if twin is None else [twin]
+            if twin is not None:
+                types.append(twin)
         else:
             labels = {label for each, label in zip(module.types, module.labels) if each == ty}
             label = some_label(r)

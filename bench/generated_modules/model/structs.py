@@ -53,17 +53,17 @@ class StructMaker:
     def put(self, members):
         """A struct that most often no text declares, now and then without a label."""
         label = "__modf_result_f32" if self.r.random() < 0.8 else some_label(self.r)
-        return self.put_under(label if self.r.random() < 0.9 else None, members, 0.05)
+        return self.put_under(label if self.r.random() < 0.9 else None, members, 0.05, 0.8)
 
-    def put_under(self, label, members, bound):
-        """A struct that no other one of the module is the same as, of which a share of the members is bound."""
+    def put_under(self, label, members, bound, worded=1):
+        """A struct that no other one of the module is the same as, of which a share of the members is bound, and a share
+        of these to what has a word."""
         count = sum(ty[0] == "struct" for ty in self.module.types)
         ty = ("struct", tuple(members), 16 * count)
         self.module.handle_of(ty, label)
         for number in range(len(members)):
             if self.r.random() < bound:
-                # one that no text declares may be bound to anything
-                self.module.bindings[ty, number] = some_binding(self.r, bound != 0.05 or self.r.random() < 0.8)
+                self.module.bindings[ty, number] = some_binding(self.r, self.r.random() < worded)
         return ty
 
     # ---- those that a text declares
@@ -82,7 +82,7 @@ class StructMaker:
         return usual if self.r.random() < 0.3 else some_member_label(self.r)
 
     def declared_member(self, types):
-        """The type of a member: of numbers, an array, a struct or what has no form as such."""
+        """The type of a member: of numbers, an array, a struct, or now and then any."""
         r = self.r
         known = [ty for ty in types if ty[0] in ("struct", "array", "atomic")]
         if known and r.random() < 0.4:
