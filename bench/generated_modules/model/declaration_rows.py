@@ -17,7 +17,7 @@ from tally import UNREADABLE
 from texts import answers_of
 
 # the type that a `let` tells, where it is told
-TOLD = r"\[: (\w+)\]"
+TOLD = r"\[: ([^\]]+)\]"
 WHOLE, COLOUR = ("scalar", U32), ("vector", 4, F32)
 EXTERNAL = ("image", 1, False, ("external",))
 PRIVATE, WORKGROUP, UNIFORM = ("private", 0), ("workgroup", 0), ("uniform", 0)
@@ -253,6 +253,29 @@ def passed_in_functions():
     return whole(functions=[f])
 
 
+def loaded(scalar=F32, by_rows=False, pointer=None):
+    """The load of a cooperative matrix, which is used once."""
+    pointer = pointer or pointer_to(("scalar", scalar), WORKGROUP)
+    matrix = ("cooperative", 8, 16, scalar, "B")
+    f = function("f", matrix, ("p", pointer), ("x", WHOLE))
+    h = f.add(of_module("cooperative load", matrix, [8, 16, "B", by_rows], [0, 1]))
+    f.body = [emit(h, h), returns(h)]
+    return f
+
+
+LOADED = (
+    "enable wgpu_cooperative_matrix;\n\nfn f(p: {0}, x: u32) -> coop_mat8x16<f32,B> {{\n"
+    "    let _e2[: coop_mat8x16<f32,B>] = {1}<coop_mat8x16<f32,B>>(p, x);\n    return _e2;\n}}\n\n")
+
+
+def found(kind, is_committed):
+    """What a ray query found, which is returned."""
+    f = function("f", WHOLE, ("q", ("ray query", False)))
+    h = f.add(of_module(kind, WHOLE, [is_committed], [0]))
+    f.body = [emit(h, h), returns(h)]
+    return f
+
+
 STORAGE = [
     (LOAD | STORE, "read_write"), (LOAD, None), (0, None), (STORE, "read_write"), (ATOMIC, "atomic"), (7, "atomic")]
 SPACES = [
@@ -307,6 +330,10 @@ TEXTS = [
     (passed_in_functions(),
      "fn f(@builtin(draw_index) x: i32) -> @location(3) @blend_src(0) i32 {\n    return x;\n}\n\n"),
     (in_spaces(), in_spaces_text()),
+    (whole(functions=[loaded()]), LOADED.format("ptr<workgroup, f32>", "coopLoad")),
+    (whole(functions=[loaded(by_rows=True)]), LOADED.format("ptr<workgroup, f32>", "coopLoadT")),
+    (whole(functions=[loaded(pointer=("value pointer", 4, F32, FUNCTION))]),
+     LOADED.format("ptr<function, vec4<f32>>", "coopLoad")),
     (whole([("binding array", EXTERNAL, 3)]), "enable wgpu_binding_array;\n\n"),
     (whole([("cooperative", 8, 16, F32, "B")]), "enable wgpu_cooperative_matrix;\n\n"),
     (whole([("acceleration", True)]), "enable wgpu_ray_tracing_pipeline;\n\n"),
@@ -440,7 +467,9 @@ REFUSED = [
     *((module, NO_TYPE) for module in typed(FAR)),
     *((whole(functions=[point(stage)]), NO_STAGE) for stage in ("Task", "Mesh", "Miss", "AnyHit", "ClosestHit")),
     (whole(functions=[point("Mesh", task=0)], variables=[variable("v", INT, PRIVATE)]), NO_STAGE),
-    (later_unnamed(), OPERATOR)]
+    (later_unnamed(), OPERATOR),
+    (whole(functions=[found("intersection", True)]), "ray query"),
+    (whole(functions=[found("vertex positions", False)]), "ray query")]
 
 
 def check_refused():
@@ -452,6 +481,13 @@ def check_refused():
         own=[named("override", INT, 0), literal(1), Expression("binary", INT, [0], [0, 1])],
         overrides=[Override("m", INT), Override("n", INT, 2)])
     assert is_accepted(module) and answers_of(module, False) == (False, {refusal(OPERATOR)})
+    told = {"enable wgpu_cooperative_matrix;\n\n" + refusal(NO_SCALAR)}
+    assert answers_of(whole(functions=[loaded(("sint", 3))]), False) == (False, told)
+    f = function("f", None)
+    h = f.add(Expression("literal", ("scalar", ("abstract float", 8)), [11, 0]))
+    f.locals = [("a", ("scalar", ("abstract float", 8)), h)]
+    told = {refusal(ABSTRACT), refusal("Unsupported scalar type: Scalar { kind: AbstractFloat, width: 8 }")}
+    assert answers_of(whole(functions=[f]), True) == (False, told), answers_of(whole(functions=[f]), True)
     # a constant without a name that nothing brings
     module = whole(own=[literal(1), Expression("unary", INT, [0], [0])], constants=[Constant(None, INT, 1)])
     assert answers_of(module, False) == (True, {""})

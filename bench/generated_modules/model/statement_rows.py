@@ -6,7 +6,7 @@ from rows import ADD, INT, TRUTH, binary, function, literal, load, local, module
 from reading_programs import Program
 from refusals import OUT_OF_SCOPE, refusal
 from runs import module_runs, text_runs
-from spelling import ATOMIC, BOOL, FUNCTION, I32, LOAD, STORE, U32, pointer_to
+from spelling import ATOMIC, FUNCTION, LOAD, STORE, U32, pointer_to
 from texts import answers_of
 from words import ATOMICS, BARRIERS, COLLECTIVES, FORMATS, GATHERS, OPERATIONS
 

@@ -56,8 +56,8 @@ class StructMaker:
         return self.put_under(label if self.r.random() < 0.9 else None, members, 0.05, 0.8)
 
     def put_under(self, label, members, bound, worded=1):
-        """A struct that no other one of the module is the same as, of which a share of the members is bound, and a share
-        of these to what has a word."""
+        """A struct that no other one of the module is the same as, of which a share of the members is bound, and a
+        share of these to what has a word."""
         count = sum(ty[0] == "struct" for ty in self.module.types)
         ty = ("struct", tuple(members), 16 * count)
         self.module.handle_of(ty, label)
