@@ -1,18 +1,21 @@
-"""Generates modules of straight lines, asks a program for their texts, and compares these with a model.
+"""Generates whole modules, asks a program for their texts, and compares these with a model.
 
-The model was written from the rules, apart from the writer: which modules are accepted, the names of labels, the count
-of uses, what a `let` binds, what is in scope, the text, and for which constructs a module is refused. It runs each
-module and reads and runs each text, over terms in which each operator stands for any function, in worlds that tell of
-each condition whether it holds, and compares the events, the endings and the results.
+The model was written from the rules, apart from the writer: which modules are accepted, the names of labels, the
+count of uses, what a `let` binds, what is in scope, the text, and for which constructs a module is refused. It reads
+each text and compares what it declares with what the module does. It runs each module and each text, from each function
+and entry point, over terms in which each operator stands for any function, in worlds that tell of each condition
+whether it holds, and compares the events, the endings and the results.
 
-Where several constructs stand for which a module is refused, any one of them may be told, behind the functions in
-front of the refused one.
+Where several constructs stand for which a module is refused, any one of them may be told: of those in what a module
+declares, in front of any text, else of those in a function, behind the functions in front of it.
 
 The program answers a line of JSON for each line of JSON, as `yorwethul --lines` does.
 
 Usage: model PROGRAM MODULES SEED
+       model PROGRAM many
 
-Where PROGRAM is `-`, no program is asked: the texts are the model's own, which are run all the same.
+Where PROGRAM is `-`, no program is asked: the texts are the model's own, which are read and run all the same. `many`
+asks for the texts of as many entry points as a name's key can tell, and of one more.
 """
 
 import json
@@ -20,27 +23,28 @@ import random
 import subprocess
 import sys
 
-from acceptance import is_accepted
-from enables import enables_text
+from acceptance import is_accepted, is_read
+from declaration_rows import MOST, check_declaration_rows, many
 from generator import generate
-from modules import EVENTS, PARTS, statements_in
+from refusals import refusal
 from rows import check_rows
-from runs import module_runs, text_runs
 from serde import line_of
-from spelling import points, whole_of
 from statement_rows import check_statement_rows
-from words import MATH
-from worlds import Term
-from writer import answers_of, emitted_by, refusal, written_of
+from tally import Tally
+from texts import answers_of
 
 BATCH = 5000
-NOT_ACCEPTED = "not accepted"
+NOT_ACCEPTED, NOT_READ = "not accepted", "not read"
 
 
 def main():
     check_rows()
     check_statement_rows()
-    program, modules, seed = sys.argv[1], int(sys.argv[2]), int(sys.argv[3])
+    check_declaration_rows()
+    program = sys.argv[1]
+    if sys.argv[2:] == ["many"]:
+        sys.exit(check_many(program))
+    modules, seed = int(sys.argv[2]), int(sys.argv[3])
     r = random.Random(seed)
     tally = Tally()
     for start in range(0, modules, BATCH):
@@ -50,6 +54,14 @@ def main():
             compare(module, start + number, texts, tally)
     print(tally)
     sys.exit(1 if tally.differ else 0)
+
+
+def check_many(program):
+    """How many of two modules differ."""
+    modules, texts = zip(many(MOST), many(MOST + 1))
+    differ = sum(given != text for given, text in zip(texts_of(program, modules)[::2], texts))
+    print(f"{differ:8} differ")
+    return differ
 
 
 def texts_of(program, samples):
@@ -67,13 +79,15 @@ def own_text(module, explicit):
     """What the model says of a module."""
     # naga's form of each module can be made
     line_of(module, explicit)
+    if not is_read(module):
+        return NOT_READ
     return min(answers_of(module, explicit)[1]) if is_accepted(module) else NOT_ACCEPTED
 
 
 def text_in(answer):
-    """A text, with the refusal behind it where there is one; or that the module is not accepted."""
-    # the program reads each module
-    assert "error" not in answer, answer
+    """A text, with the refusal behind it where there is one; or that the module is not read, or not accepted."""
+    if "error" in answer:
+        return NOT_READ
     if "not_accepted" in answer:
         return NOT_ACCEPTED
     return answer["text"] + (refusal(answer["refused"]) if "refused" in answer else "")
@@ -81,11 +95,12 @@ def text_in(answer):
 
 def compare(module, number, texts, tally):
     given = texts.pop(0), texts.pop(0)
-    if not is_accepted(module):
-        for text in given:
-            tally.check(number, module, text, {NOT_ACCEPTED})
-        tally.add(NOT_ACCEPTED)
-        return
+    for name, is_so in ((NOT_READ, is_read), (NOT_ACCEPTED, is_accepted)):
+        if not is_so(module):
+            for text in given:
+                tally.check(number, module, text, {name})
+            tally.add(name)
+            return
     for explicit, text in enumerate(given):
         is_written, answers = answers_of(module, bool(explicit))
         if tally.check(number, module, text, answers) and is_written:
@@ -93,98 +108,7 @@ def compare(module, number, texts, tally):
     if is_written:
         tally.add_written(module)
     elif "refused: " in text:
-        before, name = text.split("refused: ")
-        tally.add("refused: " + name.strip())
-        tally.add("refused, behind functions", before != "")
-
-
-class Tally:
-    """How many modules there were of each kind, and how many differ."""
-
-    def __init__(self):
-        self.counts, self.differ = {}, 0
-
-    def __str__(self):
-        counts = "\n".join(f"{self.counts[what]:8} {what}" for what in sorted(self.counts))
-        return f"{counts}\n{self.differ:8} differ"
-
-    def add(self, what, count=1):
-        self.counts[what] = self.counts.get(what, 0) + count
-
-    def check(self, number, module, given, wanted):
-        if given in wanted:
-            return True
-        self.tell(number, module, "differs", given, *wanted)
-        return False
-
-    def tell(self, number, module, what, given, *wanted):
-        self.differ += 1
-        print(f"module {number} {what}\n{line_of(module, False)}---- given\n{given}")
-        for text in wanted:
-            print(f"---- wanted\n{text}")
-
-    def run(self, number, module, text):
-        """Whether each function's text does what the function does."""
-        texts = functions_in(text.removeprefix(enables_text(module)))
-        for at, (f, own) in enumerate(zip(module.functions, texts)):
-            meant = module_runs(f)
-            try:
-                told = text_runs(texts, at)
-            except (AssertionError, IndexError, KeyError, TypeError, ValueError) as error:
-                told = f"no reading: {error!r}"
-            if told != meant:
-                self.tell(number, module, "runs otherwise than its text", own, f"{told}\n", f"{meant}\n")
-            self.add("texts of functions run")
-            for _, ending in meant:
-                self.add(f"runs: {ending if isinstance(ending, str) else 'returned'}")
-        Term.made.clear()
-
-    def add_written(self, module):
-        self.add("written")
-        self.add("written, of several functions", len(module.functions) > 1)
-        statements = [s for f in module.functions for s in statements_in(f.body)]
-        for kind in {s.kind for s in statements}:
-            self.add(f"written, with {kind} statements")
-        self.add("written, with results", any(s.result is not None for s in statements))
-        labels = [label for s in statements if s.kind == "switch" for label in s.what]
-        self.add("written, with joined labels", any(falls for _, falls in labels))
-        emitted = [(f, h) for f in module.functions for h in emitted_in(f)]
-        expressions = [e for f in module.functions for e in f.expressions]
-        self.add("written, with labels of front ends that are bound", any(h in f.labels for f, h in emitted))
-        self.add("written, with parts", any(e.kind in PARTS for e in expressions))
-        arguments = [ty for f in module.functions for _, ty in f.arguments]
-        self.add("written, with pointers as arguments", any(map(points, arguments)))
-        self.add("written, with arrays", any(ty[0] == "array" for ty in module.types))
-        for kind in (*EVENTS, "array length"):
-            self.add(f"written, with {kind}", any(f.expressions[h].kind == kind for f, h in emitted))
-        self.add("written, with constants without names", any(e.kind == "constant" for e in expressions))
-        self.add("written, with structs", any(ty[0] == "struct" for ty in module.types))
-        for line in enables_text(module).split("\n")[:-2]:
-            self.add(f"written, with {line}")
-        self.add_splits(module)
-        firsts = [f.expressions[h].kind for f in module.functions for _, _, h in f.locals if h is not None]
-        self.add("written, with first values that are no literals", any(kind != "literal" for kind in firsts))
-
-
-    def add_splits(self, module):
-        """What is written of `modf`, `frexp` and members."""
-        written = [(f, f.expressions[h]) for f in module.functions for h in written_of(f)]
-        for word in ("modf", "frexp"):
-            splits = [e for _, e in written if e.kind == "math" and MATH[e.what[0]][0] == word]
-            self.add(f"written, with {word}", any(e.type[0] == "struct" for e in splits))
-        members = [f.type_of(e.operands[0]) for f, e in written if e.kind == "access index"]
-        members = [ty for ty in members if whole_of(ty)[0] == "struct"]
-        self.add("written, with members", members != [])
-        self.add("written, with members through pointers", any(map(points, members)))
-        self.add("members written", len(members))
-
-
-def emitted_in(f):
-    return [h for s in statements_in(f.body) for h in emitted_by(s)]
-
-
-def functions_in(text):
-    return ["fn " + part for part in text.removeprefix("fn ").split("\n}\n\nfn ")]
+        tally.add_refused(module, text)
 
 
 main()

@@ -1,22 +1,38 @@
 """Which modules are accepted."""
 
-from modules import EVENTS, PARTS, RESULTS, statements_in
+from modules import EVENTS, LEAVES, PARTS, RESULTS, statements_in
 from operators import LITERALS, word_of
 from spelling import (
     BOOL, FUNCTION, I32, U32, alike, count_of_parts, has_parts, has_pointer_to_handle, held, identity, is_integer,
-    part_of, pointed_at, pointer_to, points, scalar_of)
+    is_override, override_of, part_of, pointed_at, pointer_to, points, scalar_of)
+
+
+def is_read(module):
+    """Whether each number is one of its bits, as a reader of a module's form asks."""
+    lengths = [ty[2] for ty in types_of(module) if ty[0] in ("array", "binding array") and not is_override(ty[2])]
+    strides = [ty[3] for ty in types_of(module) if ty[0] == "array"]
+    indexes = [e.what[0] for f in module.groups() for e in f.expressions if e.kind == "access index"]
+    resources = [number for v in module.variables if v.binding is not None for number in v.binding]
+    sizes = [size for p in module.entry_points for size in p.size]
+    bound = [*module.bindings.values(), *(b for f in module.bodies() for b in f.bindings.values())]
+    locations = [number for b in bound if b[0] == "location" for number in (b[1], b[4]) if number is not None]
+    return (
+        all(number < 2**32 for number in [*lengths, *strides, *indexes, *resources, *sizes, *locations])
+        and all(o.number is None or o.number < 2**16 for o in module.overrides))
 
 
 def is_accepted(module):
     return (
-        own_ranges_fit(module)
-        and all(map(ranges_fit, module.functions))
+        declarations_fit(module)
+        and all(map(ranges_fit, module.groups()))
+        and all(initialiser_stands_before(module, h, e) for h, e in enumerate(module.own.expressions))
         and None not in module.special_types()
         and not any(has_pointer_to_handle(ty) for ty in types_of(module))
+        and all(map(override_is_there, ((module, ty) for ty in types_of(module))))
         # a struct does not stand by itself
         and all(e.by_handle or e.type[0] != "struct" for f in module.groups() for e in f.expressions)
         and all(function_is_sound(f) for f in module.groups())
-        and all(alike(module.own.type_of(init), ty) for ty, init in module.constants)
+        and all(initialiser_fits(module, item) for item in declared_in(module))
         and operators_agree(module))
 
 
@@ -25,29 +41,54 @@ def types_of(module):
     return module.types + [e.type for f in module.groups() for e in f.expressions]
 
 
-def own_ranges_fit(module):
-    """Initialisers are there, and stand before the expressions that name their constants."""
-    own = module.own
+def override_is_there(of):
+    """Whether a type's length is told by an override that is there, if by one."""
+    module, ty = of
+    number = override_of(ty)
+    return number is None or number < len(module.overrides)
+
+
+def declared_in(module):
+    return [*module.constants, *module.overrides, *module.variables]
+
+
+def declarations_fit(module):
+    """Types and initialisers are there, and so are the variables of entry points."""
     return (
-        ranges_fit(own)
-        and all(init < len(own.expressions) for _, init in module.constants)
-        and all(module.constants[e.what[0]][1] < h for h, e in enumerate(own.expressions) if e.kind == "constant"))
+        all(item.place < len(module.types) for item in declared_in(module))
+        and all(item.init is None or item.init < len(module.own.expressions) for item in declared_in(module))
+        and all(number < len(module.variables) for p in module.entry_points for number in p.variables()))
+
+
+def initialiser_stands_before(module, h, e):
+    """One of the module's own expressions stands behind the initialiser of what it names."""
+    if e.kind not in ("constant", "override"):
+        return True
+    init = (module.constants if e.kind == "constant" else module.overrides)[e.what[0]].init
+    return init is None or init < h
+
+
+def initialiser_fits(module, item):
+    return item.init is None or alike(module.own.type_of(item.init), module.type_at(item))
 
 
 def ranges_fit(f):
     """What is named is there, and operands stand before what they belong to."""
-    count = len(f.expressions)
+    count, module = len(f.expressions), f.module
+    named = {
+        "argument": f.arguments, "local": f.locals, "constant": module.constants, "override": module.overrides,
+        "global": module.variables, "call result": module.functions}
     return (
         all(operand < h for h, e in enumerate(f.expressions) for operand in e.operands)
-        and all(e.what[0] < len(f.arguments) for e in f.expressions if e.kind == "argument")
-        and all(e.what[0] < len(f.module.constants) for e in f.expressions if e.kind == "constant")
-        and all(e.what[0] < len(f.module.functions) for e in f.expressions if e.kind == "call result")
+        and all(e.what[0] < len(named[e.kind]) for e in f.expressions if e.kind in named)
+        and all(h < count for h in f.labels)
+        and all(init is None or init < count for _, _, init in f.locals)
         and all(statement_range_fits(f, s, count) for s in statements_in(f.body)))
 
 
 def callable_by(f):
-    """How many functions there are in front of this one; the module's own expressions have none."""
-    return 0 if f is f.module.own else f.module.number_of(f)
+    """How many functions may be called: those in front of this one, and all by an entry point."""
+    return 0 if f is f.module.own else min(f.module.number_of(f), len(f.module.functions))
 
 
 def statement_range_fits(f, s, count):
@@ -77,8 +118,11 @@ def expression_is_sound(f, e):
         wanted = f.arguments[e.what[0]][1]
     elif e.kind == "local":
         wanted = pointer_to(f.locals[e.what[0]][1], FUNCTION)
-    elif e.kind == "constant":
-        wanted = f.module.constants[e.what[0]][0]
+    elif e.kind in ("constant", "override"):
+        items = f.module.constants if e.kind == "constant" else f.module.overrides
+        wanted = f.module.type_at(items[e.what[0]])
+    elif e.kind == "global":
+        wanted = f.module.variable_type(e.what[0])
     elif e.kind in ("zero", "compose", "atomic result", "uniform result", "subgroup result"):
         wanted = e.what[0]
     elif e.kind == "call result":
@@ -98,6 +142,8 @@ def expression_is_sound(f, e):
         if of[0][0] != "vector" or any(c >= of[0][1] for c in letters[:size]):
             return False
         wanted = ("vector", size, scalar_of(of[0]))
+    elif e.kind == "cooperative load":
+        return points(of[0]) and pointed_at(of[0])[0] in ("scalar", "vector")
     elif e.kind == "binary" and word_of(f, e) in ("&&", "||") and of[0] == ("scalar", BOOL):
         wanted = ("scalar", BOOL)
     return alike(e.type, wanted)
@@ -180,7 +226,7 @@ def operators_agree(module):
     for f in module.groups():
         for e in f.expressions:
             # what the world answers need not agree
-            if e.kind in (*EVENTS, *RESULTS, "literal", "argument", "local", "constant"):
+            if e.kind in (*EVENTS, *RESULTS, *LEAVES):
                 continue
             use = (operator_of(f, e), tuple(identity(f.type_of(h)) for h in e.operands))
             if seen.setdefault(use, identity(e.type)) != identity(e.type):

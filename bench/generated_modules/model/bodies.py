@@ -1,7 +1,9 @@
 """Statements by chance, of which most use what is in scope."""
 
-from modules import LEAVES, RESULTS, Expression, Statement, emit, holds_continue, loop, returns, statements_in, store
-from spelling import BOOL, FUNCTION, I32, U32, alike, held, pointed_at, pointer_to, points, points_to_atomic, scalar_of
+from modules import (
+    LEAVES, RESULTS, Expression, Statement, Variable, emit, holds_continue, loop, returns, statements_in, store)
+from spelling import (
+    BOOL, FUNCTION, HANDLE, I32, U32, alike, held, pointed_at, pointer_to, points, points_to_atomic, scalar_of)
 from words import ATOMICS, COMPARING, GATHERS, OPERATIONS
 from worlds import SELECTED
 from writer import constants_of
@@ -58,7 +60,9 @@ class BodyMaker:
 
     def zero(self, ty):
         self.module.handle_of(ty)
-        return self.f.add(Expression("zero", ty, [ty]))
+        e = Expression("zero", ty, [ty])
+        e.by_handle = ty[0] == "struct"
+        return self.f.add(e)
 
     def new_local(self, ty):
         self.module.handle_of(ty)
@@ -77,6 +81,8 @@ class BodyMaker:
         self.f.body = body
 
     def some_result(self):
+        if self.maker.wanted is not None:
+            return self.maker.wanted
         types = [e.type for e in self.f.expressions if not points(e.type) or self.chance(0.05)]
         types = [ty for ty in types if not self.module.names_undeclared(ty) or self.chance(0.02)]
         if not types or self.chance(0.35):
@@ -285,7 +291,19 @@ class BodyMaker:
     def argument(self, ty):
         if ty[0] == "pointer" and ty[2] == FUNCTION and self.chance(0.6):
             return self.new_local(ty[1])
+        if ty[0] == "pointer" and ty[2] not in (FUNCTION, HANDLE) and self.chance(0.7):
+            return self.variable_of(ty)
         return self.of_type(ty)
+
+    def variable_of(self, ty):
+        """The name of a variable that a pointer of this type is to, which is made if there is none."""
+        count = len(self.module.variables)
+        known = [number for number in range(count) if alike(self.module.variable_type(number), ty)]
+        if not known:
+            place = self.module.handle_of(ty[1])
+            self.module.variables.append(Variable(self.maker.label("g"), place, ty[2]))
+            known = [count]
+        return self.maker.put_named("global", self.r.choice(known))
 
     def make_atomic(self):
         p = self.some(lambda e: e.type[0] == "pointer" and points_to_atomic(e.type))

@@ -10,6 +10,12 @@ LABELS = [
     "vec3", "min", "textureLoad", "i32", "__x", "_naga", "_naga_a", "a:b<c>", "", "_", "9_", "é", "1x", "²y", "x²",
     "\u0663k", "a b", "param", "local", "function", "function_1", "self", "Self", "unnamed", "gen_", "gen__naga",
     "coop_mat8x8", "rgba8unorm", "read", "x_", "_x", "x__1", "ß,x", "😀", "x_plane0", "x_params", "param_plane2"]
+# those that what is declared gets where it has none, and what is put together of these
+DECLARED_LABELS = [
+    "VertexOutput", "FragmentOutput", "ComputeOutput", "VertexOutput_1", "const_type", "const_i32", "override_type",
+    "override_", "const_", "global", "global_1", "member", "global_plane0", "global__plane0", "global_params",
+    "t__params", "main", "main", "S", "coherent", "volatile", "workgroup", "storage", "position", "vertex", "var",
+    "const", "override", "struct", "enable", "f16"]
 # labels of members: the good words, what becomes one of these, and others
 MEMBER_LABELS = [
     "fract", "fract", "whole", "exp", "old_value", "exchanged", "fract_", "_fract", "__fract", "1exp", "exp2", "exp:",
@@ -20,7 +26,7 @@ PIECES = ["x", "x", "_", "1", "é", ":", "a", "_1", "²", "naga"]
 
 def some_label(r):
     if r.random() < 0.8:
-        return r.choice(LABELS)
+        return r.choice(LABELS if r.random() < 0.8 else DECLARED_LABELS)
     return "".join(r.choice(PIECES) for _ in range(r.randint(0, 5)))
 
 
@@ -28,7 +34,13 @@ def some_member_label(r):
     return r.choice(MEMBER_LABELS) if r.random() < 0.85 else some_label(r)
 
 
+# scalars without a word
+ODD_SCALARS = [("abstract", 8), ("abstract float", 8), ("float", 3), ("sint", 3), ("uint", 16), ("bool", 4)]
+
+
 def some_scalar(r):
+    if r.random() < 0.002:
+        return r.choice(ODD_SCALARS)
     return r.choice([BOOL, I32, I32, I32, U32, I64, U64, F32, F64])
 
 
@@ -98,4 +110,15 @@ def some_type(r):
         return some_pointer_type(r)
     if what < 0.93:
         return some_image(r)
-    return ("sampler", coin(r)) if r.random() < 0.7 else ("ray query", coin(r))
+    if what < 0.96:
+        return ("sampler", coin(r))
+    if what < 0.975:
+        return ("binding array", some_type(r), r.choice([0, 1, 2, 4000000000]))
+    if what < 0.985:
+        return ("cooperative", *some_tile(r), r.choice([F32, F32, F16, I32]), r.choice("ABC"))
+    return (r.choice(["ray query", "acceleration"]), coin(r))
+
+
+def some_tile(r):
+    """The columns and rows of a cooperative matrix."""
+    return r.choice([8, 16]), r.choice([8, 16])

@@ -1,16 +1,20 @@
 """Modules of functions."""
 
 from serde import Serde
-from spelling import bases_of
+from spelling import HANDLE, OVER_ONE, bases_of, pointer_to
 
 # these are not emitted
-LEAVES = ("literal", "argument", "local", "zero", "constant")
+LEAVES = ("literal", "argument", "local", "zero", "constant", "override", "global")
+# what is the same everywhere
+CONSTANTS = ("literal", "zero", "constant", "override")
 # what statements give; none of these is emitted either
 RESULTS = ("call result", "atomic result", "uniform result", "ballot result", "subgroup result", "proceed result")
 PARTS = ("access", "access index")
 IMAGES = ("sample", "image load", "image query")
 # these are events where they are used at all, and the images' anyhow
-READS = ("load", "derivative")
+READS = ("load", "derivative", "cooperative load")
+# what a ray query found, which has no form
+QUERIES = ("intersection", "vertex positions")
 EVENTS = (*READS, *IMAGES)
 
 
@@ -95,12 +99,12 @@ def holds_continue(s):
 
 
 class Function:
-    """Arguments and locals by label and type, and locals by a first value or none; labels of expressions by handle; and
-    statements."""
+    """Arguments and locals by label and type, and locals by a first value or none; what arguments and the result are
+    bound to, by the argument's number or `result`; labels of expressions by handle; and statements."""
 
     def __init__(self, label, module=None):
         self.label, self.module = label, module
-        self.arguments, self.result, self.locals = [], None, []
+        self.arguments, self.result, self.locals, self.bindings = [], None, [], {}
         self.expressions, self.labels, self.body = [], {}, []
 
     def add(self, expression):
@@ -111,23 +115,68 @@ class Function:
         return self.expressions[handle].type
 
 
+class EntryPoint(Function):
+    """A function of a stage, with the size of its workgroups and the numbers of the variables that it has beside: a
+    mesh's output, and the payloads of a task and of a ray, each if there is one. Its name is never absent, and the
+    label that it has as a function counts for nothing."""
+
+    def __init__(self, name, stage, module=None, size=(1, 1, 1), mesh=None, task=None, ray=None):
+        super().__init__(name, module)
+        self.stage, self.size, self.mesh, self.task, self.ray = stage, list(size), mesh, task, ray
+        self.inner_label = None
+
+    def variables(self):
+        return [number for number in (self.mesh, self.task, self.ray) if number is not None]
+
+
+class Constant:
+    """A label, or none; the handle of a type; and an initialiser, which is one of the module's own expressions."""
+
+    def __init__(self, label, place, init):
+        self.label, self.place, self.init = label, place, init
+
+
+class Override(Constant):
+    """As a constant, with a number or none; it may have no initialiser."""
+
+    def __init__(self, label, place, init=None, number=None):
+        super().__init__(label, place, init)
+        self.number = number
+
+
+class Variable(Constant):
+    """As a constant, in a space, with its group and its number there, if it is bound, and what is told of its memory:
+    1 coherent, 2 volatile. It may have no initialiser."""
+
+    def __init__(self, label, place, space, init=None, binding=None, memory=0):
+        super().__init__(label, place, init)
+        self.space, self.binding, self.memory = space, binding, memory
+
+
 class Module:
     """Types with their labels; the special ones, each with what gives it, its size and its scalar, or none where its
-    handle is nowhere; what members are bound to, by their struct and number; constants without names, by type and
-    initialiser, which is one of the module's own expressions; and functions."""
+    handle is nowhere; what members are bound to, by their struct and number; constants, overrides and variables;
+    functions and entry points; and the module's own expressions, which stand together as those of a function do.
+
+    A type may stand there again, under another label: most of a module names the first one."""
 
     def __init__(self):
-        self.types, self.labels, self.functions = [], [], []
+        self.types, self.labels = [], []
         self.special, self.bindings = [], {}
-        self.own, self.constants = Function(None, self), []
+        self.own, self.constants, self.overrides, self.variables = Function(None, self), [], [], []
+        self.functions, self.entry_points = [], []
+
+    def bodies(self):
+        """Functions, and behind them entry points."""
+        return [*self.functions, *self.entry_points]
 
     def groups(self):
         """What expressions stand together in: the module's own, and each function."""
-        return [self.own, *self.functions]
+        return [self.own, *self.bodies()]
 
     def number_of(self, f):
         """How many functions stand in front of this one."""
-        return next(number for number, each in enumerate(self.functions) if each is f)
+        return next(number for number, each in enumerate(self.bodies()) if each is f)
 
     def handle_of(self, ty, label=None):
         """The type's handle; the type is put behind those that it is made of, if it is not there."""
@@ -138,15 +187,29 @@ class Module:
             self.labels.append(label)
         return self.types.index(ty)
 
+    def type_at(self, item):
+        """The type of a constant, an override or a variable."""
+        return self.types[item.place]
+
+    def variable_type(self, number):
+        """The type of a variable's name: in the space of images a value, else a pointer."""
+        variable = self.variables[number]
+        ty = self.type_at(variable)
+        return ty if variable.space == HANDLE else pointer_to(ty, variable.space)
+
     def special_types(self):
         """Of the types that are given for the same, the last is special."""
         return list(dict(self.special).values())
+
+    def declared_structs(self):
+        """The handles of the structs that a text declares."""
+        return [h for h, ty in enumerate(self.types) if ty[0] == "struct" and not self.names_undeclared(ty)]
 
     def names_undeclared(self, ty):
         """Whether a type is a struct that no text declares, or is over one."""
         if ty[0] == "struct":
             return ty in self.special_types()
-        return ty[0] in ("array", "pointer") and self.names_undeclared(ty[1])
+        return ty[0] in OVER_ONE and self.names_undeclared(ty[1])
 
     def json(self):
         """The module and what is known of it, in naga's forms."""

@@ -2,14 +2,14 @@
 
 from naming import member_names
 from spelling import (
-    BOOL, F32, F64, I16, I32, I64, SCALAR_KINDS, SCALARS, U16, U32, U64, scalar_of, spelled, whole_of,
-    with_scalar)
+    BOOL, F16, F32, F64, I16, I32, I64, SCALAR_KINDS, SCALARS, U16, U32, U64, pointed_at, points, scalar_of, spelled,
+    whole_of, with_scalar)
 from words import (
     ATOMICS, AXES, BARRIERS, BINARY, COLLECTIVES, COMPARING, CONTROLS, GATHERS, MATH, OPERATIONS, QUERIES, RELATIONAL,
     SCANNED, UNARY)
 
 # the scalars of literals, by their numbers
-LITERALS = [BOOL, I32, U32, I64, U64, F32, F64, I16, U16]
+LITERALS = [BOOL, I32, U32, I64, U64, F32, F64, I16, U16, F16, ("abstract", 8), ("abstract float", 8)]
 SUFFIX = {I32: "i", U32: "u", I64: "li", U64: "lu"}
 LEVEL_ZERO = "0.0"
 
@@ -24,8 +24,8 @@ def literal_text(number, value):
         return "i64(-9223372036854775807 - 1)"
     if scalar in (I16, U16):
         return f"{SCALARS[scalar]}({value})"
-    # a float has no text
-    return f"{value}{SUFFIX[scalar]}" if scalar in SUFFIX else f" float {value}"
+    # floats and abstract numbers have no text
+    return f"{value}{SUFFIX[scalar]}" if scalar in SUFFIX else f" {scalar[0]} {value}"
 
 
 # the least integers, which have no literal in the text
@@ -96,8 +96,20 @@ def word_of(f, e):
         return sampling_word(e.what[0])
     if e.kind == "image query":
         return QUERIES[e.what[0]]
+    if e.kind == "cooperative load":
+        return cooperative_word(f.type_of(e.operands[0]), *e.what)
     return {"select": "select", "image load": "textureLoad", "array length": "arrayLength",
             "multiply add": "coopMultiplyAdd"}.get(e.kind)
+
+
+def loaded_matrix(pointer, columns, rows, role):
+    """The type of the matrix that is loaded through a pointer, which is over the scalar that this points at."""
+    return ("cooperative", columns, rows, scalar_of(pointed_at(pointer)) if points(pointer) else None, role)
+
+
+def cooperative_word(pointer, columns, rows, role, by_rows):
+    matrix = spelled(loaded_matrix(pointer, columns, rows, role))
+    return None if matrix is None else f"coopLoad{'T' if by_rows else ''}<{matrix}>"
 
 
 def act_word(s):

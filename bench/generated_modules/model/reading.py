@@ -1,4 +1,4 @@
-"""Reads the text of a function: its lines by their levels, and the expressions in them.
+"""Reads the text of a function: its head, its lines by their levels, and the expressions in them.
 
 An expression is a tuple: `literal TEXT`, `name X`, `address E` and `target E` for `&` and `*`, `part WORD E [INDEX]`,
 `call WORD E..` for what is called, and `apply WORD E..` for an operator between or before its operands.
@@ -11,29 +11,72 @@ from words import ASKING, KEYWORDS
 
 
 class TextFunction:
-    """The name of a function, those of its arguments, its locals with their first values, and its statements."""
+    """A function of a text: its name, its arguments with their attributes, names and types, the attributes and the type
+    of its result, its locals with their types and first values, and its statements."""
 
-    def __init__(self, text):
-        head, *lines = text.rstrip("\n").split("\n")
-        self.name, rest = head.removeprefix("fn ").split("(", 1)
-        assert head.endswith(" {"), head
-        self.arguments = [] if rest.startswith(")") else names_before_types(rest)
+    def __init__(self, lines):
+        head, *lines = lines
+        assert head.startswith("fn ") and head.endswith(" {"), head
+        self.name, rest = head.removeprefix("fn ").removesuffix(" {").split("(", 1)
+        identifier(self.name)
+        self.arguments, rest = read_parameters(rest)
+        self.result = None
+        if rest:
+            attributes, rest = read_attributes(rest.removeprefix(" -> "))
+            self.result = attributes, read_whole_type(rest)
         self.locals = []
         # what stands behind the locals is parted from them by an empty line
         while lines and lines[0].startswith("    var "):
-            name, rest = lines.pop(0)[8:-1].split(":", 1)
-            has = rest.split(" = ", 1)
-            self.locals.append((identifier(name), expression(has[1]) if len(has) > 1 else None))
-        if self.locals and lines:
-            assert lines.pop(0) == "", text
-        if lines and lines[-1] == "}":
-            lines.pop()
+            self.locals.append(declared(lines.pop(0).removeprefix("    var ")))
+        if self.locals:
+            assert lines.pop(0) == "", head
+        assert lines.pop() == "}", head
         self.body = Lines(lines).block(1)
 
-    @staticmethod
-    def asks(word):
-        """Whether the call of a word asks the world."""
-        return word in ASKING
+
+def asks(word):
+    """Whether the call of a word asks the world."""
+    return word.split("<")[0] in ASKING
+
+
+def declared(text):
+    """What is declared: its name, its type, and its value if it has one."""
+    assert text.endswith(";"), text
+    name, rest = text[:-1].split(": ", 1)
+    ty = type_at(rest)
+    value = rest[len(ty):]
+    assert value == "" or value.startswith(" = "), text
+    return identifier(name), ty, expression(value[3:]) if value else None
+
+
+def read_parameters(s):
+    """The parameters in front of a closing bracket, and what stands behind it."""
+    parameters = []
+    while not s.startswith(")"):
+        attributes, s = read_attributes(s)
+        name, s = s.split(": ", 1)
+        ty = type_at(s)
+        parameters.append((attributes, identifier(name), ty))
+        s = s[len(ty):]
+        assert s.startswith(")") or s.startswith(", ") and not s.startswith(", )"), s
+        s = s.removeprefix(", ")
+    return parameters, closed(s)
+
+
+def read_attributes(s):
+    """The attributes that a text begins with, each as its word and what it is over, and what stands behind them."""
+    attributes = []
+    while s.startswith("@"):
+        found = re.match(r"@(\w+)(?:\(([^()]*)\))? ", s)
+        word, over = found.groups()
+        attributes.append((word, *(over.split(", ") if over else ())))
+        s = s[found.end():]
+    return attributes, s
+
+
+def read_whole_type(s):
+    assert type_at(s) == s, s
+    return s
 
 
 class Lines:
@@ -225,20 +268,6 @@ def read_call(word, s):
         operands.append(e)
         s = s[2:] if s.startswith(", ") else s
     return ("call", word, *operands), s[1:]
-
-
-def names_before_types(s):
-    """The names of arguments, each in front of a colon and its type."""
-    names = []
-    while True:
-        name, s = s.split(": ", 1)
-        names.append(identifier(name))
-        ty = type_at(s)
-        s = s[len(ty):]
-        if not s.startswith(", "):
-            closed(s)
-            return names
-        s = s[2:]
 
 
 def type_at(s):

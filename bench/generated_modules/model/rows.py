@@ -1,13 +1,16 @@
 """Modules with texts that were made by hand, which the model must give before it judges others."""
 
 from acceptance import is_accepted
-from modules import Expression, Function, Module, Sampling, emit, returns, store
+from bindings import builtin, location
+from modules import EntryPoint, Expression, Function, Module, Sampling, emit, returns, store
 from naming import Namer, member_names
+from reading_programs import Program
+from refusals import UNDECLARED, refusal
 from runs import module_runs, text_runs
 from spelling import BOOL, F16, F32, FUNCTION, I32, SCALAR_KINDS, U16, pointer_to
+from texts import answers_of
 from words import MATH
 from worlds import term
-from writer import NOT_YET_WRITTEN, UNDECLARED, answers_of, refusal
 
 INT, TRUTH, FLOAT = ("scalar", I32), ("scalar", BOOL), ("scalar", F32)
 PAIR, TRIPLE, COLOUR = ("vector", 2, F32), ("vector", 3, I32), ("vector", 4, F32)
@@ -252,7 +255,9 @@ SPLIT = [
 def module_of(functions, special=()):
     """A module of these functions, and of the types that they name."""
     module = Module()
-    module.functions, module.special = functions, [(("modf", 0, F32), ty) for ty in special]
+    module.functions = [f for f in functions if not isinstance(f, EntryPoint)]
+    module.entry_points = functions[len(module.functions):]
+    module.special = [(("modf", 0, F32), ty) for ty in special]
     for f in functions:
         f.module = module
         for ty in [*(e.type for e in f.expressions), *(ty for _, ty in f.arguments), *(ty for _, ty, _ in f.locals)]:
@@ -270,20 +275,20 @@ def check_structs():
             wanted = not told.startswith("refused"), {told}
             assert is_accepted(module) and answers_of(module, explicit) == wanted, (answers_of(module, explicit), told)
             # a text declares the struct
-            module = module_of([f])
-            assert refusal(NOT_YET_WRITTEN) in answers_of(module, explicit)[1], told
+            is_written, answers = answers_of(module_of([f]), explicit)
+            assert is_written and answers.pop().startswith("struct "), told
 
 
 # what a member is bound to, and what that enables
 BOUND = [
-    (("builtin", "VertexIndex"), ""), (("builtin", "HitKind"), ""), (("location", "Flat", None, False), ""),
-    (("builtin", "ClipDistances"), "enable clip_distances;\n\n"),
-    (("builtin", "MeshTaskSize"), "enable wgpu_mesh_shader;\n\n"),
-    (("builtin", "WorldToObject"), "enable wgpu_ray_tracing_pipeline;\n\n"),
-    (("location", "PerVertex", None, False), "enable wgpu_per_vertex;\n\n"),
-    (("location", "PerVertex", 0, False), "enable dual_source_blending;\n\n"),
-    (("location", "PerVertex", None, True), "enable wgpu_mesh_shader;\n\n"),
-    (("location", None, 1, True), "enable dual_source_blending;\nenable wgpu_mesh_shader;\n\n")]
+    (builtin("VertexIndex"), ""), (builtin("HitKind"), ""), (location(0, "Flat"), ""),
+    (builtin("ClipDistances"), "enable clip_distances;\n\n"),
+    (builtin("MeshTaskSize"), "enable wgpu_mesh_shader;\n\n"),
+    (builtin("WorldToObject"), "enable wgpu_ray_tracing_pipeline;\n\n"),
+    (location(0, "PerVertex"), "enable wgpu_per_vertex;\n\n"),
+    (location(0, "PerVertex", None, 0), "enable dual_source_blending;\n\n"),
+    (location(0, "PerVertex", None, None, True), "enable wgpu_mesh_shader;\n\n"),
+    (location(0, None, None, 1, True), "enable dual_source_blending;\nenable wgpu_mesh_shader;\n\n")]
 
 
 def check_enables():
@@ -339,10 +344,10 @@ def check_rows():
 def check_run_of_late():
     """What is loaded is what the world answers in front of the store."""
     f = late()
-    module_of([f])
+    module = module_of([f])
     answer, one = term("answer", 2), term("literal", "1i")
-    place = term("local", 0, 0)
+    place = term("local", 0, 0, "ptr<function, i32>")
     events = [
         ("entry", 0), ("first", place, one), ("load", place), ("store", place, term("literal", "2i"))]
-    for runs in (module_runs(f), text_runs([TEXTS[2][1]], 0)):
+    for runs in (module_runs(module, f), text_runs(Program(TEXTS[2][1]), 0)):
         assert all(run == (events, term("+", answer, one)) for run in runs), runs

@@ -1,12 +1,15 @@
 """Runs of a module and of its text. A run gives its events in their order: entries of functions, first values, loads,
-stores, what is asked of the world, and discards; and how it ends. A place is a local of an entry, what an argument or
-another value points at, or a part of a place.
+stores, what is asked of the world, and discards; and how it ends. A place is a local of an entry, a variable of the
+module, what an argument or another value points at, or a part of a place. Both are places with the type that a pointer
+to them has. What an override has, and what a variable holds that is at no place, is given; what a constant has is
+computed.
 """
 
 from modules import EVENTS, READS
+from naming import Names
 from operators import act_word, barrier_words, literal_text, numbers_around, offset_of, word_of
-from reading import TextFunction
-from spelling import points_to_atomic, spelled
+from reading import asks
+from spelling import HANDLE, pointer_to, points_to_atomic, spelled
 from worlds import TURNS, Ended, NoValue, World, ending_of, term
 from writer import emitted_by, uses_of
 
@@ -20,23 +23,22 @@ def arguments_of(count):
     return [term("argument", number) for number in range(count)]
 
 
-def module_runs(f, worlds=WORLDS):
-    """What the function does in some worlds."""
-    told = []
+def module_runs(module, f, worlds=WORLDS):
+    """What a function of the module does in some worlds."""
+    told, names = [], Names(module)
     for number in range(worlds):
         world = World(number)
-        told.append(ending_of(world, lambda: ModuleRun(f, arguments_of(len(f.arguments)), world).run()))
+        told.append(ending_of(world, lambda: ModuleRun(f, names, arguments_of(len(f.arguments)), world).run()))
     return told
 
 
-def text_runs(texts, at, worlds=WORLDS):
-    """What the function at this place of the texts does in the same worlds."""
-    functions = [TextFunction(text) for text in texts]
+def text_runs(program, at, worlds=WORLDS):
+    """What the function at this place of a text does in the same worlds."""
     told = []
     for number in range(worlds):
         world = World(number)
-        arguments = arguments_of(len(functions[at].arguments))
-        told.append(ending_of(world, lambda: TextRun(functions, at, arguments, world).run()))
+        arguments = arguments_of(len(program.bodies()[at].arguments))
+        told.append(ending_of(world, lambda: TextRun(program, at, arguments, world).run()))
     return told
 
 
@@ -44,11 +46,34 @@ def label_of(ending):
     return ending[0] if ending is not None else None
 
 
+class OwnValues:
+    """The values of the module's own expressions."""
+
+    def __init__(self, module, names):
+        self.module, self.names = module, names
+
+    def value(self, h):
+        e = self.module.own.expressions[h]
+        if e.kind == "literal":
+            return term("literal", literal_text(*e.what))
+        if e.kind == "constant":
+            return self.constant(e.what[0])
+        if e.kind == "override":
+            return term("override", e.what[0])
+        if e.kind not in ("zero", "compose", "splat"):
+            raise NoValue
+        return term(self.names.in_text(word_of(self.module.own, e)), *map(self.value, e.operands))
+
+    def constant(self, number):
+        return self.value(self.module.constants[number].init)
+
+
 class ModuleRun:
     """A run of a function of the module, by handles."""
 
-    def __init__(self, f, arguments, world):
+    def __init__(self, f, names, arguments, world):
         self.f, self.uses, self.arguments, self.world = f, uses_of(f), arguments, world
+        self.names, self.own = names, OwnValues(f.module, names)
         self.values = {}
         self.entry = world.enter(f.module.number_of(f), arguments)
 
@@ -59,7 +84,18 @@ class ModuleRun:
         return ending[1] if ending is not None else None
 
     def local(self, number):
-        return term("local", self.entry, number)
+        ty = pointer_to(self.f.locals[number][1], ("function", 0))
+        return term("local", self.entry, number, self.word(spelled(ty)))
+
+    def variable(self, number):
+        """A variable of the module is at a place, or holds its value."""
+        if self.f.module.variables[number].space == HANDLE:
+            return term("held", number)
+        return term("variable", number, self.word(spelled(self.f.module.variable_type(number))))
+
+    def word(self, word):
+        """A word with the names of structs and overrides in it."""
+        return None if word is None else self.names.in_text(word)
 
     # ---- statements
     def block(self, body):
@@ -123,7 +159,7 @@ class ModuleRun:
 
     def act(self, s, values):
         if s.kind == "call":
-            value = ModuleRun(self.f.module.functions[s.what[0]], values, self.world).run()
+            value = ModuleRun(self.f.module.functions[s.what[0]], self.names, values, self.world).run()
             if s.result is not None and value is None:
                 raise Ended("no result")
         else:
@@ -164,25 +200,19 @@ class ModuleRun:
         if e.kind == "local":
             return self.local(e.what[0])
         if e.kind == "zero":
-            return term(spelled(e.what[0]))
+            return self.applied(h)
         if e.kind == "constant":
-            return self.own_value(self.f.module.constants[e.what[0]][1])
+            return self.own.constant(e.what[0])
+        if e.kind == "override":
+            return term("override", e.what[0])
+        if e.kind == "global":
+            return self.variable(e.what[0])
         if h in self.values:
             return self.values[h]
         # what no `Emit` and no statement gave is a tree of constants, or is never used
         if e.kind in EVENTS or e.kind.endswith(" result"):
             raise NoValue
         return self.applied(h)
-
-    def own_value(self, h):
-        """The value of one of the module's own expressions."""
-        own = self.f.module.own
-        e = own.expressions[h]
-        if e.kind == "literal":
-            return term("literal", literal_text(*e.what))
-        if e.kind == "constant":
-            return self.own_value(self.f.module.constants[e.what[0]][1])
-        return term(word_of(own, e), *map(self.own_value, e.operands))
 
     def applied(self, h):
         return term(*self.parts_of(h))
@@ -194,19 +224,61 @@ class ModuleRun:
             component, level = ([term("literal", n) for n in numbers] for numbers in numbers_around(self.f, e))
             at = len(terms) if offset_of(e) is None else len(terms) - 1
             terms = component + terms[:at] + level + terms[at:]
-        return (word_of(self.f, e), *terms)
+        return (self.word(word_of(self.f, e)), *terms)
+
+
+class TextConstants:
+    """The values of the constants of a text, computed from their initialisers. One that leads back to itself, makes an
+    event or calls a function has none."""
+
+    def __init__(self, program):
+        self.program, self.asked = program, set()
+        self.constants = {name: value for name, _, value in program.constants}
+        self.overrides = {name: number for number, (_, name, _, _) in enumerate(program.overrides)}
+
+    def named(self, name):
+        """The value of a constant or an override of this name, or none where there is neither."""
+        if name in self.overrides:
+            return term("override", self.overrides[name])
+        if name not in self.constants:
+            return None
+        if name in self.asked:
+            raise NoValue
+        self.asked.add(name)
+        value = self.value(self.constants[name])
+        self.asked.remove(name)
+        return value
+
+    def value(self, e):
+        kind, *parts = e
+        if kind == "literal":
+            return term("literal", parts[0])
+        if kind == "name":
+            value = self.named(parts[0])
+            if value is None:
+                raise NoValue
+            return value
+        word, *operands = parts
+        is_operator = kind == "call" and not asks(word)
+        if not is_operator or word in self.program.names and word not in self.program.struct_names:
+            raise NoValue
+        return term(word, *map(self.value, operands))
 
 
 class TextRun:
     """A run of a function of a text, by names. It knows the names of nothing but what the text declares."""
 
-    def __init__(self, functions, at, arguments, world):
-        self.functions, self.function, self.world = functions, functions[at], world
+    def __init__(self, program, at, arguments, world):
+        self.program, self.at, self.function, self.world = program, at, program.bodies()[at], world
+        self.constants = TextConstants(program)
         assert len(arguments) == len(self.function.arguments), self.function.name
         self.entry = world.enter(at, arguments)
-        # the names in sight, the innermost block last, and those of locals
+        # the names in sight, the innermost block last, and those of what is at a place
         self.scopes, self.places = [{}], {}
-        for name, value in zip(self.function.arguments, arguments):
+        for number, (_, space, access, name, ty, _) in enumerate(program.variables):
+            if space is not None:
+                self.places[name] = term("variable", number, pointer_word(space, access, ty))
+        for (_, name, _), value in zip(self.function.arguments, arguments):
             self.declare(name, value)
 
     # ---- names
@@ -216,21 +288,30 @@ class TextRun:
                 return names[name]
         return None
 
-    def is_declared(self, name):
-        return name in self.places or self.lookup(name) is not None
+    def is_free(self, name):
+        """Each name is a new one among those in sight, and no name of the program."""
+        return name not in self.places and self.lookup(name) is None and name not in self.program.names
 
     def declare(self, name, value):
-        """Each name is a new one among those in sight, and no name of a function."""
-        assert not self.is_declared(name) and all(name != f.name for f in self.functions), name
+        assert self.is_free(name), name
         self.scopes[-1][name] = value
 
+    def named(self, name):
+        """The value of what has this name and is at no place."""
+        value = self.lookup(name)
+        if value is None and name in self.program.held:
+            value = term("held", self.program.held[name])
+        if value is None:
+            value = self.constants.named(name)
+        assert value is not None, name
+        return value
+
     def run(self):
-        for name, first in self.function.locals:
+        for number, (name, ty, first) in enumerate(self.function.locals):
             value = None if first is None else self.evaluated(first)
-            assert not self.is_declared(name) and all(name != f.name for f in self.functions), name
-            place = term("local", self.entry, len(self.places))
-            self.places[name] = place
-            self.world.add("first", place, value)
+            assert self.is_free(name), name
+            self.places[name] = term("local", self.entry, number, pointer_word("function", None, ty))
+            self.world.add("first", self.places[name], value)
         ending = self.lines(self.function.body)
         return ending[1] if ending is not None else None
 
@@ -328,9 +409,7 @@ class TextRun:
         if kind == "name":
             if parts[0] in self.places:
                 return self.world.ask("load", self.places[parts[0]])
-            value = self.lookup(parts[0])
-            assert value is not None, parts[0]
-            return value
+            return self.named(parts[0])
         if kind == "address":
             return self.place(parts[0])
         if kind == "target" or kind == "part" and self.is_place(e):
@@ -338,13 +417,13 @@ class TextRun:
         if kind == "part":
             return term(*self.part(parts, self.evaluated(parts[1])))
         word, *operands = parts
-        callee = next((at for at, f in enumerate(self.functions) if f.name == word), None)
         values = list(map(self.evaluated, operands))
-        if kind == "call" and callee is not None:
-            assert callee < self.functions.index(self.function), word
-            return TextRun(self.functions, callee, values, self.world).run()
-        asks = kind == "call" and self.function.asks(word)
-        return self.world.ask("asked", word, *values) if asks else term(word, *values)
+        if kind == "call" and word in self.program.names and word not in self.program.struct_names:
+            callee = self.program.callees.get(word, self.at)
+            assert callee < self.at, word
+            return TextRun(self.program, callee, values, self.world).run()
+        is_asked = kind == "call" and asks(word)
+        return self.world.ask("asked", word, *values) if is_asked else term(word, *values)
 
     def part(self, parts, base):
         """A word over a base, and over an index if it is computed."""
@@ -365,3 +444,8 @@ class TextRun:
         if kind == "target":
             return self.evaluated(parts[0])
         return term(*self.part(parts, self.place(parts[1])))
+
+
+def pointer_word(space, access, ty):
+    """The type of a pointer into a space."""
+    return f"ptr<{space}, {ty}{'' if access is None else ', ' + access}>"

@@ -4,8 +4,8 @@ import json
 import math
 import struct
 
-from enables import binding_form
-from spelling import ATOMIC, F32, F64, LOAD, SCALAR_KINDS, STORE
+from bindings import binding_form
+from spelling import ATOMIC, F32, F64, LOAD, SCALAR_KINDS, STORE, is_override
 from operators import LITERALS
 from words import COMPARING, MATH, OPERATIONS, words_of
 
@@ -30,6 +30,7 @@ COMPONENTS = "XYZW"
 QUERIES = ["Size", "NumLevels", "NumLayers", "NumSamples"]
 PREDECLARED = {"modf": "ModfResult", "frexp": "FrexpResult", "exchange": "AtomicCompareExchangeWeakResult"}
 EXTERNAL = {"params": "external_texture_params", "transfer": "external_texture_transfer_function"}
+COOPERATIVE = {8: "Eight", 16: "Sixteen"}
 RESULTS = {
     "atomic result": "AtomicResult", "uniform result": "WorkGroupUniformLoadResult",
     "subgroup result": "SubgroupOperationResult", "ballot result": "SubgroupBallotResult",
@@ -43,12 +44,16 @@ OPERANDS = {
     "load": ["pointer"], "unary": ["expr"], "binary": ["left", "right"], "select": ["reject", "accept", "condition"],
     "math": ["arg", "arg1", "arg2", "arg3"], "relational": ["argument"], "splat": ["value"], "swizzle": ["vector"],
     "access": ["base", "index"], "access index": ["base"], "conversion": ["expr"], "derivative": ["expr"],
-    "multiply add": ["a", "b", "c"]}
+    "multiply add": ["a", "b", "c"], "intersection": ["query"], "vertex positions": ["query"]}
 NAMES = {
     "load": "Load", "unary": "Unary", "binary": "Binary", "select": "Select", "math": "Math",
     "relational": "Relational", "splat": "Splat", "swizzle": "Swizzle", "access": "Access",
     "access index": "AccessIndex", "conversion": "As", "derivative": "Derivative",
-    "multiply add": "CooperativeMultiplyAdd"}
+    "multiply add": "CooperativeMultiplyAdd", "intersection": "RayQueryGetIntersection",
+    "vertex positions": "RayQueryVertexPositions"}
+LEAF_NAMES = {
+    "argument": "FunctionArgument", "local": "LocalVariable", "constant": "Constant", "override": "Override",
+    "global": "GlobalVariable"}
 
 
 def line_of(module, explicit):
@@ -60,7 +65,10 @@ class Serde:
     """The forms of a module, in which types are told by their places."""
 
     def __init__(self, module):
-        self.module, self.place_of = module, module.types.index
+        self.module, places = module, {}
+        for place, ty in enumerate(module.types):
+            places.setdefault(ty, place)
+        self.place_of = places.__getitem__
 
     def known(self):
         """The module, and what is known of it: the types of its expressions, as lists."""
@@ -70,12 +78,16 @@ class Serde:
             "module": {
                 "types": [{"name": label, "inner": self.inner(ty)} for label, ty in zip(module.labels, module.types)],
                 "special_types": {"predeclared_types": special, **external},
-                "constants": [{"name": None, "ty": self.place_of(ty), "init": init} for ty, init in module.constants],
+                "constants": list(map(item_form, module.constants)),
+                "overrides": [{**item_form(item), "id": item.number} for item in module.overrides],
+                "global_variables": list(map(variable_form, module.variables)),
                 "global_expressions": [self.expression(e) for e in module.own.expressions],
-                "functions": [self.function(f) for f in module.functions]},
+                "functions": [self.function(f, f.label) for f in module.functions],
+                "entry_points": list(map(self.entry_point, module.entry_points))},
             "info": {
-                "functions": [[self.resolution(e) for e in f.expressions] for f in module.functions],
-                "const_expression_types": [self.resolution(e) for e in module.own.expressions]}}
+                "functions": list(map(self.resolutions, module.functions)),
+                "entry_points": list(map(self.resolutions, module.entry_points)),
+                "const_expression_types": self.resolutions(module.own)}}
 
     def special(self):
         """The special types of functions by what gives them, and those of external images: of those for the same the
@@ -92,6 +104,9 @@ class Serde:
         return special, external
 
     # ---- types
+    def resolutions(self, f):
+        return [self.resolution(e) for e in f.expressions]
+
     def resolution(self, e):
         return self.place_of(e.type) if e.by_handle else {"Value": self.inner(e.type)}
 
@@ -104,10 +119,14 @@ class Serde:
         if kind == "matrix":
             columns, rows, scalar = rest
             return {"Matrix": {"columns": SIZES[columns], "rows": SIZES[rows], "scalar": scalar_form(scalar)}}
-        if kind == "array":
-            base, length, stride = rest
-            size = {"Constant": length} if length else "Dynamic"
-            return {"Array": {"base": self.place_of(base), "size": size, "stride": stride}}
+        if kind in ("array", "binding array"):
+            base, length, *stride = rest
+            form = {"base": self.place_of(base), "size": size_form(length)}
+            return {"Array": {**form, "stride": stride[0]}} if stride else {"BindingArray": form}
+        if kind == "cooperative":
+            columns, rows, scalar, role = rest
+            sizes = {"columns": COOPERATIVE[columns], "rows": COOPERATIVE[rows]}
+            return {"CooperativeMatrix": {**sizes, "scalar": scalar_form(scalar), "role": role}}
         if kind == "pointer":
             return {"Pointer": {"base": self.place_of(rest[0]), "space": space_form(rest[1])}}
         if kind == "value pointer":
@@ -119,10 +138,13 @@ class Serde:
             return {"Image": {"dim": DIMENSIONS[dimension], "arrayed": arrayed, "class": class_form(*image_class)}}
         if kind == "struct":
             members = [self.struct_member(ty, number, *each) for number, each in enumerate(rest[0])]
-            return {"Struct": {"members": members, "span": rest[1]}}
+            return {"Struct": {"members": members, "span": span_of(ty)}}
         if kind == "atomic":
             return {"Atomic": scalar_form(rest[0])}
-        return {"Sampler": {"comparison": rest[0]}} if kind == "sampler" else {"RayQuery": {"vertex_return": rest[0]}}
+        if kind == "sampler":
+            return {"Sampler": {"comparison": rest[0]}}
+        name = {"ray query": "RayQuery", "acceleration": "AccelerationStructure"}[kind]
+        return {name: {"vertex_return": rest[0]}}
 
     def struct_member(self, struct_type, number, label, ty):
         """A member; all stand at offset 0."""
@@ -130,23 +152,31 @@ class Serde:
         return {"name": label, "ty": self.place_of(ty), "binding": binding, "offset": 0}
 
     # ---- functions
-    def function(self, f):
+    def function(self, f, label):
         return {
-            "name": f.label,
-            "arguments": [{"name": label, "ty": self.place_of(ty), "binding": None} for label, ty in f.arguments],
-            "result": None if f.result is None else {"ty": self.place_of(f.result), "binding": None},
+            "name": label,
+            "arguments": [
+                {"name": label, "ty": self.place_of(ty), "binding": binding_form(f.bindings.get(number))}
+                for number, (label, ty) in enumerate(f.arguments)],
+            "result": None if f.result is None else {
+                "ty": self.place_of(f.result), "binding": binding_form(f.bindings.get("result"))},
             "local_variables": [
                 {"name": label, "ty": self.place_of(ty), "init": init} for label, ty, init in f.locals],
             "expressions": [self.expression(e) for e in f.expressions],
             "named_expressions": {str(h): label for h, label in f.labels.items()},
             "body": block_form(f.body)}
 
+    def entry_point(self, p):
+        return {
+            "name": p.label, "stage": p.stage, "workgroup_size": p.size, "function": self.function(p, p.inner_label),
+            "mesh_info": None if p.mesh is None else {"output_variable": p.mesh}, "task_payload": p.task,
+            "incoming_ray_payload": p.ray}
+
     def expression(self, e):
         if e.kind == "literal":
             return {"Literal": literal_form(*e.what)}
-        if e.kind in ("argument", "local", "constant"):
-            name = {"argument": "FunctionArgument", "local": "LocalVariable", "constant": "Constant"}[e.kind]
-            return {name: e.what[0]}
+        if e.kind in LEAF_NAMES:
+            return {LEAF_NAMES[e.kind]: e.what[0]}
         if e.kind == "zero":
             return {"ZeroValue": self.place_of(e.what[0])}
         if e.kind == "call result":
@@ -166,6 +196,12 @@ class Serde:
             return {"ImageLoad": image_load_form(e.what, list(e.operands))}
         if e.kind == "image query":
             return {"ImageQuery": query_form(e.what[0], *e.operands)}
+        if e.kind == "cooperative load":
+            columns, rows, role, by_rows = e.what
+            pointer, stride = e.operands
+            return {"CooperativeLoad": {
+                "columns": COOPERATIVE[columns], "rows": COOPERATIVE[rows], "role": role,
+                "data": {"pointer": pointer, "stride": stride, "row_major": by_rows}}}
         return {NAMES[e.kind]: {**what_form(e), **dict(zip(OPERANDS[e.kind], e.operands))}}
 
 
@@ -175,7 +211,31 @@ def scalar_form(scalar):
 
 
 def kind_form(kind):
-    return "AbstractInt" if kind == "abstract" else kind.capitalize()
+    return {"abstract": "AbstractInt", "abstract float": "AbstractFloat"}.get(kind, kind.capitalize())
+
+
+def size_form(length):
+    if is_override(length):
+        return {"Pending": length[1]}
+    return {"Constant": length} if length else "Dynamic"
+
+
+def span_of(struct_type):
+    """Structs whose numbers differ in the last two bits alone have one span."""
+    return struct_type[2] & ~3
+
+
+# ---- what is declared
+def item_form(item):
+    return {"name": item.label, "ty": item.place, "init": item.init}
+
+
+def variable_form(variable):
+    group, number = variable.binding or (None, None)
+    memory = " | ".join(word for bit, word in ((1, "COHERENT"), (2, "VOLATILE")) if variable.memory & bit)
+    return {
+        **item_form(variable), "space": space_form(variable.space), "memory_decorations": memory,
+        "binding": None if variable.binding is None else {"group": group, "binding": number}}
 
 
 def access_form(access):
@@ -199,8 +259,10 @@ def class_form(kind, *rest):
 
 def literal_form(number, value):
     scalar = LITERALS[number]
-    name = "Bool" if scalar[0] == "bool" else {"sint": "I", "uint": "U", "float": "F"}[scalar[0]] + str(8 * scalar[1])
-    if scalar in (F32, F64):
+    kind, width = scalar
+    letter = {"sint": "I", "uint": "U", "float": "F"}.get(kind)
+    name = kind_form(kind) if letter is None else letter + str(8 * width)
+    if scalar in (F32, F64) or kind == "abstract float":
         return {name: float_form(*("<I", "<f") if scalar == F32 else ("<Q", "<d"), value)}
     return {name: bool(value) if name == "Bool" else value}
 
@@ -233,7 +295,7 @@ def what_form(e):
         return {"kind": kind_form(SCALAR_KINDS[what[0]]), "convert": what[1] or None}
     if e.kind == "derivative":
         return {"axis": AXES[what[0]], "ctrl": CONTROLS[what[1]]}
-    return {}
+    return {"committed": what[0]} if e.kind in ("intersection", "vertex positions") else {}
 
 
 def sampling_form(how, operands):

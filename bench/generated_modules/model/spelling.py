@@ -2,18 +2,24 @@
 
 A scalar is its kind and its width in bytes. A type is a tuple that begins with what it is:
 
-    scalar S; vector SIZE S; matrix COLUMNS ROWS S; array BASE LENGTH STRIDE (no length: 0)
-    pointer BASE SPACE; value pointer SIZE S SPACE (to one scalar: 0)
-    image DIMENSION ARRAYED CLASS; sampler COMPARISON; ray query VERTICES; atomic S
-    struct MEMBERS SPAN
+    scalar S; vector SIZE S; matrix COLUMNS ROWS S; array BASE LENGTH STRIDE; binding array BASE LENGTH
+    pointer BASE SPACE; value pointer SIZE S SPACE (to one scalar: 0); cooperative COLUMNS ROWS S ROLE
+    image DIMENSION ARRAYED CLASS; sampler COMPARISON; ray query VERTICES; acceleration VERTICES; atomic S
+    struct MEMBERS NUMBER
 
-A space is its word and what may be done there, if it is `storage`: 1 load, 2 store, 4 atomics. A member of a struct is
-its label, or none, and its type; the spans tell the structs of one module apart.
+A length is a number, 0 where none is told, or `override N`. A space is its word and what may be done there, if it is
+`storage`: 1 load, 2 store, 4 atomics. A member of a struct is its label, or none, and its type; the numbers tell the
+structs of one module apart.
+
+The spelling of a struct is `#s` and its number, and that of an override `#o` and its number. Their names take the
+place of these in a text.
 """
+
+from functools import lru_cache
 
 from words import FORMATS
 
-SCALAR_KINDS = ["sint", "uint", "float", "bool", "abstract"]
+SCALAR_KINDS = ["sint", "uint", "float", "bool", "abstract", "abstract float"]
 BOOL, I32, U32, I64, U64, F32, F64 = [
     ("bool", 1), ("sint", 4), ("uint", 4), ("sint", 8), ("uint", 8), ("float", 4), ("float", 8)]
 # types of these need an extension
@@ -23,6 +29,8 @@ SCALARS = {BOOL: "bool", I32: "i32", U32: "u32", I64: "i64", U64: "u64", F32: "f
 INTEGERS = [("scalar", s) for s in (I16, U16, I32, U32, I64, U64)]
 DIMENSIONS = ["1d", "2d", "3d", "cube"]
 LOAD, STORE, ATOMIC = 1, 2, 4
+# types over one other type, which stands in front
+OVER_ONE = ("array", "binding array", "pointer")
 
 FUNCTION = ("function", 0)
 # the space of images and samplers, which has no word
@@ -32,6 +40,7 @@ SPACES = [
     ("task_payload", 0), ("ray_payload", 0), ("incoming_ray_payload", 0)]
 
 
+@lru_cache(10000)
 def spelled(ty):
     """A type's text, or none where it has no form."""
     kind = ty[0]
@@ -41,9 +50,8 @@ def spelled(ty):
         return with_word("vec{}<{}>", ty[1], SCALARS.get(ty[2]))
     if kind == "matrix":
         return with_word("mat{}x{}<{}>", ty[1], ty[2], SCALARS.get(ty[3]))
-    if kind == "array":
-        length = f", {ty[2]}" if ty[2] else ""
-        return with_word("array<{}{}>", spelled(ty[1]), length)
+    if kind in ("array", "binding array"):
+        return with_word("{}<{}{}>", kind.replace(" ", "_"), spelled(ty[1]), spelled_length(ty[2]))
     if kind == "pointer":
         return spelled_pointer(spelled(ty[1]), ty[2])
     if kind == "value pointer":
@@ -55,9 +63,22 @@ def spelled(ty):
     if kind == "atomic":
         return with_word("atomic<{}>", SCALARS.get(ty[1]))
     if kind == "struct":
-        # a word for itself alone, which comes into no text
-        return f"#{ty[2]}"
-    return "ray_query<vertex_return>" if ty[1] else "ray_query"
+        return f"#s{ty[2]}"
+    if kind == "cooperative":
+        return with_word("coop_mat{}x{}<{},{}>", ty[1], ty[2], SCALARS.get(ty[3]), ty[4])
+    word = {"ray query": "ray_query", "acceleration": "acceleration_structure"}[kind]
+    return word + "<vertex_return>" if ty[1] else word
+
+
+def spelled_length(length):
+    if is_override(length):
+        return f", #o{length[1]}"
+    return f", {length}" if length else ""
+
+
+def is_override(length):
+    """Whether a length is that of an override."""
+    return isinstance(length, tuple)
 
 
 def with_word(form, *parts):
@@ -132,11 +153,11 @@ def is_integer(ty):
 
 def lacking_scalar(ty):
     """The scalar without a word that a type is over, if it is over one."""
-    if ty[0] in ("array", "pointer"):
+    if ty[0] in OVER_ONE:
         return lacking_scalar(ty[1])
     scalar = scalar_of(ty)
-    if ty[0] == "value pointer":
-        scalar = ty[2]
+    if ty[0] in ("value pointer", "atomic", "cooperative"):
+        scalar = ty[{"value pointer": 2, "atomic": 1, "cooperative": 3}[ty[0]]]
     if ty[0] == "image" and ty[3][0] == "sampled":
         scalar = (ty[3][1], 4)
     return None if scalar in SCALARS else scalar
@@ -154,7 +175,7 @@ def value_part(ty, index):
         return ("scalar", ty[2])
     if ty[0] == "matrix":
         return ("vector", ty[2], ty[3])
-    return ty[1] if ty[0] == "array" else None
+    return ty[1] if ty[0] in ("array", "binding array") else None
 
 
 def whole_of(ty):
@@ -163,7 +184,7 @@ def whole_of(ty):
 
 
 def has_parts(ty):
-    return whole_of(ty)[0] in ("vector", "matrix", "array", "struct")
+    return whole_of(ty)[0] in ("vector", "matrix", "array", "binding array", "struct")
 
 
 def part_of(ty, index=None):
@@ -188,15 +209,23 @@ def count_of_parts(ty):
     whole = whole_of(ty)
     if whole[0] == "struct":
         return len(whole[1])
-    return whole[2] or None if whole[0] == "array" else whole[1]
+    if whole[0] in ("array", "binding array"):
+        return None if is_override(whole[2]) else whole[2] or None
+    return whole[1]
 
 
 def bases_of(ty):
     """The types that a type is made of, which stand in its module in front of it."""
     if ty[0] == "struct":
         return [member for _, member in ty[1]]
-    return [ty[1]] if ty[0] in ("array", "pointer") else []
+    return [ty[1]] if ty[0] in OVER_ONE else []
 
 
+def override_of(ty):
+    """The override that tells a type's length, if one does."""
+    return ty[2][1] if ty[0] in ("array", "binding array") and is_override(ty[2]) else None
+
+
+@lru_cache(10000)
 def has_pointer_to_handle(ty):
     return (ty[0] == "pointer" and ty[2] == HANDLE) or any(has_pointer_to_handle(base) for base in bases_of(ty))

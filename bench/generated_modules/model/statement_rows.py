@@ -3,10 +3,12 @@
 from acceptance import is_accepted
 from modules import Expression, Statement, branch, emit, loop, returns, store, switch
 from rows import ADD, INT, TRUTH, binary, function, literal, load, local, module_of, of_module
+from reading_programs import Program
+from refusals import OUT_OF_SCOPE, refusal
 from runs import module_runs, text_runs
-from spelling import ATOMIC, BOOL, FUNCTION, I32, LOAD, STORE, U32, pointer_to
+from spelling import ATOMIC, FUNCTION, LOAD, STORE, U32, pointer_to
+from texts import answers_of
 from words import ATOMICS, BARRIERS, COLLECTIVES, FORMATS, GATHERS, OPERATIONS
-from writer import OUT_OF_SCOPE, answers_of, refusal
 
 WHOLE, CELL = ("scalar", U32), ("atomic", U32)
 WORKGROUP = ("workgroup", 0)
@@ -370,20 +372,20 @@ OTHERS = [
      "    workgroupBarrier();\n    storageBarrier();\n", False)]
 
 
-def runs_of(texts):
+def runs_of(text):
     try:
-        return [text_runs(texts, at, MANY) for at in range(len(texts))]
+        program = Program(text)
+        return [text_runs(program, at, MANY) for at in range(len(program.bodies()))]
     except (AssertionError, IndexError, KeyError, TypeError, ValueError) as error:
         return f"no reading: {error!r}"
 
 
-def texts_in(text):
-    return ["fn " + part for part in text.removeprefix("fn ").split("\n}\n\nfn ")]
+def meant_by(module):
+    return [module_runs(module, f, MANY) for f in module.bodies()]
 
 
 def check_runs(module, text):
-    meant = [module_runs(f, MANY) for f in module.functions]
-    told = runs_of(texts_in(text))
+    meant, told = meant_by(module), runs_of(text)
     assert told == meant, (text, told, meant)
 
 
@@ -393,8 +395,7 @@ def check_others():
         module = module_of(functions)
         text, = answers_of(module, False)[1]
         assert text.count(old) == 1, (text, old)
-        meant = [module_runs(f, MANY) for f in module.functions]
-        assert (runs_of(texts_in(text.replace(old, new))) == meant) == is_same, (text, new)
+        assert (runs_of(text.replace(old, new)) == meant_by(module)) == is_same, (text, new)
 
 
 def check_statement_rows():

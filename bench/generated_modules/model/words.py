@@ -75,6 +75,7 @@ UNARY = ["-", "!", "~"]
 MATH = [
     ("abs", 1), ("min", 2), ("clamp", 3), ("insertBits", 4), ("dot", 2), ("fma", 3), ("smoothstep", 3),
     ("Outer", 2), ("Inverse", 1), ("modf", 1), ("frexp", 1)]
+MATH += [(word, 2 if word.startswith("pack") else 1) for word in MATH_WORDS if word not in dict(MATH)]
 RELATIONAL = ["all", "any", "IsNan", "IsInf"]
 AXES = ["dpdx", "dpdy", "fwidth"]
 CONTROLS = ["", "Coarse", "Fine"]
@@ -106,4 +107,19 @@ ASKING = {
     "textureSampleBaseClampToEdge", "atomicLoad", "atomicStore", *(f"atomic{word}" for word in ATOMICS),
     *(f"textureAtomic{word}" for word in ATOMICS[:COMPARING]), *(word for word, _ in GATHERS), *BARRIERS,
     *words_of("subgroup{All,Any,Add,Mul,Max,Min,And,Or,Xor} subgroup{Exclusive,Inclusive}{Add,Mul} subgroupBallot"),
-    *words_of("textureStore workgroupUniformLoad coopStore coopStoreT traceRay")}
+    *words_of("textureStore workgroupUniformLoad coopStore coopStoreT coopLoad coopLoadT traceRay")}
+
+# what the hardware tells and is told, with its word or none, where it isn't the name in small letters
+BUILTIN_NAMES = words_of("""
+Position Barycentric ViewIndex InstanceIndex VertexIndex ClipDistances FragDepth FrontFacing PrimitiveIndex DrawIndex
+SampleIndex SampleMask GlobalInvocationId LocalInvocationId LocalInvocationIndex WorkGroupId NumWorkGroups NumSubgroups
+SubgroupId SubgroupSize SubgroupInvocationId MeshTaskSize TriangleIndices LineIndices PointIndex Vertices Primitives
+VertexCount PrimitiveCount CullPrimitive RayInvocationId NumRayInvocations InstanceCustomData GeometryIndex
+WorldRayOrigin WorldRayDirection ObjectRayOrigin ObjectRayDirection RayTmin RayTCurrentMax ObjectToWorld WorldToObject
+HitKind BaseInstance BaseVertex CullDistance PointSize PointCoord WorkGroupSize
+""")
+BUILTIN_WORDS = {
+    "WorkGroupId": "workgroup_id", "NumWorkGroups": "num_workgroups", "RayTmin": "ray_t_min",
+    **dict.fromkeys(BUILTIN_NAMES[-6:])}
+INTERPOLATIONS = words_of("Perspective Linear Flat PerVertex")
+SAMPLINGS = words_of("Center Centroid Sample First Either")

@@ -1,19 +1,12 @@
-"""Scope, texts, and the constructs for which a module is refused."""
+"""Scope, and the texts of functions, in which structs and overrides stand by their numbers."""
 
-from enables import enables_text
-from modules import EVENTS, IMAGES, LEAVES, PARTS, READS, RESULTS, holds_continue, statements_in
-from naming import names_of
-from operators import (
-    act_word, barrier_words, conversion_word, literal_text, numbers_around, offset_of, wanted_scalar, word_of)
-from spelling import (
-    has_parts, lacking_scalar, points, points_to_atomic, scalar_of, spelled, whole_of)
-from words import MATH, MEMBERS, RELATIONAL
+from bindings import attributes
+from modules import CONSTANTS, EVENTS, IMAGES, LEAVES, PARTS, READS, RESULTS, holds_continue, statements_in
+from operators import act_word, barrier_words, literal_text, numbers_around, offset_of, word_of
+from spelling import HANDLE, has_parts, points, points_to_atomic, spelled
 
-NOT_YET_WRITTEN = "not yet written"
-OUT_OF_SCOPE = "operand out of scope"
-UNDECLARED = "predeclared struct"
-# what an offset may be made of
-CONSTANTS = ("literal", "zero", "constant", "compose", "splat")
+# what initialisers and offsets may be made of
+WRITTEN_OUT = (*CONSTANTS, "compose", "splat")
 
 
 class Refused(Exception):
@@ -52,57 +45,13 @@ def is_partless(f, e):
     return e.kind in PARTS and not has_parts(f.type_of(e.operands[0]))
 
 
-def is_other_member(f, e):
-    """Whether the expression is a member of a struct that no text declares, for which WGSL has no word."""
-    if e.kind != "access index":
-        return False
-    whole = whole_of(f.type_of(e.operands[0]))
-    is_member = whole[0] == "struct" and f.module.names_undeclared(whole)
-    return is_member and word_of(f, e).removeprefix(".") not in MEMBERS
-
-
 def constants_of(f):
-    """Whether each expression is a tree of operators over literals, zero values and constants."""
+    """Whether each expression is a tree of operators over literals, zero values, constants and overrides."""
     constants = []
     for e in f.expressions:
         is_operator = e.kind not in (*LEAVES, *EVENTS, *RESULTS)
-        is_leaf = e.kind in ("literal", "zero", "constant")
-        constants.append(is_leaf or (is_operator and all(constants[h] for h in e.operands)))
+        constants.append(e.kind in CONSTANTS or (is_operator and all(constants[h] for h in e.operands)))
     return constants
-
-
-# ---- what stands in a module for which it is refused
-def refusal(name):
-    return f"refused: {name}\n"
-
-
-def answers_of(module, explicit):
-    """Whether the module is written, and its text; or all that may be told of it, since which of the constructs that
-    stand in it is told is open. Functions in front of the first one that is refused stand in front of the refusal."""
-    answers = set()
-    if not is_of_part(module):
-        answers.add(refusal(NOT_YET_WRITTEN))
-    names, namer = names_of(module)
-    text = enables_text(module)
-    for f, own in zip(module.functions, names):
-        standing = {formless(f, h) for h in written_of(f)}
-        standing |= {formless_type(module, ty) for ty in spelled_by(f, explicit)}
-        standing |= set(map(formless_statement, statements_in(f.body)))
-        standing.discard(None)
-        try:
-            own_text = Writer(f, own, namer, explicit).write()
-        except Refused:
-            standing.add(OUT_OF_SCOPE)
-        if standing:
-            return False, answers | {text + refusal(name) for name in standing}
-        text += own_text
-    return not answers, answers or {text}
-
-
-def is_of_part(module):
-    """No type is a struct, but for those that no text declares."""
-    structs = [ty for ty in module.types if ty[0] == "struct"]
-    return all(map(module.names_undeclared, structs))
 
 
 def written_of(f):
@@ -118,120 +67,36 @@ def written_of(f):
     return written
 
 
-def spelled_by(f, explicit):
-    """The types of arguments, the result and locals, and those that `let`s tell, if a text can."""
-    uses = uses_of(f)
-    statements = list(statements_in(f.body)) if explicit else []
-    told = [f.type_of(h) for s in statements for h in emitted_by(s) if binds(f, h, uses)]
-    told += [f.type_of(s.result) for s in statements if s.result is not None]
-    told = [ty for ty in told if not f.module.names_undeclared(ty)]
-    declared = [ty for _, ty in f.arguments] + [ty for _, ty, _ in f.locals]
-    return declared + [f.result] * (f.result is not None) + told
-
-
-def formless_statement(s):
-    """How a statement without a form is named."""
-    if s.kind == "ray query":
-        return "ray query"
-    if s.kind == "collective" and act_word(s) is None:
-        return "subgroup operation"
-    if s.kind == "image atomic" and act_word(s) is None:
-        return "image compare exchange"
-    if s.kind == "switch" and any(falls and body for (_, falls), body in zip(s.what, s.blocks)):
-        return "fall-through switch case block"
-    return None
-
-
-def formless_type(module, ty):
-    """How a type without a form is named, or one that names a struct which no text declares."""
-    if module.names_undeclared(ty):
-        return UNDECLARED
-    if spelled(ty) is not None:
-        return None
-    scalar = lacking_scalar(ty)
-    return "type without a WGSL form" if scalar is None else formless_scalar(scalar)
-
-
-def formless_scalar(scalar):
-    kind, width = scalar
-    named = {"abstract": "AbstractInt"}.get(kind, kind.capitalize())
-    return f"Unsupported scalar type: Scalar {{ kind: {named}, width: {width} }}"
-
-
-def formless(f, h):
-    """How an expression without a form is named."""
-    e = f.expressions[h]
-    if e.kind == "literal" and literal_text(*e.what).startswith(" "):
-        return "float literal"
-    if e.kind == "math" and word_of(f, e) is None:
-        return "Unsupported math function: " + MATH[e.what[0]][0]
-    if e.kind == "relational" and word_of(f, e) is None:
-        return "Unsupported relational function: " + RELATIONAL[e.what[0]]
-    if e.kind in ("zero", "compose"):
-        return formless_type(f.module, e.type)
-    if e.kind == "constant":
-        return formless_own(f.module, f.module.constants[e.what[0]][1])
-    if is_partless(f, e):
-        return "cannot index"
-    if is_other_member(f, e):
-        return UNDECLARED
-    if e.kind == "conversion":
-        return formless_conversion(f.type_of(e.operands[0]), e.what)
-    if e.kind == "sample":
-        return formless_sampling(f, e)
-    if e.kind == "image load" and e.what[1] and e.what[2]:
-        return "image load with sample and level"
-    return None
-
-
-def formless_own(module, h):
-    """How one of the module's own expressions without a form is named, by the first of its parts that has none."""
-    e = module.own.expressions[h]
-    if e.kind not in CONSTANTS:
-        return "operator in a constant"
-    own = formless(module.own, h)
-    parts = [formless_own(module, k) for k in e.operands]
-    return next((name for name in parts if name is not None), own)
-
-
-def own_text(module, h):
+def own_text(module, names, h):
     """One of the module's own expressions, written out; one without a form is told elsewhere."""
     e = module.own.expressions[h]
     if e.kind == "literal":
         return literal_text(*e.what)
     if e.kind == "constant":
-        return own_text(module, module.constants[e.what[0]][1])
-    return f"{word_of(module.own, e)}({', '.join(own_text(module, k) for k in e.operands)})"
+        return constant_text(module, names, e.what[0])
+    if e.kind == "override":
+        return names.overrides[e.what[0]]
+    return f"{word_of(module.own, e)}({', '.join(own_text(module, names, k) for k in e.operands)})"
 
 
-def formless_conversion(ty, what):
-    if scalar_of(ty) is None:
-        return "conversion of this type"
-    if conversion_word(ty, what) is not None:
-        return None
-    return formless_scalar(wanted_scalar(ty, what))
-
-
-def formless_sampling(f, e):
-    how = e.what[0]
-    if how.gather is not None:
-        if how.level not in ("auto", "zero") or how.clamp:
-            return "sampling form"
-    elif how.clamp and (how.level != "zero" or how.depth):
-        return "sampling form"
-    offset = offset_of(e)
-    return None if offset is None or is_constant_text(f, offset) else "operator in a constant"
+def constant_text(module, names, number):
+    """The name of a constant, or its initialiser if it has none."""
+    constant = module.constants[number]
+    return own_text(module, names, constant.init) if constant.label is None else names.constants[number]
 
 
 def is_constant_text(f, h):
     e = f.expressions[h]
-    return e.kind in CONSTANTS and all(is_constant_text(f, k) for k in e.operands)
+    return e.kind in WRITTEN_OUT and all(is_constant_text(f, k) for k in e.operands)
 
 
 # ---- the text of a function
 class Writer:
-    def __init__(self, f, names, namer, explicit):
-        self.f, self.names, self.namer, self.explicit = f, names, namer, explicit
+    """Writes a function under its module's names; the namer goes on behind the labels of front ends."""
+
+    def __init__(self, f, names, explicit):
+        self.f, self.module_names, self.explicit = f, names, explicit
+        self.names = names.bodies[f.module.number_of(f)]
         self.uses = uses_of(f)
         self.constants = constants_of(f)
         # where what was given stands, in this block and those around it: a `let`'s name, written where it is used, or
@@ -268,7 +133,7 @@ class Writer:
             if not is_ready:
                 raise Refused
             text = self.value(h)
-            name = self.namer.name(self.f.labels[h]) if h in self.f.labels else f"_e{h}"
+            name = self.module_names.namer.name(self.f.labels[h]) if h in self.f.labels else f"_e{h}"
             self.let(h, name, text)
         elif e.kind in READS:
             # it stays as it was, so that it may be emitted again
@@ -294,10 +159,12 @@ class Writer:
         return h
 
     def is_reference(self, h):
-        """A local, or a part through a pointer, that has no name of its own."""
+        """A local, a variable at a place, or a part through a pointer, that has no name of its own."""
         e = self.f.expressions[h]
         if h in self.bound:
             return False
+        if e.kind == "global":
+            return self.f.module.variables[e.what[0]].space != HANDLE
         return e.kind == "local" or (e.kind in PARTS and points(self.f.type_of(e.operands[0])))
 
     def value(self, h):
@@ -327,7 +194,11 @@ class Writer:
         if e.kind == "local":
             return self.names.locals[e.what[0]]
         if e.kind == "constant":
-            return own_text(self.f.module, self.f.module.constants[e.what[0]][1])
+            return constant_text(self.f.module, self.module_names, e.what[0])
+        if e.kind == "override":
+            return self.module_names.overrides[e.what[0]]
+        if e.kind == "global":
+            return self.module_names.variables[e.what[0]]
         if e.kind == "load":
             p = e.operands[0]
             if points_to_atomic(self.f.type_of(p)):
@@ -368,14 +239,16 @@ class Writer:
     def constant(self, h):
         """A constant, written out whether it has a name or not."""
         e = self.f.expressions[h]
-        if e.kind in ("literal", "constant"):
+        if e.kind in ("literal", "constant", "override"):
             return self.plain(h)
         return f"{word_of(self.f, e)}({', '.join(map(self.constant, e.operands))})"
 
     def write(self):
         f = self.f
-        head = ", ".join(f"{x}: {spelled(ty)}" for x, (_, ty) in zip(self.names.arguments, f.arguments))
-        arrow = f" -> {spelled(f.result)}" if f.result is not None else ""
+        passed = [attributes(f.bindings.get(number)) for number in range(len(f.arguments))]
+        arguments = zip(passed, self.names.arguments, f.arguments)
+        head = ", ".join(f"{bound}{name}: {spelled(ty)}" for bound, name, (_, ty) in arguments)
+        arrow = f" -> {attributes(f.bindings.get('result'))}{spelled(f.result)}" if f.result is not None else ""
         self.line(f"fn {self.names.function}({head}){arrow} {{")
         self.level += 1
         for number, (_, ty, init) in enumerate(f.locals):
@@ -384,7 +257,7 @@ class Writer:
         if f.locals:
             self.lines.append("")
         self.block(f.body)
-        return "\n".join(self.lines) + "\n}\n\n"
+        return "\n".join(self.lines) + "\n}\n"
 
     def first_value(self, number, h):
         """A first value of the local of this number, which names no local but those before it."""
@@ -437,7 +310,7 @@ class Writer:
         """A call of a function or of a word of WGSL; one that has none is told elsewhere."""
         word = "atomicStore" if s.kind == "store" else act_word(s)
         if s.kind == "call":
-            word = self.names.functions[s.what[0]]
+            word = self.module_names.bodies[s.what[0]].function
         text = f"{word}({', '.join(map(self.operand, s.operands))})"
         if s.result is None:
             self.line(text + ";")
