@@ -1,7 +1,6 @@
 -- What a search through a module's declarations says of them.
 use Rattle.std.proofs.Common.{◌≡◌, ℕ, ◌+◌, ◌-◌, ◌<◌, ◌≤◌, Bool, true, false, Option, Some, None, refl, sym, ap, ◌∙◌, subst}
-use Rattle.std.proofs.Common.{length, slice_get, nat_lt, arith}
-use Rattle.std.proofs.Common.{List, Vec, Global, MatchOption, not}
+use Rattle.std.proofs.Common.{List, length, slice_get, nat_lt, arith, not, MatchOption, Vec, Global}
 use Rattle.std.specs.Prelude.{IfNone, IfSome, IsTrue, if◌then◌else◌}
 use Rattle.std.proofs.lemmas.Bool.{le-ltb, lt-ltb}
 use Rattle.std.proofs.lemmas.Option.{slice_get_within}

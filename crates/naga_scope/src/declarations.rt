@@ -1,7 +1,6 @@
 //! Which declaration of a module no text has a form for.
 
-ghost use Rattle.std.specs.Prelude.{◌≡◌, IfNone, IfSome, IsFalse, IsTrue, MatchOption};
-ghost use Rattle.std.specs.Option.{is_none};
+ghost use Rattle.std.specs.Prelude.{◌≡◌, IfNone, IfSome, MatchOption};
 ghost use Rattle.module_meaning.specs.DeclarationForms.{DeclarationsHaveForms, HeadHasForm};
 ghost use Rattle.module_meaning.specs.DeclarationForms.{stage_has_form};
 ghost use Rattle.module_meaning.specs.FunctionNumbers.{IsFunctionOf, function_number};

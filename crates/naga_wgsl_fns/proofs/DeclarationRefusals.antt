@@ -6,7 +6,7 @@ use Rattle.std.proofs.lemmas.Bool.{and_parts, ltb-true}
 use Rattle.module_meaning.proofs.Lists.{list_all_at}
 use Rattle.module_meaning.specs.Accepted.{is_accepted}
 use Rattle.module_meaning.specs.DeclarationForms.{IsInitialiser}
-use Rattle.module_meaning.specs.DeclarationForms.IsInitialiser as initialiser
+use Rattle.module_meaning.specs.DeclarationForms.IsInitialiser.{OfConstant, OfOverride, OfVariable}
 use Rattle.module_meaning.specs.InfoSizes.{sizes_fit, type_is_fit}
 use Rattle.module_meaning.specs.Ranges.{constant_in_range, declarations_in_range, global_in_range}
 use Rattle.module_meaning.specs.Ranges.{is_below, module_in_range, module_ranges_fit}
@@ -48,12 +48,12 @@ module _ (m : Module) (info : ModuleInfo) (accepted : IsTrue (is_accepted m info
       (four.0, five.0)
 
   pub initialiser_there : (h : ℕ) → IsInitialiser m h → h < length m.global_expressions
-  initialiser_there _ (initialiser.OfConstant i k at named) = initialiser_within m info accepted i k at
-  initialiser_there h (initialiser.OfOverride i o _ at is) =
+  initialiser_there _ (OfConstant i k at named) = initialiser_within m info accepted i k at
+  initialiser_there h (OfOverride i o _ at is) =
       let one = and_parts (nat_lt o.ty types) _ (list_all_at (override_in_range types own) m.overrides i o parts.0 at) in
       let two = and_parts (is_below own o.init) _ one.1 in
       there own o.init h is two.0
-  initialiser_there h (initialiser.OfVariable i g _ at is) =
+  initialiser_there h (OfVariable i g _ at is) =
       let one = and_parts (nat_lt g.ty types) _ (list_all_at (global_in_range types own) m.global_variables i g parts.1 at) in
       let two = and_parts (is_below own g.init) _ one.1 in
       there own g.init h is two.0
