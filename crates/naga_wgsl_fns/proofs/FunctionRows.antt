@@ -68,7 +68,7 @@ use Rattle.naga_wgsl_fns.specs.Functions.{item_text, stage_before, text_of, text
 use Rattle.naga_wgsl_fns.specs.Attributes.{attributes_text}
 use Rattle.naga_wgsl_fns.specs.Stages.{stage_text}
 use Rattle.naga_form.specs.Attributes.{passing_attributes}
-use Rattle.naga_form.proofs.DeclaredPrograms.{entry_point_there}
+use Rattle.naga_form.proofs.WrittenFunctions.{entry_point_at}
 use Rattle.naga_back.specs.declared.context.FunctionType.TheVariants as item
 use Rattle.naga_ir.specs.declared.module.EntryPoint.{EntryPoint}
 use Rattle.module_meaning.specs.FunctionNumbers.{function_number}
@@ -342,7 +342,7 @@ pub point_there : (f : FunctionText) → CanWrite f → (j : ℕ) → f.ty ≡ i
 point_there f can j is p at =
     let m = f.shader.now in
     ap (λ ty. entry_point_numbered m (function_number m ty)) is
-    ∙ (entry_point_there m f.module_info.now can.accepted j ∙ at)
+    ∙ (entry_point_at m j ∙ at)
 
 pub stage_row : (f : FunctionText) → CanWrite f → (j : ℕ) → f.ty ≡ item.EntryPoint j →
     (p : EntryPoint) → slice_get f.shader.now.entry_points.items j ≡ Some p →

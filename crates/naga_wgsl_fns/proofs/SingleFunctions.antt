@@ -20,7 +20,8 @@ use Rattle.module_meaning.specs.DeclarationForms.{HeadHasForm, entry_point_numbe
 use Rattle.module_meaning.specs.FunctionNumbers.{IsFunctionOf, all_functions, all_infos}
 use Rattle.module_meaning.specs.FunctionNumbers.{function_number}
 use Rattle.naga_form.proofs.AcceptedFunctions.{all_counted}
-use Rattle.naga_form.proofs.DeclaredPrograms.{entry_point_there, stage_written}
+use Rattle.naga_form.proofs.DeclaredPrograms.{stage_written}
+use Rattle.naga_form.proofs.WrittenFunctions.{entry_point_at}
 use Rattle.naga_form.proofs.ExpressionNames.{apart_there}
 use Rattle.naga_form.proofs.Names.{is_identifier}
 use Rattle.naga_form.proofs.Programs.{one_is}
@@ -151,7 +152,7 @@ module _ (m : Module) (info : ModuleInfo) (flags : WriterFlags) (earlier : List 
       let form = form_at (length m.functions + j) p.function in
       text_at (length m.functions + j) p.function (entry_point_among m j p at)
       ∙ (ap (λ o. option_map_or (stage_text m) o [] ++ function_layout form)
-      (entry_point_there m info accepted j ∙ at)
+      (entry_point_at m j ∙ at)
       ∙ sym (point_layout m p form))
 
   -- the function is one of the grammar
@@ -174,7 +175,7 @@ module _ (m : Module) (info : ModuleInfo) (flags : WriterFlags) (earlier : List 
       (point_at j p)
   point_reading j is head p at =
       let stage =
-      stage_written m info accepted j p at (head.stage p (entry_point_there m info accepted j ∙ at)) in
+      stage_written m info accepted j p at (head.stage p (entry_point_at m j ∙ at)) in
       subst (λ t. HasOneReading ReadsEntryPoint t (point_at j p)) (sym (point_text_is j p at))
       (entry_point_has_one_reading (point_at j p) (record {
         attributes = stage.0;

@@ -28,12 +28,7 @@ pub struct ModuleText<'a> {
 
 impl ModuleText<'_> {
     /// The type with this handle.
-    pub fn write_type<W: TextSink>(
-        &self,
-        alloc: Global,
-        ty: Handle<Type_>,
-        out: &mut Output<'_, W>,
-    )
+    pub fn write_type<W: TextSink>(&self, alloc: Global, ty: Handle<Type_>, out: &mut Output<'_, W>)
         requires can { CanWriteIn self.now }
         requires formed { IsTrue (is_spelled self.now.shader.now.types (resolution.Handle ty)) }
         ensures { Writes W.text W.failures out.old out.new (spelled_text self.now.shader.now ty) }

@@ -3,9 +3,9 @@
 -- Throughout, m is a module, and h the handle of a constant c or of an override o of it.
 use Rattle.std.proofs.Common.{◌≡◌, ◌∙◌, ◌++◌, ℕ, Bool, true, false, List, [], ◌∷◌, append_assoc, ap}
 use Rattle.std.proofs.Common.{◌+◌, ◌==◌, codes, length, map, refl, slice_get, sym}
-use Rattle.std.specs.List.{cons_option, enumerate_from, filter_map, list_any}
-use Rattle.std.specs.Option.{is_some, option_to_list}
-use Rattle.std.specs.Prelude.{◌||◌, IsTrue, None, Option, Some, if◌then◌else◌, not}
+use Rattle.std.specs.List.{cons_option, enumerate_from, filter_map, list_all}
+use Rattle.std.specs.Option.{is_none, is_some, option_to_list}
+use Rattle.std.specs.Prelude.{◌&&◌, IsTrue, None, Option, Some, if◌then◌else◌}
 use Rattle.std.proofs.lemmas.List.{append-nil}
 use Rattle.std.proofs.lemmas.Option.{slice_get_within}
 use Rattle.naga_info.specs.declared.info.TypeResolution.TheVariants.{Handle}
@@ -73,26 +73,26 @@ pub constants_are : (m : Module) →
     texts_of (λ p. maybe_constant_text m p.0 p.1) (enumerate_from 0 m.constants)
 constants_are m = constants_left m (enumerate_from 0 m.constants)
 
--- the empty line, if some constant has a name
+-- the empty line, unless no constant has a name
 end_left : (m : Module) (n : ℕ) (constants : List Constant) →
-    group_end_text (not (list_any (λ c. is_some c.name) constants)) ≡
+    group_end_text (list_all (λ c. is_none c.name) constants) ≡
     text (group_end (filter_map (constant_at m) (enumerate_from n constants)))
 unfolding group_end_text
 end_left m n [] = refl
-end_left m n (c ∷ constants) = by (is_some c.name)
+end_left m n (c ∷ constants) = by c.name
   where
     more : List NamedConstant
     more = filter_map (constant_at m) (enumerate_from (n + 1) constants)
 
-    by : (named : Bool) →
-        group_end_text (not (named || list_any (λ c. is_some c.name) constants)) ≡
-        text (group_end (cons_option (if named then Some (named_form m n c) else None) more))
-    by true = refl
-    by false = end_left m (n + 1) constants
+    by : {X : Type 0} (name : Option X) →
+        group_end_text (is_none name && list_all (λ c. is_none c.name) constants) ≡
+        text (group_end (cons_option (if is_some name then Some (named_form m n c) else None) more))
+    by (Some name) = refl
+    by None = end_left m (n + 1) constants
 
 pub constants_row : (m : Module) →
     joined_texts (text (constants_pieces (constants_of m)))
-    (group_end_text (not (list_any (λ c. is_some c.name) m.constants))) ≡ constants_text m
+    (group_end_text (list_all (λ c. is_none c.name) m.constants)) ≡ constants_text m
 unfolding constants_text joined_texts
 constants_row m = ap (λ t. text (constants_pieces (constants_of m)) ++ t) (end_left m 0 m.constants)
 

@@ -62,7 +62,7 @@ use Rattle.naga_wgsl_out.proofs.ExpressionNames.{named_plan, none_full}
 use Rattle.naga_wgsl_fns.proofs.PlanRefusals.{fault_fails}
 use Rattle.naga_wgsl_out.proofs.ModuleScopes.{has_plan_holds}
 use Rattle.module_meaning.proofs.FunctionNumbers.{info_among, type_of_entry_point, type_of_function}
-use Rattle.naga_form.proofs.DeclaredPrograms.{entry_point_there}
+use Rattle.naga_form.proofs.WrittenFunctions.{entry_point_at}
 use Rattle.naga_wgsl_fns.proofs.FunctionRows.{no_entry_point}
 use Rattle.naga_names.proofs.Refusal.{run_out_unfit}
 use Rattle.naga_wgsl_out.specs.ModuleRefusals.{KeyIsOutOfRange}
@@ -102,7 +102,7 @@ module _ (m : Module) (info : ModuleInfo) (flags : WriterFlags)
       ++ line_behind m (item.EntryPoint j)
   entry_point_line j p at =
       lines_are (length m.functions + j) p.function (item.EntryPoint j) (Some p)
-      (type_of_entry_point m j) (entry_point_there m info accepted j ∙ at)
+      (type_of_entry_point m j) (entry_point_at m j ∙ at)
 
   functions_text : (g : ℕ) (fs : List Function) (ess : List (List ExpressionInfo)) →
       g + length fs ≤ length m.functions → length fs ≡ length ess →

@@ -1,8 +1,8 @@
 //! The constants that have names, and the overrides.
 
 ghost use Rattle.std.specs.Prelude.{◌≡◌, IsTrue, Some, slice_get};
-ghost use Rattle.std.specs.List.{list_any};
-ghost use Rattle.std.specs.Option.{is_some};
+ghost use Rattle.std.specs.List.{list_all};
+ghost use Rattle.std.specs.Option.{is_none, is_some};
 ghost use Rattle.naga_form.specs.Attributes.{id_attributes};
 ghost use Rattle.naga_words.specs.Output.{Writes};
 ghost use Rattle.naga_wgsl_fns.specs.Attributes.{attributes_text};
@@ -31,19 +31,19 @@ pub(crate) fn write_constants<W: TextSink>(
     for (handle, constant) in text.shader.constants.iter() {
         write_if_named(alloc, text, handle, constant, out);
     }
-    write_group_end(!has_named(&text.shader.constants), out);
+    write_group_end(are_unnamed(&text.shader.constants), out);
 }
 
-/// Whether a constant has a name.
-fn has_named(constants: &Arena<Constant>) -> bool
-    ensures { result ≡ list_any (λ c. is_some c.name) constants.now }
+/// Whether no constant has a name.
+fn are_unnamed(constants: &Arena<Constant>) -> bool
+    ensures { result ≡ list_all (λ c. is_none c.name) constants.now }
 {
     for (_, constant) in constants.iter() {
         if constant.name.is_some() {
-            return true;
+            return false;
         }
     }
-    false
+    true
 }
 
 /// A constant, if it has a name.

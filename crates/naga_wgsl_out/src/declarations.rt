@@ -71,7 +71,7 @@ fn write_all<W: TextSink>(alloc: Global, text: &ModuleText<'_>, out: &mut Output
 }
 
 /// The name of an item, and behind a colon its type.
-#[tactic(auto, using(naga_words::proofs::Writing::writes_then, crate::proofs::DeclarationRows::typed_row))]
+#[tactic(auto, using(naga_words::proofs::Writing::writes_then, crate::proofs::ItemRows::typed_row))]
 pub(crate) fn write_typed<W: TextSink>(
     alloc: Global,
     text: &ModuleText<'_>,
@@ -91,7 +91,7 @@ pub(crate) fn write_typed<W: TextSink>(
 }
 
 /// What stands behind the type of an override or of a variable.
-#[tactic(auto, using(crate::proofs::DeclarationRows::no_value_row))]
+#[tactic(auto, using(crate::proofs::ItemRows::no_value_row))]
 pub(crate) fn write_value<W: TextSink>(
     alloc: Global,
     text: &ModuleText<'_>,
@@ -110,7 +110,7 @@ pub(crate) fn write_value<W: TextSink>(
 }
 
 /// A value, and the end of its line.
-#[tactic(auto, using(naga_words::proofs::Writing::writes_then, crate::proofs::DeclarationRows::first_value_row))]
+#[tactic(auto, using(naga_words::proofs::Writing::writes_then, crate::proofs::ItemRows::first_value_row))]
 pub(crate) fn write_first_value<W: TextSink>(
     alloc: Global,
     text: &ModuleText<'_>,

@@ -1,5 +1,4 @@
 use Rattle.std.proofs.Common.{◌∙◌, ap}
-use Rattle.std.specs.Prelude.{not}
 use Rattle.naga_words.proofs.Writing.{writes_as, writes_then}
 use Rattle.naga_wgsl_fns.specs.Functions.{group_end_text}
 use Rattle.naga_wgsl_out.proofs.ArenaLoops.{at_first, at_last, at_next, is_there}
@@ -24,4 +23,4 @@ pub returns : goal.returns
 returns g c =
     writes_as (constants_row c.args.text.now.shader.now)
     (writes_then (at_last _ _ _ _ _ _ c.loop-handle.invariant c.in-None.ensures.steps.0)
-    (writes_as (ap group_end_text (ap not c.has_named.ensures)) c.write_group_end.ensures))
+    (writes_as (ap group_end_text c.are_unnamed.ensures) c.write_group_end.ensures))

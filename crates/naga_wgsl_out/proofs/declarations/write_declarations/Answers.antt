@@ -37,3 +37,10 @@ pub error_of_want-requires : goal.error_of_want-requires
 error_of_want-requires g c is =
     never_formless _ _ _ c.write_all.ensures c.new-written.ensures.want
     (c.in-Err.ensures.wanting ∙ ap Some is)
+
+pub write_all-requires : goal.write_all-requires
+write_all-requires g c = record {
+  can = record { of_module = c.requires.can; named = c.requires.names };
+  forms = c.requires.declared;
+  keys = c.requires.keys;
+}

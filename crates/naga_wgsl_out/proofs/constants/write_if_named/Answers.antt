@@ -1,0 +1,15 @@
+use Rattle.naga_words.proofs.Writing.{writes_as, writes_nothing}
+use Rattle.naga_wgsl_out.proofs.ConstantRows.{named_row, unnamed_row}
+use Rattle.naga_wgsl_out.proofs.constants.write_if_named.Goals as goal
+
+pub returns-then-is_some : goal.returns-then-is_some
+returns-then-is_some g c =
+    writes_as
+    (named_row c.args.text.now.shader.now c.args.handle c.args.constant.now ?)
+    c.write_constant.ensures
+
+pub returns-else-is_some : goal.returns-else-is_some
+returns-else-is_some g c =
+    writes_as
+    (unnamed_row c.args.text.now.shader.now c.args.handle c.args.constant.now ?)
+    (writes_nothing _)

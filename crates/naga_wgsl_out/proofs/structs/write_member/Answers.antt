@@ -1,0 +1,27 @@
+use Rattle.std.proofs.Common.{sym}
+use Rattle.naga_words.proofs.Writing.{writes_as, writes_then}
+use Rattle.naga_wgsl_out.proofs.StructRows.{member_has_form, member_is_named, member_is_spelled}
+use Rattle.naga_wgsl_out.proofs.StructRows.{member_row}
+use Rattle.naga_wgsl_out.proofs.structs.write_member.Goals as goal
+
+pub write_passing-requires : goal.write_passing-requires
+write_passing-requires g c =
+    member_has_form c.args.text.now c.requires.can c.args.handle c.args.number c.args.member.now
+    c.requires.there
+
+pub write_typed-requires-clause-named : goal.write_typed-requires-clause-named
+write_typed-requires-clause-named g c =
+    member_is_named c.args.text.now c.requires.can c.args.handle c.args.number c.args.member.now
+    c.requires.there
+
+pub write_typed-requires-clause-formed : goal.write_typed-requires-clause-formed
+write_typed-requires-clause-formed g c =
+    member_is_spelled c.args.text.now c.requires.can c.args.handle c.args.number
+    c.args.member.now c.requires.there
+
+pub returns : goal.returns
+returns g c =
+    writes_as
+    (sym (member_row c.args.text.now.shader.now c.args.handle c.args.number c.args.member.now))
+    (writes_then c.put.ensures
+    (writes_then c.write_passing.ensures (writes_then c.write_typed.ensures c.put-2.ensures)))
