@@ -1,16 +1,16 @@
 -- Each function of an accepted module of which all that is written has a form can be written; and the
 -- texts of its parts, from what is written of them in turn.
-use Rattle.std.proofs.Common.{◌≡◌, ℕ, ◌+◌, ◌<◌, ◌≤◌, ◌==◌, zero, suc, add-one, arith, ne_eqb}
+use Rattle.std.proofs.Common.{◌≡◌, ℕ, ◌+◌, ◌-◌, ◌<◌, ◌≤◌, ◌==◌, zero, suc, add-one, arith, ne_eqb}
 use Rattle.std.proofs.Common.{false, Option, None, Some, refl, sym, ap, subst, ◌∙◌, codes}
 use Rattle.std.proofs.Common.{List, [], ◌∷◌, ◌++◌, append_assoc, drop, length}
 use Rattle.std.proofs.Common.{slice_get, slice_index_or, get_or, map, string_bytes, ◌^◌}
 use Rattle.std.specs.declared.string.String.{String}
-use Rattle.std.specs.Prelude.{if◌then◌else◌, unwrap_or, IsTrue}
+use Rattle.std.specs.Prelude.{if◌then◌else◌, unwrap_or, vec_len, IsTrue}
 use Rattle.std.specs.List.{list_all}
 use Rattle.std.specs.Option.{option_map_or}
 use Rattle.std.proofs.lemmas.Bool.{lt-ltb}
 use Rattle.std.proofs.lemmas.List.{append-nil, drop_all}
-use Rattle.std.proofs.lemmas.Option.{slice_get_within, get_or_from_slice_get}
+use Rattle.std.proofs.lemmas.Option.{slice_get_read, slice_get_within, get_or_from_slice_get}
 use Rattle.naga_ir.specs.declared.module.Function.{Function}
 use Rattle.naga_ir.specs.declared.module.FunctionArgument.{FunctionArgument}
 use Rattle.naga_ir.specs.declared.module.FunctionResult.{FunctionResult}
@@ -334,6 +334,23 @@ no_stage_row f can h is =
     let lt = subst (λ ty. IsFunctionOf ty m) is can.there in
     ap (λ ty. stage_before m (function_number m ty)) is
     ∙ ap (λ o. option_map_or (stage_text m) o []) (no_entry_point m h lt)
+
+-- the entry points are as many as their list is long
+pub point_within : (m : Module) (j : ℕ) → j < vec_len m.entry_points →
+    j < length m.entry_points.items
+point_within m j lt =
+    let counted : m.entry_points.len ≡ length m.entry_points.items = m.entry_points.ok.0 in
+    omega (arith, lt, counted)
+
+-- one that was read at its index stands there
+pub own_point : (f : FunctionText) → CanWrite f → (j : ℕ) → f.ty ≡ item.EntryPoint j →
+    (p : EntryPoint) → p ≡ get_or f.shader.now.entry_points.items j p →
+    slice_get f.shader.now.entry_points.items j ≡ Some p
+own_point f can j is p read =
+    let m = f.shader.now in
+    let lt = subst (λ ty. IsFunctionOf ty m) is can.there in
+    slice_get_read m.entry_points.items (length m.entry_points.items) j p refl
+    (point_within m j lt) read
 
 -- the entry point of a function
 pub point_there : (f : FunctionText) → CanWrite f → (j : ℕ) → f.ty ≡ item.EntryPoint j →

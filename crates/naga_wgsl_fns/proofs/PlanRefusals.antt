@@ -57,8 +57,9 @@ use Rattle.naga_wgsl_fns.specs.declared.error.Error.{Error}
 use Rattle.naga_wgsl_fns.specs.declared.error.Error.TheVariants.{Custom, FmtError, Memory}
 use Rattle.naga_words.specs.declared.sink.SinkError.{SinkError}
 use Rattle.naga_wgsl_fns.specs.DeclarationRefusals.{NamesDeclaration, NamesHead}
-use Rattle.naga_wgsl_fns.specs.DeclarationRefusals.NamesDeclaration as declaration
-use Rattle.naga_wgsl_fns.specs.DeclarationRefusals.NamesHead as head
+use Rattle.naga_wgsl_fns.specs.DeclarationRefusals.NamesDeclaration.{OfHead, OfInitialiser, OfMember}
+use Rattle.naga_wgsl_fns.specs.DeclarationRefusals.NamesDeclaration.{OfType as OfDeclaredType}
+use Rattle.naga_wgsl_fns.specs.DeclarationRefusals.NamesHead.{OfBinding, OfStage}
 use Rattle.naga_wgsl_fns.specs.Errors.{IsCustom}
 use Rattle.naga_wgsl_fns.specs.Refusals.{ExpressionNamesAreFullIn, IsErrorOfNames, IsFault}
 use Rattle.naga_wgsl_fns.specs.Refusals.{IsWritableAt}
@@ -186,16 +187,16 @@ no_global_sink m reason h (OfConstant _ c k at there unnamed inside) = no_global
 -- nor is one of those of what a function takes and gives, and of its stage,
 pub head_is_no_sink : (m : Module) (number : ℕ) (reason : SinkError) →
     NamesHead m number (FmtError reason) → ⊥
-head_is_no_sink m number reason (head.OfBinding f b at is formless named) = named
-head_is_no_sink m number reason (head.OfStage p at formless named) = named
+head_is_no_sink m number reason (OfBinding f b at is formless named) = named
+head_is_no_sink m number reason (OfStage p at formless named) = named
 
 -- and of those of a declaration
 pub declaration_is_no_sink : (m : Module) (reason : SinkError) → NamesDeclaration m (FmtError reason) → ⊥
-declaration_is_no_sink m reason (declaration.OfType ty is formless named) =
+declaration_is_no_sink m reason (OfDeclaredType ty is formless named) =
     no_type_sink m (Handle ty) reason named
-declaration_is_no_sink m reason (declaration.OfInitialiser h is formless named) = no_global_sink m reason h named
-declaration_is_no_sink m reason (declaration.OfMember b is formless named) = named
-declaration_is_no_sink m reason (declaration.OfHead number named) = head_is_no_sink m number reason named
+declaration_is_no_sink m reason (OfInitialiser h is formless named) = no_global_sink m reason h named
+declaration_is_no_sink m reason (OfMember b is formless named) = named
+declaration_is_no_sink m reason (OfHead number named) = head_is_no_sink m number reason named
 
 -- nor is one that names an expression
 names_no_sink : (m : Module) (known : List ExpressionInfo) (es : List Expression)

@@ -2,7 +2,7 @@
 use Rattle.std.proofs.Common.{◌≡◌, ◌<◌, ◌^◌, ◌∙◌, ◌++◌, ℕ, Bool, List, [], None, Some, append-nil}
 use Rattle.std.proofs.Common.{ap, append_assoc, arith, drop, inl, inr, length, refl, slice_get, subst, sym}
 use Rattle.std.proofs.Common.{codes, take, unwrap_or, ◌∷◌}
-use Rattle.std.specs.Prelude.{Err, IfErr, IsErrAnd, IsTrue, Ok, OnErr, OnOk, Result, vec_len}
+use Rattle.std.specs.Prelude.{Err, IfErr, IsErrAnd, IsTrue, Ok, OnErr, OnOk, Result}
 use Rattle.std.specs.Option.{option_map_or}
 use Rattle.std.proofs.lemmas.Bool.{leb-true}
 use Rattle.naga_ir.specs.declared.module.Function as ir_function
@@ -55,7 +55,7 @@ use Rattle.naga_wgsl_fns.specs.Stages.{stage_text}
 use Rattle.naga_wgsl_fns.specs.declared.error.Error.{Error}
 use Rattle.naga_wgsl_fns.specs.declared.error.Error.TheVariants.{FmtError, Memory}
 use Rattle.naga_wgsl_fns.proofs.ExpressionNames.{named_are, none_full}
-use Rattle.naga_wgsl_fns.proofs.FunctionRows.{no_entry_point}
+use Rattle.naga_wgsl_fns.proofs.FunctionRows.{no_entry_point, point_within}
 use Rattle.naga_wgsl_fns.proofs.MeantFunctions.{means_the_module, own_function, own_point}
 use Rattle.naga_wgsl_fns.proofs.PlanRefusals.{head_is_no_sink, planned_holds}
 
@@ -103,12 +103,6 @@ point_layout m p form =
     let attributes = attributes_pieces (stage_attributes (module_names m) p p.stage) in
     text-append attributes (LineEnd ∷ function_pieces form)
     ∙ sym (append_assoc (text attributes) (codes "\n") (function_layout form))
-
--- each entry point there is has an index
-point_within : (m : Module) (j : ℕ) → j < vec_len m.entry_points → j < length m.entry_points.items
-point_within m j lt =
-    let counted : m.entry_points.len ≡ length m.entry_points.items = m.entry_points.ok.0 in
-    omega (arith, lt, counted)
 
 -- what stands behind the same text is the same
 pub same_behind : (content a b : List ℕ) → content ++ a ≡ content ++ b → a ≡ b

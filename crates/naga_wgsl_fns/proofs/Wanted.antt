@@ -40,8 +40,9 @@ use Rattle.naga_wgsl_fns.specs.FunctionText.{AreInText}
 use Rattle.module_meaning.specs.FunctionShapes.{statement_shape}
 use Rattle.module_meaning.specs.Names.{module_names, name_in, numbered_name}
 use Rattle.module_meaning.specs.AlikeTypes.{is_spelled}
-use Rattle.module_meaning.specs.DeclarationForms.IsPassed as passed
 use Rattle.module_meaning.specs.DeclarationForms.{binding_has_form}
+use Rattle.module_meaning.specs.DeclarationForms.IsPassed.{OfArgument as PassedArgument}
+use Rattle.module_meaning.specs.DeclarationForms.IsPassed.{OfResult as PassedResult}
 use Rattle.naga_wgsl_fns.specs.Bindings.{passing_has_form}
 use Rattle.module_meaning.specs.ExpressionForms.{expression_is_written, known_passes}
 use Rattle.naga_form.proofs.AcceptedGroups.{fits_in_range, known_fits, known_is_fit}
@@ -232,11 +233,11 @@ module _ (t : FunctionText) (can : CanWrite t) where
       slice_get f.arguments.items n ≡ Some a → IsTrue (passing_has_form a.binding)
   argument_passes n a here =
       passes a.binding
-      (λ k is. can.head.bindings f can.function k (passed.OfArgument n a k here is))
+      (λ k is. can.head.bindings f can.function k (PassedArgument n a k here is))
 
   pub answer_passes : (r : FunctionResult) → f.result ≡ Some r → IsTrue (passing_has_form r.binding)
   answer_passes r is =
-      passes r.binding (λ k bound. can.head.bindings f can.function k (passed.OfResult r k is bound))
+      passes r.binding (λ k bound. can.head.bindings f can.function k (PassedResult r k is bound))
 
   pub local_is_formed : (l : ℕ) (v : LocalVariable) → slice_get f.local_variables l ≡ Some v → IsTrue (is_spelled m.types (resolution.Handle v.ty))
   local_is_formed l v here =

@@ -28,8 +28,9 @@ use Rattle.naga_wgsl_fns.specs.declared.error.Error.TheVariants.{Custom, FmtErro
 use Rattle.naga_wgsl_fns.specs.Refusals.{IsFault, IsWritableAt}
 use Rattle.naga_wgsl_fns.specs.Refusals.{HasFormlessIn}
 use Rattle.naga_wgsl_fns.specs.DeclarationRefusals.{NamesDeclaration}
-use Rattle.naga_wgsl_fns.specs.DeclarationRefusals.NamesDeclaration as declaration
-use Rattle.naga_wgsl_fns.specs.DeclarationRefusals.NamesHead as head
+use Rattle.naga_wgsl_fns.specs.DeclarationRefusals.NamesDeclaration.{OfHead, OfInitialiser, OfMember}
+use Rattle.naga_wgsl_fns.specs.DeclarationRefusals.NamesDeclaration.{OfType as OfDeclaredType}
+use Rattle.naga_wgsl_fns.specs.DeclarationRefusals.NamesHead.{OfBinding, OfStage}
 use Rattle.naga_wgsl_fns.specs.Refusals.{NamesFormless}
 use Rattle.naga_wgsl_fns.specs.Refusals.{TellsOfModule}
 use Rattle.naga_wgsl_fns.proofs.PlanRefusals.{declaration_is_no_sink, named, planned_holds}
@@ -177,13 +178,13 @@ declaration_refuses explicit m info before after _ named = inl named
 -- and tells of no function
 pub declaration_tells_of_none : (m : Module) (error : Error) → NamesDeclaration m error →
     TellsOfFunction m error → ⊥
-declaration_tells_of_none m error (declaration.OfType ty is formless named) of =
+declaration_tells_of_none m error (OfDeclaredType ty is formless named) of =
     false≢true (sym formless ∙ of.declarations.types ty is)
-declaration_tells_of_none m error (declaration.OfInitialiser h is formless named) of =
+declaration_tells_of_none m error (OfInitialiser h is formless named) of =
     false≢true (sym formless ∙ of.declarations.initialisers h is)
-declaration_tells_of_none m error (declaration.OfMember b is formless named) of =
+declaration_tells_of_none m error (OfMember b is formless named) of =
     false≢true (sym formless ∙ of.declarations.members b is)
-declaration_tells_of_none m error (declaration.OfHead number (head.OfBinding f b at is formless named)) of =
+declaration_tells_of_none m error (OfHead number (OfBinding f b at is formless named)) of =
     false≢true (sym formless ∙ (of.declarations.heads number).bindings f at b is)
-declaration_tells_of_none m error (declaration.OfHead number (head.OfStage p at formless named)) of =
+declaration_tells_of_none m error (OfHead number (OfStage p at formless named)) of =
     false≢true (sym formless ∙ (of.declarations.heads number).stage p at)
