@@ -1,5 +1,5 @@
 -- A function that is written by itself.
-use Rattle.std.proofs.Common.{◌≡◌, ◌<◌, ◌^◌, ◌∙◌, ◌++◌, ℕ, Bool, List, [], None, Some, append-nil}
+use Rattle.std.proofs.Common.{◌≡◌, ◌+◌, ◌<◌, ◌^◌, ◌∙◌, ◌++◌, ℕ, Bool, List, [], None, Some, append-nil}
 use Rattle.std.proofs.Common.{ap, append_assoc, arith, drop, inl, inr, length, refl, slice_get, subst, sym}
 use Rattle.std.proofs.Common.{codes, take, unwrap_or, ◌∷◌}
 use Rattle.std.specs.Prelude.{Err, IfErr, IsErrAnd, IsTrue, Ok, OnErr, OnOk, Result}
@@ -205,7 +205,7 @@ module _ (m : Module) (info : ModuleInfo) (flags : WriterFlags) (earlier : List 
       now ≡ content ++ text_behind m info flags earlier (function_number m ty) →
       StandsIn ty content now
       (program_behind (annotates_types flags) m info earlier (function_number m ty))
-  stands_in (item.Function h) lt head is content now appended text behind function reads =
+  stands_in (item.Function h) lt head is content now appended = λ text behind function reads.
       let f = element m.functions h lt in
       let stands = function_among m h f.0 f.1 in
       let same = same_behind content text (text_behind m info flags earlier h) (sym behind ∙ appended) in
@@ -216,7 +216,7 @@ module _ (m : Module) (info : ModuleInfo) (flags : WriterFlags) (earlier : List 
       ∙ ap (λ own. Some (function_form (annotates_types flags) (module_names m) own m info h f.0 (known_of info h)))
       (apart_there m h (named_behind m earlier h))
       ∙ ap Some (sym only)
-  stands_in (item.EntryPoint j) lt head is content now appended text behind point reads =
+  stands_in (item.EntryPoint j) lt head is content now appended = λ text behind point reads.
       let p = element m.entry_points.items j (point_within m j lt) in
       let number = length m.functions + j in
       let same = same_behind content text (text_behind m info flags earlier number) (sym behind ∙ appended) in
