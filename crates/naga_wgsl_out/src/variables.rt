@@ -54,7 +54,6 @@ fn write_variable<W: TextSink>(
 }
 
 /// A variable behind its attributes.
-#[tactic(auto, using(naga_words::proofs::Writing::writes_then, crate::proofs::VariableRows::var_row))]
 fn write_var<W: TextSink>(
     alloc: Global,
     text: &ModuleText<'_>,
@@ -104,7 +103,6 @@ fn write_decorations<W: TextSink>(decorations: MemoryDecorations, out: &mut Outp
 }
 
 /// Where a variable lives and what may be done with it, where WGSL has words for that.
-#[tactic(auto, using(naga_words::proofs::Writing::writes_nothing))]
 fn write_space<W: TextSink>(space: AddressSpace, out: &mut Output<'_, W>)
     ensures { Writes W.text W.failures out.old out.new (space_text space) }
 {
