@@ -8,7 +8,6 @@ use itoa::Buffer;
 use naga_words::{Output, TextSink};
 
 /// The words of an interpolation and of a sampling.
-#[tactic(auto, using(naga_words::proofs::Writing::writes_then, crate::proofs::AttributeRows::interpolated_parts))]
 pub fn write_interpolated<W: TextSink>(interpolation: &str, sampling: &str, out: &mut Output<'_, W>)
     ensures { Writes W.text W.failures out.old out.new
         (interpolated_text interpolation.now sampling.now) }

@@ -136,7 +136,7 @@ fn is_invariant(value: BuiltIn) -> bool
     }
 }
 
-#[tactic(auto, using(naga_words::proofs::Writing::writes_nothing, crate::proofs::AttributeRows::source_row, crate::proofs::AttributeRows::no_source_row))]
+#[tactic(auto, using(naga_words::proofs::Writing::writes_nothing, crate::proofs::AttributeRows::no_source_row))]
 fn write_blend_source<W: TextSink>(source: Option<u32>, out: &mut Output<'_, W>)
     ensures { Writes W.text W.failures out.old out.new
         (attributes_text (attribute_of (Numbered BlendSource) source)) }

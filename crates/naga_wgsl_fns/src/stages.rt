@@ -185,7 +185,6 @@ fn write_sizes<W: TextSink>(sizes: [u32; 3], out: &mut Output<'_, W>)
     write_size(x, y, z, out);
 }
 
-#[tactic(auto, using(naga_words::proofs::Writing::writes_then, crate::proofs::StageRows::size_parts))]
 fn write_size<W: TextSink>(x: u32, y: u32, z: u32, out: &mut Output<'_, W>)
     ensures { Writes W.text W.failures out.old out.new (size_text x y z) }
 {

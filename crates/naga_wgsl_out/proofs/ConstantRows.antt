@@ -79,16 +79,17 @@ end_left : (m : Module) (n : ℕ) (constants : List Constant) →
     text (group_end (filter_map (constant_at m) (enumerate_from n constants)))
 unfolding group_end_text
 end_left m n [] = refl
-end_left m n (c ∷ constants) = by c.name
+end_left m n (c ∷ constants) = by c.name (end_left m (n + 1) constants)
   where
     more : List NamedConstant
     more = filter_map (constant_at m) (enumerate_from (n + 1) constants)
 
     by : {X : Type 0} (name : Option X) →
+        group_end_text (list_all (λ c. is_none c.name) constants) ≡ text (group_end more) →
         group_end_text (is_none name && list_all (λ c. is_none c.name) constants) ≡
         text (group_end (cons_option (if is_some name then Some (named_form m n c) else None) more))
-    by (Some name) = refl
-    by None = end_left m (n + 1) constants
+    by (Some name) is = refl
+    by None is = is
 
 pub constants_row : (m : Module) →
     joined_texts (text (constants_pieces (constants_of m)))

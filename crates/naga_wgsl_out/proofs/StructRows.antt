@@ -4,7 +4,7 @@
 use Rattle.std.proofs.Common.{◌≡◌, ◌∙◌, ◌++◌, ◌+◌, ◌<◌, ◌≤◌, ◌^◌, ℕ, Bool, true, false, List, [], ◌∷◌}
 use Rattle.std.proofs.Common.{append_assoc, ap, arith, codes, drop, length, map, refl, slice_get}
 use Rattle.std.proofs.Common.{slice_index_or, sym}
-use Rattle.std.proofs.Common.{inl, inr, nat_lt}
+use Rattle.std.proofs.Common.{Global, Vec, inl, inr, nat_lt}
 use Rattle.std.proofs.lemmas.Bool.{ltb-false, ltb-true}
 use Rattle.std.proofs.lemmas.List.{drop_all}
 use Rattle.std.proofs.lemmas.Option.{slice_get_within}
@@ -80,9 +80,15 @@ unfolding structs_text
 structs_row m = structs_left m (enumerate_from 0 m.types)
 
 -- ---- one type
+other_type : (it : TypeInner) →
+    ((members : Vec ir_member.StructMember Global) (span : ℕ) →
+    it ≡ inner.Struct members span → ⊥) → is_struct it ≡ false
+other_type (inner.Struct members span) other = absurd (other members span refl)
+other_type _ other = refl
+
 module _ (m : Module) (h : ℕ) (t : Type_) where
   -- its text, by what it is and whether a text declares it
-  text_by : TypeInner → Bool → List ℕ
+  abbrev text_by : TypeInner → Bool → List ℕ
   text_by it declared =
       text
       (structs_pieces
@@ -94,24 +100,28 @@ module _ (m : Module) (h : ℕ) (t : Type_) where
   declared_by it declared is at =
       ap (λ it. text_by it (is_declared m.special_types h it)) is ∙ ap (text_by it) at
 
-  pub declared_row : (members : _) (span : ℕ) → t.inner ≡ inner.Struct members span →
+  pub declared_row : (members : Vec ir_member.StructMember Global) (span : ℕ) → t.inner ≡ inner.Struct members span →
       is_undeclared m.special_types h ≡ false →
       struct_text m h members.items ≡ declared_text m h t
   unfolding struct_text
   declared_row members span is known =
       sym (declared_by (inner.Struct members span) true is (ap not known))
 
-  pub undeclared_row : (members : _) (span : ℕ) → t.inner ≡ inner.Struct members span →
+  pub undeclared_row : (members : Vec ir_member.StructMember Global) (span : ℕ) → t.inner ≡ inner.Struct members span →
       is_undeclared m.special_types h ≡ true → [] ≡ declared_text m h t
   undeclared_row members span is known =
       sym (declared_by (inner.Struct members span) false is (ap not known))
 
-  pub no_struct_row : is_struct t.inner ≡ false → [] ≡ declared_text m h t
-  no_struct_row no =
-      sym (declared_by t.inner false refl (ap (λ b. b && not (is_undeclared m.special_types h)) no))
+  pub no_struct_row :
+      ((members : Vec ir_member.StructMember Global) (span : ℕ) →
+      t.inner ≡ inner.Struct members span → ⊥) → [] ≡ declared_text m h t
+  no_struct_row other =
+      let none = other_type t.inner other in
+      sym
+      (declared_by t.inner false refl (ap (λ b. b && not (is_undeclared m.special_types h)) none))
 
   -- the members of such a struct are those of a declared one
-  pub members_declared : (members : _) (span : ℕ) → slice_get m.types h ≡ Some t →
+  pub members_declared : (members : Vec ir_member.StructMember Global) (span : ℕ) → slice_get m.types h ≡ Some t →
       t.inner ≡ inner.Struct members span → is_undeclared m.special_types h ≡ false →
       AreDeclaredMembers m h members.items
   members_declared members span at is known i s there = record {

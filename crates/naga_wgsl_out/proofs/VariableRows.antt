@@ -42,8 +42,8 @@ use Rattle.naga_wgsl_fns.specs.declared.module_text.ModuleText.{ModuleText}
 use Rattle.naga_wgsl_out.proofs.ArenaLoops.{texts_of}
 use Rattle.naga_wgsl_out.proofs.ItemRows.{group_end_row, typed_then}
 use Rattle.naga_wgsl_out.specs.Items.{CanDeclare, IsNamedIn, typed_text, value_text}
-use Rattle.naga_wgsl_out.specs.Variables.{access_text, globals_of, resource_text, space_text}
-use Rattle.naga_wgsl_out.specs.Variables.{template_text, var_text, variable_text, variables_text}
+use Rattle.naga_wgsl_out.specs.Variables.{access_text, alone_text, globals_of, resource_text}
+use Rattle.naga_wgsl_out.specs.Variables.{space_text, var_text, variable_text, variables_text}
 
 -- ---- all of them
 one_global : (d : Global) (more : List Global) →
@@ -176,38 +176,36 @@ decorations_row d =
     (plain_if Volatile (is_volatile_memory d) i))
 
 -- ---- spaces
-pub template_row : (space : List ℕ) (access : Option (List ℕ)) →
-    template_text space access ≡
-    joined_texts (codes "<") (joined_texts space (joined_texts (access_text access) (codes ">")))
-unfolding template_text joined_texts
-template_row space access = refl
+pub alone_row : (space : List ℕ) →
+    alone_text space ≡ joined_texts (codes "<") (joined_texts space (codes ">"))
+unfolding alone_text joined_texts
+alone_row space = refl
 
-pub access_row : (access : List ℕ) → access_text (Some access) ≡ joined_texts (codes ", ") access
+pub access_row : (space access : List ℕ) →
+    access_text space access ≡
+    joined_texts (codes "<")
+    (joined_texts space (joined_texts (codes ", ") (joined_texts access (codes ">"))))
 unfolding access_text joined_texts
-access_row access = refl
+access_row space access = refl
 
-pub no_access_row : access_text None ≡ []
+-- by the words that a space has
+space_by : (s : AddressSpace) (space access : Option (List ℕ)) → space_word s ≡ space →
+    space_access_word s ≡ access → space_text s ≡ text (space_pieces (space_of_words space access))
+unfolding space_text
+space_by s space access is at = λ i. text (space_pieces (space_of_words (is i) (at i)))
+
+pub space_alone : (s : AddressSpace) (space : List ℕ) → space_word s ≡ Some space →
+    space_access_word s ≡ None → alone_text space ≡ space_text s
+unfolding alone_text
+space_alone s space is none = sym (space_by s (Some space) None is none)
+
+pub space_and_access : (s : AddressSpace) (space access : List ℕ) → space_word s ≡ Some space →
+    space_access_word s ≡ Some access → access_text space access ≡ space_text s
 unfolding access_text
-no_access_row = refl
+space_and_access s space access is at = sym (space_by s (Some space) (Some access) is at)
 
-template_is : (space : List ℕ) (access : Option (List ℕ)) →
-    template_text space access ≡ text (space_pieces (space_of_words (Some space) access))
-unfolding template_text access_text
-template_is space None = refl
-template_is space (Some access) = refl
-
-pub space_row : (s : AddressSpace) (space : List ℕ) (access : Option (List ℕ)) →
-    space_word s ≡ Some space → space_access_word s ≡ access →
-    template_text space access ≡ space_text s
-unfolding space_text
-space_row s space access is at =
-    template_is space access
-    ∙ sym (λ i. text (space_pieces (space_of_words (is i) (at i))))
-
-pub no_space_row : (s : AddressSpace) → space_word s ≡ None → [] ≡ space_text s
-unfolding space_text
-no_space_row s is =
-    sym (ap (λ o. text (space_pieces (space_of_words o (space_access_word s)))) is)
+pub no_space : (s : AddressSpace) → space_word s ≡ None → [] ≡ space_text s
+no_space s is = sym (space_by s None (space_access_word s) is refl)
 
 -- ---- what is known of them
 module _ (t : ModuleText) (can : CanDeclare t) (h : ℕ) (v : GlobalVariable)

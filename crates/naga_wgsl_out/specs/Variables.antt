@@ -2,7 +2,7 @@
 --
 -- Throughout, m is a module, h the handle of a variable v of it, and access what may be done with what
 -- lives in a space.
-use Rattle.std.specs.Prelude.{ℕ, ◌∷◌, [], ◌++◌, List, Option, Some, None, codes, map}
+use Rattle.std.specs.Prelude.{ℕ, ◌∷◌, [], ◌++◌, List, Option, codes, map}
 use Rattle.std.specs.List.{enumerate_from}
 use Rattle.naga_ir.specs.declared.binding.ResourceBinding.{ResourceBinding}
 use Rattle.naga_ir.specs.declared.module.GlobalVariable.{GlobalVariable}
@@ -14,7 +14,7 @@ use Rattle.module_meaning.specs.Types.{type_names}
 use Rattle.naga_form.specs.Attributes.{resource_attributes}
 use Rattle.naga_form.specs.Declarations.{space_form, variable_form}
 use Rattle.wgsl_text.specs.Declarations.{Global, global_attributes_pieces, globals_pieces}
-use Rattle.wgsl_text.specs.Declarations.{space_pieces}
+use Rattle.wgsl_text.specs.Declarations.{SpaceAlone, SpaceAndAccess, space_pieces}
 use Rattle.wgsl_text.specs.Functions.{group_end}
 use Rattle.wgsl_text.specs.Text.{text}
 use Rattle.naga_wgsl_out.specs.Items.{typed_text, value_text}
@@ -42,14 +42,12 @@ resource_text binding = text (global_attributes_pieces (resource_attributes bind
 unfoldable pub space_text : AddressSpace → List ℕ
 space_text space = text (space_pieces (space_form space))
 
--- what may be done there, behind a comma
-unfoldable pub access_text : (access : Option (List ℕ)) → List ℕ
-access_text None = []
-access_text (Some access) = codes ", " ++ access
+-- one that has a word, alone and with what may be done there
+unfoldable pub alone_text : (space : List ℕ) → List ℕ
+alone_text space = text (space_pieces (SpaceAlone space))
 
--- a space that has a word
-unfoldable pub template_text : (space : List ℕ) → (access : Option (List ℕ)) → List ℕ
-template_text space access = codes "<" ++ (space ++ (access_text access ++ codes ">"))
+unfoldable pub access_text : (space access : List ℕ) → List ℕ
+access_text space access = text (space_pieces (SpaceAndAccess space access))
 
 -- what stands behind the attributes
 unfoldable pub var_text : Module → (h : ℕ) → GlobalVariable → List ℕ

@@ -47,7 +47,6 @@ fn are_unnamed(constants: &Arena<Constant>) -> bool
 }
 
 /// A constant, if it has a name.
-#[tactic(auto, using(naga_words::proofs::Writing::writes_nothing))]
 fn write_if_named<W: TextSink>(
     alloc: Global,
     text: &ModuleText<'_>,
@@ -99,7 +98,6 @@ pub(crate) fn write_overrides<W: TextSink>(
     write_group_end(text.shader.overrides.is_empty(), out);
 }
 
-#[tactic(auto, using(naga_words::proofs::Writing::writes_then, crate::proofs::ConstantRows::override_row))]
 fn write_override<W: TextSink>(
     alloc: Global,
     text: &ModuleText<'_>,
@@ -119,7 +117,6 @@ fn write_override<W: TextSink>(
 }
 
 /// The number by which a pipeline names an override, if it has one.
-#[tactic(auto, using(naga_words::proofs::Writing::writes_nothing))]
 fn write_id<W: TextSink>(id: Option<u16>, out: &mut Output<'_, W>)
     ensures { Writes W.text W.failures out.old out.new (attributes_text (id_attributes id)) }
 {

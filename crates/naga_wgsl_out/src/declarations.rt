@@ -91,7 +91,6 @@ pub(crate) fn write_typed<W: TextSink>(
 }
 
 /// What stands behind the type of an override or of a variable.
-#[tactic(auto, using(crate::proofs::ItemRows::no_value_row))]
 pub(crate) fn write_value<W: TextSink>(
     alloc: Global,
     text: &ModuleText<'_>,

@@ -32,7 +32,6 @@ pub(crate) fn write_structs<W: TextSink>(
 }
 
 /// A type, if it is a struct that a text declares.
-#[tactic(auto, using(naga_words::proofs::Writing::writes_nothing))]
 fn write_declared<W: TextSink>(
     alloc: Global,
     text: &ModuleText<'_>,
@@ -52,7 +51,6 @@ fn write_declared<W: TextSink>(
     }
 }
 
-#[tactic(auto, using(naga_words::proofs::Writing::writes_then, crate::proofs::StructRows::struct_row))]
 fn write_struct<W: TextSink>(
     alloc: Global,
     text: &ModuleText<'_>,
@@ -91,7 +89,6 @@ fn write_members<W: TextSink>(
     }
 }
 
-#[tactic(auto, using(naga_words::proofs::Writing::writes_then, crate::proofs::StructRows::member_row))]
 fn write_member<W: TextSink>(
     alloc: Global,
     text: &ModuleText<'_>,

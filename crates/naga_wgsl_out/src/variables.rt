@@ -1,13 +1,12 @@
 //! The variables of a module.
 
 ghost use Rattle.std.specs.Prelude.{◌≡◌, Some, slice_get};
-ghost use Rattle.std.specs.Option.{option_map};
 ghost use Rattle.naga_form.specs.Attributes.{decoration_attributes};
 ghost use Rattle.naga_words.specs.Output.{Writes};
 ghost use Rattle.naga_wgsl_fns.specs.Attributes.{attributes_text};
 ghost use Rattle.naga_wgsl_out.specs.Items.{CanDeclare};
-ghost use Rattle.naga_wgsl_out.specs.Variables.{access_text, resource_text, space_text};
-ghost use Rattle.naga_wgsl_out.specs.Variables.{template_text, var_text, variable_text};
+ghost use Rattle.naga_wgsl_out.specs.Variables.{access_text, alone_text, resource_text};
+ghost use Rattle.naga_wgsl_out.specs.Variables.{space_text, var_text, variable_text};
 ghost use Rattle.naga_wgsl_out.specs.Variables.{variables_text};
 
 use crate::declarations::{write_typed, write_value};
@@ -55,7 +54,6 @@ fn write_variable<W: TextSink>(
 }
 
 /// A variable behind its attributes.
-#[tactic(auto, using(naga_words::proofs::Writing::writes_then, crate::proofs::VariableRows::var_row))]
 fn write_var<W: TextSink>(
     alloc: Global,
     text: &ModuleText<'_>,
@@ -108,31 +106,28 @@ fn write_decorations<W: TextSink>(decorations: MemoryDecorations, out: &mut Outp
 fn write_space<W: TextSink>(space: AddressSpace, out: &mut Output<'_, W>)
     ensures { Writes W.text W.failures out.old out.new (space_text space) }
 {
-    let (word, access) = address_space_str(space);
-    match word {
-        Some(word) => write_template(word, access, out),
-        None => {}
+    match address_space_str(space) {
+        (Some(space), Some(access)) => write_space_and_access(space, access, out),
+        (Some(space), None) => write_space_alone(space, out),
+        (None, _) => {}
     }
 }
 
-#[tactic(auto, using(naga_words::proofs::Writing::writes_then, crate::proofs::VariableRows::template_row))]
-fn write_template<W: TextSink>(space: &str, access: Option<&str>, out: &mut Output<'_, W>)
-    ensures { Writes W.text W.failures out.old out.new
-        (template_text space.now (option_map (λ s. s.now) access)) }
+#[tactic(auto, using(naga_words::proofs::Writing::writes_then, crate::proofs::VariableRows::alone_row))]
+fn write_space_alone<W: TextSink>(space: &str, out: &mut Output<'_, W>)
+    ensures { Writes W.text W.failures out.old out.new (alone_text space.now) }
 {
     out.put("<");
     out.put(space);
-    write_access(access, out);
     out.put(">");
 }
 
-/// What may be done with a variable, behind a comma.
-fn write_access<W: TextSink>(access: Option<&str>, out: &mut Output<'_, W>)
-    ensures { Writes W.text W.failures out.old out.new
-        (access_text (option_map (λ s. s.now) access)) }
+fn write_space_and_access<W: TextSink>(space: &str, access: &str, out: &mut Output<'_, W>)
+    ensures { Writes W.text W.failures out.old out.new (access_text space.now access.now) }
 {
-    if let Some(access) = access {
-        out.put(", ");
-        out.put(access);
-    }
+    out.put("<");
+    out.put(space);
+    out.put(", ");
+    out.put(access);
+    out.put(">");
 }
