@@ -9,7 +9,8 @@ use Rattle.std.specs.List.{enumerate_from}
 use Rattle.std.specs.Option.{option_map_or}
 use Rattle.std.proofs.lemmas.Bool.{le-ltb, lt-ltb, ltb-false, ltb-true}
 use Rattle.std.proofs.lemmas.Grind.{flat_map-append}
-use Rattle.std.proofs.lemmas.List.{get_or_default, take-append-drop, take_all, take_more}
+use Rattle.std.proofs.lemmas.List.{get_or_default, length-append, length-map, take-append-drop}
+use Rattle.std.proofs.lemmas.List.{take_all, take_more}
 use Rattle.std.proofs.lemmas.List.FromFn.{length-enumerate_from}
 use Rattle.naga_ir.specs.declared.module.EntryPoint.{EntryPoint}
 use Rattle.naga_ir.specs.declared.module.Function.{Function}
@@ -171,8 +172,10 @@ module _ (m : Module) (info : ModuleInfo) (flags : WriterFlags)
   points_text j (p ∷ q ∷ ps) (es ∷ []) size counted there known = absurd (cc)
   points_text j (p ∷ []) (es ∷ []) size counted there known =
       let last : length m.entry_points.items ≤ j + 1 = omega (arith, counted) in
-      ap (λ t. t ++ [])
-      (sym (append-nil _)
+      let point = entry_point_pieces (entry_point_form (annotates_types flags) (module_names m) m info (length m.functions + j) p es) in
+      text-append point []
+      ∙ ap (λ t. t ++ [])
+      (sym (append-nil (text point))
       ∙ point_line j p es false (there 0 p refl) (known 0 es refl)
       (le-ltb (j + 1) (length m.entry_points.items) last))
   points_text j (p ∷ q ∷ ps) (es ∷ ks ∷ ess) size counted there known =
@@ -180,8 +183,8 @@ module _ (m : Module) (info : ModuleInfo) (flags : WriterFlags)
       let all : (j + 1) + length (q ∷ ps) ≡ length m.entry_points.items = omega (arith, counted) in
       let next : length m.functions + (j + 1) ≡ (length m.functions + j) + 1 = omega arith in
       let point = entry_point_pieces (entry_point_form (annotates_types flags) (module_names m) m info (length m.functions + j) p es) in
-      let behind = λ h. entry_points_pieces (entry_points_form (annotates_types flags) (module_names m) m info h (q ∷ ps) (ks ∷ ess)) in
-      let rest =
+      let behind : ℕ → List Piece = λ h. entry_points_pieces (entry_points_form (annotates_types flags) (module_names m) m info h (q ∷ ps) (ks ∷ ess)) in
+      let rest : text (behind ((length m.functions + j) + 1)) ≡ lines_of m info flags (enumerate_from ((length m.functions + j) + 1) (entry_functions (q ∷ ps))) =
       subst
       (λ h. text (behind h) ≡ lines_of m info flags (enumerate_from h (entry_functions (q ∷ ps)))) next
       (points_text (j + 1) (q ∷ ps) (ks ∷ ess) (ap pred size) all
@@ -234,12 +237,14 @@ written_lines m info flags accepted =
         (enumerate_from (0 + length m.functions) (entry_functions m.entry_points.items))
     points_are =
         let none : length m.functions + 0 ≡ length m.functions = omega arith in
+        let all : 0 + length m.entry_points.items ≡ length m.entry_points.items = omega arith in
         let from : length m.functions + 0 ≡ 0 + length m.functions = omega arith in
         ap (λ g. text (entry_points_pieces (entry_points_form (annotates_types flags) (module_names m) m info g m.entry_points.items info.entry_points.items))) (sym none)
         ∙ (points_text m info flags accepted 0 m.entry_points.items info.entry_points.items
-        (entry_points_counted m info accepted) refl
+        (entry_points_counted m info accepted) all
         (λ i p at. let same : i ≡ 0 + i = omega arith in ap (slice_get m.entry_points.items) (sym same) ∙ at)
-        (λ i es at. ap (λ o. unwrap_or o []) (entry_info_among m info accepted i es at))
+        (λ i es at. let same : length m.functions + i ≡ length m.functions + (0 + i) = omega arith in
+        subst (λ h. known_of info h ≡ es) same (ap (λ o. unwrap_or o []) (entry_info_among m info accepted i es at)))
         ∙ ap (λ g. lines_of m info flags (enumerate_from g (entry_functions m.entry_points.items))) from)
 
 -- there are no more entry points than keys tell apart
@@ -252,6 +257,15 @@ points_counted m keys = by (nat_lt (2 ^ 16) (length m.entry_points.items)) refl
         absurd (keys (run_out_unfit wgsl_names m (inl (ltb-true (2 ^ 16) (length m.entry_points.items) lt))))
     by false is =
         let past = ltb-false (2 ^ 16) (length m.entry_points.items) is in omega (arith, past)
+
+-- behind the functions and the entry points there is none
+pub last_point : (m : Module) (j : ℕ) → j ≡ m.entry_points.len →
+    length m.functions + j ≡ length (all_functions m)
+last_point m j is =
+    let all = length-append m.functions (entry_functions m.entry_points.items) in
+    let mapped = length-map m.entry_points.items (λ p. p.function) in
+    let counted : m.entry_points.len ≡ length m.entry_points.items = m.entry_points.ok.0 in
+    omega (arith, is, all, mapped, counted)
 
 -- ---- along the functions
 -- what has a number is the function with that number
@@ -434,13 +448,13 @@ module _ (m : Module) (info : ModuleInfo) (flags : WriterFlags) (n : ℕ) (conte
 
   -- where it has one
   pub next_written : n < length (all_functions m) → (old next : Names) (planned : Planned)
-      {now : List ℕ} {failures : ℕ} → HasNamedBefore m n old →
+      (now : List ℕ) (failures : ℕ) → HasNamedBefore m n old →
       IsPlanOf (annotates_types flags) m info n planned →
       NamesLabels old [] (labels_named_in m n) next planned.named →
       (r : Result Unit Error) →
       Appends r content failed (line_at m info flags n) now failures →
       WritesNext m info flags n next r content failed now failures
-  next_written lt old next planned {now} {failures} before plan names r a = by r a
+  next_written lt old next planned now failures before plan names r a = by r a
     where
       named : IsNamedPlan (annotates_types flags) m info n next planned
       named = named_plan m (annotates_types flags) info n old next planned lt before plan names
@@ -453,3 +467,27 @@ module _ (m : Module) (info : ModuleInfo) (flags : WriterFlags) (n : ℕ) (conte
         named = named.namer_is;
       }
       by (Err e) stopped = inl stopped
+
+-- the same under a number that equals it
+module _ {m : Module} {info : ModuleInfo} {flags : WriterFlags} {a b : ℕ} (same : a ≡ b) where
+  pub up_to_as : {content now : List ℕ} {failed failures : ℕ} {namer : Names} →
+      IsUpTo m info flags a content failed namer now failures →
+      IsUpTo m info flags b content failed namer now failures
+  up_to_as {content} {now} {failed} {failures} {namer} is =
+      subst (λ n. IsUpTo m info flags n content failed namer now failures) same is
+
+  pub wrote_as : {content now : List ℕ} {failed failures : ℕ} {namer : Names} →
+      WroteNext m info flags a namer content failed now failures →
+      WroteNext m info flags b namer content failed now failures
+  wrote_as {content} {now} {failed} {failures} {namer} w =
+      subst (λ n. WroteNext m info flags n namer content failed now failures) same w
+
+  pub failed_as : {content now : List ℕ} {failed failures : ℕ} {error : Error} →
+      (StoppedWithin content failed (line_at m info flags a) now failures error
+      ⊎ HasNoPlan m info flags a content failed now failures error) →
+      StoppedWithin content failed (line_at m info flags b) now failures error
+      ⊎ HasNoPlan m info flags b content failed now failures error
+  failed_as {content} {now} {failed} {failures} {error} w =
+      subst
+      (λ n. StoppedWithin content failed (line_at m info flags n) now failures error
+      ⊎ HasNoPlan m info flags n content failed now failures error) same w

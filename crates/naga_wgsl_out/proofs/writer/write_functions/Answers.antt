@@ -1,6 +1,8 @@
-use Rattle.std.proofs.Common.{◌≡◌, ◌<◌, arith, length}
-use Rattle.naga_wgsl_out.proofs.Functions.{named_at, named_before, up_to_all, up_to_more, up_to_none}
-use Rattle.naga_wgsl_out.proofs.Functions.{up_to_stopped, up_to_unplanned}
+use Rattle.std.proofs.Common.{◌≡◌, ◌+◌, ◌<◌, ◌≤◌, ◌^◌, arith, length}
+use Rattle.module_meaning.proofs.FunctionNumbers.{number_within}
+use Rattle.naga_back.specs.declared.context.FunctionType.TheVariants as item
+use Rattle.naga_wgsl_out.proofs.Functions.{failed_as, last_point, points_counted, up_to_all}
+use Rattle.naga_wgsl_out.proofs.Functions.{up_to_as, up_to_failed, up_to_more, up_to_none, wrote_as}
 use Rattle.naga_wgsl_out.proofs.writer.write_functions.Goals as goal
 
 pub loop-index-init : goal.loop-index-init
@@ -11,44 +13,79 @@ loop-index-init g c =
 
 pub loop-index-preserved : goal.loop-index-preserved
 loop-index-preserved g c =
-    let within : c.loop-index.index < length c.args.«module».now.functions =
+    let m = c.args.«module».now in
+    let within : c.loop-index.index < length m.functions =
     omega (arith, c.loop-index-test.true, c.len-index-end.ensures) in
-    up_to_more _ _ _ c.loop-index.invariant c.from_index-handle.result c.from_index-handle.ensures
-    within c.in_ok-plan.plan _
-    (named_at _ _ _ c.loop-index.invariant c.from_index-handle.result c.from_index-handle.ensures
-    within c.in_ok-plan.plan _ c.in_ok-plan.ensures.ok c.in_ok-plan.ensures.named)
-    c.in_ok-write_function_line.ensures
+    up_to_more m c.args.info.now c.args.flags c.loop-index.invariant
+    (number_within m (item.Function c.loop-index.index) within)
+    (wrote_as c.from_index.ensures c.in_ok-write_next.ensures)
 
-pub write_function_line-requires-clause-named : goal.write_function_line-requires-clause-named
-write_function_line-requires-clause-named g c =
-    let within : c.loop-index.index < length c.args.«module».now.functions =
+pub returns-in_err-write_next : goal.returns-in_err-write_next
+returns-in_err-write_next g c =
+    let m = c.args.«module».now in
+    let within : c.loop-index.index < length m.functions =
     omega (arith, c.loop-index-test.true, c.len-index-end.ensures) in
-    (named_at _ _ _ c.loop-index.invariant c.from_index-handle.result c.from_index-handle.ensures
-    within c.in_ok-plan.plan _ c.in_ok-plan.ensures.ok c.in_ok-plan.ensures.named).names
+    up_to_failed m c.args.info.now c.args.flags c.loop-index.invariant
+    (number_within m (item.Function c.loop-index.index) within)
+    c.from_residual.result _ c.from_residual.ensures.1
+    (failed_as c.from_index.ensures c.in_err-write_next.ensures)
 
-pub returns-in_err-plan : goal.returns-in_err-plan
-returns-in_err-plan g c =
-    let within : c.loop-index.index < length c.args.«module».now.functions =
-    omega (arith, c.loop-index-test.true, c.len-index-end.ensures) in
-    up_to_unplanned _ _ _ c.loop-index.invariant c.from_index-handle.result
-    c.from_index-handle.ensures within c.from_residual.result _ c.from_residual.ensures.1
-    (c.in_err-plan.ensures.err _ (named_before _ _ _ c.loop-index.invariant
-    c.from_index-handle.result c.from_index-handle.ensures within).labels)
+pub loop-index-2-init : goal.loop-index-2-init
+loop-index-2-init g c =
+    let m = c.args.«module».now in
+    let first : length m.functions ≡ length m.functions + 0 = omega arith in
+    λ content failed is. up_to_as first is
 
-pub returns-in_err-write_function_line : goal.returns-in_err-write_function_line
-returns-in_err-write_function_line g c =
-    let within : c.loop-index.index < length c.args.«module».now.functions =
-    omega (arith, c.loop-index-test.true, c.len-index-end.ensures) in
-    up_to_stopped _ _ _ c.loop-index.invariant c.from_index-handle.result
-    c.from_index-handle.ensures within c.from_residual-in_err-write_function_line.result _
-    c.from_residual-in_err-write_function_line.ensures.1
-    c.in_err-write_function_line.ensures
+pub overflow_cast-ty : goal.overflow_cast-ty
+overflow_cast-ty g c =
+    let m = c.args.«module».now in
+    let counted = points_counted m c.requires.names.keys in
+    let long : m.entry_points.len ≡ length m.entry_points.items = m.entry_points.ok.0 in
+    omega (arith, c.loop-index-2-test.true, c.len-index-end-2.ensures, counted, long)
+
+pub write_next-requires-in-loop-index-2-clause-namer :
+    goal.write_next-requires-in-loop-index-2-clause-namer
+write_next-requires-in-loop-index-2-clause-namer g c =
+    let m = c.args.«module».now in
+    let all : c.loop-index.index ≡ length m.functions =
+    omega (arith, c.loop-index-test.false, c.len-index-end.ensures) in
+    (c.loop-index-2.invariant (g.W.TextSink.text c.args.out.now) (g.W.TextSink.failures c.args.out.now)
+    (up_to_as all c.loop-index.invariant)).named
+
+pub loop-index-2-preserved : goal.loop-index-2-preserved
+loop-index-2-preserved g c =
+    let m = c.args.«module».now in
+    let within : c.loop-index-2.index < m.entry_points.len =
+    omega (arith, c.loop-index-2-test.true, c.len-index-end-2.ensures) in
+    let next : (length m.functions + c.loop-index-2.index) + 1 ≡ length m.functions + (c.loop-index-2.index + 1) =
+    omega arith in
+    λ content failed is.
+    up_to_as next
+    (up_to_more m c.args.info.now c.args.flags (c.loop-index-2.invariant content failed is)
+    (number_within m (item.EntryPoint c.loop-index-2.index) within) c.in_ok-write_next-2.ensures)
+
+pub returns-in_err-write_next-2 : goal.returns-in_err-write_next-2
+returns-in_err-write_next-2 g c =
+    let m = c.args.«module».now in
+    let all : c.loop-index.index ≡ length m.functions =
+    omega (arith, c.loop-index-test.false, c.len-index-end.ensures) in
+    let within : c.loop-index-2.index < m.entry_points.len =
+    omega (arith, c.loop-index-2-test.true, c.len-index-end-2.ensures) in
+    up_to_failed m c.args.info.now c.args.flags
+    (c.loop-index-2.invariant (g.W.TextSink.text c.args.out.now) (g.W.TextSink.failures c.args.out.now)
+    (up_to_as all c.loop-index.invariant))
+    (number_within m (item.EntryPoint c.loop-index-2.index) within)
+    c.from_residual-in_err-write_next-2.result _ c.from_residual-in_err-write_next-2.ensures.1
+    c.in_err-write_next-2.ensures
 
 pub returns : goal.returns
 returns g c =
-    let all : c.loop-index.index ≡ length c.args.«module».now.functions =
+    let m = c.args.«module».now in
+    let all : c.loop-index.index ≡ length m.functions =
     omega (arith, c.loop-index-test.false, c.len-index-end.ensures) in
-    up_to_all _ _ _ c.loop-index.invariant all
-
-pub plan_of-requires-clause-words : goal.plan_of-requires-clause-words
-plan_of-requires-clause-words g c = c.loop-index.invariant.named.words
+    let points : c.loop-index-2.index ≡ m.entry_points.len =
+    omega (arith, c.loop-index-2-test.false, c.len-index-end-2.ensures) in
+    up_to_all m c.args.info.now c.args.flags
+    (c.loop-index-2.invariant (g.W.TextSink.text c.args.out.now) (g.W.TextSink.failures c.args.out.now)
+    (up_to_as all c.loop-index.invariant))
+    (last_point m c.loop-index-2.index points)

@@ -1,3 +1,4 @@
+use Rattle.std.proofs.Common.{◌+◌, ℕ, List, length}
 use Rattle.naga_wgsl_out.proofs.Functions.{IsUpTo}
 use Rattle.naga_wgsl_out.proofs.writer.write_functions.Given as goal
 
@@ -5,4 +6,13 @@ abbrev pub invariant-loop-index : goal.invariant-loop-index
 invariant-loop-index g l =
     IsUpTo l.«module» l.info l.flags l.index
     (g.W.TextSink.text l.initial.out) (g.W.TextSink.failures l.initial.out)
+    l.namer (g.W.TextSink.text l.out) (g.W.TextSink.failures l.out)
+
+-- where the functions that others may call stand behind a text, the entry points stand behind them
+abbrev pub invariant-loop-index-2 : goal.invariant-loop-index-2
+invariant-loop-index-2 g l =
+    (content : List ℕ) (failed : ℕ) →
+    IsUpTo l.«module» l.info l.flags (length l.«module».functions) content failed
+    l.initial.namer (g.W.TextSink.text l.initial.out) (g.W.TextSink.failures l.initial.out) →
+    IsUpTo l.«module» l.info l.flags (length l.«module».functions + l.index) content failed
     l.namer (g.W.TextSink.text l.out) (g.W.TextSink.failures l.out)

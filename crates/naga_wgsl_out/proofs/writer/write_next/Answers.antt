@@ -32,6 +32,6 @@ returns g c =
     let number = function_number m c.args.ty.now in
     next_written m c.args.info.now c.args.flags number (g.W.TextSink.text c.args.out.now)
     (g.W.TextSink.failures c.args.out.now) (number_within m c.args.ty.now c.requires.there)
-    c.args.namer.now c.plan_of.new.namer c.in_ok-plan.plan c.requires.namer
+    c.args.namer.now c.plan_of.new.namer c.in_ok-plan.plan _ _ c.requires.namer
     c.in_ok-plan.ensures.ok c.in_ok-plan.ensures.named c.write_with_line.result
     c.write_with_line.ensures

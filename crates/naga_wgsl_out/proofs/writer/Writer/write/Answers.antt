@@ -1,26 +1,25 @@
 use Rattle.std.proofs.Common.{◌≡◌, ◌∙◌, ap, subst, sym, true}
-use Rattle.module_meaning.specs.ExpressionForms.{is_written_so_far}
 use Rattle.naga_scope.proofs.WrittenConstants.{globals_in_order}
 use Rattle.naga_wgsl_out.proofs.Faithful.{Concludes, behind_nothing, concludes, concludes_in_front}
-use Rattle.naga_wgsl_out.proofs.Faithful.{refused_behind_nothing}
-use Rattle.naga_wgsl_out.proofs.ReportedNames.{names_tell_of_none, not_written_tells_of_none}
+use Rattle.naga_wgsl_out.proofs.Faithful.{refused, refused_behind_nothing}
+use Rattle.naga_wgsl_out.proofs.ModuleScopes.{declaration_refuses, declaration_tells_of_none}
+use Rattle.naga_wgsl_out.proofs.ReportedNames.{names_tell_of_none}
 use Rattle.naga_wgsl_out.proofs.writer.Writer.write.Goals as goal
 
 pub returns : goal.returns
 returns g c =
     let m = c.args.«module».now in
     let info = c.args.info.now in
-    let written : is_written_so_far m ≡ true =
-    sym c.is_written_so_far.ensures ∙ c.if-not-is_written_so_far.false in
     let accepted = c.requires.accepted in
+    let declarations = c.in_default.ensures.none in
     let r = c.write_functions.result in
     let now = g.W.TextSink.text c.write_functions.new.out in
     let after = g.W.TextSink.failures c.write_functions.new.out in
     let names = c.in_ok-names.ensures.ok in
-    let end = concludes m info c.self.inside.flags accepted written _ names
-    _ now _ after _ _ c.in_ok-write_enables.ensures r c.write_functions.ensures in
+    let end = concludes m info c.self.inside.flags accepted declarations _ names
+    _ now _ after _ _ c.in_ok-write_front.ensures r c.write_functions.ensures in
     let ends = subst
-    (λ w. Concludes m info w.flags accepted written _ names r
+    (λ w. Concludes m info w.flags accepted declarations _ names r
     (g.W.TextSink.text w.sink) now (g.W.TextSink.failures w.sink) after)
     c.self.view_is end in
     record {
@@ -36,21 +35,20 @@ returns g c =
       flags = ap (λ w. w.flags) c.self.view_is;
     }
 
-pub returns-in_err-write_enables : goal.returns-in_err-write_enables
-returns-in_err-write_enables g c =
+pub returns-in_err-write_front : goal.returns-in_err-write_front
+returns-in_err-write_front g c =
     let m = c.args.«module».now in
     let info = c.args.info.now in
-    let written : is_written_so_far m ≡ true =
-    sym c.is_written_so_far.ensures ∙ c.if-not-is_written_so_far.false in
     let accepted = c.requires.accepted in
-    let r = c.from_residual-in_err-write_enables.result in
-    let now = g.W.TextSink.text c.write_enables.new.out in
-    let after = g.W.TextSink.failures c.write_enables.new.out in
+    let declarations = c.in_default.ensures.none in
+    let r = c.from_residual-in_err-write_front.result in
+    let now = g.W.TextSink.text c.write_front.new.out in
+    let after = g.W.TextSink.failures c.write_front.new.out in
     let names = c.in_ok-names.ensures.ok in
-    let end = concludes_in_front m info c.self.inside.flags accepted written _ names
-    _ now _ after r _ c.from_residual-in_err-write_enables.ensures.1 c.in_err-write_enables.ensures in
+    let end = concludes_in_front m info c.self.inside.flags accepted declarations _ names
+    _ now _ after r _ c.from_residual-in_err-write_front.ensures.1 c.in_err-write_front.ensures in
     let ends = subst
-    (λ w. Concludes m info w.flags accepted written _ names r
+    (λ w. Concludes m info w.flags accepted declarations _ names r
     (g.W.TextSink.text w.sink) now (g.W.TextSink.failures w.sink) after)
     c.self.view_is end in
     record {
@@ -78,14 +76,19 @@ of-requires g c = record {
       globals_in_order c.args.«module».now c.args.info.now c.requires.accepted;
 }
 
-pub returns-then-not-is_written_so_far-clause-written_before :
-    goal.returns-then-not-is_written_so_far-clause-written_before
-returns-then-not-is_written_so_far-clause-written_before g c =
-    λ of. absurd (not_written_tells_of_none c.args.«module».now _ c.not_yet_written.ensures of)
+pub returns-in-Some-clause-faithful : goal.returns-in-Some-clause-faithful
+returns-in-Some-clause-faithful g c =
+    refused _ c.args.«module».now c.args.info.now c.declaration_without_form.result _ _ _ _
+    (declaration_refuses _ c.args.«module».now c.args.info.now _ _
+    c.declaration_without_form.result c.declaration_without_form.ensures)
 
-pub returns-then-not-is_written_so_far-clause-text_err :
-    goal.returns-then-not-is_written_so_far-clause-text_err
-returns-then-not-is_written_so_far-clause-text_err g c = behind_nothing _ _
+pub returns-in-Some-clause-written_before : goal.returns-in-Some-clause-written_before
+returns-in-Some-clause-written_before g c =
+    λ of. absurd (declaration_tells_of_none c.args.«module».now
+    c.declaration_without_form.result c.declaration_without_form.ensures of)
+
+pub returns-in-Some-clause-text_err : goal.returns-in-Some-clause-text_err
+returns-in-Some-clause-text_err g c = behind_nothing _ _
 
 pub returns-in_err-globals-clause-text_err : goal.returns-in_err-globals-clause-text_err
 returns-in_err-globals-clause-text_err g c = refused_behind_nothing c.from_residual.result _ _
