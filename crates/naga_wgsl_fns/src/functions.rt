@@ -117,12 +117,7 @@ pub(crate) struct FunctionText<'a> {
 impl FunctionText<'_> {
     /// The whole function, behind its stage. `scope` is what is in scope at its start.
     #[tactic(auto, using(naga_words::proofs::Writing::writes_then, crate::proofs::FunctionRows::item_row))]
-    fn write_item<W: TextSink>(
-        &self,
-        alloc: Global,
-        scope: &mut Scope,
-        out: &mut Output<'_, W>,
-    )
+    fn write_item<W: TextSink>(&self, alloc: Global, scope: &mut Scope, out: &mut Output<'_, W>)
         requires can { CanWrite self.now }
         requires start { StartsAt self.now scope.old.table }
         requires named { scope.old.named ≡ 0 }

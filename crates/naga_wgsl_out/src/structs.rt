@@ -104,6 +104,12 @@ fn write_member<W: TextSink>(
 {
     out.put("    ");
     write_passing(member.binding, out);
-    write_typed(alloc, text, &NameKey::StructMember(handle, number), member.ty, out);
+    write_typed(
+        alloc,
+        text,
+        &NameKey::StructMember(handle, number),
+        member.ty,
+        out,
+    );
     out.put(",\n");
 }

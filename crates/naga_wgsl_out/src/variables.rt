@@ -69,7 +69,13 @@ fn write_var<W: TextSink>(
     out.put("var");
     write_space(variable.space, out);
     out.put(" ");
-    write_typed(alloc, text, &NameKey::GlobalVariable(handle), variable.ty, out);
+    write_typed(
+        alloc,
+        text,
+        &NameKey::GlobalVariable(handle),
+        variable.ty,
+        out,
+    );
     write_value(alloc, text, variable.init, out);
 }
 
@@ -98,8 +104,16 @@ fn write_decorations<W: TextSink>(decorations: MemoryDecorations, out: &mut Outp
     ensures { Writes W.text W.failures out.old out.new
         (attributes_text (decoration_attributes decorations)) }
 {
-    write_if(decorations.contains(MemoryDecorations::COHERENT), "@coherent ", out);
-    write_if(decorations.contains(MemoryDecorations::VOLATILE), "@volatile ", out);
+    write_if(
+        decorations.contains(MemoryDecorations::COHERENT),
+        "@coherent ",
+        out,
+    );
+    write_if(
+        decorations.contains(MemoryDecorations::VOLATILE),
+        "@volatile ",
+        out,
+    );
 }
 
 /// Where a variable lives and what may be done with it, where WGSL has words for that.

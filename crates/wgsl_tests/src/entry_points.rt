@@ -44,7 +44,10 @@ fn all_are_written(
     count(&mut shader.info, &shader.module);
     let text = write_string(alloc, &shader.module, &shader.info, no_flags())?;
     assert_eq!(rt; line_count(text.as_str()), 262_143);
-    assert!(rt; text.as_str().ends_with("@workgroup_size(1, 1, 1) \nfn p65535_() {\n}\n"));
+    assert!(rt;
+        text.as_str()
+            .ends_with("@workgroup_size(1, 1, 1) \nfn p65535_() {\n}\n")
+    );
     Ok(())
 }
 

@@ -163,7 +163,9 @@ fn bindings_are_written_by_themselves(rt: HostRuntime) -> Result<(), Fail> {
     let text = binding_text(rt.alloc(), &position)?;
     reads(&rt, text.as_str(), "@builtin(position) @invariant ");
     let refused = binding_text(rt.alloc(), &Binding::BuiltIn(BuiltIn::PointSize));
-    assert!(rt; matches!(&refused, Err(Error::Unsupported { kind, .. }) if *kind == "builtin value"));
+    assert!(rt;
+        matches!(&refused, Err(Error::Unsupported { kind, .. }) if *kind == "builtin value")
+    );
     Ok(())
 }
 

@@ -350,13 +350,48 @@ a = _e3;\n        continuing {\n            a = (1i + 1i);\n            break if
 
 /// The same of rows with declarations and entry points.
 const DECLARATION_ROWS: &[(&[&str], &str, &str, u8)] = &[
-    (&["compute"], "@compute @workgroup_size(64, 1, 1) \nfn main() {\n}\n", "", 0),
-    (&["compute", "explicit"], "@compute @workgroup_size(64, 1, 1) \nfn main() {\n}\n", "", 0),
-    (&["struct"], "struct S {\n    fract: i32,\n    fn_: i32,\n}\n\n", "", 0),
-    (&["struct", "explicit"], "struct S {\n    fract: i32,\n    fn_: i32,\n}\n\n", "", 0),
-    (&["override"], "@id(3) override override_type: u32;\n\n", "", 0),
-    (&["override", "explicit"], "@id(3) override override_type: u32;\n\n", "", 0),
-    (&["global"], "@group(0) @binding(1) \nvar<storage, read_write> buf: array<u32>;\n\n", "", 0),
+    (
+        &["compute"],
+        "@compute @workgroup_size(64, 1, 1) \nfn main() {\n}\n",
+        "",
+        0,
+    ),
+    (
+        &["compute", "explicit"],
+        "@compute @workgroup_size(64, 1, 1) \nfn main() {\n}\n",
+        "",
+        0,
+    ),
+    (
+        &["struct"],
+        "struct S {\n    fract: i32,\n    fn_: i32,\n}\n\n",
+        "",
+        0,
+    ),
+    (
+        &["struct", "explicit"],
+        "struct S {\n    fract: i32,\n    fn_: i32,\n}\n\n",
+        "",
+        0,
+    ),
+    (
+        &["override"],
+        "@id(3) override override_type: u32;\n\n",
+        "",
+        0,
+    ),
+    (
+        &["override", "explicit"],
+        "@id(3) override override_type: u32;\n\n",
+        "",
+        0,
+    ),
+    (
+        &["global"],
+        "@group(0) @binding(1) \nvar<storage, read_write> buf: array<u32>;\n\n",
+        "",
+        0,
+    ),
     (
         &["global", "explicit"],
         "@group(0) @binding(1) \nvar<storage, read_write> buf: array<u32>;\n\n",
@@ -377,7 +412,12 @@ const DECLARATION_ROWS: &[(&[&str], &str, &str, u8)] = &[
     ),
     (&["const"], "const N: i32 = 7i;\n\n", "", 0),
     (&["const", "explicit"], "const N: i32 = 7i;\n\n", "", 0),
-    (&["flat"], "@fragment \nfn main(@location(0) @interpolate(flat) i: u32) {\n}\n", "", 0),
+    (
+        &["flat"],
+        "@fragment \nfn main(@location(0) @interpolate(flat) i: u32) {\n}\n",
+        "",
+        0,
+    ),
     (
         &["flat", "explicit"],
         "@fragment \nfn main(@location(0) @interpolate(flat) i: u32) {\n}\n",
