@@ -15,8 +15,6 @@ mod builders;
 #[cfg(test)]
 mod diagnostics;
 #[cfg(test)]
-mod entry_points;
-#[cfg(test)]
 mod initialisers;
 #[cfg(test)]
 mod ir;

@@ -4,10 +4,10 @@ use bitflags::Flags;
 use naga_wgsl_out::back::FunctionType;
 use naga_wgsl_out::builder::ModuleBuilder;
 use naga_wgsl_out::info::{accepts, count, unaccepted};
-use naga_wgsl_out::ir::{Binding, BuiltIn, Place, Sampling};
+use naga_wgsl_out::ir::Place;
 use naga_wgsl_out::wgsl::{
-    CheckedError, Error, Writer, WriterFlags, names_of, no_flags, write_binding, write_checked,
-    write_function, write_string,
+    CheckedError, Error, Writer, WriterFlags, names_of, no_flags, write_checked, write_function,
+    write_string,
 };
 use sample_modules::Row;
 use std::alloc::Global;
@@ -84,88 +84,6 @@ fn a_function_is_written_by_itself(rt: HostRuntime) -> Result<(), Fail> {
     let written = writes_a_function(&rt, rt.alloc(), &mut shader);
     drop(shader);
     written?;
-    Ok(())
-}
-
-const COMPUTE: &str = "@compute @workgroup_size(64, 1, 1) \nfn main() {\n}\n";
-
-/// An entry point is written behind the attributes of its stage.
-fn writes_an_entry_point(
-    rt: &impl Abort,
-    alloc: Global,
-    shader: &mut ModuleBuilder,
-) -> Result<(), Error> {
-    Row::Compute.build(alloc, shader)?;
-    count(&mut shader.info, &shader.module);
-    assert!(rt; accepts(&shader.module, &shader.info));
-    assert_eq!(rt; shader.module.entry_points.len(), 1);
-    let (names, mut namer) = names_of(alloc, &shader.module)?;
-    let mut text = String::new(alloc);
-    write_function(
-        alloc,
-        &shader.module,
-        &shader.info,
-        FunctionType::EntryPoint(0),
-        &names,
-        &mut namer,
-        WriterFlags::empty(),
-        &mut text,
-    )?;
-    reads(rt, text.as_str(), COMPUTE);
-    Ok(())
-}
-
-#[test]
-fn an_entry_point_is_written_by_itself(rt: HostRuntime) -> Result<(), Fail> {
-    let mut shader = ModuleBuilder::new(rt.alloc());
-    let written = writes_an_entry_point(&rt, rt.alloc(), &mut shader);
-    drop(shader);
-    written?;
-    Ok(())
-}
-
-/// The attributes of a binding, as they are written behind what the sink holds.
-fn binding_text(alloc: Global, binding: &Binding) -> Result<String, Error> {
-    let mut text = String::new(alloc);
-    write_binding(alloc, binding, &mut text)?;
-    Ok(text)
-}
-
-#[test]
-fn bindings_are_written_by_themselves(rt: HostRuntime) -> Result<(), Fail> {
-    let at_centroid = Binding::Location {
-        location: 1,
-        interpolation: None,
-        sampling: Some(Sampling::Centroid),
-        blend_src: None,
-        per_primitive: false,
-    };
-    let blended = Binding::Location {
-        location: 0,
-        interpolation: None,
-        sampling: None,
-        blend_src: Some(1),
-        per_primitive: true,
-    };
-    let position = Binding::BuiltIn(BuiltIn::Position { invariant: true });
-    let text = binding_text(rt.alloc(), &at_centroid)?;
-    reads(
-        &rt,
-        text.as_str(),
-        "@location(1) @interpolate(perspective, centroid) ",
-    );
-    let text = binding_text(rt.alloc(), &blended)?;
-    reads(
-        &rt,
-        text.as_str(),
-        "@location(0) @blend_src(1) @per_primitive ",
-    );
-    let text = binding_text(rt.alloc(), &position)?;
-    reads(&rt, text.as_str(), "@builtin(position) @invariant ");
-    let refused = binding_text(rt.alloc(), &Binding::BuiltIn(BuiltIn::PointSize));
-    assert!(rt;
-        matches!(&refused, Err(Error::Unsupported { kind, .. }) if *kind == "builtin value")
-    );
     Ok(())
 }
 
