@@ -400,13 +400,15 @@ const DECLARATION_ROWS: &[(&[&str], &str, &str, u8)] = &[
     ),
     (
         &["vertex"],
-        "struct VertexOutput {\n    @builtin(position) pos: vec4<f32>,\n}\n\n@vertex \nfn main() -> VertexOutput {\n    return VertexOutput();\n}\n",
+        "struct VertexOutput {\n    @builtin(position) pos: vec4<f32>,\n}\n\n\
+@vertex \nfn main() -> VertexOutput {\n    return VertexOutput();\n}\n",
         "",
         0,
     ),
     (
         &["vertex", "explicit"],
-        "struct VertexOutput {\n    @builtin(position) pos: vec4<f32>,\n}\n\n@vertex \nfn main() -> VertexOutput {\n    return VertexOutput();\n}\n",
+        "struct VertexOutput {\n    @builtin(position) pos: vec4<f32>,\n}\n\n\
+@vertex \nfn main() -> VertexOutput {\n    return VertexOutput();\n}\n",
         "",
         0,
     ),
@@ -426,13 +428,15 @@ const DECLARATION_ROWS: &[(&[&str], &str, &str, u8)] = &[
     ),
     (
         &["atomic"],
-        "var<workgroup> c: atomic<u32>;\n\n@compute @workgroup_size(1, 1, 1) \nfn main() {\n    let _e2 = atomicAdd((&c), 1u);\n}\n",
+        "var<workgroup> c: atomic<u32>;\n\n\
+@compute @workgroup_size(1, 1, 1) \nfn main() {\n    let _e2 = atomicAdd((&c), 1u);\n}\n",
         "",
         0,
     ),
     (
         &["atomic", "explicit"],
-        "var<workgroup> c: atomic<u32>;\n\n@compute @workgroup_size(1, 1, 1) \nfn main() {\n    let _e2: u32 = atomicAdd((&c), 1u);\n}\n",
+        "var<workgroup> c: atomic<u32>;\n\n\
+@compute @workgroup_size(1, 1, 1) \nfn main() {\n    let _e2: u32 = atomicAdd((&c), 1u);\n}\n",
         "",
         0,
     ),
