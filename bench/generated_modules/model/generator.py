@@ -29,6 +29,10 @@ def generate(r):
     if r.random() < 0.2:
         for _ in range(r.choice([1, 1, 1, 2])):
             FaultMaker(r, module, own).make()
+    for f in module.bodies():
+        if f.result is None:
+            # a result was wanted, and nothing of its type is returned
+            f.bindings.pop("result", None)
     return module
 
 
