@@ -4,6 +4,7 @@ use Rattle.std.proofs.Common.{inr, nat_eq, refl, subst, sym}
 use Rattle.std.proofs.lemmas.Bool.{false≢true}
 use Rattle.std.specs.Prelude.{◌⊎◌, Err, IfErr, IsErrAnd, IsSomeAnd, Ok, Result, get_or, slice_get}
 use Rattle.std.specs.Prelude.{string_bytes}
+use Rattle.std.specs.declared.string.String.{String}
 use Rattle.module_meaning.specs.ExpressionOperators.{has_parts}
 use Rattle.module_meaning.specs.LackingScalars.{lacking_scalar}
 use Rattle.module_meaning.specs.ExpressionForms.{known_passes}
@@ -22,8 +23,8 @@ use Rattle.naga_ir.specs.declared.types.TypeInner.{TypeInner}
 use Rattle.naga_wgsl_fns.specs.Errors.{IsCustom, IsUnimplemented}
 use Rattle.naga_wgsl_fns.specs.declared.error.Error.{Error}
 use Rattle.naga_wgsl_fns.specs.declared.error.Error.TheVariants.{Custom, Memory, Unimplemented}
-use Rattle.naga_wgsl_out.specs.ModuleRefusals.{IsNamesRefusal, IsReportedOfItems, ItemsAreFull}
-use Rattle.naga_wgsl_out.specs.ModuleRefusals.{TellsOfFunction}
+use Rattle.naga_wgsl_out.specs.ModuleRefusals.{ComesBeforeText, IsNamesRefusal, ItemsAreFull}
+use Rattle.naga_wgsl_out.specs.ModuleRefusals.{TellsOfFunction, TellsOfKeys}
 use Rattle.naga_wgsl_fns.specs.Refusals.{NamesConversion}
 use Rattle.naga_wgsl_fns.specs.Refusals.{NamesExpression, NamesFunction, NamesLiteral, NamesMatrix}
 use Rattle.naga_wgsl_fns.specs.Refusals.{NamesGlobal, NamesPart, NamesScalar, NamesStatement}
@@ -165,38 +166,55 @@ statement_other formless.FallThrough error named =
 statement_other formless.ImageCompareExchange error named =
     unimplemented_other (codes "image compare exchange") error named refl
 
-reported_begins : (m : Module) (message : List ℕ) → IsReportedOfItems m message →
-    begins message ≡ true
-reported_begins m message (inl reported) = ap begins reported.0
-reported_begins m message (inr reported) = ap begins reported.0
+-- What begins so tells of no function, but that a label of one gets no name.
+tells_of_labels : (m : Module) (message : String) → begins (string_bytes message) ≡ true →
+    TellsOfFunction m (Custom message) →
+    TellsOfFullNamer (Custom message) × (ItemsAreFull m → ⊥)
+tells_of_labels m message of_names of = by of.tells
+  where
+    by : (TellsOfScope (Custom message) ⊎ (TellsOfForm (Custom message)
+        ⊎ (TellsOfFullNamer (Custom message) × (ItemsAreFull m → ⊥)))) →
+        TellsOfFullNamer (Custom message) × (ItemsAreFull m → ⊥)
+    by (inl scope) = absurd (false≢true (sym (ap begins scope) ∙ of_names))
+    by (inr (inl (tells, inl (other, known, es, e, named)))) =
+        absurd (false≢true
+        (sym (expression_other other known es e (Custom message) named) ∙ of_names))
+    by (inr (inl (tells, inr (inl (other, r, named))))) =
+        absurd (false≢true (sym (type_other other r (Custom message) named) ∙ of_names))
+    by (inr (inl (tells, inr (inr (statement, named))))) =
+        absurd (false≢true (sym (statement_other statement (Custom message) named) ∙ of_names))
+    by (inr (inr full)) = full
+
+-- nor that a key is out of range
+keys_tell_of_none : (m : Module) (message : String) →
+    string_bytes message ≡ codes "name key out of range" → TellsOfFunction m (Custom message) → ⊥
+keys_tell_of_none m message told of =
+    false≢true (ap (λ text. nat_eq (get_or text 4 0) 32)
+    (sym (tells_of_labels m message (ap begins told) of).0 ∙ told))
 
 -- why the items get no names tells of no function
 tells_of_none : (m : Module) (error : Error) → IsNamesRefusal m error → TellsOfFunction m error → ⊥
-tells_of_none m error refusal of = by error refusal of.tells
+tells_of_none m (Custom message) (inl reported) of =
+    (tells_of_labels m message (ap begins reported.0) of).1 reported.1
+tells_of_none m (Custom message) (inr reported) of = keys_tell_of_none m message reported.0 of
+tells_of_none m (Memory e) refusal of = by of.tells
   where
-    by : (error : Error) → IsNamesRefusal m error →
-        (TellsOfScope error ⊎ (TellsOfForm error ⊎ (TellsOfFullNamer error × (ItemsAreFull m → ⊥)))) → ⊥
-    by (Custom message) refusal (inl scope) =
-        false≢true (sym (ap begins scope) ∙ reported_begins m (string_bytes message) refusal)
-    by (Custom message) refusal (inr (inl (tells, inl (other, known, es, e, named)))) =
-        false≢true
-        (sym (expression_other other known es e (Custom message) named)
-        ∙ reported_begins m (string_bytes message) refusal)
-    by (Custom message) refusal (inr (inl (tells, inr (inl (other, r, named))))) =
-        false≢true
-        (sym (type_other other r (Custom message) named)
-        ∙ reported_begins m (string_bytes message) refusal)
-    by (Custom message) refusal (inr (inl (tells, inr (inr (statement, named))))) =
-        false≢true
-        (sym (statement_other statement (Custom message) named)
-        ∙ reported_begins m (string_bytes message) refusal)
-    by (Custom message) (inl reported) (inr (inr full)) = full.1 reported.1
-    by (Custom message) (inr reported) (inr (inr full)) =
-        false≢true (ap (λ text. nat_eq (get_or text 4 0) 32) (sym full.0 ∙ reported.0))
-    by (Memory e) refusal (inl scope) = scope
-    by (Memory e) refusal (inr (inl form)) = form.0
-    by (Memory e) refusal (inr (inr full)) = full.0
-    by _ refusal of = absurd refusal
+    by : (TellsOfScope (Memory e) ⊎ (TellsOfForm (Memory e)
+        ⊎ (TellsOfFullNamer (Memory e) × (ItemsAreFull m → ⊥)))) → ⊥
+    by (inl scope) = scope
+    by (inr (inl form)) = form.0
+    by (inr (inr full)) = full.0
+tells_of_none m _ refusal of = absurd refusal
+
+-- a key that is out of range is told before any text
+keys_come_first : (m : Module) (error : Error) → TellsOfKeys error → ComesBeforeText m error
+keys_come_first m (Custom message) told = (tt, keys_tell_of_none m message told)
+keys_come_first m _ told = absurd told
+
+pub keys_untouched : (m : Module) (r : Result Unit Error) (P : Type 0) →
+    IfErr r (λ e. ComesBeforeText m e → P) → IfErr r (λ e. TellsOfKeys e → P)
+keys_untouched m (Ok u) P first = tt
+keys_untouched m (Err e) P first = λ told. first (keys_come_first m e told)
 
 pub names_tell_of_none : (m : Module) (P : Type 0) (r : Result Unit Error) (error : Error) →
     IsErrAnd r (λ e. e ≡ error) → IsNamesRefusal m error →

@@ -86,6 +86,11 @@ pub record TellsOfFunction (m : Module) (error : Error) : Type 0 where
 abbrev pub ComesBeforeText : Module → Error → Type 0
 ComesBeforeText m error = TellsOfModule error × (TellsOfFunction m error → ⊥)
 
+-- the error tells that the key of an item is out of range
+abbrev pub TellsOfKeys : Error → Type 0
+TellsOfKeys (Custom message) = string_bytes message ≡ codes "name key out of range"
+TellsOfKeys _ = ⊥
+
 -- no reason stands in the module
 pub record IsWritable (explicit : Bool) (m : Module) (info : ModuleInfo) : Type 0 where
   pub declarations : DeclarationsHaveForms m

@@ -21,7 +21,7 @@ ghost use Rattle.naga_wgsl_fns.specs.ModuleText.{CanWriteOf};
 ghost use Rattle.naga_wgsl_fns.specs.Refusals.{TellsOfModule};
 ghost use Rattle.naga_wgsl_out.specs.ModuleRefusals.{ComesBeforeText, HasAllNames};
 ghost use Rattle.naga_wgsl_out.specs.ModuleRefusals.{HasNamedBefore, IsNamesRefusal};
-ghost use Rattle.naga_wgsl_out.specs.ModuleRefusals.{TellsOfFunction};
+ghost use Rattle.naga_wgsl_out.specs.ModuleRefusals.{TellsOfFunction, TellsOfKeys};
 ghost use Rattle.naga_wgsl_out.specs.Writing.{WritesFunctions, WritesNext, Writing};
 ghost use Rattle.naga_wgsl_out.specs.Writing.{WroteFunctionsBefore, front_text, line_at};
 ghost use Rattle.naga_wgsl_out.specs.Writing.{line_behind, written_text};
@@ -124,6 +124,9 @@ impl<W: TextSink> Writer<W> {
             (written_text «module».now info.now self.old.flags) (W.text self.new.sink)) }
         ensures failures_ok { OnOk result (W.failures self.new.sink ≡ W.failures self.old.sink) }
         ensures untouched { IfErr result (λ e. ComesBeforeText «module».now e →
+            W.text self.new.sink ≡ W.text self.old.sink) }
+        // A key that is out of range is told in front of any text.
+        ensures keys { IfErr result (λ e. TellsOfKeys e →
             W.text self.new.sink ≡ W.text self.old.sink) }
         // What stands in front of the function that is refused.
         ensures written_before { IfErr result (λ e. TellsOfFunction «module».now e →

@@ -3,7 +3,7 @@ use Rattle.naga_scope.proofs.WrittenConstants.{globals_in_order}
 use Rattle.naga_wgsl_out.proofs.Faithful.{Concludes, behind_nothing, concludes, concludes_in_front}
 use Rattle.naga_wgsl_out.proofs.Faithful.{refused, refused_behind_nothing}
 use Rattle.naga_wgsl_out.proofs.ModuleScopes.{declaration_refuses, declaration_tells_of_none}
-use Rattle.naga_wgsl_out.proofs.ReportedNames.{names_tell_of_none}
+use Rattle.naga_wgsl_out.proofs.ReportedNames.{keys_untouched, names_tell_of_none}
 use Rattle.naga_wgsl_out.proofs.writer.Writer.write.Goals as goal
 
 pub returns : goal.returns
@@ -30,6 +30,7 @@ returns g c =
       text_err = ends.text_err;
       failures_ok = ends.failures_ok;
       untouched = ends.untouched;
+      keys = keys_untouched m r _ ends.untouched;
       written_before = ends.written_before;
       unfailed = ends.unfailed;
       flags = ap (λ w. w.flags) c.self.view_is;
@@ -59,6 +60,7 @@ returns-in_err-write_front g c =
       text_err = ends.text_err;
       failures_ok = ends.failures_ok;
       untouched = ends.untouched;
+      keys = keys_untouched m r _ ends.untouched;
       written_before = ends.written_before;
       unfailed = ends.unfailed;
       flags = ap (λ w. w.flags) c.self.view_is;
