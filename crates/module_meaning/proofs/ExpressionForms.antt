@@ -1,6 +1,6 @@
 -- What having a form says of an expression, and being spellable of a type.
 use Rattle.std.proofs.Common.{List, ◌≡◌, Bool, false, not, refl, true}
-use Rattle.std.proofs.lemmas.Bool.{and_parts}
+use Rattle.std.proofs.lemmas.Bool.{and_parts, not-true}
 use Rattle.naga_ir.specs.declared.module.Module.{Module}
 use Rattle.naga_info.specs.declared.info.ExpressionInfo.{ExpressionInfo}
 use Rattle.naga_info.specs.declared.info.TypeResolution.{TypeResolution}
@@ -18,16 +18,12 @@ has_form_parts m known es e has =
     and_parts (expression_is_written m known e) (own_offset_is_written es e) has
 
 -- ---- types that a text can spell
-is_false : (b : Bool) → not b ≡ true → b ≡ false
-is_false true is = absurd cc
-is_false false is = refl
-
 -- such a type has a form, and names no struct that no text declares
 pub spellable_parts : (m : Module) (r : TypeResolution) → is_spellable m r ≡ true →
     (is_spelled m.types r ≡ true) × (names_undeclared m r ≡ false)
 spellable_parts m r is =
     let parts = and_parts (is_spelled m.types r) (not (names_undeclared m r)) is in
-    (parts.0, is_false (names_undeclared m r) parts.1)
+    (parts.0, not-true (names_undeclared m r) parts.1)
 
 pub spelled_of_spellable : (m : Module) (r : TypeResolution) → is_spellable m r ≡ true →
     is_spelled m.types r ≡ true

@@ -4,7 +4,7 @@ use Rattle.std.proofs.Common.{Option, Some, None, slice_get, if◌then◌else◌
 use Rattle.std.specs.Prelude.{◌↔◌, unwrap_or}
 use Rattle.std.specs.List.{list_all}
 use Rattle.std.specs.Option.{option_map}
-use Rattle.std.proofs.lemmas.Bool.{and_parts}
+use Rattle.std.proofs.lemmas.Bool.{and_parts, not-true}
 use Rattle.std.proofs.lemmas.Option.{same_Some}
 use Rattle.std.proofs.lemmas.Slice.Eq.{bytes_eq-Decides}
 use Rattle.naga_info.specs.declared.info.TypeResolution.{TypeResolution}
@@ -23,7 +23,7 @@ use Rattle.module_meaning.proofs.Lists.{list_all_at}
 use Rattle.module_meaning.proofs.TypeIdentity.{word_tells}
 use Rattle.naga_form.specs.Readable.{AreAlike, SpelledAlike, Formless, handle_names}
 use Rattle.naga_form.proofs.AlikeTypes.{form_read, form_is_read, other_read}
-use Rattle.naga_form.proofs.AlikeNumbers.{tree_numbers, own_handle, handles_are_distinguished, resolution_is_distinguished, form_is_distinguished, no_numbers, is_no}
+use Rattle.naga_form.proofs.AlikeNumbers.{tree_numbers, own_handle, handles_are_distinguished, resolution_is_distinguished, form_is_distinguished, no_numbers}
 
 -- a type without a form is told by what it is
 abbrev pub by_itself : Option TypeInner → Identity
@@ -52,7 +52,7 @@ module _ (types : List Type_) where
       found (Some t) e = named t.inner (is_struct t.inner) (inner_key_by (key_within h types) t.inner) e
   distinguished_by_itself (Value it) fit formless =
       let parts = and_parts _ _ fit in
-      ap (λ b. if b then Nothing else Itself it) (is_no (is_struct it) parts.0)
+      ap (λ b. if b then Nothing else Itself it) (not-true (is_struct it) parts.0)
 
   module _ (named : (h : ℕ) (t : Type_) → slice_get types h ≡ Some t → is_handle_pointer t.inner ≡ false) where
     -- the numbers of a form are not those of a type without one
@@ -117,7 +117,7 @@ module _ (types : List Type_) where
 
 -- each type of a module that has only such types
 pub each_named : (types : List Type_) → list_all type_is_fit types ≡ true → (h : ℕ) (t : Type_) → slice_get types h ≡ Some t → is_handle_pointer t.inner ≡ false
-each_named types fits h t at = is_no (is_handle_pointer t.inner) (list_all_at type_is_fit types h t fits at)
+each_named types fits h t at = not-true (is_handle_pointer t.inner) (list_all_at type_is_fit types h t fits at)
 
 pub alike_by_numbers : (types : List Type_) (a b : TypeResolution) →
     list_all type_is_fit types ≡ true → resolution_is_fit a ≡ true → resolution_is_fit b ≡ true →

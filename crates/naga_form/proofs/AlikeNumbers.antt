@@ -4,7 +4,7 @@ use Rattle.std.proofs.Common.{◌≡◌, ℕ, zero, suc, Bool, true, false, List
 use Rattle.std.proofs.Common.{sym, ap, ◌∙◌, codes, Option, Some, None, slice_get, get_or}
 use Rattle.std.proofs.Common.{if◌then◌else◌, ◌==◌, true≢false, not}
 use Rattle.std.proofs.Common.{eqb-true}
-use Rattle.std.proofs.lemmas.Bool.{and_parts}
+use Rattle.std.proofs.lemmas.Bool.{and_parts, not-true}
 use Rattle.std.proofs.lemmas.Option.{same_Some}
 use Rattle.std.specs.Int.NonZero.{non_zero_u32_get}
 use Rattle.std.specs.Option.{option_map, is_some}
@@ -274,10 +274,6 @@ abbrev mutual
 pub no_numbers : (distinguished : List ℕ → ℕ) → tree_numbers distinguished (Named []) ≡ []
 unfolding word_numbers
 no_numbers distinguished = refl
-
-pub is_no : (b : Bool) → not b ≡ true → b ≡ false
-is_no true e = absurd (true≢false (sym e))
-is_no false e = refl
 
 -- a length that is an override is told by the override's name
 abbrev pub LengthIsDistinguished : (distinguished : List ℕ → ℕ) → Names → ArraySize → Type 0
@@ -640,7 +636,7 @@ module _ (distinguished : List ℕ → ℕ) where
           ResolutionIsDistinguished distinguished under r → resolution_is_fit r ≡ true →
           type_key under.types r ≡ option_map (tree_numbers distinguished) (resolution_tree under r)
       form_is_distinguished (Handle h) is fit = handle_is_distinguished h
-      form_is_distinguished (Value it) is fit = inner_is_distinguished (handle_key under.types) (type_tree under) handle_is_distinguished it is (is_no (is_handle_pointer it) (and_parts _ _ fit).1)
+      form_is_distinguished (Value it) is fit = inner_is_distinguished (handle_key under.types) (type_tree under) handle_is_distinguished it is (not-true (is_handle_pointer it) (and_parts _ _ fit).1)
 
 -- ---- names that are handles
 abbrev pub own_handle : List ℕ → ℕ

@@ -13,7 +13,7 @@ use Rattle.std.proofs.Common.{◌≡◌, ◌<◌, ◌≤◌, ℕ, zero, suc, Boo
 use Rattle.std.proofs.Common.{Option, Some, None, slice_get, get_or, if◌then◌else◌, nat_eq, arith}
 use Rattle.std.specs.Prelude.{not, unwrap_or}
 use Rattle.std.specs.Option.{option_map, option_and_then, is_some, is_none}
-use Rattle.std.proofs.lemmas.Bool.{and_parts, ltb-true, true≢false}
+use Rattle.std.proofs.lemmas.Bool.{and_parts, ltb-true, not-true, true≢false}
 use Rattle.std.proofs.lemmas.Option.{same_Some}
 use Rattle.naga_ir.specs.declared.image.ImageClass.{ImageClass}
 use Rattle.naga_ir.specs.declared.image.ImageClass.TheVariants as class
@@ -41,7 +41,6 @@ use Rattle.module_meaning.specs.TypeParts.{part_type, pointed_part, member_type,
 use Rattle.module_meaning.proofs.TypeIdentity.{word_tells}
 use Rattle.naga_form.proofs.AlikeLaw.{form_apart, distinguished_by_itself, each_named, itself}
 use Rattle.naga_form.proofs.AlikeLaw.{itself_back}
-use Rattle.naga_form.proofs.AlikeNumbers.{is_no}
 use Rattle.naga_form.proofs.SameValues.{TypesAreCounted, IsFit}
 
 -- a pointer to a type of the module, or to a value without one
@@ -280,7 +279,7 @@ module _ (m : Module) (are : TypesAreCounted m) (stand : PartsStand m) where
   pub is_free : (r : TypeResolution) (it : TypeInner) → IsFit m r → inner_of r m.types ≡ Some it → IsFree it
   is_free (Value it) other fit at =
       let parts = and_parts (not (is_struct it)) (not (is_handle_pointer it)) fit.0 in
-      subst IsFree (same_Some it other at) (free_by it (is_no (is_handle_pointer it) parts.1))
+      subst IsFree (same_Some it other at) (free_by it (not-true (is_handle_pointer it) parts.1))
   is_free (Handle h) it fit at = by (slice_get m.types h) refl at
     where
       by : (o : Option Type_) → slice_get m.types h ≡ o → option_map (λ t. t.inner) o ≡ Some it → IsFree it

@@ -6,7 +6,7 @@ use Rattle.std.proofs.Common.{length, Some, refl, sym, ap, subst, ◌∙◌, ari
 use Rattle.std.proofs.Common.{replicate, nat_eq, true≢false}
 use Rattle.std.specs.Prelude.{IsTrue, slice_get, get_or, not, Option, None}
 use Rattle.std.specs.Prelude.{◌&&◌, ◌||◌}
-use Rattle.std.proofs.lemmas.Bool.{and_parts}
+use Rattle.std.proofs.lemmas.Bool.{and_parts, not-true}
 use Rattle.naga_ir.specs.declared.expression.Expression as ir
 use Rattle.naga_ir.specs.declared.module.Function as ir_function
 use Rattle.naga_info.specs.declared.info.ExpressionInfo.{ExpressionInfo}
@@ -48,7 +48,6 @@ use Rattle.shader_runs.specs.Premises.{WordFits}
 use Rattle.shader_runs.specs.Premises.{AreDistinct, FixedKey}
 use Rattle.shader_runs.specs.Premises.{NumberedKey, NamedKey}
 use Rattle.shader_runs.specs.Premises.{AsksBy, OperatesBy, StandsFree, IsNoName}
-use Rattle.naga_form.proofs.AlikeNumbers.{is_no}
 use Rattle.naga_form.proofs.Names.{numbered_distinct, item_is_identifier}
 use Rattle.naga_form.proofs.Names.{item_not_numbered}
 use Rattle.module_meaning.specs.Names.{numbered_name, module_names}
@@ -166,12 +165,12 @@ module _ (m : Module) (info : ModuleInfo) (types : TypesAreFit m) (p : shapes.Mo
       (is_signed (c ∷ rest) && (not (is_word (c ∷ rest)) || is_builtin (c ∷ rest))) free in
       let two =
       and_parts (is_signed (c ∷ rest)) (not (is_word (c ∷ rest)) || is_builtin (c ∷ rest)) one.1 in
-      stands_free c rest (is_no (nat_eq c 95) one.0) two.0 free
+      stands_free c rest (not-true (nat_eq c 95) one.0) two.0 free
 
   operates : (w : List ℕ) → operates_freely w ≡ true → OperatesBy p own w
   operates w free =
       let both = and_parts (not (is_request w)) (names_no_item w) free in
-      (is_no (is_request w) both.0, free_word w both.1)
+      (not-true (is_request w) both.0, free_word w both.1)
 
   asks_by : (w : List ℕ) → asks_freely w ≡ true → AsksBy p own w
   asks_by w free =

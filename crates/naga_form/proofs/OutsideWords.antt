@@ -2,7 +2,7 @@
 -- item that runs know.
 use Rattle.std.proofs.Common.{◌≡◌, ℕ, true, false, List, Some}
 use Rattle.std.specs.Prelude.{not, slice_get}
-use Rattle.std.proofs.lemmas.Bool.{and_parts}
+use Rattle.std.proofs.lemmas.Bool.{and_parts, not-true}
 use Rattle.naga_info.specs.declared.info.ModuleInfo.{ModuleInfo}
 use Rattle.naga_ir.specs.declared.module.Constant as ir_constant
 use Rattle.naga_ir.specs.declared.module.Module.{Module}
@@ -19,7 +19,6 @@ use Rattle.shader_runs.specs.Program as shapes
 use Rattle.shader_runs.specs.Program.{ConstantTree}
 use Rattle.shader_runs.specs.Scope.{ModuleNames}
 use Rattle.wgsl_text.specs.Requests.{is_request}
-use Rattle.naga_form.proofs.AlikeNumbers.{is_no}
 use Rattle.naga_form.proofs.ItemKeys.{CountsItems, IsNoItem, no_constant_is, no_function_is}
 use Rattle.naga_form.proofs.ItemKeys.{no_global_is, type_has, type_is_no_item, word_is_no_item}
 use Rattle.naga_form.proofs.Names.{item_is_identifier}
@@ -48,7 +47,7 @@ module _ (m : Module) (info : ModuleInfo) (types : TypesAreFit m) (p : shapes.Mo
   free_operates : (w : List ℕ) → operates_freely w ≡ true → Operates w
   free_operates w free =
       let both = and_parts (not (is_request w)) (names_no_item w) free in
-      operates w (is_no (is_request w) both.0) (word_is_no_item m w both.1)
+      operates w (not-true (is_request w) both.0) (word_is_no_item m w both.1)
 
   struct_operates : (h : ℕ) (t : Type_) → slice_get m.types h ≡ Some t →
       Operates (name_in (module_names m) (key.Type_ h))

@@ -2,6 +2,7 @@
 -- module.
 use Rattle.std.proofs.Common.{◌≡◌, ℕ, zero, suc, ◌+◌, ◌-◌, ◌≤◌, Bool, true, false, cond, List, []}
 use Rattle.std.proofs.Common.{◌∷◌, ◌++◌, length, ◌||◌, refl, ap, ap₂, ◌∙◌, arith, true≢false}
+use Rattle.std.proofs.lemmas.Bool.{or_parts}
 use Rattle.shader_runs.specs.Value.{Bytes}
 use Rattle.shader_runs.specs.World.{Event}
 use Rattle.shader_runs.specs.Program.{Label, Statement, Emit, Barrier, Statements, Cases, no_case}
@@ -21,10 +22,6 @@ use Rattle.shader_runs.specs.Passes.{lines_behind, let_count, line_count, behind
 use Rattle.shader_runs.specs.Passes.{region_in_text, point_in_text, case_falls, region_falls}
 use Rattle.shader_runs.specs.Passes.{falls_at}
 use Rattle.shader_runs.specs.Points.{named_before, named_in, handles_in, handles_at, named_at}
-
-or_none : (a b : Bool) → (a || b) ≡ false → (a ≡ false) × (b ≡ false)
-or_none true b e = absurd (true≢false e)
-or_none false b e = (refl, e)
 
 -- some first handles, and the rest
 pub from_split : (i count first : ℕ) → i ≤ count → from first count ≡ from first i ++ from (first + i) (count - i)
@@ -109,7 +106,7 @@ module _ (f : Naming) where
         let s1 = after f k st s in
         behind_form st k s (form_all f k1 ss s1) (point_in_text f.function ss q) ∙ lines_there rest k1 s1 e
     lines_there (goes_inside {st = st} {ss = ss} {g = g} {q = q} to rest) k s e =
-        let apart = or_none (region_falls st g) (falls_at (statements_in st g) q) e in
+        let apart = or_parts (region_falls st g) (falls_at (statements_in st g) q) e in
         let tail = form_all f (named_by f.function st k) ss (after f k st s) in
         inside_form to k s tail (point_in_text f.function (statements_in st g) q) apart.0
         ∙ lines_there rest (named_in f.function st g k) (handles_in f k st g s) apart.1

@@ -3,7 +3,7 @@ use Rattle.std.proofs.Common.{◌≡◌, ℕ, Bool, true, false, List, [], ◌�
 use Rattle.std.proofs.Common.{refl, sym, ap, ◌∙◌, inl, inr, codes, ◌==◌}
 use Rattle.std.specs.Prelude.{if◌then◌else◌}
 use Rattle.std.specs.Str.{bytes_eq}
-use Rattle.std.proofs.lemmas.Bool.{false≢true}
+use Rattle.std.proofs.lemmas.Bool.{false≢true, or_cases}
 use Rattle.std.proofs.lemmas.Slice.Eq.{bytes_eq-Decides}
 use Rattle.naga_ir.specs.declared.binding.BuiltIn.{BuiltIn}
 use Rattle.naga_ir.specs.declared.binding.BuiltIn.TheVariants as builtin
@@ -32,7 +32,6 @@ use Rattle.wgsl_text.specs.Tables.{format_words, role_words, builtin_value_words
 use Rattle.wgsl_text.specs.Tables.{interpolation_words, sampling_words}
 use Rattle.wgsl_text.specs.ValueWords.{AreTheWordsOf, ValueWords}
 use Rattle.wgsl_text.specs.Words.{stands_in, is_builtin}
-use Rattle.wgsl_text.proofs.Words.{either}
 
 -- a word, where there is one, stands in the table
 abbrev stands_if_there : List (List ℕ) → Option (List ℕ) → Bool
@@ -47,7 +46,7 @@ found word (v ∷ vs) [] e w at = absurd (false≢true at)
 found word (v ∷ vs) (u ∷ words) e w at =
     let here : word v ≡ Some u = cc in
     let behind : map word vs ≡ map Some words = cc in
-    elim (either (bytes_eq u w) (stands_in words w) at) [
+    elim (or_cases (bytes_eq u w) (stands_in words w) at) [
       | inl same ↦ (v, here ∙ ap Some ((bytes_eq-Decides u w).0 same))
       | inr later ↦ found word vs words behind w later
     ]

@@ -3,15 +3,11 @@ use Rattle.std.proofs.Common.{◌≡◌, ℕ, Bool, true, false, not, ◌&&◌, 
 use Rattle.std.proofs.Common.{◌∙◌, ◌||◌, inl, inr}
 use Rattle.std.specs.Prelude.{◌⊎◌}
 use Rattle.std.specs.Str.{bytes_eq}
-use Rattle.std.proofs.lemmas.Bool.{false≢true, and_parts, not-true}
+use Rattle.std.proofs.lemmas.Bool.{false≢true, and_parts, not-true, or_cases}
 use Rattle.std.proofs.lemmas.Slice.Eq.{bytes_eq-Decides}
 use Rattle.wgsl_text.specs.Words.{stands_in, IsWord, is_word_text, is_reserved}
 use Rattle.wgsl_text.specs.Tables.{address_space_words, access_words, builtin_value_words}
 use Rattle.wgsl_text.specs.Tables.{interpolation_words, sampling_words, enable_words}
-
-pub either : (a b : Bool) → (a || b) ≡ true → (a ≡ true) ⊎ (b ≡ true)
-either true b e = inl refl
-either false b e = inr e
 
 -- each word passes the test
 abbrev pub all_words : (List ℕ → Bool) → List (List ℕ) → Bool
@@ -21,7 +17,7 @@ all_words p (w ∷ words) = p w && all_words p words
 pub passes : (p : List ℕ → Bool) (words : List (List ℕ)) (w : List ℕ) → all_words p words ≡ true → stands_in words w ≡ true → p w ≡ true
 passes p [] w all at = absurd (false≢true at)
 passes p (v ∷ words) w all at =
-    elim (either (bytes_eq v w) (stands_in words w) at) [
+    elim (or_cases (bytes_eq v w) (stands_in words w) at) [
       | inl same ↦ ap p (sym ((bytes_eq-Decides v w).0 same)) ∙ (and_parts (p v) (all_words p words) all).0
       | inr later ↦ passes p words w (and_parts (p v) (all_words p words) all).1 later
     ]
