@@ -18,7 +18,7 @@ use Rattle.module_meaning.specs.AgreeingOperators.{Group}
 use Rattle.module_meaning.specs.Operations.{Operation, agrees, all_agree}
 use Rattle.naga_acceptance.specs.declared.agreeing.Probe.TheVariants.{Empty, Seen, Full}
 use Rattle.naga_acceptance.specs.declared.agreeing.Site.{Site}
-use Rattle.naga_acceptance.specs.Uses.{is_same_operator, use_at, hash_of, slot_count, slot_after}
+use Rattle.naga_acceptance.specs.Uses.{is_same_operator, use_at, hash_of, slot_after}
 use Rattle.naga_acceptance.specs.Uses.{site_after, site_answer, first_answer, all_mixed, lists_mixed}
 use Rattle.naga_acceptance.specs.Uses.{IsAmong, IsSiteOf, IsHashed, ArePassed, Probes, IsFound}
 use Rattle.naga_acceptance.specs.Uses.{Remembers}
@@ -130,10 +130,10 @@ nothing_there (suc size) zero = refl
 nothing_there (suc size) (suc slot) = nothing_there size slot
 
 -- an empty table remembers nothing
-pub none_remembered : (types : List Type_) (gs : List Group) (table : List (Option Site)) →
-    table ≡ replicate 509 None → Remembers types gs [] table
-none_remembered types gs table e = record {
-  size = ap length e ∙ length-replicate {A = Option Site} 509 None;
+pub none_remembered : (types : List Type_) (gs : List Group) (slots : ℕ)
+    (table : List (Option Site)) → table ≡ replicate slots None → Remembers types gs [] slots table
+none_remembered types gs slots table e = record {
+  size = ap length e ∙ length-replicate {A = Option Site} slots None;
   sites = λ slot site here. absurd (nowhere slot site here);
   hashed = λ slot site here. absurd (nowhere slot site here);
   found = λ v among. absurd (missing v among.0 among.1);
@@ -145,17 +145,17 @@ none_remembered types gs table e = record {
     nowhere : (slot : ℕ) (site : Site) → slice_index_or table slot None ≡ Some site → ⊥
     nowhere slot site here =
         filled (slice_index_or table slot None) site
-        (ap (λ t. slice_index_or t slot None) e ∙ nothing_there 509 slot) here
+        (ap (λ t. slice_index_or t slot None) e ∙ nothing_there slots slot) here
 
     missing : (v : Operation) (i : ℕ) → slice_get [] i ≡ Some v → ⊥
     missing v i here = cc
 
 -- the same uses, remembered in the same way
 pub remembers_same : (types : List Type_) (gs : List Group) (os ps : List Operation)
-    (table : List (Option Site)) → os ≡ ps → Remembers types gs os table →
-    Remembers types gs ps table
-remembers_same types gs os ps table e remembered =
-    subst (λ qs. Remembers types gs qs table) e remembered
+    (slots : ℕ) (table : List (Option Site)) → os ≡ ps → Remembers types gs os slots table →
+    Remembers types gs ps slots table
+remembers_same types gs os ps slots table e remembered =
+    subst (λ qs. Remembers types gs qs slots table) e remembered
 
 -- the site of one of these is that of one of more
 pub site_of_more : (types : List Type_) (gs : List Group) (os ps : List Operation) (site : Site) →
@@ -164,9 +164,9 @@ site_of_more types gs os ps site is = (is.0, is.1, among_more os ps is.0 is.2)
 
 -- one more use, which is found
 pub further_remembered : (types : List Type_) (gs : List Group) (os : List Operation)
-    (table : List (Option Site)) (v : Operation) → Remembers types gs os table →
-    IsFound types gs table v → Remembers types gs (os ++ v ∷ []) table
-further_remembered types gs os table v remembered found = record {
+    (slots : ℕ) (table : List (Option Site)) (v : Operation) → Remembers types gs os slots table →
+    IsFound types gs slots table v → Remembers types gs (os ++ v ∷ []) slots table
+further_remembered types gs os slots table v remembered found = record {
   size = remembered.size;
   sites = λ slot site here. site_of_more types gs os (v ∷ []) site
       (remembered.sites slot site here);
@@ -174,19 +174,19 @@ further_remembered types gs os table v remembered found = record {
   found = λ w among. either w (among_either os v w among);
 }
   where
-    either : (w : Operation) → IsAmong w os ⊎ (w ≡ v) → IsFound types gs table w
+    either : (w : Operation) → IsAmong w os ⊎ (w ≡ v) → IsFound types gs slots table w
     either w (inl own) = remembered.found w own
-    either w (inr last) = subst (λ u. IsFound types gs table u) (sym last) found
+    either w (inr last) = subst (λ u. IsFound types gs slots table u) (sym last) found
 
 -- ---- a slot that is filled
 
 -- an empty slot that was found is one of the table's
-pub slot_within : (types : List Type_) (gs : List Group) (table : List (Option Site))
-    (v : Operation) (slot : ℕ) → Probes types gs table v (Empty slot) → slot < slot_count
-slot_within types gs table v slot probed = omega (arith, probed.1)
+pub slot_within : (types : List Type_) (gs : List Group) (slots : ℕ) (table : List (Option Site))
+    (v : Operation) (slot : ℕ) → Probes types gs slots table v (Empty slot) → slot < slots
+slot_within types gs slots table v slot probed = omega (arith, probed.1, probed.2)
 
-module _ (types : List Type_) (gs : List Group) (table : List (Option Site)) (slot : ℕ)
-    (site : Site) (within : slot < length table)
+module _ (types : List Type_) (gs : List Group) (slots : ℕ) (table : List (Option Site))
+    (slot : ℕ) (site : Site) (within : slot < length table)
     (empty : slice_index_or table slot None ≡ None) where
   -- the table with this site in the slot
   abbrev entered : List (Option Site)
@@ -224,31 +224,31 @@ module _ (types : List Type_) (gs : List Group) (table : List (Option Site)) (sl
       by_slot false e = ap (λ o. is_some (site_answer types gs o v)) (at_other k e) ∙ some
 
   -- a use that was found is found
-  still_found : (v : Operation) → IsFound types gs table v → IsFound types gs entered v
+  still_found : (v : Operation) → IsFound types gs slots table v → IsFound types gs slots entered v
   still_found v found = record {
     steps = found.steps;
-    filled = λ n less. still_filled (slot_after v n) (found.filled n less);
-    ends = λ less. still_told v (slot_after v found.steps) (found.ends less);
+    filled = λ n less. still_filled (slot_after slots v n) (found.filled n less);
+    ends = λ less. still_told v (slot_after slots v found.steps) (found.ends less);
   }
 
   -- a use at the site is found now, if the slots up to this one were passed
-  found_now : (v : Operation) (steps : ℕ) → slot ≡ slot_after v steps →
-      use_at types gs site ≡ Some v → ArePassed types gs table v steps →
-      IsFound types gs entered v
+  found_now : (v : Operation) (steps : ℕ) → slot ≡ slot_after slots v steps →
+      use_at types gs site ≡ Some v → ArePassed types gs slots table v steps →
+      IsFound types gs slots entered v
   found_now v steps after there passed = record {
     steps = steps;
-    filled = λ n less. still_filled (slot_after v n) (passed n less).0;
-    ends = λ _. ap (λ o. is_some (site_answer types gs o v)) (at_own (slot_after v steps) (sym after))
+    filled = λ n less. still_filled (slot_after slots v n) (passed n less).0;
+    ends = λ _. ap (λ o. is_some (site_answer types gs o v)) (at_own (slot_after slots v steps) (sym after))
         ∙ ap is_some (tells (use_at types gs site) v v there (same_from v v refl refl));
   }
 
 -- one more use, which the first empty slot gets
 pub entered_remembered : (types : List Type_) (gs : List Group) (os : List Operation)
-    (table : List (Option Site)) (v : Operation) (slot : ℕ) (site : Site) →
-    Remembers types gs os table → Probes types gs table v (Empty slot) →
+    (slots : ℕ) (table : List (Option Site)) (v : Operation) (slot : ℕ) (site : Site) →
+    Remembers types gs os slots table → Probes types gs slots table v (Empty slot) →
     use_at types gs site ≡ Some v → site.hash ≡ hash_of v →
-    Remembers types gs (os ++ v ∷ []) (slice_set table slot (Some site))
-entered_remembered types gs os table v slot site remembered probed there hashed = record {
+    Remembers types gs (os ++ v ∷ []) slots (slice_set table slot (Some site))
+entered_remembered types gs os slots table v slot site remembered probed there hashed = record {
   size = length-set table slot (Some site) ∙ remembered.size;
   sites = λ place other at. site_at place other (by_place place other at);
   hashed = λ place other at. hashed_at place other (by_place place other at);
@@ -256,7 +256,7 @@ entered_remembered types gs os table v slot site remembered probed there hashed 
 }
   where
     inside : slot < length table
-    inside = omega (arith, remembered.size, slot_within types gs table v slot probed)
+    inside = omega (arith, remembered.size, slot_within types gs slots table v slot probed)
 
     -- what a slot has is the new site, or it was there
     by_place : (place : ℕ) (other : Site) →
@@ -268,9 +268,9 @@ entered_remembered types gs os table v slot site remembered probed there hashed 
             (other ≡ site) ⊎ (slice_index_or table place None ≡ Some other)
         by_slot true e =
             inl (same_Some other site (sym at
-            ∙ at_own types gs table slot site inside probed.3 place (eqb-true place slot e)))
+            ∙ at_own types gs slots table slot site inside probed.3 place (eqb-true place slot e)))
         by_slot false e =
-            inr (sym (at_other types gs table slot site inside probed.3 place e) ∙ at)
+            inr (sym (at_other types gs slots table slot site inside probed.3 place e) ∙ at)
 
     site_at : (place : ℕ) (other : Site) →
         (other ≡ site) ⊎ (slice_index_or table place None ≡ Some other) →
@@ -289,57 +289,57 @@ entered_remembered types gs os table v slot site remembered probed there hashed 
     hashed_at place other (inr before) = remembered.hashed place other before
 
     either : (w : Operation) → IsAmong w os ⊎ (w ≡ v) →
-        IsFound types gs (slice_set table slot (Some site)) w
+        IsFound types gs slots (slice_set table slot (Some site)) w
     either w (inl before) =
-        still_found types gs table slot site inside probed.3 w (remembered.found w before)
+        still_found types gs slots table slot site inside probed.3 w (remembered.found w before)
     either w (inr last) =
-        subst (λ u. IsFound types gs (slice_set table slot (Some site)) u) (sym last)
-        (found_now types gs table slot site inside probed.3 v probed.0 probed.1 there probed.4)
+        subst (λ u. IsFound types gs slots (slice_set table slot (Some site)) u) (sym last)
+        (found_now types gs slots table slot site inside probed.3 v probed.0 probed.1 there probed.4)
 
 -- ---- what a walk through the slots tells of a new use
 
 -- one more slot is passed
-pub passed_further : (types : List Type_) (gs : List Group) (table : List (Option Site))
-    (v : Operation) (steps next : ℕ) → next ≡ suc steps → ArePassed types gs table v steps →
-    is_some (site_after table v steps) ≡ true →
-    site_answer types gs (site_after table v steps) v ≡ None → ArePassed types gs table v next
-passed_further types gs table v steps next one passed filled nothing n less =
+pub passed_further : (types : List Type_) (gs : List Group) (slots : ℕ) (table : List (Option Site))
+    (v : Operation) (steps next : ℕ) → next ≡ suc steps → ArePassed types gs slots table v steps →
+    is_some (site_after slots table v steps) ≡ true →
+    site_answer types gs (site_after slots table v steps) v ≡ None → ArePassed types gs slots table v next
+passed_further types gs slots table v steps next one passed filled nothing n less =
     by_steps (n == steps) refl
   where
-    by_steps : (b : Bool) → (n == steps) ≡ b → (is_some (site_after table v n) ≡ true)
-        × (site_answer types gs (site_after table v n) v ≡ None)
+    by_steps : (b : Bool) → (n == steps) ≡ b → (is_some (site_after slots table v n) ≡ true)
+        × (site_answer types gs (site_after slots table v n) v ≡ None)
     by_steps true e =
         let here = eqb-true n steps e
         in (
-          ap (λ k. is_some (site_after table v k)) here ∙ filled,
-          ap (λ k. site_answer types gs (site_after table v k) v) here ∙ nothing,
+          ap (λ k. is_some (site_after slots table v k)) here ∙ filled,
+          ap (λ k. site_answer types gs (site_after slots table v k) v) here ∙ nothing,
         )
     by_steps false e = passed n (omega (arith, eqb-false n steps e, less, one))
 
 -- uses of one operator are looked for in the same slots
-same_after : (table : List (Option Site)) (v w : Operation) → is_same_operator v w ≡ true →
-    (n : ℕ) → site_after table v n ≡ site_after table w n
-same_after table v w same n =
-    ap (λ h. slice_index_or table ((h % slot_count + n) % slot_count) None) (same_hash v w same)
+same_after : (slots : ℕ) (table : List (Option Site)) (v w : Operation) → is_same_operator v w ≡ true →
+    (n : ℕ) → site_after slots table v n ≡ site_after slots table w n
+same_after slots table v w same n =
+    ap (λ h. slice_index_or table ((h % slots + n) % slots) None) (same_hash v w same)
 
 -- one of its operator is not found, where the slots are passed up to an empty one
-not_found : (types : List Type_) (gs : List Group) (table : List (Option Site)) (w v : Operation)
-    (steps : ℕ) → is_same_operator w v ≡ true → steps < slot_count →
-    site_after table v steps ≡ None → ArePassed types gs table v steps →
-    IsFound types gs table w → ⊥
-not_found types gs table w v steps same within empty passed found =
+not_found : (types : List Type_) (gs : List Group) (slots : ℕ) (table : List (Option Site)) (w v : Operation)
+    (steps : ℕ) → is_same_operator w v ≡ true → steps < slots →
+    site_after slots table v steps ≡ None → ArePassed types gs slots table v steps →
+    IsFound types gs slots table w → ⊥
+not_found types gs slots table w v steps same within empty passed found =
     by_steps (ltb steps found.steps) refl (ltb found.steps steps) refl
   where
-    told_there : found.steps < slot_count →
-        is_some (site_answer types gs (site_after table v found.steps) v) ≡ true
+    told_there : found.steps < slots →
+        is_some (site_answer types gs (site_after slots table v found.steps) v) ≡ true
     told_there less =
-        ap (λ o. is_some (site_answer types gs o v)) (sym (same_after table w v same found.steps))
-        ∙ told_through types gs (site_after table w found.steps) w v same (found.ends less)
+        ap (λ o. is_some (site_answer types gs o v)) (sym (same_after slots table w v same found.steps))
+        ∙ told_through types gs (site_after slots table w found.steps) w v same (found.ends less)
 
     by_steps : (b : Bool) → ltb steps found.steps ≡ b → (d : Bool) → ltb found.steps steps ≡ d → ⊥
     by_steps true b d e =
         let less = ltb-true steps found.steps b
-        in false≢true (sym (ap is_some (same_after table w v same steps ∙ empty))
+        in false≢true (sym (ap is_some (same_after slots table w v same steps ∙ empty))
         ∙ found.filled steps less)
     by_steps false b true e =
         let less = ltb-true found.steps steps e
@@ -348,35 +348,35 @@ not_found types gs table w v steps same within empty passed found =
     by_steps false b false e =
         let here : found.steps ≡ steps =
         omega (arith, ltb-false steps found.steps b, ltb-false found.steps steps e)
-        in false≢true (sym (ap (λ n. is_some (site_answer types gs (site_after table v n) v)) here
+        in false≢true (sym (ap (λ n. is_some (site_answer types gs (site_after slots table v n) v)) here
         ∙ ap (λ o. is_some (site_answer types gs o v)) empty)
         ∙ told_there (omega (arith, here, within)))
 
 -- an empty slot: none before is of its operator
 pub empty_probe : (types : List Type_) (gs : List Group) (os : List Operation)
-    (table : List (Option Site)) (v : Operation) (slot : ℕ) → Remembers types gs os table →
-    Probes types gs table v (Empty slot) → list_all (λ o. agrees o v) os ≡ true
-empty_probe types gs os table v slot remembered probed =
+    (slots : ℕ) (table : List (Option Site)) (v : Operation) (slot : ℕ) → Remembers types gs os slots table →
+    Probes types gs slots table v (Empty slot) → list_all (λ o. agrees o v) os ≡ true
+empty_probe types gs os slots table v slot remembered probed =
     new_agrees os v (λ i w here. by_same i w here (is_same_operator w v) refl)
   where
-    empty : site_after table v probed.0 ≡ None
+    empty : site_after slots table v probed.0 ≡ None
     empty = ap (λ k. slice_index_or table k None) (sym probed.1) ∙ probed.3
 
     by_same : (i : ℕ) (w : Operation) → slice_get os i ≡ Some w → (b : Bool) →
         is_same_operator w v ≡ b → is_same_operator w v ≡ false
     by_same i w here true e =
-        absurd (not_found types gs table w v probed.0 e probed.2 empty probed.4
+        absurd (not_found types gs slots table w v probed.0 e probed.2 empty probed.4
         (remembered.found w (i, here)))
     by_same i w here false e = e
 
 -- a use of its operator: it agrees with all where it agrees with that
 seen_slot : (types : List Type_) (gs : List Group) (os : List Operation)
-    (table : List (Option Site)) (slot : ℕ) (v : Operation) (o : Option Site) (alike : Bool) →
-    all_agree os ≡ true → Remembers types gs os table → slice_index_or table slot None ≡ o →
+    (slots : ℕ) (table : List (Option Site)) (slot : ℕ) (v : Operation) (o : Option Site) (alike : Bool) →
+    all_agree os ≡ true → Remembers types gs os slots table → slice_index_or table slot None ≡ o →
     site_answer types gs o v ≡ Some alike → alike ≡ list_all (λ o. agrees o v) os
-seen_slot types gs os table slot v None alike agree remembered filled answer =
+seen_slot types gs os slots table slot v None alike agree remembered filled answer =
     absurd (false≢true (ap is_some answer))
-seen_slot types gs os table slot v (Some site) alike agree remembered filled answer =
+seen_slot types gs os slots table slot v (Some site) alike agree remembered filled answer =
     let seen = told (use_at types gs site) v (ap is_some answer)
     in let is = remembered.sites slot site filled
     in let one : is.0 ≡ seen.0 = same_Some is.0 seen.0 (sym is.1 ∙ seen.1)
@@ -385,31 +385,31 @@ seen_slot types gs os table slot v (Some site) alike agree remembered filled ans
     ∙ seen_agrees os agree is.2.0 v seen.0 (is.2.1 ∙ ap Some one) seen.2
 
 pub seen_probe : (types : List Type_) (gs : List Group) (os : List Operation)
-    (table : List (Option Site)) (v : Operation) (alike : Bool) → all_agree os ≡ true →
-    Remembers types gs os table → Probes types gs table v (Seen alike) →
+    (slots : ℕ) (table : List (Option Site)) (v : Operation) (alike : Bool) → all_agree os ≡ true →
+    Remembers types gs os slots table → Probes types gs slots table v (Seen alike) →
     alike ≡ list_all (λ o. agrees o v) os
-seen_probe types gs os table v alike agree remembered probed =
-    seen_slot types gs os table (slot_after v probed.0) v (site_after table v probed.0) alike agree
+seen_probe types gs os slots table v alike agree remembered probed =
+    seen_slot types gs os slots table (slot_after slots v probed.0) v (site_after slots table v probed.0) alike agree
     remembered refl probed.1
 
 -- it is found then
-pub seen_found : (types : List Type_) (gs : List Group) (table : List (Option Site))
-    (v : Operation) (alike : Bool) → Probes types gs table v (Seen alike) →
-    IsFound types gs table v
-seen_found types gs table v alike probed = record {
+pub seen_found : (types : List Type_) (gs : List Group) (slots : ℕ) (table : List (Option Site))
+    (v : Operation) (alike : Bool) → Probes types gs slots table v (Seen alike) →
+    IsFound types gs slots table v
+seen_found types gs slots table v alike probed = record {
   steps = probed.0;
   filled = λ n less. (probed.2 n less).0;
   ends = λ _. ap is_some probed.1;
 }
 
 -- and where all slots are passed
-pub full_found : (types : List Type_) (gs : List Group) (table : List (Option Site))
-    (v : Operation) → Probes types gs table v Full → IsFound types gs table v
-full_found types gs table v passed = record {
-  steps = slot_count;
+pub full_found : (types : List Type_) (gs : List Group) (slots : ℕ) (table : List (Option Site))
+    (v : Operation) → Probes types gs slots table v Full → IsFound types gs slots table v
+full_found types gs slots table v passed = record {
+  steps = slots;
   filled = λ n less. (passed n less).0;
   ends = λ less. absurd (beyond less);
 }
   where
-    beyond : slot_count < slot_count → ⊥
+    beyond : slots < slots → ⊥
     beyond less = omega (arith, less)

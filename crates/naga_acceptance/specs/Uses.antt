@@ -89,16 +89,13 @@ lists_mixed h (ns ∷ nss) = lists_mixed (all_mixed h ns) nss
 abbrev pub hash_of : Operation → ℕ
 hash_of v = lists_mixed (all_mixed 0 v.operator) v.operands
 
-abbrev pub slot_count : ℕ
-slot_count = 509
-
 -- the slot that is so many steps behind a use's own, where the first stands behind the last
-abbrev pub slot_after : Operation → (steps : ℕ) → ℕ
-slot_after v steps = (hash_of v % slot_count + steps) % slot_count
+abbrev pub slot_after : (slots : ℕ) → Operation → (steps : ℕ) → ℕ
+slot_after slots v steps = (hash_of v % slots + steps) % slots
 
 -- the site in that slot
-abbrev pub site_after : List (Option Site) → Operation → (steps : ℕ) → Option Site
-site_after table v steps = slice_index_or table (slot_after v steps) None
+abbrev pub site_after : (slots : ℕ) → List (Option Site) → Operation → (steps : ℕ) → Option Site
+site_after slots table v steps = slice_index_or table (slot_after slots v steps) None
 
 -- whether the use at a site has the type of another, if both are of one operator
 abbrev pub site_answer : List Type_ → List Group → Option Site → Operation → Option Bool
@@ -125,39 +122,40 @@ AreHashed types gs table =
 
 -- the slots from a use's own on, so many, have uses of other operators
 abbrev pub ArePassed :
-    List Type_ → List Group → List (Option Site) → Operation → (steps : ℕ) → Type 0
-ArePassed types gs table v steps =
+    List Type_ → List Group → (slots : ℕ) → List (Option Site) → Operation → (steps : ℕ) → Type 0
+ArePassed types gs slots table v steps =
     (n : ℕ) → n < steps →
-    (is_some (site_after table v n) ≡ true)
-    × (site_answer types gs (site_after table v n) v ≡ None)
+    (is_some (site_after slots table v n) ≡ true)
+    × (site_answer types gs (site_after slots table v n) v ≡ None)
 
 -- what the slots from a use's own on tell of it
-abbrev pub Probes : List Type_ → List Group → List (Option Site) → Operation → Probe → Type 0
-Probes types gs table v (Empty slot) =
+abbrev pub Probes :
+    List Type_ → List Group → (slots : ℕ) → List (Option Site) → Operation → Probe → Type 0
+Probes types gs slots table v (Empty slot) =
     (steps : ℕ)
-    × (slot ≡ slot_after v steps)
-    × (steps < slot_count)
+    × (slot ≡ slot_after slots v steps)
+    × (steps < slots)
     × (slice_index_or table slot None ≡ None)
-    × ArePassed types gs table v steps
-Probes types gs table v (Seen alike) =
+    × ArePassed types gs slots table v steps
+Probes types gs slots table v (Seen alike) =
     (steps : ℕ)
-    × (site_answer types gs (site_after table v steps) v ≡ Some alike)
-    × ArePassed types gs table v steps
-Probes types gs table v Full = ArePassed types gs table v slot_count
+    × (site_answer types gs (site_after slots table v steps) v ≡ Some alike)
+    × ArePassed types gs slots table v steps
+Probes types gs slots table v Full = ArePassed types gs slots table v slots
 
 -- The slots from a use's own on are filled, up to one with a use of its operator, or all are.
-pub record IsFound (types : List Type_) (gs : List Group) (table : List (Option Site))
-    (v : Operation) : Type 0 where
+pub record IsFound (types : List Type_) (gs : List Group) (slots : ℕ)
+    (table : List (Option Site)) (v : Operation) : Type 0 where
   pub steps : ℕ
-  pub filled : (n : ℕ) → n < steps → is_some (site_after table v n) ≡ true
-  pub ends : steps < slot_count →
-      is_some (site_answer types gs (site_after table v steps) v) ≡ true
+  pub filled : (n : ℕ) → n < steps → is_some (site_after slots table v n) ≡ true
+  pub ends : steps < slots →
+      is_some (site_answer types gs (site_after slots table v steps) v) ≡ true
 
 -- Each slot that is filled tells the site of one of these uses, and each of them is found.
-pub record Remembers (types : List Type_) (gs : List Group) (os : List Operation)
+pub record Remembers (types : List Type_) (gs : List Group) (os : List Operation) (slots : ℕ)
     (table : List (Option Site)) : Type 0 where
-  pub size : length table ≡ slot_count
+  pub size : length table ≡ slots
   pub sites : (slot : ℕ) (site : Site) → slice_index_or table slot None ≡ Some site →
       IsSiteOf types gs os site
   pub hashed : AreHashed types gs table
-  pub found : (v : Operation) → IsAmong v os → IsFound types gs table v
+  pub found : (v : Operation) → IsAmong v os → IsFound types gs slots table v

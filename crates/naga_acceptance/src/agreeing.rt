@@ -7,12 +7,12 @@
 //! looked for from the start.
 
 ghost use Rattle.std.specs.Prelude.{◌≡◌, ◌+◌, ◌<◌, ◌≤◌, ◌^◌, suc, length, slice_get, true, Some};
-ghost use Rattle.std.specs.Prelude.{[]};
+ghost use Rattle.std.specs.Prelude.{◌%◌, []};
 ghost use Rattle.std.specs.Option.{IfSome, is_none, option_map, option_map_or, option_to_list};
 ghost use Rattle.naga_acceptance.specs.Faults.{Disagrees, Fails, site_of};
 ghost use Rattle.naga_acceptance.specs.Uses.{AreHashed, IsHashed, Probes, Remembers, earlier_uses};
 ghost use Rattle.naga_acceptance.specs.Uses.{first_answer, first_uses, group_of, group_uses};
-ghost use Rattle.naga_acceptance.specs.Uses.{hash_of, operation, site_answer, slot_count, use_at};
+ghost use Rattle.naga_acceptance.specs.Uses.{hash_of, operation, site_answer, use_at};
 ghost use Rattle.naga_acceptance.specs.Uses.{use_in};
 ghost use Rattle.module_meaning.specs.AgreeingOperators.{function_group, further_groups_of};
 ghost use Rattle.module_meaning.specs.AgreeingOperators.{groups_of, module_operators_agree};
@@ -133,25 +133,7 @@ fn use_at<'a>(module: &'a Module, info: &'a ModuleInfo, site: Site) -> Option<Us
     }
 }
 
-/// Whether a use has the type of `used`, if it is there and uses the same operator.
-fn answer_of(
-    types: &UniqueArena<Type_>,
-    seen: Option<Use<'_>>,
-    used: &Use<'_>,
-) -> Option<bool>
-    ensures { result ≡ first_answer
-        (option_to_list (option_map (operation types.now) seen.entry))
-        (operation types.now used.now) }
-{
-    match seen {
-        Some(seen) if is_same_operator(types, &seen, used) => {
-            Some(has_same_answer(types, &seen, used))
-        }
-        _ => None,
-    }
-}
-
-/// The same of the expression of this number.
+/// Whether the expression of this number has the type of `used`, if it uses the same operator.
 fn answer_at(
     types: &UniqueArena<Type_>,
     group: Expressions<'_>,
@@ -162,7 +144,12 @@ fn answer_at(
         (option_to_list (use_in types.now (group_of group.entry) index))
         (operation types.now used.now) }
 {
-    answer_of(types, use_in(types, group, index), used)
+    match use_in(types, group, index) {
+        Some(seen) if is_same_operator(types, &seen, used) => {
+            Some(has_same_answer(types, &seen, used))
+        }
+        _ => None,
+    }
 }
 
 /// The same of the use at a site, where `hash` is that of `used`.
@@ -181,7 +168,12 @@ fn site_answer(
     if site.hash != hash {
         return None;
     }
-    answer_of(&module.types, use_at(module, info, site), used)
+    match use_at(module, info, site) {
+        Some(seen) if is_same_operator(&module.types, &seen, used) => {
+            Some(has_same_answer(&module.types, &seen, used))
+        }
+        _ => None,
+    }
 }
 
 /// The same of the first use of the operator among the first expressions of a group.
@@ -252,23 +244,36 @@ fn earlier_answer(
     first_answer(&module.types, group, index, used)
 }
 
-/// What the slots tell of a use with this hash.
-fn probe(
+/// The slot that is so many steps behind one of so many, where the first stands behind the last.
+fn slot_behind(slot: usize, steps: usize, slots: usize) -> usize
+    requires slot { slot < slots }
+    requires steps { steps < slots }
+    ensures slot { result ≡ (slot + steps) % slots }
+    ensures within { result < slots }
+{
+    let left = slots - slot;
+    if steps < left { slot + steps } else { steps - left }
+}
+
+/// What the slots of the table, which has so many, tell of a use with this hash.
+fn probe_table(
     module: &Module,
     info: &ModuleInfo,
     table: &[Option<Site>],
+    slots: usize,
     hash: usize,
     used: &Use<'_>,
 ) -> Probe
-    requires size { length table.now ≡ slot_count }
+    requires slots { 0 < slots }
+    requires size { length table.now ≡ slots }
     requires hashed { AreHashed «module».now.types (groups_of «module».now info.now) table.now }
     requires hash { hash ≡ hash_of (operation «module».now.types used.now) }
-    ensures { Probes «module».now.types (groups_of «module».now info.now) table.now
+    ensures { Probes «module».now.types (groups_of «module».now info.now) slots table.now
         (operation «module».now.types used.now) result }
 {
-    let own = hash % SLOTS;
-    for steps in 0..SLOTS {
-        let slot = (own + steps) % SLOTS;
+    let own = hash % slots;
+    for steps in 0..slots {
+        let slot = slot_behind(own, steps, slots);
         let Some(site) = table[slot] else {
             return Probe::Empty(slot);
         };
@@ -280,11 +285,13 @@ fn probe(
 }
 
 /// Whether the expression `index` of a group, which has this number, agrees with all that stand
-/// before it, if it is a use. It is remembered then, as far as the table has room.
+/// before it, if it is a use. It is remembered then, as far as the table, which has so many slots,
+/// has room.
 fn use_agrees(
     module: &Module,
     info: &ModuleInfo,
     table: &mut [Option<Site>],
+    slots: usize,
     number: u128,
     group: Expressions<'_>,
     index: usize,
@@ -292,22 +299,23 @@ fn use_agrees(
     requires group { slice_get (groups_of «module».now info.now) number ≡ Some (group_of group) }
     requires agree { all_agree (earlier_uses «module».now.types
         (groups_of «module».now info.now) number (group_of group) index) ≡ true }
+    requires slots { 0 < slots }
     requires table { Remembers «module».now.types (groups_of «module».now info.now)
         (earlier_uses «module».now.types (groups_of «module».now info.now) number
-        (group_of group) index) table.now }
+        (group_of group) index) slots table.now }
     ensures agree { result ≡ all_agree (earlier_uses «module».now.types
         (groups_of «module».now info.now) number (group_of group.entry) (suc index)) }
     ensures table { result ≡ true →
         Remembers «module».now.types (groups_of «module».now info.now)
         (earlier_uses «module».now.types (groups_of «module».now info.now) number
-        (group_of group.entry) (suc index)) table.new }
+        (group_of group.entry) (suc index)) slots table.new }
 {
     let types = &module.types;
     let Some(used) = use_in(types, group, index) else {
         return true;
     };
     let hash = hash_of(types, &used);
-    match probe(module, info, table, hash, &used) {
+    match probe_table(module, info, table, slots, hash, &used) {
         Probe::Empty(slot) => {
             table[slot] = Some(Site {
                 group: number,
@@ -329,24 +337,26 @@ fn first_disagreeing(
     module: &Module,
     info: &ModuleInfo,
     table: &mut [Option<Site>],
+    slots: usize,
     number: u128,
     group: Expressions<'_>,
 ) -> Option<usize>
     requires group { slice_get (groups_of «module».now info.now) number ≡ Some (group_of group) }
     requires agree { all_agree (group_uses «module».now.types
         (groups_of «module».now info.now) number) ≡ true }
+    requires slots { 0 < slots }
     requires table { Remembers «module».now.types (groups_of «module».now info.now)
-        (group_uses «module».now.types (groups_of «module».now info.now) number) table.now }
+        (group_uses «module».now.types (groups_of «module».now info.now) number) slots table.now }
     ensures agree { is_none result ≡ all_agree (group_uses «module».now.types
         (groups_of «module».now info.now) (suc number)) }
     ensures table { is_none result ≡ true →
         Remembers «module».now.types (groups_of «module».now info.now)
         (group_uses «module».now.types (groups_of «module».now info.now) (suc number))
-        table.new }
+        slots table.new }
     ensures fault { IfSome result (λ index. Disagrees «module».now info.now number index) }
 {
     for index in 0..group.arena.len() {
-        if !use_agrees(module, info, table, number, group, index) {
+        if !use_agrees(module, info, table, slots, number, group, index) {
             return Some(index);
         }
     }
@@ -380,7 +390,7 @@ pub(crate) fn operators_fault(module: &Module, info: &ModuleInfo) -> Option<Unac
     let mut table: [Option<Site>; SLOTS] = [None; SLOTS];
     let mut number = 0;
     while let Some(group) = group_at(module, info, number) {
-        let disagreeing = first_disagreeing(module, info, &mut table, number, group);
+        let disagreeing = first_disagreeing(module, info, &mut table, SLOTS, number, group);
         if let Some(index) = disagreeing {
             return Some(at(use_item(module, number, index), Fault::Disagreement));
         }

@@ -34,7 +34,7 @@ returns-clause-table c =
     in let all : c.loop-index.index ≡ length g.expressions = omega arith
     in let ended : earlier_uses types gs c.args.number g c.loop-index.index ≡ group_uses types gs (suc c.args.number) =
     ap (earlier_uses types gs c.args.number g) all ∙ group_end types gs c.args.number g c.requires.group
-    in λ _. remembers_same types gs _ _ _ ended c.loop-index.invariant.remembered
+    in λ _. remembers_same types gs _ _ _ _ ended c.loop-index.invariant.remembered
 
 pub returns-then-not-use_agrees-clause-fault : goal.returns-then-not-use_agrees-clause-fault
 returns-then-not-use_agrees-clause-fault c = (

@@ -16,7 +16,7 @@ bounds-table-slot c =
     let types = c.args.module.now.types
     in let gs = groups_of c.args.module.now c.args.info.now
     in let v = operation types c.in-Some.used
-    in omega (arith, c.requires.table.size, slot_within types gs c.args.table.now v c.in-Empty.slot c.in-Empty.ensures)
+    in omega (arith, c.requires.table.size, slot_within types gs c.args.slots c.args.table.now v c.in-Empty.slot c.in-Empty.ensures)
 
 pub returns-in-Empty-clause-agree : goal.returns-in-Empty-clause-agree
 returns-in-Empty-clause-agree c =
@@ -26,7 +26,7 @@ returns-in-Empty-clause-agree c =
     in let before = earlier_uses types gs c.args.number g c.args.index
     in let v = operation types c.in-Some.used
     in sym (one_more_agrees types gs c.args.number g c.args.index v (sym c.in-Some.ensures) c.requires.agree
-    ∙ empty_probe types gs before c.args.table.now v c.in-Empty.slot c.requires.table c.in-Empty.ensures)
+    ∙ empty_probe types gs before c.args.slots c.args.table.now v c.in-Empty.slot c.requires.table c.in-Empty.ensures)
 
 pub returns-in-Seen-clause-agree : goal.returns-in-Seen-clause-agree
 returns-in-Seen-clause-agree c =
@@ -35,7 +35,7 @@ returns-in-Seen-clause-agree c =
     in let g = group_of c.args.group
     in let before = earlier_uses types gs c.args.number g c.args.index
     in let v = operation types c.in-Some.used
-    in seen_probe types gs before c.args.table.now v c.in-Seen.alike c.requires.agree c.requires.table c.in-Seen.ensures
+    in seen_probe types gs before c.args.slots c.args.table.now v c.in-Seen.alike c.requires.agree c.requires.table c.in-Seen.ensures
     ∙ sym (one_more_agrees types gs c.args.number g c.args.index v (sym c.in-Some.ensures) c.requires.agree)
 
 pub returns-in-Full-clause-agree : goal.returns-in-Full-clause-agree
@@ -60,8 +60,8 @@ returns-in-Empty-clause-table c =
     in let site : Site = record { group = c.args.number; index = c.args.index; hash = c.hash_of-hash.result }
     in let there : use_at types gs site ≡ Some v =
     ap (option_and_then (λ g. use_in types g c.args.index)) c.requires.group ∙ sym c.in-Some.ensures
-    in λ _. remembers_same types gs _ _ _ (sym (use_more types gs c.args.number g c.args.index v (sym c.in-Some.ensures)))
-    (entered_remembered types gs before c.args.table.now v c.in-Empty.slot site c.requires.table c.in-Empty.ensures there c.hash_of-hash.ensures)
+    in λ _. remembers_same types gs _ _ _ _ (sym (use_more types gs c.args.number g c.args.index v (sym c.in-Some.ensures)))
+    (entered_remembered types gs before c.args.slots c.args.table.now v c.in-Empty.slot site c.requires.table c.in-Empty.ensures there c.hash_of-hash.ensures)
 
 pub returns-in-Seen-clause-table : goal.returns-in-Seen-clause-table
 returns-in-Seen-clause-table c =
@@ -70,9 +70,9 @@ returns-in-Seen-clause-table c =
     in let g = group_of c.args.group
     in let before = earlier_uses types gs c.args.number g c.args.index
     in let v = operation types c.in-Some.used
-    in λ _. remembers_same types gs _ _ _ (sym (use_more types gs c.args.number g c.args.index v (sym c.in-Some.ensures)))
-    (further_remembered types gs before c.args.table.now v c.requires.table
-    (seen_found types gs c.args.table.now v c.in-Seen.alike c.in-Seen.ensures))
+    in λ _. remembers_same types gs _ _ _ _ (sym (use_more types gs c.args.number g c.args.index v (sym c.in-Some.ensures)))
+    (further_remembered types gs before c.args.slots c.args.table.now v c.requires.table
+    (seen_found types gs c.args.slots c.args.table.now v c.in-Seen.alike c.in-Seen.ensures))
 
 pub returns-in-Full-clause-table : goal.returns-in-Full-clause-table
 returns-in-Full-clause-table c =
@@ -81,6 +81,6 @@ returns-in-Full-clause-table c =
     in let g = group_of c.args.group
     in let before = earlier_uses types gs c.args.number g c.args.index
     in let v = operation types c.in-Some.used
-    in λ _. remembers_same types gs _ _ _ (sym (use_more types gs c.args.number g c.args.index v (sym c.in-Some.ensures)))
-    (further_remembered types gs before c.args.table.now v c.requires.table
-    (full_found types gs c.args.table.now v c.in-Full.ensures))
+    in λ _. remembers_same types gs _ _ _ _ (sym (use_more types gs c.args.number g c.args.index v (sym c.in-Some.ensures)))
+    (further_remembered types gs before c.args.slots c.args.table.now v c.requires.table
+    (full_found types gs c.args.slots c.args.table.now v c.in-Full.ensures))
