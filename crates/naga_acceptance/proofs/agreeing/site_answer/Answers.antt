@@ -4,9 +4,9 @@ use Rattle.naga_acceptance.specs.Uses.{hash_of, operation}
 use Rattle.naga_acceptance.proofs.Remembering.{other_site}
 use Rattle.naga_acceptance.proofs.agreeing.site_answer.Goals as goal
 
-pub returns-then-hash-hash : goal.returns-then-hash-hash
-returns-then-hash-hash c =
+pub returns-then-site-hash : goal.returns-then-site-hash
+returns-then-site-hash c =
     let types = c.args.module.now.types
     in let gs = groups_of c.args.module.now c.args.info.now
     in let v = operation types c.args.used.now
-    in sym (other_site types gs c.args.site v c.requires.site (λ e. c.if-hash-hash.true (e ∙ sym c.requires.hash)))
+    in sym (other_site types gs c.args.site v c.requires.site (λ e. c.if-site-hash.true (e ∙ sym c.requires.hash)))
