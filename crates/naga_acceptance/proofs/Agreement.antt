@@ -120,7 +120,7 @@ front_fails (x ∷ os) vs e = by_first (front_fails os vs) (list_all (agrees x) 
 -- ---- the first use of an operator
 
 -- it is the first of these uses, or it is looked for behind that
-first_by : (w : Operation) (os : List Operation) (v : Operation) (same : Bool) →
+pub first_by : (w : Operation) (os : List Operation) (v : Operation) (same : Bool) →
     is_same_operator w v ≡ same → first_answer (w ∷ os) v ≡
     (if same then Some (bytes_eq w.answer v.answer) else first_answer os v)
 first_by w os v same e =

@@ -3,7 +3,8 @@
 -- Throughout, v and w are labels, cs are cases, n and a numbers, and ms and ns numbers in order.
 use Rattle.std.proofs.Common.{◌≡◌, ◌≢◌, ℕ, ℤ, zero, suc, ◌+◌, ◌*◌, ◌<◌, ◌≤◌, ◌==◌, pos, negsuc}
 use Rattle.std.proofs.Common.{Bool, true, false, ◌&&◌, List, [], ◌∷◌, ◌++◌, length, refl, sym, ap}
-use Rattle.std.proofs.Common.{◌∙◌, subst, arith, ◌⊎◌, inl, inr, slice_index, get_or}
+use Rattle.std.proofs.Common.{◌∙◌, subst, arith, ◌⊎◌, inl, inr, ◌%◌, slice_index, slice_index_or}
+use Rattle.std.proofs.Common.{slice_set, get_or}
 use Rattle.std.specs.Prelude.{not, nat_lt, ◌||◌, if◌then◌else◌, MatchBool}
 use Rattle.std.specs.Prelude.{Result, Ok, Err, MatchResult}
 use Rattle.std.specs.Result.{is_ok}
@@ -11,8 +12,9 @@ use Rattle.std.specs.List.{count_by}
 use Rattle.std.specs.List.Sorted.{IsPermutation, IsNonDecreasing, IsBinarySearchResult}
 use Rattle.std.specs.Ordering.{int_eq, nat_cmp}
 use Rattle.std.proofs.lemmas.Bool.{and_right, cases_eq, cases_lt, or_parts, or_cases, lt-ltb, le-ltb}
-use Rattle.std.proofs.lemmas.Bool.{ltb-true}
+use Rattle.std.proofs.lemmas.Bool.{ltb-true, eqb-false, false≢true}
 use Rattle.std.proofs.lemmas.Bool.{ltb-false, eqb-true, eq-eqb, ne_eqb}
+use Rattle.std.proofs.lemmas.List.{get_or-set_same, get_or-set_other}
 use Rattle.std.proofs.lemmas.Bool.Decides.{Decides-int_eq}
 use Rattle.std.proofs.lemmas.List.Recursion.{is_count_by}
 use Rattle.std.proofs.lemmas.List.Sorted.{sum_by-IsPermutation, searched}
@@ -23,7 +25,7 @@ use Rattle.naga_ir.specs.declared.statement.SwitchValue.{SwitchValue}
 use Rattle.naga_ir.specs.declared.statement.SwitchValue.TheVariants as label
 use Rattle.module_meaning.specs.StatementsFit.{has_label, is_same_label, labels_differ}
 use Rattle.naga_acceptance.specs.Labels.{number_of, numbers_of, times, shares, IsTwice, AreApart}
-use Rattle.naga_acceptance.specs.Labels.{AreOnce}
+use Rattle.naga_acceptance.specs.Labels.{AreMarked, AreOnce}
 
 -- ---- how often a number stands there
 
@@ -233,7 +235,50 @@ found_or_not ns a r position rise =
         beside k within same (inl before) = omega (arith, same, answer.1 k before)
         beside k within same (inr behind) = omega (arith, same, answer.2 k behind within)
 
+-- a number without a mark is none of these
+pub unmarked : (ns : List ℕ) (marks : List Bool) (a : ℕ) → AreMarked ns marks →
+    slice_index_or marks (a % 32768) false ≡ false → false ≡ nat_lt 0 (times a ns)
+unmarked ns marks a marked none = sym (le-ltb 0 (times a ns) (omega (arith, found_never ns a never)))
+  where
+    never : (k : ℕ) → k < length ns → slice_index ns k ≢ a
+    never k within same =
+        false≢true (sym none ∙ ap (λ n. slice_index_or marks (n % 32768) false) (sym same)
+        ∙ marked k within)
+
+-- one more number has a mark, and those before keep theirs
+pub marked_more : (ns : List ℕ) (marks : List Bool) (index place : ℕ) →
+    place ≡ slice_index ns index % 32768 → place < length marks →
+    ((k : ℕ) → k < index → slice_index_or marks (slice_index ns k % 32768) false ≡ true) →
+    (k : ℕ) → k < index + 1 →
+    slice_index_or (slice_set marks place true) (slice_index ns k % 32768) false ≡ true
+marked_more ns marks index place here within before k less =
+    by_place (slice_index ns k % 32768 == place) refl
+  where
+    by_place : (b : Bool) → (slice_index ns k % 32768 == place) ≡ b →
+        slice_index_or (slice_set marks place true) (slice_index ns k % 32768) false ≡ true
+    by_place true e =
+        ap (λ n. slice_index_or (slice_set marks place true) n false)
+        (eqb-true (slice_index ns k % 32768) place e)
+        ∙ get_or-set_same marks place true false within
+    by_place false e =
+        get_or-set_other marks place (slice_index ns k % 32768) true false
+        (eqb-false (slice_index ns k % 32768) place e)
+        ∙ before k (earlier (k == index) refl)
+      where
+        earlier : (b : Bool) → (k == index) ≡ b → k < index
+        earlier false other = omega (arith, less, eqb-false k index other)
+        earlier true same =
+            absurd (eqb-false (slice_index ns k % 32768) place e
+            (ap (λ n. slice_index ns n % 32768) (eqb-true k index same) ∙ sym here))
+
 -- ---- the first numbers, sorted, and those behind
+
+-- there are no numbers of no cases
+pub shares_nothing : (ms : List ℕ) (cs : List SwitchCase) → (length cs == 0) ≡ true →
+    false ≡ shares ms (numbers_of (cases_of cs))
+shares_nothing ms [] e = refl
+shares_nothing ms (c ∷ cs) e =
+    let none = eqb-true (length (c ∷ cs)) 0 e in absurd (omega (arith, none))
 
 shares_one : (ms ns : List ℕ) → shares ms ns ≡ true →
     (a : ℕ) × (0 < times a ms) × (0 < times a ns)

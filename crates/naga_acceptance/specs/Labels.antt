@@ -2,7 +2,8 @@
 --
 -- Throughout, v and w are labels, last is the one before, if there is one, cs are cases, and a, n,
 -- ms and ns are numbers of labels.
-use Rattle.std.specs.Prelude.{◌≡◌, ◌≢◌, ℕ, suc, ◌+◌, ◌*◌, ◌<◌, ◌≤◌, ◌==◌, pos, negsuc, Bool, true}
+use Rattle.std.specs.Prelude.{◌≡◌, ◌≢◌, ℕ, suc, ◌+◌, ◌*◌, ◌%◌, ◌<◌, ◌≤◌, ◌==◌, pos, negsuc, Bool}
+use Rattle.std.specs.Prelude.{true, slice_index_or}
 use Rattle.std.specs.Prelude.{false, ◌&&◌, ◌||◌, if◌then◌else◌, Option, Some, None, nat_lt, List}
 use Rattle.std.specs.Prelude.{[], ◌∷◌, length, slice_index}
 use Rattle.std.specs.Int.Signed.{lt_z}
@@ -55,6 +56,11 @@ shares ms (n ∷ ns) = nat_lt 0 (times n ms) || shares ms ns
 -- a number stands there twice
 abbrev pub IsTwice : List ℕ → Type 0
 IsTwice ns = (a : ℕ) × (2 ≤ times a ns)
+
+-- each of the numbers has a mark at its remainder
+abbrev pub AreMarked : List ℕ → (marks : List Bool) → Type 0
+AreMarked ns marks =
+    (k : ℕ) → k < length ns → slice_index_or marks (slice_index ns k % 32768) false ≡ true
 
 -- no number stands beside itself
 abbrev pub AreApart : List ℕ → Type 0

@@ -3,10 +3,11 @@
 --
 -- Throughout, types are a module's types, g is a group of expressions that stand together (gs are
 -- the groups of a module, in order), u is a use in the code, v and w are uses (os are several), a
--- site tells a group and an expression of it, and h is a hash.
-use Rattle.std.specs.Prelude.{ℕ, zero, suc, ◌+◌, ◌*◌, ◌%◌, ◌^◌, ◌≡◌, Bool, true, ◌&&◌, List, []}
-use Rattle.std.specs.Prelude.{◌∷◌, ◌++◌, map, Option, Some, None, if◌then◌else◌, length, slice_get}
-use Rattle.std.specs.Prelude.{slice_index_or}
+-- site tells a group and an expression of it, h is a hash, and steps (n) tell how far a slot is
+-- behind that of a use.
+use Rattle.std.specs.Prelude.{ℕ, zero, suc, ◌+◌, ◌*◌, ◌%◌, ◌^◌, ◌<◌, ◌≡◌, Bool, true, ◌&&◌}
+use Rattle.std.specs.Prelude.{List, [], ◌∷◌, ◌++◌, map, Option, Some, None, if◌then◌else◌, length}
+use Rattle.std.specs.Prelude.{slice_get, slice_index_or}
 use Rattle.std.specs.Option.{option_map_or, option_and_then, option_to_list, is_some}
 use Rattle.std.specs.Str.{bytes_eq}
 use Rattle.naga_ir.specs.Operands.{expression_operands}
@@ -14,6 +15,8 @@ use Rattle.naga_ir.specs.declared.types.Type_.{Type_}
 use Rattle.naga_acceptance.specs.KnownTypes.{known_types}
 use Rattle.naga_acceptance.specs.OperatorKeys.{key}
 use Rattle.naga_acceptance.specs.declared.agreeing.Expressions.{Expressions}
+use Rattle.naga_acceptance.specs.declared.agreeing.Probe.{Probe}
+use Rattle.naga_acceptance.specs.declared.agreeing.Probe.TheVariants.{Empty, Seen, Full}
 use Rattle.naga_acceptance.specs.declared.agreeing.Site.{Site}
 use Rattle.naga_acceptance.specs.declared.uses.Use.{Use}
 use Rattle.module_meaning.specs.AgreeingOperators.{Group, expression_use, identity_at, uses_of}
@@ -82,12 +85,22 @@ abbrev pub lists_mixed : (h : ℕ) → List (List ℕ) → ℕ
 lists_mixed h [] = h
 lists_mixed h (ns ∷ nss) = lists_mixed (all_mixed h ns) nss
 
-abbrev pub slot_count : ℕ
-slot_count = 509
+-- the hash of a use: the same for one operator over operands of types alike
+abbrev pub hash_of : Operation → ℕ
+hash_of v = lists_mixed (all_mixed 0 v.operator) v.operands
 
--- the slot of a use: the same for one operator over operands of types alike
-abbrev pub slot_of : Operation → ℕ
-slot_of v = lists_mixed (all_mixed 0 v.operator) v.operands % slot_count
+-- the slot that is so many steps behind a use's own, where the first stands behind the last
+abbrev pub slot_after : (slots : ℕ) → Operation → (steps : ℕ) → ℕ
+slot_after slots v steps = (hash_of v % slots + steps) % slots
+
+-- the site in that slot
+abbrev pub site_after : (slots : ℕ) → List (Option Site) → Operation → (steps : ℕ) → Option Site
+site_after slots table v steps = slice_index_or table (slot_after slots v steps) None
+
+-- whether the use at a site has the type of another, if both are of one operator
+abbrev pub site_answer : List Type_ → List Group → Option Site → Operation → Option Bool
+site_answer types gs site v =
+    first_answer (option_to_list (option_and_then (use_at types gs) site)) v
 
 -- the use is one of those
 abbrev pub IsAmong : Operation → List Operation → Type 0
@@ -97,11 +110,52 @@ IsAmong v os = (i : ℕ) × (slice_get os i ≡ Some v)
 abbrev pub IsSiteOf : List Type_ → List Group → List Operation → Site → Type 0
 IsSiteOf types gs os site = (v : Operation) × (use_at types gs site ≡ Some v) × IsAmong v os
 
--- Each slot that is filled tells the site of one of these uses, and that of each of them is filled.
-pub record Remembers (types : List Type_) (gs : List Group) (os : List Operation)
+-- its hash is that of the use there
+abbrev pub IsHashed : List Type_ → List Group → Site → Type 0
+IsHashed types gs site = (v : Operation) → use_at types gs site ≡ Some v → site.hash ≡ hash_of v
+
+-- so are those of all sites in a table
+abbrev pub AreHashed : List Type_ → List Group → List (Option Site) → Type 0
+AreHashed types gs table =
+    (slot : ℕ) (site : Site) → slice_index_or table slot None ≡ Some site →
+    IsHashed types gs site
+
+-- the slots from a use's own on, so many, have uses of other operators
+abbrev pub ArePassed :
+    List Type_ → List Group → (slots : ℕ) → List (Option Site) → Operation → (steps : ℕ) → Type 0
+ArePassed types gs slots table v steps =
+    (n : ℕ) → n < steps →
+    (is_some (site_after slots table v n) ≡ true)
+    × (site_answer types gs (site_after slots table v n) v ≡ None)
+
+-- what the slots from a use's own on tell of it
+abbrev pub Probes :
+    List Type_ → List Group → (slots : ℕ) → List (Option Site) → Operation → Probe → Type 0
+Probes types gs slots table v (Empty slot) =
+    (steps : ℕ)
+    × (slot ≡ slot_after slots v steps)
+    × (steps < slots)
+    × (slice_index_or table slot None ≡ None)
+    × ArePassed types gs slots table v steps
+Probes types gs slots table v (Seen alike) =
+    (steps : ℕ)
+    × (site_answer types gs (site_after slots table v steps) v ≡ Some alike)
+    × ArePassed types gs slots table v steps
+Probes types gs slots table v Full = ArePassed types gs slots table v slots
+
+-- The slots from a use's own on are filled, up to one with a use of its operator, or all are.
+pub record IsFound (types : List Type_) (gs : List Group) (slots : ℕ)
+    (table : List (Option Site)) (v : Operation) : Type 0 where
+  pub steps : ℕ
+  pub filled : (n : ℕ) → n < steps → is_some (site_after slots table v n) ≡ true
+  pub ends : steps < slots →
+      is_some (site_answer types gs (site_after slots table v steps) v) ≡ true
+
+-- Each slot that is filled tells the site of one of these uses, and each of them is found.
+pub record Remembers (types : List Type_) (gs : List Group) (os : List Operation) (slots : ℕ)
     (table : List (Option Site)) : Type 0 where
-  pub size : length table ≡ slot_count
+  pub size : length table ≡ slots
   pub sites : (slot : ℕ) (site : Site) → slice_index_or table slot None ≡ Some site →
       IsSiteOf types gs os site
-  pub full : (v : Operation) → IsAmong v os →
-      is_some (slice_index_or table (slot_of v) None) ≡ true
+  pub hashed : AreHashed types gs table
+  pub found : (v : Operation) → IsAmong v os → IsFound types gs slots table v

@@ -64,8 +64,8 @@ pub fn unaccepted(module: &Module, info: &ModuleInfo) -> Option<Unaccepted>
 ///
 /// It takes no memory and answers whatever numbers a module holds. Time grows with the module; labels
 /// of a switch that don't ascend, the default behind all, are sorted, 4,096 at a time, and those
-/// behind are looked for among each 4,096; an operator that shares its slot of a table with another
-/// is looked for from the start.
+/// behind are looked for among each 4,096; operators that come behind the first 509 are looked for
+/// from the start.
 ///
 /// A module that is accepted may be counted and written:
 ///

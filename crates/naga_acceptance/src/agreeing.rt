@@ -1,26 +1,27 @@
 //! Whether operators that are spelled alike, over operands of types alike, have types alike.
 //!
-//! Uses are gone through in order. A table of fixed size remembers, by a hash of operator and
-//! types, the first use of each slot. One that finds its own operator there is compared with that
-//! use alone; one that finds another is compared with the first use of its operator, which is
+//! Uses are gone through in order. A table of fixed size remembers the first use of each operator
+//! over operands of some types, by open addressing: in the first empty slot from that of its hash
+//! on. A use that finds one of its operator there is compared with that one alone. One that finds
+//! all slots filled with uses of others is compared with the first use of its operator, which is
 //! looked for from the start.
 
 ghost use Rattle.std.specs.Prelude.{◌≡◌, ◌+◌, ◌<◌, ◌≤◌, ◌^◌, suc, length, slice_get, true, Some};
-ghost use Rattle.std.specs.Prelude.{[]};
-ghost use Rattle.std.specs.List.{list_all};
+ghost use Rattle.std.specs.Prelude.{◌%◌, []};
 ghost use Rattle.std.specs.Option.{IfSome, is_none, option_map, option_map_or, option_to_list};
 ghost use Rattle.naga_acceptance.specs.Faults.{Disagrees, Fails, site_of};
-ghost use Rattle.naga_acceptance.specs.Uses.{Remembers, earlier_uses, first_answer, first_uses};
-ghost use Rattle.naga_acceptance.specs.Uses.{group_of, group_uses, operation, slot_of, use_at};
+ghost use Rattle.naga_acceptance.specs.Uses.{AreHashed, IsHashed, Probes, Remembers, earlier_uses};
+ghost use Rattle.naga_acceptance.specs.Uses.{first_answer, first_uses, group_of, group_uses};
+ghost use Rattle.naga_acceptance.specs.Uses.{hash_of, operation, site_answer, use_at};
 ghost use Rattle.naga_acceptance.specs.Uses.{use_in};
 ghost use Rattle.module_meaning.specs.AgreeingOperators.{function_group, further_groups_of};
 ghost use Rattle.module_meaning.specs.AgreeingOperators.{groups_of, module_operators_agree};
 ghost use Rattle.module_meaning.specs.AgreeingOperators.{uses_of};
-ghost use Rattle.module_meaning.specs.Operations.{agrees, all_agree};
+ghost use Rattle.module_meaning.specs.Operations.{all_agree};
 
 use crate::faults::{Fault, FunctionPlace, Item, Unaccepted, at};
 use crate::parts::Known;
-use crate::uses::{SLOTS, Use, expression_use, has_same_answer, is_same_operator, slot_of};
+use crate::uses::{Use, expression_use, has_same_answer, hash_of, is_same_operator};
 use naga_info::{FunctionInfo, ModuleInfo};
 use naga_ir::{Arena, Expression, Function, Module, Place, Type_, UniqueArena};
 
@@ -31,12 +32,27 @@ pub(crate) struct Expressions<'a> {
     known: Known<'a>,
 }
 
-/// Where an expression stands: in which group, and the number of its handle there. Functions and
-/// entry points together may be more than a `usize` counts.
+/// How many slots the table of remembered uses has.
+const SLOTS: usize = 509;
+
+/// Where an expression stands: in which group, and the number of its handle there; and its hash as
+/// a use. Functions and entry points together may be more than a `usize` counts.
 #[derive(Debug, Clone, Copy)]
 pub(crate) struct Site {
     group: u128,
     index: usize,
+    hash: usize,
+}
+
+/// What the slots of the table tell of a use, from that of its hash on.
+#[derive(Debug, Clone, Copy)]
+enum Probe {
+    /// This slot is empty, and none before it has a use of its operator.
+    Empty(usize),
+    /// One before any empty slot has a use of its operator: whether both have types alike.
+    Seen(bool),
+    /// All have uses of other operators.
+    Full,
 }
 
 fn function_group<'a>(function: &'a Function, info: &'a FunctionInfo) -> Expressions<'a>
@@ -136,6 +152,30 @@ fn answer_at(
     }
 }
 
+/// The same of the use at a site, where `hash` is that of `used`.
+fn site_answer(
+    module: &Module,
+    info: &ModuleInfo,
+    site: Site,
+    hash: usize,
+    used: &Use<'_>,
+) -> Option<bool>
+    requires site { IsHashed «module».now.types (groups_of «module».now info.now) site }
+    requires hash { hash ≡ hash_of (operation «module».now.types used.now) }
+    ensures { result ≡ site_answer «module».now.types (groups_of «module».now info.now)
+        (Some site) (operation «module».now.types used.now) }
+{
+    if site.hash != hash {
+        return None;
+    }
+    match use_at(module, info, site) {
+        Some(seen) if is_same_operator(&module.types, &seen, used) => {
+            Some(has_same_answer(&module.types, &seen, used))
+        }
+        _ => None,
+    }
+}
+
 /// The same of the first use of the operator among the first expressions of a group.
 fn first_answer(
     types: &UniqueArena<Type_>,
@@ -204,45 +244,54 @@ fn earlier_answer(
     first_answer(&module.types, group, index, used)
 }
 
-/// Whether a use agrees with all that stand before it, which agree among themselves.
-fn agrees_with_earlier(
+/// The slot that is so many steps behind one of so many, where the first stands behind the last.
+fn slot_behind(slot: usize, steps: usize, slots: usize) -> usize
+    requires slot { slot < slots }
+    requires steps { steps < slots }
+    ensures slot { result ≡ (slot + steps) % slots }
+    ensures within { result < slots }
+{
+    let left = slots - slot;
+    if steps < left { slot + steps } else { steps - left }
+}
+
+/// What the slots of the table, which has so many, tell of a use with this hash.
+fn probe_table(
     module: &Module,
     info: &ModuleInfo,
     table: &[Option<Site>],
-    slot: usize,
-    number: u128,
-    group: Expressions<'_>,
-    index: usize,
+    slots: usize,
+    hash: usize,
     used: &Use<'_>,
-) -> bool
-    requires slot { slot ≡ slot_of (operation «module».now.types used.now) }
-    requires agree { all_agree (earlier_uses «module».now.types
-        (groups_of «module».now info.now) number (group_of group) index) ≡ true }
-    requires table { Remembers «module».now.types (groups_of «module».now info.now)
-        (earlier_uses «module».now.types (groups_of «module».now info.now) number
-        (group_of group) index) table.now }
-    ensures { result ≡ list_all (λ o. agrees o (operation «module».now.types used.now))
-        (earlier_uses «module».now.types (groups_of «module».now info.now) number
-        (group_of group.entry) index) }
+) -> Probe
+    requires slots { 0 < slots }
+    requires size { length table.now ≡ slots }
+    requires hashed { AreHashed «module».now.types (groups_of «module».now info.now) table.now }
+    requires hash { hash ≡ hash_of (operation «module».now.types used.now) }
+    ensures { Probes «module».now.types (groups_of «module».now info.now) slots table.now
+        (operation «module».now.types used.now) result }
 {
-    let types = &module.types;
-    match table[slot] {
-        Some(site) => match use_at(module, info, site) {
-            Some(seen) if is_same_operator(types, &seen, used) => {
-                has_same_answer(types, &seen, used)
-            }
-            _ => earlier_answer(module, info, number, group, index, used).unwrap_or(true),
-        },
-        None => true,
+    let own = hash % slots;
+    for steps in 0..slots {
+        let slot = slot_behind(own, steps, slots);
+        let Some(site) = table[slot] else {
+            return Probe::Empty(slot);
+        };
+        if let Some(alike) = site_answer(module, info, site, hash, used) {
+            return Probe::Seen(alike);
+        }
     }
+    Probe::Full
 }
 
 /// Whether the expression `index` of a group, which has this number, agrees with all that stand
-/// before it, if it is a use. It is remembered then, where its slot is empty.
+/// before it, if it is a use. It is remembered then, as far as the table, which has so many slots,
+/// has room.
 fn use_agrees(
     module: &Module,
     info: &ModuleInfo,
     table: &mut [Option<Site>],
+    slots: usize,
     number: u128,
     group: Expressions<'_>,
     index: usize,
@@ -250,31 +299,36 @@ fn use_agrees(
     requires group { slice_get (groups_of «module».now info.now) number ≡ Some (group_of group) }
     requires agree { all_agree (earlier_uses «module».now.types
         (groups_of «module».now info.now) number (group_of group) index) ≡ true }
+    requires slots { 0 < slots }
     requires table { Remembers «module».now.types (groups_of «module».now info.now)
         (earlier_uses «module».now.types (groups_of «module».now info.now) number
-        (group_of group) index) table.now }
+        (group_of group) index) slots table.now }
     ensures agree { result ≡ all_agree (earlier_uses «module».now.types
         (groups_of «module».now info.now) number (group_of group.entry) (suc index)) }
     ensures table { result ≡ true →
         Remembers «module».now.types (groups_of «module».now info.now)
         (earlier_uses «module».now.types (groups_of «module».now info.now) number
-        (group_of group.entry) (suc index)) table.new }
+        (group_of group.entry) (suc index)) slots table.new }
 {
     let types = &module.types;
     let Some(used) = use_in(types, group, index) else {
         return true;
     };
-    let slot = slot_of(types, &used);
-    if !agrees_with_earlier(module, info, table, slot, number, group, index, &used) {
-        return false;
+    let hash = hash_of(types, &used);
+    match probe_table(module, info, table, slots, hash, &used) {
+        Probe::Empty(slot) => {
+            table[slot] = Some(Site {
+                group: number,
+                index,
+                hash,
+            });
+            true
+        }
+        Probe::Seen(alike) => alike,
+        Probe::Full => {
+            earlier_answer(module, info, number, group, index, &used).unwrap_or(true)
+        }
     }
-    if table[slot].is_none() {
-        table[slot] = Some(Site {
-            group: number,
-            index,
-        });
-    }
-    true
 }
 
 /// The first use of a group, which has this number, that does not agree with all that stand before
@@ -283,24 +337,26 @@ fn first_disagreeing(
     module: &Module,
     info: &ModuleInfo,
     table: &mut [Option<Site>],
+    slots: usize,
     number: u128,
     group: Expressions<'_>,
 ) -> Option<usize>
     requires group { slice_get (groups_of «module».now info.now) number ≡ Some (group_of group) }
     requires agree { all_agree (group_uses «module».now.types
         (groups_of «module».now info.now) number) ≡ true }
+    requires slots { 0 < slots }
     requires table { Remembers «module».now.types (groups_of «module».now info.now)
-        (group_uses «module».now.types (groups_of «module».now info.now) number) table.now }
+        (group_uses «module».now.types (groups_of «module».now info.now) number) slots table.now }
     ensures agree { is_none result ≡ all_agree (group_uses «module».now.types
         (groups_of «module».now info.now) (suc number)) }
     ensures table { is_none result ≡ true →
         Remembers «module».now.types (groups_of «module».now info.now)
         (group_uses «module».now.types (groups_of «module».now info.now) (suc number))
-        table.new }
+        slots table.new }
     ensures fault { IfSome result (λ index. Disagrees «module».now info.now number index) }
 {
     for index in 0..group.arena.len() {
-        if !use_agrees(module, info, table, number, group, index) {
+        if !use_agrees(module, info, table, slots, number, group, index) {
             return Some(index);
         }
     }
@@ -334,7 +390,7 @@ pub(crate) fn operators_fault(module: &Module, info: &ModuleInfo) -> Option<Unac
     let mut table: [Option<Site>; SLOTS] = [None; SLOTS];
     let mut number = 0;
     while let Some(group) = group_at(module, info, number) {
-        let disagreeing = first_disagreeing(module, info, &mut table, number, group);
+        let disagreeing = first_disagreeing(module, info, &mut table, SLOTS, number, group);
         if let Some(index) = disagreeing {
             return Some(at(use_item(module, number, index), Fault::Disagreement));
         }
@@ -349,8 +405,9 @@ pub(crate) fn operators_fault(module: &Module, info: &ModuleInfo) -> Option<Unac
 /// Loads, derivatives and what is done with images are no operators here, since the world answers
 /// them. Expressions of which nothing is known by `info` are not looked at.
 ///
-/// It takes no memory. Time grows with the expressions, as long as few operators share a slot of a
-/// table of 509; one that shares its slot with another is looked for from the start.
+/// It takes no memory. Time grows with the expressions, as long as there are no more than 509
+/// operators over operands of different types. Uses of further ones are looked for from the start,
+/// each as far as the first of its operator.
 pub fn operators_agree(module: &Module, info: &ModuleInfo) -> bool
     ensures { result ≡ module_operators_agree «module».now info.now }
 {

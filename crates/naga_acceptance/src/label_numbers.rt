@@ -1,16 +1,19 @@
 //! Whether labels of a switch, in any order, differ: their numbers are sorted a part at a time.
 
-ghost use Rattle.std.specs.Prelude.{◌≡◌, ◌≤◌, ◌++◌, length, take, nat_lt, MatchBool, false};
+ghost use Rattle.std.specs.Prelude.{◌≡◌, ◌<◌, ◌≤◌, ◌%◌, ◌++◌, length, take, nat_lt, MatchBool, false};
 ghost use Rattle.std.specs.List.Sorted.{IsNonDecreasing};
 ghost use Rattle.naga_ir.specs.StatementViews.{cases_of};
 ghost use Rattle.module_meaning.specs.StatementsFit.{labels_differ};
-ghost use Rattle.naga_acceptance.specs.Labels.{AreApart, AreOnce, IsTwice, number_of, numbers_of};
-ghost use Rattle.naga_acceptance.specs.Labels.{shares, times};
+ghost use Rattle.naga_acceptance.specs.Labels.{AreApart, AreMarked, AreOnce, IsTwice, number_of};
+ghost use Rattle.naga_acceptance.specs.Labels.{numbers_of, shares, times};
 
 use naga_ir::{SwitchCase, SwitchValue};
 
 /// How many labels are sorted at once.
 const SORTED_LABELS: usize = 4096;
+
+/// How many places there are at which numbers are marked.
+const PLACES: usize = 32_768;
 
 /// A number of its own for each label.
 fn number_of(label: SwitchValue) -> u64
@@ -51,25 +54,74 @@ fn has_equal_neighbours(numbers: &[u64]) -> bool
     false
 }
 
-/// Whether the number is one of these, which ascend.
-fn is_among(numbers: &[u64], number: u64) -> bool
-    requires { IsNonDecreasing numbers.now }
+/// Where a number is marked.
+fn place_of(number: u64) -> usize
+    ensures place { result ≡ number % 32768 }
+    ensures within { result < 32768 }
+{
+    (number % PLACES as u64) as usize
+}
+
+/// The marks of these numbers, which tell of most others at once that they are none of these.
+fn marks_of(numbers: &[u64]) -> [bool; PLACES]
+    ensures marks { AreMarked numbers.now result }
+    ensures size { length result ≡ 32768 }
+{
+    let mut marks = [false; PLACES];
+    for number in numbers {
+        marks[place_of(*number)] = true;
+    }
+    marks
+}
+
+/// Whether the number is one of these, which ascend and have these marks.
+fn is_among(numbers: &[u64], marks: &[bool], number: u64) -> bool
+    requires rise { IsNonDecreasing numbers.now }
+    requires marks { AreMarked numbers.now marks.now }
+    requires size { length marks.now ≡ 32768 }
     ensures { result ≡ nat_lt 0 (times number numbers.now) }
 {
+    if !marks[place_of(number)] {
+        return false;
+    }
     numbers.binary_search(&number).is_ok()
 }
 
-/// Whether the number of a label is one of these, which ascend.
-fn shares(numbers: &[u64], cases: &[SwitchCase]) -> bool
-    requires { IsNonDecreasing numbers.now }
+/// Whether the number of a label is one of these, which ascend and have these marks.
+fn any_among(numbers: &[u64], marks: &[bool], cases: &[SwitchCase]) -> bool
+    requires rise { IsNonDecreasing numbers.now }
+    requires marks { AreMarked numbers.now marks.now }
+    requires size { length marks.now ≡ 32768 }
     ensures { result ≡ shares numbers.now (numbers_of (cases_of cases.now)) }
 {
     for case in cases {
-        if is_among(numbers, number_of(case.value)) {
+        if is_among(numbers, marks, number_of(case.value)) {
             return true;
         }
     }
     false
+}
+
+/// The same, by marks of its own. Their table stays out of the frame of its caller.
+#[inline(never)]
+fn shares_by_marks(numbers: &[u64], cases: &[SwitchCase]) -> bool
+    requires { IsNonDecreasing numbers.now }
+    ensures { result ≡ shares numbers.now (numbers_of (cases_of cases.now)) }
+{
+    let marks = marks_of(numbers);
+    any_among(numbers, &marks, cases)
+}
+
+/// Whether the number of a label is one of these, which ascend. They are marked only where there are
+/// labels.
+fn shares(numbers: &[u64], cases: &[SwitchCase]) -> bool
+    requires { IsNonDecreasing numbers.now }
+    ensures { result ≡ shares numbers.now (numbers_of (cases_of cases.now)) }
+{
+    if cases.is_empty() {
+        return false;
+    }
+    shares_by_marks(numbers, cases)
 }
 
 /// Whether the first labels differ from one another and from those behind them. Its table stays out
@@ -91,7 +143,8 @@ fn first_differ(first: &[SwitchCase], behind: &[SwitchCase]) -> bool
 ///
 /// It takes no memory: 4,096 labels at a time are sorted on the stack, and those behind are looked
 /// for among them. So `n` labels take `n log n` steps where there are no more than 4,096. More, in
-/// whatever order, take a sort for each 4,096, and `n² / 8,192` searches of 13 comparisons. Since
+/// whatever order, take a sort for each 4,096, and `n² / 8,192` looks at a mark, of which one in
+/// eight needs a search of 13 comparisons, unless labels are chosen to share their marks. Since
 /// those that were sorted differ, no label is looked for more than 2^21 times.
 pub(crate) fn none_is_repeated(cases: &[SwitchCase]) -> bool
     ensures { result ≡ labels_differ (cases_of cases.now) }

@@ -1,12 +1,11 @@
 //! Uses of operators: the operator, the types of its operands, and the type that it gives.
 
-ghost use Rattle.std.specs.Prelude.{◌≡◌, ◌<◌, map};
+ghost use Rattle.std.specs.Prelude.{◌≡◌, map};
 ghost use Rattle.std.specs.Option.{option_map};
 ghost use Rattle.std.specs.Str.{bytes_eq};
 ghost use Rattle.naga_acceptance.specs.KnownTypes.{known_types};
 ghost use Rattle.naga_acceptance.specs.OperatorKeys.{key};
-ghost use Rattle.naga_acceptance.specs.Uses.{all_mixed, is_same_operator, operation, slot_count};
-ghost use Rattle.naga_acceptance.specs.Uses.{slot_of};
+ghost use Rattle.naga_acceptance.specs.Uses.{all_mixed, hash_of, is_same_operator, operation};
 ghost use Rattle.naga_ir.specs.Operands.{expression_operands};
 ghost use Rattle.module_meaning.specs.AgreeingOperators.{expression_use, identity_at};
 ghost use Rattle.module_meaning.specs.Operations.{are_same_words};
@@ -17,9 +16,6 @@ use crate::parts::{Known, known_type};
 use crate::type_hash::{identity_mixed, level_mixed, mixed};
 use crate::type_numbers::truth_number;
 use naga_ir::{Expression, Handle, Type_, UniqueArena};
-
-/// How many slots the table of remembered uses has.
-pub(crate) const SLOTS: usize = 509;
 
 /// An operator where it is used.
 #[derive(Debug, Clone, Copy)]
@@ -135,15 +131,13 @@ fn operand_mixed(
     }
 }
 
-/// The slot of a use in the table of remembered uses: the same for one operator over operands of
-/// types alike.
-pub(crate) fn slot_of(types: &UniqueArena<Type_>, used: &Use<'_>) -> usize
-    ensures slot { result ≡ slot_of (operation types.now used.now) }
-    ensures within { result < slot_count }
+/// The hash of a use: the same for one operator over operands of types alike.
+pub(crate) fn hash_of(types: &UniqueArena<Type_>, used: &Use<'_>) -> usize
+    ensures { result ≡ hash_of (operation types.now used.now) }
 {
     let mut hash = key_mixed(types, 0, &used.key);
     for operand in used.expression.operands() {
         hash = operand_mixed(types, used.known, hash, operand);
     }
-    hash % SLOTS
+    hash
 }

@@ -7,5 +7,5 @@ use Rattle.naga_acceptance.proofs.agreeing.first_disagreeing.Given as goal
 abbrev pub invariant-loop-index : goal.invariant-loop-index
 invariant-loop-index l = record {
   agree : all_agree (earlier_uses l.module.types (groups_of l.module l.info) l.number (group_of l.group) l.index) ≡ true;
-  remembered : Remembers l.module.types (groups_of l.module l.info) (earlier_uses l.module.types (groups_of l.module l.info) l.number (group_of l.group) l.index) l.table;
+  remembered : Remembers l.module.types (groups_of l.module l.info) (earlier_uses l.module.types (groups_of l.module l.info) l.number (group_of l.group) l.index) l.slots l.table;
 }

@@ -13,7 +13,7 @@ use Rattle.naga_acceptance.proofs.agreeing.operators_fault.Goals as goal
 pub loop-group-init : goal.loop-group-init
 loop-group-init c = record {
   agree = refl;
-  remembered = none_remembered c.args.module.now.types (groups_of c.args.module.now c.args.info.now) _ refl;
+  remembered = none_remembered c.args.module.now.types (groups_of c.args.module.now c.args.info.now) 509 _ refl;
   within = omega arith;
 }
 
@@ -54,7 +54,7 @@ loop-group-preserved c =
     sym c.in_default-disagreeing.ensures.agree
     in record {
       agree = ap (λ n. all_agree (group_uses types gs n)) (sym next) ∙ agrees;
-      remembered = remembers_same types gs _ _ _ (ap (group_uses types gs) next) (c.in_default-disagreeing.ensures.table refl);
+      remembered = remembers_same types gs _ _ _ _ (ap (group_uses types gs) next) (c.in_default-disagreeing.ensures.table refl);
       within = omega (arith, within);
     }
 

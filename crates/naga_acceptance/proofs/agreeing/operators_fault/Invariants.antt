@@ -7,7 +7,7 @@ use Rattle.naga_acceptance.proofs.agreeing.operators_fault.Given as goal
 abbrev pub invariant-loop-group : goal.invariant-loop-group
 invariant-loop-group l = record {
   agree : all_agree (group_uses l.module.types (groups_of l.module l.info) l.number) ≡ true;
-  remembered : Remembers l.module.types (groups_of l.module l.info) (group_uses l.module.types (groups_of l.module l.info) l.number) l.table;
+  remembered : Remembers l.module.types (groups_of l.module l.info) (group_uses l.module.types (groups_of l.module l.info) l.number) 509 l.table;
   within : l.number ≤ length (groups_of l.module l.info);
 }
 

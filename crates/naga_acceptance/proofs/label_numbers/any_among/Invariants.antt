@@ -1,7 +1,7 @@
 use Rattle.std.proofs.Common.{◌≡◌, drop}
 use Rattle.naga_ir.specs.StatementViews.{cases_of}
 use Rattle.naga_acceptance.specs.Labels.{numbers_of, shares}
-use Rattle.naga_acceptance.proofs.label_numbers.shares.Given as goal
+use Rattle.naga_acceptance.proofs.label_numbers.any_among.Given as goal
 
 abbrev pub invariant-loop-case : goal.invariant-loop-case
 invariant-loop-case l =

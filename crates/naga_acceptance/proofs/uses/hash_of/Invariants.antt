@@ -5,7 +5,7 @@ use Rattle.module_meaning.specs.AgreeingOperators.{identity_at}
 use Rattle.naga_acceptance.specs.KnownTypes.{known_types}
 use Rattle.naga_acceptance.specs.OperatorKeys.{key}
 use Rattle.naga_acceptance.specs.Uses.{all_mixed, lists_mixed}
-use Rattle.naga_acceptance.proofs.uses.slot_of.Given as goal
+use Rattle.naga_acceptance.proofs.uses.hash_of.Given as goal
 
 abbrev pub invariant-loop-operand : goal.invariant-loop-operand
 invariant-loop-operand l =
