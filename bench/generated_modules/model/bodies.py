@@ -9,6 +9,8 @@ from worlds import SELECTED
 from writer import constants_of
 
 TRUTH = ("scalar", BOOL)
+# types of conditions and selectors
+DECIDING = (TRUTH, ("scalar", I32), ("scalar", U32))
 # types of which there are no zero values
 OPAQUE = ("image", "sampler", "ray query", "pointer", "value pointer")
 
@@ -26,6 +28,8 @@ class BodyMaker:
         # body are known in its `continuing`
         self.given, self.trees = set(), set()
         self.constants = []
+        taken = [ty for f in self.module.functions for _, ty in f.arguments]
+        self.calls = 0.2 if any(points(ty) and ty[2] == FUNCTION for ty in taken) else 0.07
 
     # ---- scope
     def is_tree(self, h):
@@ -54,6 +58,11 @@ class BodyMaker:
     def of_type(self, ty):
         """A value of this type, which is made if there is none; none of what has no zero value."""
         h = self.some(lambda e: alike(e.type, ty))
+        if h is None and ty in DECIDING and self.chance(0.6):
+            # so that not the same is decided always
+            self.module.handle_of(ty)
+            self.f.arguments.append((self.maker.label("x"), ty))
+            return self.f.add(Expression("argument", ty, [len(self.f.arguments) - 1]))
         if h is None and ty[0] not in OPAQUE:
             return self.zero(ty)
         return h
@@ -112,7 +121,7 @@ class BodyMaker:
         self.left -= 1
         around = (level, breaks, continues)
         makers = [
-            (0.4, self.make_emit), (0.14, self.make_store), (0.07, self.make_call), (0.04, self.make_atomic),
+            (0.4, self.make_emit), (0.14, self.make_store), (self.calls, self.make_call), (0.04, self.make_atomic),
             (0.03, self.make_texel), (0.02, self.make_uniform_load), (0.03, self.make_barrier),
             (0.05, self.make_subgroup), (0.02, self.make_other), (0.07, self.make_expressions),
             (0.01, lambda: self.jump(breaks, continues))]

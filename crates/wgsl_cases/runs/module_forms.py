@@ -86,6 +86,13 @@ def space_of(form):
     return "storage", "atomic" if "ATOMIC" in access else "read_write" if "STORE" in access else None
 
 
+def member_word(label):
+    """The word of a member of WGSL's own structs, without the signs in a label that no word has."""
+    while label[:1].isnumeric():
+        label = label[1:]
+    return re.sub("[:<>,_]+", "_", label).rstrip("_")
+
+
 class Module:
     """A module: its types, what its operators mean, and its functions, of which entry points are the last."""
 
@@ -143,7 +150,7 @@ class Module:
             return "depth" if kind == "Image" and "Depth" in c["class"] else "opaque"
         types = tuple(self.types[member["ty"]] for member in c["members"])
         if place in self.undeclared:
-            return "undeclared", tuple(member.get("name") or "" for member in c["members"]), types
+            return "undeclared", tuple(member_word(member.get("name") or "") for member in c["members"]), types
         self.structs += 1
         return "struct", self.structs - 1, types
 

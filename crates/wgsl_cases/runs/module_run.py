@@ -83,7 +83,7 @@ class ModuleRun:
             value = self.world.ask(act_word(kind, c), values, None if h is None else self.body.types[h])
         if h is not None:
             if value is None:
-                raise NoMeaning("no result")
+                raise Ended("no result")
             self.values[h] = value
 
     def switch(self, selector, cases):

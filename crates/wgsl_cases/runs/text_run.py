@@ -63,8 +63,7 @@ class Program:
         elif is_over(ty, "vector"):
             names = list("xyzw"[:ty[1]])
         else:
-            # WGSL's own structs have members that are told as the module has them, with other signs around or not
-            names = [re.sub("^[0-9]+|[:<>,_]+$", "", name) for name in ty[1]] if is_over(ty, "undeclared") else []
+            names = ty[1] if is_over(ty, "undeclared") else []
         if word not in names:
             raise NoMeaning(f"{ty} has no {word}")
         return names.index(word)
@@ -140,7 +139,7 @@ class Values:
         if kind == "call":
             value = self.called(*inner)
             if value is None:
-                raise NoMeaning("no result")
+                raise Ended("no result")
             return value
         if kind in ("member", "element"):
             return self.part(kind, *inner)
@@ -178,7 +177,7 @@ class Values:
             return meaning.apply((word, self.program.type(inner[0])), values)
         if re.fullmatch("vec[234]", word) and not inner:
             return meaning.apply(("splat", int(word[3])), values)
-        if ASKING.fullmatch(word):
+        if kind is None and ASKING.fullmatch(word):
             return self.world.ask((word, self.program.type(inner[0])) if inner else word, values)
         if kind is not None or inner or word in SCALARS or HANDLES.fullmatch(word):
             return meaning.apply(("construct", self.program.type(told)), values)
