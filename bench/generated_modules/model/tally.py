@@ -81,8 +81,7 @@ class Tally:
         """Whether each function's text does what the function does under one meaning of whole numbers. Nothing is known
         of the module but its JSON, and nothing of the text but its bytes."""
         told_module = module_forms.Module(json.loads(line_of(module, False)))
-        runs = list(comparison.runs_of(told_module, text))
-        for at, meant, told in runs:
+        for _, meant, told in comparison.runs_of(told_module, text, 2):
             self.add(f"runs with integers: {meant[1]}")
             if told != meant:
                 self.tell(number, module, "runs otherwise with integers", text, f"{told}\n", f"{meant}\n")

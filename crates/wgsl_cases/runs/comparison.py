@@ -6,7 +6,7 @@ operators mean, and a world each, which answers alike where it is asked alike.
 
 from integer_values import NoMeaning
 from integer_world import Ended, World
-from module_forms import Module, operands_in, statements_in
+from module_forms import operands_in, statements_in
 from module_run import run_of_module
 from text_run import Program, run_of_text
 from text_trees import NoReading, Reader

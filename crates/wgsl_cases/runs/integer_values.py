@@ -1,8 +1,8 @@
 """Values of one concrete meaning, in which whole numbers and truth values are as WGSL computes with them.
 
 A value is a pair: its type, and what it is. That is a whole number for a scalar, the values of its parts for a vector,
-a matrix, a struct or a short array, and a root with a path of steps for a pointer. What WGSL computes otherwise, as with
-floats, is mixed of the word and the operands, so that it is the same wherever these are.
+a matrix, a struct or a short array, and a root with a path of steps for a pointer. What WGSL computes otherwise, as
+with floats, is mixed of the word and the operands, so that it is the same wherever these are.
 
 A type is the word of a scalar, or one of
 

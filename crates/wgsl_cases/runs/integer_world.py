@@ -2,7 +2,7 @@
 
 Events are kept in their order: entries of functions with their arguments, first values of locals, loads and stores with
 their values, what is asked, and discards. What nothing stored is decided by its place and the world's number, and what
-is asked, but of integers in memory, by the events so far. The type of an answer is that which the module's run was given.
+is asked, but of integers in memory, by the events so far. An answer has the type that the module's run was given there.
 """
 
 import zlib

@@ -1,5 +1,7 @@
-"""A module and what is known of it, read from JSON: types, and for each expression and each statement that asks the world
-the word and the operands that WGSL has for it."""
+"""A module and what is known of it, read from JSON.
+
+It tells types, and the word and the operands that WGSL has for each expression and each statement that asks the world.
+"""
 
 import re
 
@@ -32,8 +34,8 @@ SIZES = {"Bi": 2, "Tri": 3, "Quad": 4, "Eight": 8, "Sixteen": 16}
 KINDS = {"Sint": "i", "Uint": "u", "Float": "f"}
 COMPONENTS = "XYZW"
 SIGNS = dict(zip(
-    "Add Subtract Multiply Divide Modulo Equal NotEqual Less LessEqual Greater GreaterEqual And ExclusiveOr InclusiveOr "
-    "LogicalAnd LogicalOr ShiftLeft ShiftRight Negate LogicalNot BitwiseNot".split(),
+    "Add Subtract Multiply Divide Modulo Equal NotEqual Less LessEqual Greater GreaterEqual And ExclusiveOr "
+    "InclusiveOr LogicalAnd LogicalOr ShiftLeft ShiftRight Negate LogicalNot BitwiseNot".split(),
     "+ - * / % == != < <= > >= & ^ | && || << >> - ! ~".split()))
 ATOMICS = {"Subtract": "Sub", "ExclusiveOr": "Xor", "InclusiveOr": "Or"}
 LEVELS = {"Auto": "", "Zero": "Level", "Exact": "Level", "Bias": "Bias", "Gradient": "Grad"}

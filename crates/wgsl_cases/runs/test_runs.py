@@ -1,7 +1,7 @@
 """Rows of texts and of modules with what their runs give, where a mistake would hide one of a writer."""
 
 from comparison import FAULTS
-from integer_values import Meaning, made
+from integer_values import Meaning
 from integer_world import Ended, World
 from module_forms import Module
 from module_run import run_of_module
@@ -12,13 +12,14 @@ LEAST = "i32(-2147483648)"
 # what an expression gives
 EXPRESSIONS = {
     "(2147483647i + 1i)": -2**31, "(0u - 1u)": 2**32 - 1, f"({LEAST} - 1i)": 2**31 - 1, f"-({LEAST})": -2**31,
-    "(9223372036854775807li * 2li)": -2, "(i64(-9223372036854775807 - 1) - 1li)": 2**63 - 1, "(0lu - 1lu)": 2**64 - 1,
-    "(i16(32767) + i16(1))": -2**15, "(u16(65535) * u16(65535))": 1,
-    "(-7i / 2i)": -3, "(-7i % 2i)": -1, "(7i / 0i)": 7, "(7i % 0i)": 0, f"({LEAST} / -1i)": -2**31, f"({LEAST} % -1i)": 0,
+    "(9223372036854775807li * 2li)": -2, "(i64(-9223372036854775807 - 1) - 1li)": 2**63 - 1,
+    "(0lu - 1lu)": 2**64 - 1, "(i16(32767) + i16(1))": -2**15, "(u16(65535) * u16(65535))": 1,
+    "(-7i / 2i)": -3, "(-7i % 2i)": -1, "(7i / 0i)": 7, "(7i % 0i)": 0, f"({LEAST} / -1i)": -2**31,
+    f"({LEAST} % -1i)": 0,
     "(-8i >> 1u)": -4, "(4294967288u >> 1u)": 2147483644, "(1i << 33u)": 2, "(1i << 31u)": -2**31, "~(5i)": -6,
     "(3i >= 3i)": True, "(3i <= 2i)": False, "(6i ^ 3i)": 5, "(6i & 3i)": 2, "(true & false)": False, "!(true)": False,
-    "u32(-1i)": 2**32 - 1, "i32(4294967295u)": -1, "bitcast<i32>(2147483648u)": -2**31, "bool(2i)": True, "i32(true)": 1,
-    "select(1i, 2i, true)": 2, "(-(vec2<i32>(1i, 2i))).y": -2, "vec3<i32>(vec2<i32>(1i, 2i), 3i).zyx.x": 3,
+    "u32(-1i)": 2**32 - 1, "i32(4294967295u)": -1, "bitcast<i32>(2147483648u)": -2**31, "bool(2i)": True,
+    "i32(true)": 1, "select(1i, 2i, true)": 2, "(-(vec2<i32>(1i, 2i))).y": -2, "vec3<i32>(vec2<i32>(1i, 2i), 3i).zyx.x": 3,
     "(vec2<i32>(1i, 2i) + vec2(3i)).y": 5, "mat2x2<i32>(1i, 2i, 3i, 4i)[1].x": 3, "array<vec2<i32>, 2>()[1].x": 0,
     "min(-1i, 2i)": -1, "clamp(9i, 0i, 3i)": 3, "all(vec2<bool>(true, false))": False, "P(1i, 2i, P2(7i)).xy.xy": 7}
 # what the last function of a text gives, where `x` is an argument of 5, or what is wrong with it
@@ -33,9 +34,10 @@ BODIES = {
     "loop { if false { continue; } let a = 1i; continuing { g = a; } } return 1i;": "stands for nothing",
     "var i: i32 = 0i; loop { let a = 2i; if (i < 5i) { continue; } break; continuing { i = (i + a); } } return i;": 6,
     "var i: i32 = 0i; loop { continue; continuing { i = (i + 1i); break if (i == 3i); } } return i;": 3,
-    "var i: i32 = 0i; loop { switch i { case 2: { break; } default: { } } i = (i + 1i); if (i == 3i) { break; } } return i;":
-        3,
-    "var i: i32 = 0i; loop { i = (i + 1i); switch i { case 1, 2: { continue; } default: { break; } } break; } return i;": 3,
+    "var i: i32 = 0i; loop { switch i { case 2: { break; } default: { } } i = (i + 1i); if (i == 3i) { break; } } "
+    "return i;": 3,
+    "var i: i32 = 0i; loop { i = (i + 1i); switch i { case 1, 2: { continue; } default: { break; } } break; } "
+    "return i;": 3,
     "loop { continuing { break if true; let a = 1i; } } return 1i;": "break if",
     "loop { } return 1i;": "out of turns",
     "switch x { case 5, default: { return 1i; } case 6: { } } return 2i;": 1,
@@ -81,7 +83,7 @@ def case(value, falls, *body):
     return {"value": value, "fall_through": falls, "body": list(body)}
 
 
-# what a function of a local of 7, 1, 2 and what is told by the row does, by its events but the first two, and its result
+# what a function of a local of 7, of 1, 2 and what the row tells does: its events but the first two, and its result
 MODULES = {
     "a value is kept over a store": (
         [LOAD], [emit(3, 4), store(1), {"Return": {"value": 3}}], ["load", "store"], 7),
@@ -135,7 +137,7 @@ def run_of_row(expressions, body):
     types = [pointer, *(TRUTH if "Bool" in repr(e) or "Greater" in repr(e) else INT for e in expressions[1:])]
     module = Module({
         "module": {
-            "types": [{"inner": {"Scalar": {"kind": "Sint", "width": 4}}}, {"inner": {"Scalar": {"kind": "Bool", "width": 1}}}],
+            "types": [{"inner": {"Scalar": {"kind": kind, "width": width}}} for kind, width in (("Sint", 4), ("Bool", 1))],
             "functions": [{
                 "result": {"ty": INT}, "local_variables": [{"name": "a", "ty": INT, "init": len(expressions)}],
                 "expressions": [*expressions, {"Literal": {"I32": 7}}], "body": body}]},

@@ -1,5 +1,8 @@
-"""Runs a function of a text that was read. Each expression is evaluated anew at each use, and a reference is read where a
-value is wanted. The word of a member is one of the type of its base."""
+"""Runs a function of a text that was read.
+
+Each expression is evaluated anew at each use, and a reference is read where a value is wanted. The word of a member is
+one of the type of its base.
+"""
 
 import re
 

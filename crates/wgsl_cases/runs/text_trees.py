@@ -12,6 +12,8 @@ A type is a word with what stands in its angle brackets.
 
 import re
 
+from integer_values import wrapped
+
 TOKEN = re.compile(
     r"[A-Za-z_][A-Za-z0-9_]*|-?[0-9]+(?:\.[0-9]+)?(?:li|lu|i|u)?|&&|\|\||<<|<=|==|!=|[-{}()\[\]<>,;:.=+*/%&|^!~@]")
 SUFFIXES = {"i": "i32", "u": "u32", "li": "i64", "lu": "u64", "": "abstract"}
@@ -41,7 +43,7 @@ class Function:
 
 
 class Reader:
-    """A program: what it declares by name, with its number among those of its kind, and its functions in their order."""
+    """A program: what it declares by name, with its number among those of its kind, and its functions in order."""
 
     def __init__(self, text):
         self.tokens, self.at = [*tokens_of(text), ""], 0
@@ -320,7 +322,12 @@ class Reader:
 
 def number(token):
     digits, point, suffix = re.fullmatch(r"(-?[0-9]+)(\.[0-9]+)?(\w*)", token).groups()
-    return ("abstract float", token) if point else (SUFFIXES[suffix], int(digits))
+    if point:
+        return "abstract float", token
+    ty, told = SUFFIXES[suffix], int(digits)
+    if suffix and wrapped(ty, told) != told:
+        raise NoReading(f"{token} is out of range")
+    return ty, told
 
 
 def has_continue(statement):
