@@ -4,7 +4,7 @@ from modules import (
     LEAVES, RESULTS, Expression, Statement, Variable, emit, holds_continue, loop, returns, statements_in, store)
 from spelling import (
     BOOL, FUNCTION, HANDLE, I32, U32, alike, held, pointed_at, pointer_to, points, points_to_atomic, scalar_of)
-from words import ATOMICS, COMPARING, GATHERS, OPERATIONS
+from words import ATOMICS, BINARY, COMPARING, GATHERS, OPERATIONS
 from worlds import SELECTED
 from writer import constants_of
 
@@ -73,9 +73,9 @@ class BodyMaker:
         e.by_handle = ty[0] == "struct"
         return self.f.add(e)
 
-    def new_local(self, ty):
+    def new_local(self, ty, first=None):
         self.module.handle_of(ty)
-        self.f.locals.append((self.maker.label("a"), ty, None))
+        self.f.locals.append((self.maker.label("a"), ty, first))
         return self.f.add(Expression("local", pointer_to(ty, FUNCTION), [len(self.f.locals) - 1]))
 
     # ---- blocks
@@ -177,8 +177,21 @@ class BodyMaker:
             self.given = unskipped
         continuing = self.block(level + 1, False, False) if self.chance(0.6) else []
         break_if = self.of_type(TRUTH) if self.chance(0.6) else None
+        if self.chance(0.3):
+            counting, break_if = self.count()
+            continuing += counting
         self.given, self.trees = given, trees
         return [loop(body, continuing, break_if)]
+
+    def count(self):
+        """Statements that count the turns of a loop, and whether there were enough."""
+        whole = ("scalar", I32)
+        none, one, most = (self.maker.put("literal", whole, [1, number]) for number in (0, 1, self.r.randint(1, 3)))
+        counter = self.new_local(whole, none)
+        before = self.maker.put("load", whole, [], [counter])
+        behind = self.maker.put("binary", whole, [BINARY.index("+")], [before, one])
+        is_enough = self.maker.put("binary", TRUTH, [BINARY.index(">=")], [behind, most])
+        return [emit(before, is_enough), store(counter, behind)], is_enough
 
     def skip(self):
         """A branch that goes on with the next turn, or leaves the loop."""

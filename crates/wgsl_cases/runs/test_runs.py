@@ -19,8 +19,8 @@ EXPRESSIONS = {
     "(-8i >> 1u)": -4, "(4294967288u >> 1u)": 2147483644, "(1i << 33u)": 2, "(1i << 31u)": -2**31, "~(5i)": -6,
     "(3i >= 3i)": True, "(3i <= 2i)": False, "(6i ^ 3i)": 5, "(6i & 3i)": 2, "(true & false)": False, "!(true)": False,
     "u32(-1i)": 2**32 - 1, "i32(4294967295u)": -1, "bitcast<i32>(2147483648u)": -2**31, "bool(2i)": True,
-    "i32(true)": 1, "select(1i, 2i, true)": 2, "(-(vec2<i32>(1i, 2i))).y": -2, "vec3<i32>(vec2<i32>(1i, 2i), 3i).zyx.x": 3,
-    "(vec2<i32>(1i, 2i) + vec2(3i)).y": 5, "mat2x2<i32>(1i, 2i, 3i, 4i)[1].x": 3, "array<vec2<i32>, 2>()[1].x": 0,
+    "i32(true)": 1, "select(1i, 2i, true)": 2, "(-(vec2<i32>(1i, 2i))).y": -2,
+    "vec3<i32>(vec2<i32>(1i, 2i), 3i).zyx.x": 3, "(vec2<i32>(1i, 2i) + vec2(3i)).y": 5, "mat2x2<i32>(1i, 2i, 3i, 4i)[1].x": 3, "array<vec2<i32>, 2>()[1].x": 0,
     "min(-1i, 2i)": -1, "clamp(9i, 0i, 3i)": 3, "all(vec2<bool>(true, false))": False, "P(1i, 2i, P2(7i)).xy.xy": 7}
 # what the last function of a text gives, where `x` is an argument of 5, or what is wrong with it
 BODIES = {
@@ -135,9 +135,10 @@ def run_of_row(expressions, body):
     expressions = [LOCAL, ONE, TWO, *expressions]
     pointer = {"Value": {"Pointer": {"base": INT, "space": "Function"}}}
     types = [pointer, *(TRUTH if "Bool" in repr(e) or "Greater" in repr(e) else INT for e in expressions[1:])]
+    scalars = [{"kind": "Sint", "width": 4}, {"kind": "Bool", "width": 1}]
     module = Module({
         "module": {
-            "types": [{"inner": {"Scalar": {"kind": kind, "width": width}}} for kind, width in (("Sint", 4), ("Bool", 1))],
+            "types": [{"inner": {"Scalar": form}} for form in scalars],
             "functions": [{
                 "result": {"ty": INT}, "local_variables": [{"name": "a", "ty": INT, "init": len(expressions)}],
                 "expressions": [*expressions, {"Literal": {"I32": 7}}], "body": body}]},
