@@ -20,7 +20,8 @@ EXPRESSIONS = {
     "(3i >= 3i)": True, "(3i <= 2i)": False, "(6i ^ 3i)": 5, "(6i & 3i)": 2, "(true & false)": False, "!(true)": False,
     "u32(-1i)": 2**32 - 1, "i32(4294967295u)": -1, "bitcast<i32>(2147483648u)": -2**31, "bool(2i)": True,
     "i32(true)": 1, "select(1i, 2i, true)": 2, "(-(vec2<i32>(1i, 2i))).y": -2,
-    "vec3<i32>(vec2<i32>(1i, 2i), 3i).zyx.x": 3, "(vec2<i32>(1i, 2i) + vec2(3i)).y": 5, "mat2x2<i32>(1i, 2i, 3i, 4i)[1].x": 3, "array<vec2<i32>, 2>()[1].x": 0,
+    "vec3<i32>(vec2<i32>(1i, 2i), 3i).zyx.x": 3, "(vec2<i32>(1i, 2i) + vec2(3i)).y": 5,
+    "mat2x2<i32>(1i, 2i, 3i, 4i)[1].x": 3, "array<vec2<i32>, 2>()[1].x": 0,
     "min(-1i, 2i)": -1, "clamp(9i, 0i, 3i)": 3, "all(vec2<bool>(true, false))": False, "P(1i, 2i, P2(7i)).xy.xy": 7}
 # what the last function of a text gives, where `x` is an argument of 5, or what is wrong with it
 BODIES = {
