@@ -14,8 +14,7 @@ SCALARS = {*INTEGERS, "bool", "f16", "f32", "f64"}
 ASKING = re.compile(
     r"texture[A-Z]\w*|atomic[A-Z]\w*|subgroup\w+|quad(Broadcast|Swap)\w*|dpd[xy]\w*|fwidth\w*|coop(Load|Store)T?|"
     r"workgroupUniformLoad|traceRay|\w+Barrier")
-SIZED = {
-    "vec([234])": "vector", "mat([234])x([234])": "matrix", "coop_mat(8|16)x(8|16)": "cooperative"}
+SIZED = {"vec([234])": "vector", "mat([234])x([234])": "matrix", "coop_mat(8|16)x(8|16)": "cooperative"}
 HANDLES = re.compile(r"texture_\w+|sampler|sampler_comparison|acceleration_structure|ray_query")
 REFERENCES = ("local", "target")
 
@@ -29,7 +28,12 @@ class Program:
     def type(self, told):
         """The type that a word with what stands in its angle brackets tells."""
         word, *inner = told
-        if word in SCALARS and not inner:
+        if word in self.items:
+            kind, number, *members = self.items[word]
+            if kind != "struct":
+                raise NoReading(f"{word} is no type")
+            return kind, number, tuple(self.type(member) for _, member in members[0])
+        if word in SCALARS:
             return word
         for form, kind in SIZED.items():
             found = re.fullmatch(form, word)
@@ -45,18 +49,16 @@ class Program:
             return word, self.type(inner[0]), self.length(inner[1]) if len(inner) > 1 else None
         if HANDLES.fullmatch(word):
             return "depth" if word.startswith("texture_depth") else "opaque"
-        kind, number, *members = self.item(word)
-        if kind != "struct":
-            raise NoReading(f"{word} is no type")
-        return kind, number, tuple(self.type(member) for _, member in members[0])
-
-    def item(self, name):
-        if name not in self.items:
-            raise NoReading(f"{name} stands for nothing")
-        return self.items[name]
+        raise NoReading(f"{word} stands for nothing")
 
     def length(self, told):
-        return told if isinstance(told, int) else ("override", self.item(told[0])[1])
+        """How many elements: a number, or an override."""
+        if isinstance(told, int):
+            return told
+        kind, number, *_ = self.items.get(told[0], (None, None))
+        if kind != "override":
+            raise NoReading(f"{told[0]} is no length")
+        return kind, number
 
     def member(self, ty, word):
         """Which part a word is: a letter of a vector, or a member of a struct."""
