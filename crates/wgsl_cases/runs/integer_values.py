@@ -77,7 +77,8 @@ def made(ty, *seed):
     if ty in INTEGERS:
         small = (number >> 4) % 6 - 2
         return ty, wrapped(ty, (small, small, number * 0x9E3779B1, (1 << INTEGERS[ty][1] - 1) - small)[number & 3])
-    return ty, (("made", number), ()) if is_over(ty, "pointer") else number
+    # places that are of no variable hold values of one type alone
+    return ty, (("made", ty, number), ()) if is_over(ty, "pointer") else number
 
 
 def zero(ty):
@@ -85,7 +86,7 @@ def zero(ty):
     if parts is not None:
         return ty, tuple(map(zero, parts))
     if is_over(ty, "pointer"):
-        return ty, ("nowhere", ())
+        return ty, (("nowhere", ty), ())
     return ty, ("zero",) if is_over(ty, "array", "binding_array") else False if ty == "bool" else 0
 
 
