@@ -1,7 +1,8 @@
 #!/bin/sh
 # Compares the texts of generated modules with those of a model that was written apart from the writer, and what the
-# module and its text do when they run (`generated_modules/model`). Run it at the top of the repository, with how many
-# modules and which seed; it proves and builds `yorwethul`, where that has not been done, and asks it by `--lines`.
+# module and its text do when they run (`generated_modules/model`, and with whole numbers `crates/wgsl_cases/runs`). Run
+# it at the top of the repository, with how many modules and which seed; it proves and builds `yorwethul`, where that has
+# not been done, and asks it by `--lines`.
 set -e
 modules=${1:-100000}
 seed=${2:-1}

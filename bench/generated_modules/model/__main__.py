@@ -4,7 +4,8 @@ The model was written from the rules, apart from the writer: which modules are a
 count of uses, what a `let` binds, what is in scope, the text, and for which constructs a module is refused. It reads
 each text and compares what it declares with what the module does. It runs each module and each text, from each function
 and entry point, over terms in which each operator stands for any function, in worlds that tell of each condition
-whether it holds, and compares the events, the endings and the results.
+whether it holds, and compares the events, the endings and the results. It does so too under one meaning of whole
+numbers, with the runs of `crates/wgsl_cases/runs`, which know nothing of the model.
 
 Where several constructs stand for which a module is refused, any one of them may be told: of those in what a module
 declares, in front of any text, else of those in a function, behind the functions in front of it.
@@ -22,6 +23,9 @@ import json
 import random
 import subprocess
 import sys
+from pathlib import Path
+
+sys.path.append(str(Path(__file__).resolve().parents[3] / "crates/wgsl_cases/runs"))
 
 from acceptance import is_accepted, is_read
 from declaration_rows import MOST, check_declaration_rows, many

@@ -4,11 +4,13 @@ from modules import (
     LEAVES, RESULTS, Expression, Statement, Variable, emit, holds_continue, loop, returns, statements_in, store)
 from spelling import (
     BOOL, FUNCTION, HANDLE, I32, U32, alike, held, pointed_at, pointer_to, points, points_to_atomic, scalar_of)
-from words import ATOMICS, COMPARING, GATHERS, OPERATIONS
+from words import ATOMICS, BINARY, COMPARING, GATHERS, OPERATIONS
 from worlds import SELECTED
 from writer import constants_of
 
 TRUTH = ("scalar", BOOL)
+# types of conditions and selectors
+DECIDING = (TRUTH, ("scalar", I32), ("scalar", U32))
 # types of which there are no zero values
 OPAQUE = ("image", "sampler", "ray query", "pointer", "value pointer")
 
@@ -26,6 +28,8 @@ class BodyMaker:
         # body are known in its `continuing`
         self.given, self.trees = set(), set()
         self.constants = []
+        taken = [ty for f in self.module.functions for _, ty in f.arguments]
+        self.calls = 0.2 if any(points(ty) and ty[2] == FUNCTION for ty in taken) else 0.07
 
     # ---- scope
     def is_tree(self, h):
@@ -54,6 +58,11 @@ class BodyMaker:
     def of_type(self, ty):
         """A value of this type, which is made if there is none; none of what has no zero value."""
         h = self.some(lambda e: alike(e.type, ty))
+        if h is None and ty in DECIDING and self.chance(0.6):
+            # so that not the same is decided always
+            self.module.handle_of(ty)
+            self.f.arguments.append((self.maker.label("x"), ty))
+            return self.f.add(Expression("argument", ty, [len(self.f.arguments) - 1]))
         if h is None and ty[0] not in OPAQUE:
             return self.zero(ty)
         return h
@@ -64,9 +73,9 @@ class BodyMaker:
         e.by_handle = ty[0] == "struct"
         return self.f.add(e)
 
-    def new_local(self, ty):
+    def new_local(self, ty, first=None):
         self.module.handle_of(ty)
-        self.f.locals.append((self.maker.label("a"), ty, None))
+        self.f.locals.append((self.maker.label("a"), ty, first))
         return self.f.add(Expression("local", pointer_to(ty, FUNCTION), [len(self.f.locals) - 1]))
 
     # ---- blocks
@@ -112,7 +121,7 @@ class BodyMaker:
         self.left -= 1
         around = (level, breaks, continues)
         makers = [
-            (0.4, self.make_emit), (0.14, self.make_store), (0.07, self.make_call), (0.04, self.make_atomic),
+            (0.4, self.make_emit), (0.14, self.make_store), (self.calls, self.make_call), (0.04, self.make_atomic),
             (0.03, self.make_texel), (0.02, self.make_uniform_load), (0.03, self.make_barrier),
             (0.05, self.make_subgroup), (0.02, self.make_other), (0.07, self.make_expressions),
             (0.01, lambda: self.jump(breaks, continues))]
@@ -168,8 +177,21 @@ class BodyMaker:
             self.given = unskipped
         continuing = self.block(level + 1, False, False) if self.chance(0.6) else []
         break_if = self.of_type(TRUTH) if self.chance(0.6) else None
+        if self.chance(0.3):
+            counting, break_if = self.count()
+            continuing += counting
         self.given, self.trees = given, trees
         return [loop(body, continuing, break_if)]
+
+    def count(self):
+        """Statements that count the turns of a loop, and whether there were enough."""
+        whole = ("scalar", I32)
+        none, one, most = (self.maker.put("literal", whole, [1, number]) for number in (0, 1, self.r.randint(1, 3)))
+        counter = self.new_local(whole, none)
+        before = self.maker.put("load", whole, [], [counter])
+        behind = self.maker.put("binary", whole, [BINARY.index("+")], [before, one])
+        is_enough = self.maker.put("binary", TRUTH, [BINARY.index(">=")], [behind, most])
+        return [emit(before, is_enough), store(counter, behind)], is_enough
 
     def skip(self):
         """A branch that goes on with the next turn, or leaves the loop."""

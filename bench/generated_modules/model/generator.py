@@ -4,7 +4,7 @@ from chance import some_label, some_number, some_type
 from declarations import EntryPointMaker, FaultMaker, OwnMaker
 from functions import FunctionMaker
 from modules import Module
-from spelling import F32, I32
+from spelling import BOOL, F32, FUNCTION, I32, U32, pointer_to
 from structs import StructMaker
 
 
@@ -17,10 +17,15 @@ def generate(r):
     if r.random() < 0.3:
         structs = StructMaker(r, module)
         types += [("scalar", F32), ("vector", r.randint(2, 4), F32)] + structs.make_named()
+    computes = r.random() < 0.3
+    if computes:
+        # functions that call one another with whole numbers and pointers to locals, and branch by these numbers
+        whole = [("scalar", scalar) for scalar in (I32, I32, U32, BOOL)]
+        types = types[:1] + whole + [pointer_to(("scalar", scalar), FUNCTION) for scalar in (I32, I32, U32)]
     own = OwnMaker(r, module, types)
-    if r.random() < 0.8:
+    if r.random() < (0.2 if computes else 0.8):
         declare(r, module, types, own)
-    for _ in range(r.choice([0, 1, 1, 1, 2, 3])):
+    for _ in range(r.choice([2, 2, 3] if computes else [0, 1, 1, 1, 2, 3])):
         # functions of one module share some of their types
         module.functions.append(FunctionMaker(r, module, some_of(r, types)).make())
     if r.random() < 0.5:

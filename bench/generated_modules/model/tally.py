@@ -1,5 +1,7 @@
 """Counts of what modules there were, and what differed."""
 
+import json
+
 from enables import enables_text
 from interface import module_interface, text_interface
 from modules import PARTS, statements_in
@@ -11,6 +13,9 @@ from spelling import HANDLE, is_override, points, whole_of
 from words import MATH
 from worlds import NoValue, Term
 from writer import emitted_by, written_of
+
+import comparison
+import module_forms
 
 # what tells that a text has no reading, or no run
 UNREADABLE = (
@@ -70,6 +75,21 @@ class Tally:
             for _, ending in meant:
                 self.add(f"runs: {ending if isinstance(ending, str) else 'returned'}")
         Term.made.clear()
+        self.run_with_integers(number, module, text)
+
+    def run_with_integers(self, number, module, text):
+        """Whether each function's text does what the function does under one meaning of whole numbers. Nothing is known
+        of the module but its JSON, and nothing of the text but its bytes."""
+        told_module = module_forms.Module(json.loads(line_of(module, False)))
+        for _, meant, told in comparison.runs_of(told_module, text, 2):
+            self.add(f"runs with integers: {meant[1]}")
+            if told != meant:
+                self.tell(number, module, "runs otherwise with integers", text, f"{told}\n", f"{meant}\n")
+        for body in told_module.bodies:
+            features = comparison.features(body)
+            for feature in ["functions", *(f"functions with {each}" for each in features)]:
+                self.add(f"run with integers: {feature}")
+            self.add("run with integers: functions with all of these", len(features) == 5)
 
     # ---- what is refused
     def add_refused(self, module, text):
