@@ -15,6 +15,8 @@ mod builders;
 #[cfg(test)]
 mod diagnostics;
 #[cfg(test)]
+mod entry_points;
+#[cfg(test)]
 mod initialisers;
 #[cfg(test)]
 mod ir;
