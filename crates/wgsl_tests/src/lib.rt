@@ -29,6 +29,8 @@ mod namer;
 #[cfg(test)]
 mod names;
 #[cfg(test)]
+mod nesting;
+#[cfg(test)]
 mod reading;
 #[cfg(test)]
 mod sinks;
@@ -44,3 +46,5 @@ mod traits;
 mod types;
 #[cfg(test)]
 mod wgsl;
+#[cfg(test)]
+mod whole_module;
