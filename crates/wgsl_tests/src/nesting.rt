@@ -9,10 +9,10 @@ use std::process::Abort;
 use std::test::Fail;
 
 /// How many blocks and loops stand in one another.
-const BLOCKS: usize = 3_000;
+const BLOCKS: usize = 1_000;
 
 /// How many sums stand in one another.
-const SUMS: usize = 10_000;
+const SUMS: usize = 2_000;
 
 /// The module is accepted, and its text is this.
 fn is_written(

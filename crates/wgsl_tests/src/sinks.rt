@@ -134,27 +134,43 @@ fn finds_no_memory(rt: &impl Abort, alloc: Global, known: &Known, text: &str, li
     );
 }
 
+/// How a sink refuses what would take it past its limit.
+#[derive(Clone, Copy)]
+enum Refusal {
+    Failure,
+    NoMemory,
+}
+
 /// Each limit up to the text's length.
-fn refuses_at_each_limit(rt: &impl Abort, alloc: Global, known: &Known, text: &str)
+fn refuses_at_each_limit(
+    rt: &impl Abort,
+    alloc: Global,
+    known: &Known,
+    text: &str,
+    refusal: Refusal,
+)
     requires { IsTrue (is_accepted known.now.module known.now.info) }
 {
     for limit in 0..=text.len() {
-        fails_once(rt, alloc, known, text, limit);
-        finds_no_memory(rt, alloc, known, text, limit);
+        match refusal {
+            Refusal::Failure => fails_once(rt, alloc, known, text, limit),
+            Refusal::NoMemory => finds_no_memory(rt, alloc, known, text, limit),
+        }
     }
 }
 
-fn is_written(
+fn check_limits(
     rt: &impl Abort,
     alloc: Global,
     known: &mut Known,
     length: usize,
+    refusal: Refusal,
 ) -> Result<(), Error> {
     count(&mut known.info, &known.module);
     assert!(rt; accepts(&known.module, &known.info));
     let text = write_string(alloc, &known.module, &known.info, no_flags())?;
     assert_eq!(rt; text.len(), length);
-    refuses_at_each_limit(rt, alloc, known, text.as_str());
+    refuses_at_each_limit(rt, alloc, known, text.as_str(), refusal);
     Ok(())
 }
 
@@ -174,18 +190,24 @@ const IDENTITY: &str = r#"{
 }"#;
 
 /// Modules, and how many bytes the text of each has.
-const MODULES: &[(&str, usize)] = &[
-    (IDENTITY, 39),
-    (whole_module::MODULE, whole_module::LENGTH),
-];
+const MODULES: &[(&str, usize)] = &[(IDENTITY, 39), (whole_module::MODULE, whole_module::LENGTH)];
 
-#[test]
-fn refusals_of_sinks_are_told(rt: HostRuntime) -> Result<(), Fail> {
-    for (module, length) in MODULES {
-        let mut known = read_known(rt.alloc(), *module)?;
-        let written = is_written(&rt, rt.alloc(), &mut known, *length);
+fn check_modules(rt: &impl Abort, alloc: Global, refusal: Refusal) -> Result<(), Fail> {
+    for (text, length) in MODULES {
+        let mut known = read_known(alloc, *text)?;
+        let checked = check_limits(rt, alloc, &mut known, *length, refusal);
         drop(known);
-        written?;
+        checked?;
     }
     Ok(())
+}
+
+#[test]
+fn failures_of_sinks_are_told(rt: HostRuntime) -> Result<(), Fail> {
+    check_modules(&rt, rt.alloc(), Refusal::Failure)
+}
+
+#[test]
+fn want_of_memory_in_sinks_is_told(rt: HostRuntime) -> Result<(), Fail> {
+    check_modules(&rt, rt.alloc(), Refusal::NoMemory)
 }

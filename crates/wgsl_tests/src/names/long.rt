@@ -18,45 +18,30 @@ struct Long {
     again: &'static str,
 }
 
-/// Letters, letters of other scripts, and labels without a letter. The base of a label in another
-/// script ends in a digit here, so that its first name has a `_` behind it.
-const LONG: &[Long] = &[
-    Long {
-        part: "a",
-        times: MEBIBYTE,
-        named: "a",
-        named_times: MEBIBYTE,
-        again: "_1",
-    },
-    Long {
-        part: "\u{e9}",
-        times: MEBIBYTE / 2,
-        named: "u00e9_",
-        named_times: MEBIBYTE / 2,
-        again: "1",
-    },
-    Long {
-        part: "\u{1f600}",
-        times: MEBIBYTE / 4,
-        named: "u1f600_",
-        named_times: MEBIBYTE / 4,
-        again: "1",
-    },
-    Long {
-        part: "_",
-        times: MEBIBYTE,
-        named: "unnamed",
-        named_times: 1,
-        again: "_1",
-    },
-    Long {
-        part: "7",
-        times: MEBIBYTE,
-        named: "unnamed",
-        named_times: 1,
-        again: "_1",
-    },
-];
+const LETTERS: Long = Long {
+    part: "a",
+    times: MEBIBYTE,
+    named: "a",
+    named_times: MEBIBYTE,
+    again: "_1",
+};
+
+/// The base ends in a digit, so that the first name has a `_` behind it.
+const FOREIGN: Long = Long {
+    part: "\u{1f600}",
+    times: MEBIBYTE / 4,
+    named: "u1f600_",
+    named_times: MEBIBYTE / 4,
+    again: "1",
+};
+
+const NO_LETTERS: Long = Long {
+    part: "_",
+    times: MEBIBYTE,
+    named: "unnamed",
+    named_times: 1,
+    again: "_1",
+};
 
 fn repeated(alloc: Global, part: &str, times: usize) -> Result<String, AllocError> {
     let mut text = String::new(alloc);
@@ -81,11 +66,7 @@ fn are_given(
 }
 
 /// Adds a function with this label, and one that returns a sum which a front end named so too.
-fn add_functions(
-    alloc: Global,
-    shader: &mut ModuleBuilder,
-    label: &str,
-) -> Result<(), AllocError> {
+fn add_functions(alloc: Global, shader: &mut ModuleBuilder, label: &str) -> Result<(), AllocError> {
     shader.add_function(FunctionBuilder::new(alloc, label)?)?;
     let i32_type = shader.scalar(Scalar::I32)?;
     let mut function = FunctionBuilder::new(alloc, "f")?;
@@ -151,9 +132,19 @@ fn check_long(rt: &impl Abort, alloc: Global, long: &Long) -> Result<(), Error> 
 }
 
 #[test]
-fn long_labels_have_names(rt: HostRuntime) -> Result<(), Fail> {
-    for long in LONG {
-        check_long(&rt, rt.alloc(), long)?;
-    }
+fn a_long_label_is_a_name(rt: HostRuntime) -> Result<(), Fail> {
+    check_long(&rt, rt.alloc(), &LETTERS)?;
+    Ok(())
+}
+
+#[test]
+fn a_long_label_in_another_script_has_a_name(rt: HostRuntime) -> Result<(), Fail> {
+    check_long(&rt, rt.alloc(), &FOREIGN)?;
+    Ok(())
+}
+
+#[test]
+fn a_long_label_without_letters_has_a_name(rt: HostRuntime) -> Result<(), Fail> {
+    check_long(&rt, rt.alloc(), &NO_LETTERS)?;
     Ok(())
 }
