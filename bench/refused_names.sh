@@ -8,6 +8,6 @@ mkdir cases
 for count in $(seq -w 0 999); do
     echo "$count" > "cases/$count"
 done
-rt try --fail-alloc 1000 --cases cases > printed 2> told || true
+rt try --steps 1 --fail-alloc 1000 --cases cases > printed 2> told || true
 grep -xE 'right|refused|wrong' printed | sort | uniq -c
 tail -n 1 told

@@ -37,7 +37,7 @@ told_of() {
 }
 
 try() {
-    rt try --fail-alloc "$last" --cases cases > printed 2> told || true
+    rt try --steps 1 --fail-alloc "$last" --cases cases > printed 2> told || true
 }
 
 # first in steps, then each one around those that were refused
