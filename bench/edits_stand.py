@@ -1,9 +1,10 @@
 #!/usr/bin/env python3
-"""Says which edits no longer stand: those of crates/*/must-fail, and those of bench/edits, by their crates' folders.
+"""Says which edits no longer stand: those of crates/*/must-fail, and those of bench/edits and bench/tested_edits, by
+their crates' folders.
 
 An edit names files of its crate, and behind each pairs of an old and a new text. Each old one must stand there exactly
 once, as the pairs in front of it left the file. Where all stand it says nothing, and its status is 0. It tries no edit:
-`rt must-fail` and `bench/more_edits.sh` do. Run it from anywhere.
+`rt must-fail`, `bench/more_edits.sh` and `bench/tested_edits.py` do. Run it from anywhere.
 """
 
 import sys
@@ -22,7 +23,8 @@ def main():
 def edits():
     """Each edit, with the name of its crate."""
     own = [(edit, edit.parent.parent.name) for edit in TOP.glob("crates/*/must-fail/*.edit")]
-    return sorted(own + [(edit, edit.parent.name) for edit in TOP.glob("bench/edits/*/*.edit")])
+    others = [*TOP.glob("bench/edits/*/*.edit"), *TOP.glob("bench/tested_edits/*/*.edit")]
+    return sorted(own + [(edit, edit.parent.name) for edit in others])
 
 
 def faults_of(edit, crate):

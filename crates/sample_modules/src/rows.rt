@@ -29,6 +29,9 @@ pub enum Row {
     Same,
     /// A function and an argument whose labels are no names: a keyword, and one with a digit first.
     Type_,
+    /// A function and an argument whose labels WGSL has no names for: one with a prefix of naga's own,
+    /// and one in another script.
+    Hostile,
     /// A function that returns what a local held before a store to it.
     Store,
     /// The same, but what the local held is not used.
@@ -113,6 +116,7 @@ impl Row {
             "negative" => Some(Row::Negative),
             "same" => Some(Row::Same),
             "type" => Some(Row::Type_),
+            "hostile" => Some(Row::Hostile),
             "store" => Some(Row::Store),
             "unused" => Some(Row::Unused),
             "late" => Some(Row::Late),
@@ -161,6 +165,7 @@ impl Row {
             Row::Negative => build_negative(alloc, shader),
             Row::Same => build_argument(alloc, shader, "f", &["x", "x"]),
             Row::Type_ => build_argument(alloc, shader, "type", &["1x"]),
+            Row::Hostile => build_argument(alloc, shader, "_naga", &["\u{e9}"]),
             Row::Store => build_store(alloc, shader, true),
             Row::Unused => build_store(alloc, shader, false),
             Row::Late => build_late(alloc, shader),

@@ -15,6 +15,8 @@ mod builders;
 #[cfg(test)]
 mod diagnostics;
 #[cfg(test)]
+mod entry_points;
+#[cfg(test)]
 mod initialisers;
 #[cfg(test)]
 mod ir;
@@ -26,6 +28,8 @@ mod labels;
 mod namer;
 #[cfg(test)]
 mod names;
+#[cfg(test)]
+mod nesting;
 #[cfg(test)]
 mod reading;
 #[cfg(test)]
@@ -42,3 +46,5 @@ mod traits;
 mod types;
 #[cfg(test)]
 mod wgsl;
+#[cfg(test)]
+mod whole_module;

@@ -12,6 +12,7 @@ use std::collections::HashMap;
 use std::process::Abort;
 use std::test::Fail;
 
+mod long;
 mod words;
 
 /// Whether the type is an image from outside the graphics interface.
@@ -133,8 +134,9 @@ type Label = Option<&'static str>;
 enum Case {
     /// Calls, which give these names.
     Calls(Calls),
-    /// A call with 100,000 times `_`.
-    LongLabel,
+    /// A `reset` by the empty module, and then calls with labels without a letter, of which the last is
+    /// 100,000 times `_`.
+    WithoutLetters,
     /// Calls with a label or none and the fallback `param`, which give these names.
     OrParam(&'static [(Label, &'static str)]),
     /// A `reset` by the empty module, and then calls.
@@ -144,7 +146,7 @@ enum Case {
 const CASES: &[Case] = &[
     Case::Calls(BY_THEIR_BASE),
     Case::Calls(MARKS_AND_FOREIGN),
-    Case::LongLabel,
+    Case::WithoutLetters,
     Case::OrParam(&[(None, "param"), (Some(""), "unnamed"), (None, "param_1")]),
     Case::Reset(&[
         ("fn", "fn_"),
@@ -166,7 +168,6 @@ const CASES: &[Case] = &[
     Case::Reset(&[("Self", "Self_"), ("self", "self_"), ("self", "self_1")]),
     Case::Reset(&[("x_1", "x_1_"), ("x", "x"), ("x", "x_1")]),
     Case::Reset(&[("<a,b>", "_a_b"), ("a_", "a"), ("a__b", "a_b")]),
-    Case::Reset(&[("::", "unnamed"), ("9_", "unnamed_1")]),
 ];
 
 /// Modules, and the names of what they declare in the order of [`keys_of`], with a space between.
@@ -397,7 +398,7 @@ fn check_reset(
     alloc: Global,
     module: &Module,
     want: &str,
-    calls: Calls,
+    calls: &[(&str, &str)],
 ) -> Result<(), NamerError> {
     let keys = keys_of(alloc, module)?;
     let mut names = HashMap::new(alloc);
@@ -445,13 +446,14 @@ fn gives_or_param(
 fn check(rt: &impl Abort, alloc: Global, case: &Case) -> Result<(), NamerError> {
     match case {
         Case::Calls(calls) => gives(rt, &mut Namer::default(alloc), *calls),
-        Case::LongLabel => {
+        Case::WithoutLetters => {
             let long = long_label(alloc)?;
-            gives(
-                rt,
-                &mut Namer::default(alloc),
-                &[(long.as_str(), "unnamed")],
-            )
+            let calls = [
+                ("::", "unnamed"),
+                ("9_", "unnamed_1"),
+                (long.as_str(), "unnamed_2"),
+            ];
+            check_reset(rt, alloc, &Module::new(alloc), "", &calls)
         }
         Case::OrParam(rows) => gives_or_param(rt, alloc, &mut Namer::default(alloc), *rows),
         Case::Reset(calls) => check_reset(rt, alloc, &Module::new(alloc), "", *calls),

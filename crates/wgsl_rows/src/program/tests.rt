@@ -53,6 +53,18 @@ const ROWS: &[(&[&str], &str, &str, u8)] = &[
         0,
     ),
     (
+        &["hostile"],
+        "fn gen__naga(u00e9_: i32) -> i32 {\n    return u00e9_;\n}\n\n",
+        "",
+        0,
+    ),
+    (
+        &["hostile", "explicit"],
+        "fn gen__naga(u00e9_: i32) -> i32 {\n    return u00e9_;\n}\n\n",
+        "",
+        0,
+    ),
+    (
         &["unused"],
         "fn g() -> i32 {\n    var a: i32 = 1i;\n\n    a = 2i;\n    return 2i;\n}\n\n",
         "",
