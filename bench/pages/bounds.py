@@ -84,7 +84,7 @@ def faults():
 
 
 def main():
-    found = list(faults())
+    found = dict.fromkeys(faults())
     for fault in found:
         print(fault)
     sys.exit(bool(found))
