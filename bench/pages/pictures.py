@@ -159,7 +159,7 @@ def square():
         picture.arrow((x + 85, rows[0] + 54), (x + 85, rows[1]))
         picture.text(x + 97, rows[0] + 92, word, anchor="start")
         picture.text(x + 97, rows[0] + 110, caption, size=11, anchor="start", colour=PALE)
-    for x, word in ((left, "each expression at its Emit"), (middle, "each expression at each use")):
+    for x, word in ((left, "what is emitted once"), (middle, "each expression at each use")):
         picture.arrow((x + 85, rows[1] + 54), (x + 85, rows[2]))
         picture.text(x + 97, rows[1] + 102, word, size=11, anchor="start", colour=PALE)
 
@@ -179,17 +179,13 @@ def crates():
     for number, (layer, colour, entries) in enumerate(LAYERS):
         y = top + number * (height + gap)
         picture.text(20, y + height / 2 + 5, layer, anchor="start", weight="bold")
-        room = (width - 20 - first - 10 * (len(entries) - 1)) / len(entries)
-        sizes = [room] * len(entries)
-        if len(entries) == 6:
-            # names of different lengths
-            letters = [max(len(name) * 14, len(caption) * 11) for name, caption in entries]
-            spare = room * 6 - ADVANCE * sum(letters)
-            sizes = [ADVANCE * each + spare / 6 for each in letters]
+        # each box has room for its words, and its share of what is left
+        needs = [ADVANCE * max(len(name) * 14, len(caption) * 11) for name, caption in entries]
+        spare = (width - 20 - first - 10 * (len(entries) - 1) - sum(needs)) / len(entries)
         x = first
-        for (name, caption), size in zip(entries, sizes):
-            picture.box(x, y, size, height, name, caption, colour)
-            x += size + 10
+        for (name, caption), need in zip(entries, needs):
+            picture.box(x, y, need + spare, height, name, caption, colour)
+            x += need + spare + 10
     return picture.svg()
 
 
