@@ -159,7 +159,7 @@ def square():
         picture.arrow((x + 85, rows[0] + 54), (x + 85, rows[1]))
         picture.text(x + 97, rows[0] + 92, word, anchor="start")
         picture.text(x + 97, rows[0] + 110, caption, size=11, anchor="start", colour=PALE)
-    for x, word in ((left, "what is emitted once"), (middle, "each expression at each use")):
+    for x, word in ((left, "evaluated once, at its Emit"), (middle, "evaluated anew at each use")):
         picture.arrow((x + 85, rows[1] + 54), (x + 85, rows[2]))
         picture.text(x + 97, rows[1] + 102, word, size=11, anchor="start", colour=PALE)
 
