@@ -134,7 +134,7 @@ def square():
         (left, 0, 170, "module", "naga_ir, naga_info", CODE),
         (middle, 0, 170, "syntax tree", "wgsl_text", LAWS),
         (right, 0, 160, "bytes", "a text of WGSL", CODE),
-        (left, 1, 170, "shapes", "shader_runs", LAWS),
+        (left, 1, 170, "program of shapes", "shader_runs", LAWS),
         (middle, 1, 170, "abstract text", "shader_runs", LAWS),
         (left, 2, 170, "run by handles", "shader_runs", LAWS),
         (middle, 2, 170, "run by names", "shader_runs", LAWS),
