@@ -76,7 +76,8 @@ def flags(form, names):
 
 
 def scalar(kind, width):
-    return "bool" if kind == "Bool" else f"{KINDS.get(kind, kind)}{8 * width}"
+    """The word of a scalar; one that has none, as a wide truth value, has a word that no text has."""
+    return "bool" if (kind, width) == ("Bool", 1) else f"{KINDS.get(kind, kind)}{8 * width}"
 
 
 def space_of(form):
