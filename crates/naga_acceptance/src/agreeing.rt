@@ -252,7 +252,11 @@ fn slot_behind(slot: usize, steps: usize, slots: usize) -> usize
     ensures within { result < slots }
 {
     let left = slots - slot;
-    if steps < left { slot + steps } else { steps - left }
+    if steps < left {
+        slot + steps
+    } else {
+        steps - left
+    }
 }
 
 /// What the slots of the table, which has so many, tell of a use with this hash.
@@ -325,9 +329,7 @@ fn use_agrees(
             true
         }
         Probe::Seen(alike) => alike,
-        Probe::Full => {
-            earlier_answer(module, info, number, group, index, &used).unwrap_or(true)
-        }
+        Probe::Full => { earlier_answer(module, info, number, group, index, &used).unwrap_or(true) }
     }
 }
 
