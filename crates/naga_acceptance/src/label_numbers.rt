@@ -1,6 +1,7 @@
 //! Whether labels of a switch, in any order, differ: their numbers are sorted a part at a time.
 
-ghost use Rattle.std.specs.Prelude.{◌≡◌, ◌<◌, ◌≤◌, ◌%◌, ◌++◌, length, take, nat_lt, MatchBool, false};
+ghost use Rattle.std.specs.Prelude.{◌≡◌, ◌<◌, ◌≤◌, ◌%◌, ◌++◌, length, take, nat_lt, MatchBool};
+ghost use Rattle.std.specs.Prelude.{false};
 ghost use Rattle.std.specs.List.Sorted.{IsNonDecreasing};
 ghost use Rattle.naga_ir.specs.StatementViews.{cases_of};
 ghost use Rattle.module_meaning.specs.StatementsFit.{labels_differ};
@@ -112,8 +113,8 @@ fn shares_by_marks(numbers: &[u64], cases: &[SwitchCase]) -> bool
     any_among(numbers, &marks, cases)
 }
 
-/// Whether the number of a label is one of these, which ascend. They are marked only where there are
-/// labels.
+/// Whether the number of a label is one of these, which ascend. They are marked only where there
+/// are labels.
 fn shares(numbers: &[u64], cases: &[SwitchCase]) -> bool
     requires { IsNonDecreasing numbers.now }
     ensures { result ≡ shares numbers.now (numbers_of (cases_of cases.now)) }

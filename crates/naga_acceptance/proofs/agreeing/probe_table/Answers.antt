@@ -1,4 +1,4 @@
-use Rattle.std.proofs.Common.{◌≡◌, ◌+◌, ◌%◌, suc, ap, sym, ◌∙◌, arith, Some, slice_index_or}
+use Rattle.std.proofs.Common.{◌≡◌, ◌+◌, ◌%◌, ap, sym, ◌∙◌, arith, Some, None, slice_index_or}
 use Rattle.std.specs.Option.{is_some}
 use Rattle.module_meaning.specs.AgreeingOperators.{groups_of}
 use Rattle.naga_acceptance.specs.Uses.{operation, site_after, site_answer, slot_after}
