@@ -1,7 +1,6 @@
 -- What is told of a constant that has no form.
 use Rattle.std.proofs.Common.{◌≡◌, ℕ, zero, suc, ◌<◌, ◌&&◌, ◌||◌, Bool, true, false, List, [], ◌∷◌, Option, Some, None}
 use Rattle.std.proofs.Common.{refl, sym, ap, ap₂, ◌∙◌, map, slice_get, subst, true≢false}
-use Rattle.std.proofs.lemmas.Bool.{or_parts}
 use Rattle.std.specs.Prelude.{IsSomeAnd, not}
 use Rattle.std.specs.List.{IsAmong, find, list_all}
 use Rattle.std.specs.Option.{is_none, is_some, option_map_or}
@@ -62,6 +61,10 @@ module _ (m : Module) (marks : List Bool) (are : MarksGlobals m marks) where
       )
 
 -- ---- what has no form
+neither : (a b : Bool) → (a || b) ≡ false → (a ≡ false) × (b ≡ false)
+neither true b is = absurd cc
+neither false b is = (refl, is)
+
 unnamed : {X : Type 0} (o : Option X) → is_some o ≡ false → is_none o ≡ true
 unnamed None is = refl
 unnamed (Some x) is = absurd cc
@@ -115,7 +118,7 @@ module _ (m : Module) (ordered : GlobalsStandInOrder m) (h : ℕ)
       (k.init < h) × (global_is_written m k.init ≡ false) × (is_none k.name ≡ true)
   constant_fails e c k at same there =
       let here = at ∙ ap Some same in
-      let both = or_parts (is_some k.name) (global_is_written m k.init)
+      let both = neither (is_some k.name) (global_is_written m k.init)
       (sym
       (ap (λ o. option_map_or (λ k. is_some k.name || global_is_written m k.init) o false)
       there)
@@ -162,6 +165,6 @@ constant_named m error c k there is =
 pub initialiser_fails : (m : Module) (c : ℕ) (k : Constant) → slice_get m.constants c ≡ Some k →
     constant_is_written m c ≡ false → global_is_written m k.init ≡ false
 initialiser_fails m c k there formless =
-    (or_parts (is_some k.name) (global_is_written m k.init)
+    (neither (is_some k.name) (global_is_written m k.init)
     (sym (ap (λ o. option_map_or (λ k. is_some k.name || global_is_written m k.init) o false) there)
     ∙ formless)).1

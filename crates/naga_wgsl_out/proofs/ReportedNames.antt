@@ -4,7 +4,6 @@ use Rattle.std.proofs.Common.{inr, nat_eq, refl, subst, sym}
 use Rattle.std.proofs.lemmas.Bool.{false≢true}
 use Rattle.std.specs.Prelude.{◌⊎◌, Err, IfErr, IsErrAnd, IsSomeAnd, Ok, Result, get_or, slice_get}
 use Rattle.std.specs.Prelude.{string_bytes}
-use Rattle.std.specs.declared.string.String.{String}
 use Rattle.module_meaning.specs.ExpressionOperators.{has_parts}
 use Rattle.module_meaning.specs.LackingScalars.{lacking_scalar}
 use Rattle.module_meaning.specs.ExpressionForms.{known_passes}
@@ -166,41 +165,48 @@ statement_other formless.FallThrough error named =
 statement_other formless.ImageCompareExchange error named =
     unimplemented_other (codes "image compare exchange") error named refl
 
+-- that an operand is out of scope begins otherwise
+scope_other : (error : Error) → TellsOfScope error → is_of_names error ≡ false
+scope_other (Custom message) told = ap begins told
+scope_other (Unimplemented message) told = absurd told
+scope_other _ told = refl
+
 -- What begins so tells of no function, but that a label of one gets no name.
-tells_of_labels : (m : Module) (message : String) → begins (string_bytes message) ≡ true →
-    TellsOfFunction m (Custom message) →
-    TellsOfFullNamer (Custom message) × (ItemsAreFull m → ⊥)
-tells_of_labels m message of_names of = by of.tells
+tells_of_labels : (m : Module) (error : Error) → is_of_names error ≡ true →
+    TellsOfFunction m error → TellsOfFullNamer error × (ItemsAreFull m → ⊥)
+tells_of_labels m error of_names of = by of.tells
   where
-    by : (TellsOfScope (Custom message) ⊎ (TellsOfForm (Custom message)
-        ⊎ (TellsOfFullNamer (Custom message) × (ItemsAreFull m → ⊥)))) →
-        TellsOfFullNamer (Custom message) × (ItemsAreFull m → ⊥)
-    by (inl scope) = absurd (false≢true (sym (ap begins scope) ∙ of_names))
-    by (inr (inl (tells, inl (other, known, es, e, named)))) =
-        absurd (false≢true
-        (sym (expression_other other known es e (Custom message) named) ∙ of_names))
-    by (inr (inl (tells, inr (inl (other, r, named))))) =
-        absurd (false≢true (sym (type_other other r (Custom message) named) ∙ of_names))
+    other : is_of_names error ≡ false → ⊥
+    other is = false≢true (sym is ∙ of_names)
+
+    by : (TellsOfScope error
+        ⊎ (TellsOfForm error ⊎ (TellsOfFullNamer error × (ItemsAreFull m → ⊥)))) →
+        TellsOfFullNamer error × (ItemsAreFull m → ⊥)
+    by (inl scope) = absurd (other (scope_other error scope))
+    by (inr (inl (tells, inl (n, known, es, e, named)))) =
+        absurd (other (expression_other n known es e error named))
+    by (inr (inl (tells, inr (inl (n, r, named))))) = absurd (other (type_other n r error named))
     by (inr (inl (tells, inr (inr (statement, named))))) =
-        absurd (false≢true (sym (statement_other statement (Custom message) named) ∙ of_names))
+        absurd (other (statement_other statement error named))
     by (inr (inr full)) = full
 
 -- nor that a key is out of range
-keys_tell_of_none : (m : Module) (message : String) →
-    string_bytes message ≡ codes "name key out of range" → TellsOfFunction m (Custom message) → ⊥
-keys_tell_of_none m message told of =
+keys_tell_of_none : (m : Module) (error : Error) → TellsOfKeys error → TellsOfFunction m error → ⊥
+keys_tell_of_none m (Custom message) told of =
     false≢true (ap (λ text. nat_eq (get_or text 4 0) 32)
-    (sym (tells_of_labels m message (ap begins told) of).0 ∙ told))
+    (sym (tells_of_labels m (Custom message) (ap begins told) of).0 ∙ told))
+keys_tell_of_none m _ told of = absurd told
 
 -- why the items get no names tells of no function
 tells_of_none : (m : Module) (error : Error) → IsNamesRefusal m error → TellsOfFunction m error → ⊥
 tells_of_none m (Custom message) (inl reported) of =
-    (tells_of_labels m message (ap begins reported.0) of).1 reported.1
-tells_of_none m (Custom message) (inr reported) of = keys_tell_of_none m message reported.0 of
+    (tells_of_labels m (Custom message) (ap begins reported.0) of).1 reported.1
+tells_of_none m (Custom message) (inr reported) of =
+    keys_tell_of_none m (Custom message) reported.0 of
 tells_of_none m (Memory e) refusal of = by of.tells
   where
-    by : (TellsOfScope (Memory e) ⊎ (TellsOfForm (Memory e)
-        ⊎ (TellsOfFullNamer (Memory e) × (ItemsAreFull m → ⊥)))) → ⊥
+    by : (TellsOfScope (Memory e)
+        ⊎ (TellsOfForm (Memory e) ⊎ (TellsOfFullNamer (Memory e) × (ItemsAreFull m → ⊥)))) → ⊥
     by (inl scope) = scope
     by (inr (inl form)) = form.0
     by (inr (inr full)) = full.0
@@ -208,7 +214,7 @@ tells_of_none m _ refusal of = absurd refusal
 
 -- a key that is out of range is told before any text
 keys_come_first : (m : Module) (error : Error) → TellsOfKeys error → ComesBeforeText m error
-keys_come_first m (Custom message) told = (tt, keys_tell_of_none m message told)
+keys_come_first m (Custom message) told = (tt, keys_tell_of_none m (Custom message) told)
 keys_come_first m _ told = absurd told
 
 pub keys_untouched : (m : Module) (r : Result Unit Error) (P : Type 0) →
