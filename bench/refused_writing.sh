@@ -52,7 +52,7 @@ while read -r number words; do
     told_of | awk '$2 == "refused" { print $1 + 0 }' | sort -n | sed -n '1p;$p' | tr '\n' ' ' > ends
     read -r from to < ends || true
     [ -n "$from" ] || { echo "$words: none refused"; continue; }
-    seq $((from > 20 ? from - 20 : 0)) $((to + 20)) | add
+    seq $((from > 10 ? from - 10 : 0)) $((to + 10)) | add
 done < "$asked"
 try
 while read -r number words; do

@@ -31,7 +31,7 @@ def is_refused(edit):
             shutil.copy(TOP / name, copy / name)
         make(edit, copy / "crates" / edit.parent.name)
         run = subprocess.run(
-            ["rt", "try", "--test"], cwd=copy / "crates" / "wgsl_tests", text=True,
+            ["rt", "try", "--test", "--seconds", "600"], cwd=copy / "crates" / "wgsl_tests", text=True,
             stdin=subprocess.DEVNULL, stdout=subprocess.PIPE, stderr=subprocess.STDOUT)
     failed = re.findall(r"^test (\S+) .*FAILED", run.stdout, re.MULTILINE)
     print(f"{edit.stem}: {'refused by ' + ', '.join(failed) if failed else 'NOT REFUSED'}", flush=True)
