@@ -174,7 +174,7 @@ def item(module, world, kind, number):
 
 
 def literal(kind, what):
-    if kind.startswith("Abstract"):
+    if kind == "AbstractInt":
         return "abstract", what
     return kind.lower(), what if isinstance(what, int) else made(kind.lower(), repr(what))[1]
 
