@@ -149,7 +149,10 @@ def formless_literal(scalar):
 
 
 def formless_constant(module, number):
-    """A constant without a name brings its initialiser; one with a name is looked at by itself."""
+    """A constant without a name brings its initialiser; one with a name is looked at by itself, and one that is not there
+    has nothing."""
+    if number >= len(module.constants):
+        return set()
     constant = module.constants[number]
     return formless_own(module, constant.init) if constant.label is None else set()
 

@@ -189,11 +189,14 @@ def has_parts(ty):
 
 def part_of(ty, index=None):
     """The type of the part at a computed index, or a known one, or of a pointer to it; none where there is none."""
-    part = value_part(whole_of(ty), index)
-    # it has no spelling in the space of images and samplers, and is no pointer there
-    if part and ty[0] == "value pointer":
-        return ("value pointer", 0, part[1], space_of(ty))
-    return part and (pointer_to(part, space_of(ty)) if points(ty) else part)
+    whole = whole_of(ty)
+    part = value_part(whole, index)
+    if not part or not points(ty):
+        return part
+    # of a vector or a matrix it is a pointer by value, which matters where it has no spelling
+    if whole[0] in ("vector", "matrix"):
+        return ("value pointer", part[1] if part[0] == "vector" else 0, part[-1], space_of(ty))
+    return pointer_to(part, space_of(ty))
 
 
 def space_of(pointer):

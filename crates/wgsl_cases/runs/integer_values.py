@@ -219,6 +219,9 @@ def chosen(reject, accept, condition):
 
 def computed(word, operands):
     """What WGSL computes with whole numbers and truth values, or none."""
+    if word in ("&&", "||") and operands[0] == ("bool", word == "||"):
+        # the left side decides, whatever the right one is
+        return operands[0]
     if word[0] == "construct":
         return constructed(word[1], operands)
     if word[0] == "bitcast":
