@@ -16,7 +16,7 @@ for library in $libraries; do
     cp -a "crates/$library" "$copy/crates/"
     grep "^$library:" crates.txt >> "$copy/crates.txt"
 done
-echo "$name: bitflags naga_json naga_wgsl_out sample_modules" >> "$copy/crates.txt"
+echo "$name: anyhow bitflags naga_json naga_wgsl_out sample_modules" >> "$copy/crates.txt"
 mkdir -p "$copy/crates/$name/src" "$copy/crates/$name/specs" "$copy/crates/$name/proofs"
 for file in "$@"; do
     cp "$top/$file" "$copy/crates/$name/src/$(basename "$file" .txt)"
