@@ -9,23 +9,21 @@ use Rattle.naga_ir.specs.Operands.{simple_result}
 use Rattle.naga_ir.specs.StatementTree.{SimpleStatement, atomic, work_group_uniform_load, call, subgroup_ballot, subgroup_gather}
 use Rattle.naga_ir.specs.StatementTree.{subgroup_collective_operation, StatementTree, simple, block, branch, switch, loop}
 use Rattle.naga_ir.specs.StatementTree.{BlockTree, no_statements, statement, CaseTrees, no_cases, case}
+use Rattle.shader_runs.proofs.Update.{and_right}
 use Rattle.naga_scope.specs.Results.{CaseResultsFit, ResultsFit, StatementResultsFit}
-
-second : (a b : Bool) → IsTrue (a && b) → IsTrue b
-second a b both = (and_parts a b both).1
 
 module _ (callees count : ℕ) where
   simple_fits : (st : SimpleStatement) → IsTrue (simple_in_range callees count st) → IsTrue (is_below count (simple_result st))
   simple_fits (atomic p f v r) within =
-      second (nat_lt v count) (is_below count r)
-      (second (atomic_in_range count f) (nat_lt v count && is_below count r)
-      (second (nat_lt p count) (atomic_in_range count f && (nat_lt v count && is_below count r)) within))
-  simple_fits (work_group_uniform_load p r) within = second (nat_lt p count) (nat_lt r count) within
-  simple_fits (call f xs r) within = second (all_below count xs) (is_below count r) (second (nat_lt f callees) (all_below count xs && is_below count r) within)
+      and_right (nat_lt v count) (is_below count r)
+      (and_right (atomic_in_range count f) (nat_lt v count && is_below count r)
+      (and_right (nat_lt p count) (atomic_in_range count f && (nat_lt v count && is_below count r)) within))
+  simple_fits (work_group_uniform_load p r) within = and_right (nat_lt p count) (nat_lt r count) within
+  simple_fits (call f xs r) within = and_right (all_below count xs) (is_below count r) (and_right (nat_lt f callees) (all_below count xs && is_below count r) within)
   simple_fits (subgroup_ballot r p) within = (and_parts (nat_lt r count) (is_below count p) within).0
   simple_fits (subgroup_gather mode x r) within =
-      second (nat_lt x count) (nat_lt r count) (second (gather_in_range count mode) (nat_lt x count && nat_lt r count) within)
-  simple_fits (subgroup_collective_operation op collective x r) within = second (nat_lt x count) (nat_lt r count) within
+      and_right (nat_lt x count) (nat_lt r count) (and_right (gather_in_range count mode) (nat_lt x count && nat_lt r count) within)
+  simple_fits (subgroup_collective_operation op collective x r) within = and_right (nat_lt x count) (nat_lt r count) within
   simple_fits _ within = refl
 
   mutual
@@ -35,9 +33,9 @@ module _ (callees count : ℕ) where
     statement_fits (branch c x y) within =
         let in_x = block_in_range callees count x in
         let in_y = block_in_range callees count y in
-        let blocks = and_parts in_x in_y (second (nat_lt c count) (in_x && in_y) within) in
+        let blocks = and_parts in_x in_y (and_right (nat_lt c count) (in_x && in_y) within) in
         (results_fit x blocks.0, results_fit y blocks.1)
-    statement_fits (switch c cases) within = case_results_fit cases (second (nat_lt c count) (cases_in_range callees count cases) within)
+    statement_fits (switch c cases) within = case_results_fit cases (and_right (nat_lt c count) (cases_in_range callees count cases) within)
     statement_fits (loop x y e) within =
         let in_x = block_in_range callees count x in
         let in_y = block_in_range callees count y in
@@ -55,7 +53,7 @@ module _ (callees count : ℕ) where
     case_results_fit (case v b falls cs) within =
         let in_b = block_in_range callees count b in
         let in_cs = cases_in_range callees count cs in
-        let parts = and_parts in_b in_cs (second (label_fits_32_bits v) (in_b && in_cs) within) in
+        let parts = and_parts in_b in_cs (and_right (label_fits_32_bits v) (in_b && in_cs) within) in
         (results_fit b parts.0, case_results_fit cs parts.1)
 
 -- so do those of a list's parts

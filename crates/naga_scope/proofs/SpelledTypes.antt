@@ -5,7 +5,7 @@ use Rattle.std.specs.Prelude.{IsFalse, IsSomeAnd, IsTrue, ◌⊎◌, cond, if◌
 use mathlib.Core.Logic.{inl, inr}
 use Rattle.std.specs.List.{IsAmong, enumerate_from, filter, find}
 use Rattle.std.specs.Option.{option_map, option_map_or, option_or, option_to_list}
-use Rattle.std.proofs.lemmas.Bool.{and_parts}
+use Rattle.std.proofs.lemmas.Bool.{and_parts, not-false, not-true}
 use Rattle.std.proofs.lemmas.List.Folds.{find-append}
 use Rattle.module_meaning.proofs.Fitting.{drop_first}
 use Rattle.module_meaning.specs.AlikeTypes.{is_spelled}
@@ -102,14 +102,6 @@ module _ {X Y : Type 0} (g : X → Y) where
   at_map (x ∷ xs) zero y at = let same : g x ≡ y = cc in (x, refl, same)
   at_map (x ∷ xs) (suc i) y at = at_map xs i y at
 
-turned_false : (b : Bool) → not b ≡ false → b ≡ true
-turned_false true is = refl
-turned_false false is = absurd cc
-
-turned_true : (b : Bool) → not b ≡ true → b ≡ false
-turned_true true is = absurd cc
-turned_true false is = refl
-
 -- ---- lists in parts
 module _ {X : Type 0} (p : X → Bool) where
   -- a search through two lists, by whether the first has one
@@ -187,7 +179,7 @@ module _ (explicit : Bool) (m : Module) (info : ModuleInfo) (f : Function) (es :
       let_formed true tells none h k among at declared =
           let place = there_among (block_lets bound f.body) h among in
           let fails = none_passes annotated (block_lets bound f.body) none place.0 h place.1 in
-          let formed = turned_false (is_spelled m.types k.ty)
+          let formed = not-false (is_spelled m.types k.ty)
           (sym (ap (λ o. option_map_or (λ k. is_annotated_formless m k.ty) o false) at
           ∙ ap (λ b. not b && not (is_spelled m.types k.ty)) declared)
           ∙ fails) in
@@ -195,11 +187,11 @@ module _ (explicit : Bool) (m : Module) (info : ModuleInfo) (f : Function) (es :
 
       spelled : (r : TypeResolution) → IsSpelledIn explicit m info f es r → IsTrue (is_spellable m r)
       spelled _ (OfArgument n a at) =
-          turned_false (is_spellable m (Handle a.ty)) (none_passes p (argument_types f) one.0 n a.ty (map_at (λ a. a.ty) f.arguments.items n a at))
+          not-false (is_spellable m (Handle a.ty)) (none_passes p (argument_types f) one.0 n a.ty (map_at (λ a. a.ty) f.arguments.items n a at))
       spelled _ (OfResult r is) =
-          turned_false (is_spellable m (Handle r.ty)) (none_passes p (answer_types f) two.0 0 r.ty (at_answer f.result r is))
+          not-false (is_spellable m (Handle r.ty)) (none_passes p (answer_types f) two.0 0 r.ty (at_answer f.result r is))
       spelled _ (OfLocal l v at) =
-          turned_false (is_spellable m (Handle v.ty)) (none_passes p (local_types f) two.1 l v.ty (map_at (λ l. l.ty) f.local_variables l v at))
+          not-false (is_spellable m (Handle v.ty)) (none_passes p (local_types f) two.1 l v.ty (map_at (λ l. l.ty) f.local_variables l v at))
       spelled _ (OfLet h k tells among at declared) =
           let_formed explicit tells none_annotated h k among at declared
 
@@ -219,12 +211,12 @@ module _ (explicit : Bool) (m : Module) (info : ModuleInfo) (f : Function) (es :
           IsSpelledIn explicit m info f es (Handle ty) × IsFalse (is_spellable m (Handle ty))
       inside (inl is) =
           let found = found_passes p (answer_types f) ty is in
-          (of_answer f.result refl found.0 found.1, turned_true (is_spellable m (Handle ty)) found.2)
+          (of_answer f.result refl found.0 found.1, not-true (is_spellable m (Handle ty)) found.2)
       inside (inr is) =
           let found = found_passes p (local_types f) ty is in
           let here = at_map (λ l. l.ty) f.local_variables found.0 ty found.1 in (
             subst (λ ty. IsSpelledIn explicit m info f es (Handle ty)) here.2 (OfLocal found.0 here.0 here.1),
-            turned_true (is_spellable m (Handle ty)) found.2,
+            not-true (is_spellable m (Handle ty)) found.2,
           )
 
       by : (find p (argument_types f) ≡ Some ty) ⊎ (option_or (find p (answer_types f)) (find p (local_types f)) ≡ Some ty) →
@@ -233,7 +225,7 @@ module _ (explicit : Bool) (m : Module) (info : ModuleInfo) (f : Function) (es :
           let found = found_passes p (argument_types f) ty is in
           let here = at_map (λ a. a.ty) f.arguments.items found.0 ty found.1 in (
             subst (λ ty. IsSpelledIn explicit m info f es (Handle ty)) here.2 (OfArgument found.0 here.0 here.1),
-            turned_true (is_spellable m (Handle ty)) found.2,
+            not-true (is_spellable m (Handle ty)) found.2,
           )
       by (inr is) = inside (either_one _ _ ty is)
 
@@ -247,8 +239,8 @@ module _ (explicit : Bool) (m : Module) (info : ModuleInfo) (f : Function) (es :
       known None at tells among lacks = absurd cc
       known (Some k) at tells among lacks =
           let parts = and_parts (not (names_undeclared m k.ty)) (not (is_spelled m.types k.ty)) lacks in (
-            OfLet h k tells among at (turned_true (names_undeclared m k.ty) parts.0),
-            ap (λ b. b && not (names_undeclared m k.ty)) (turned_true (is_spelled m.types k.ty) parts.1),
+            OfLet h k tells among at (not-true (names_undeclared m k.ty) parts.0),
+            ap (λ b. b && not (names_undeclared m k.ty)) (not-true (is_spelled m.types k.ty) parts.1),
           )
 
       by : (b : Bool) → explicit ≡ b → (if b then find annotated (block_lets bound f.body) else None) ≡ Some h →

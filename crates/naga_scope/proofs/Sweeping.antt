@@ -5,6 +5,7 @@ use Rattle.std.proofs.Common.{nat_eq, nat_lt, Some, slice_get, eqb-true, ap₂}
 use Rattle.std.specs.Prelude.{IsTrue}
 use Rattle.std.specs.List.{IsAmong}
 use Rattle.std.proofs.lemmas.Bool.{and_parts, cases_order, eqb-false, false≢true, lt-ltb}
+use Rattle.std.proofs.lemmas.Bool.{or_cases, or_left, or_right}
 use Rattle.std.proofs.lemmas.Option.{same_Some, slice_get_within}
 use Rattle.module_meaning.specs.Written.{IsWritten, OperandOf, Root}
 use Rattle.naga_ir.specs.Operands.{expression_operands}
@@ -12,22 +13,10 @@ use Rattle.naga_ir.specs.declared.expression.Expression.{Expression}
 use Rattle.naga_scope.specs.Marks.{MarksJust, is_marked, is_one_of, marked_with}
 use Rattle.shader_runs.specs.Premises.{AllBelow}
 
-either : (a b : Bool) → (a || b) ≡ true → (a ≡ true) ⊎ (b ≡ true)
-either true b is = inl refl
-either false b is = inr is
-
-or_one : (a b : Bool) → a ≡ true → (a || b) ≡ true
-or_one true b is = refl
-or_one false b is = absurd cc
-
-or_other : (a b : Bool) → b ≡ true → (a || b) ≡ true
-or_other true b is = refl
-or_other false b is = is
-
 -- ---- one of a list
 one_among : (hs : List ℕ) (x : ℕ) → is_one_of hs x ≡ true → IsAmong hs x
 one_among [] x is = absurd cc
-one_among (h ∷ hs) x is = by (either (nat_eq x h) (is_one_of hs x) is) (one_among hs x)
+one_among (h ∷ hs) x is = by (or_cases (nat_eq x h) (is_one_of hs x) is) (one_among hs x)
   where
     by : (nat_eq x h ≡ true) ⊎ (is_one_of hs x ≡ true) → (is_one_of hs x ≡ true → IsAmong hs x) →
         IsAmong (h ∷ hs) x
@@ -36,7 +25,7 @@ one_among (h ∷ hs) x is = by (either (nat_eq x h) (is_one_of hs x) is) (one_am
 
 among_one : (hs : List ℕ) (x : ℕ) → IsAmong hs x → is_one_of hs x ≡ true
 among_one [] x a = absurd (omega (arith, a.1.0))
-among_one (h ∷ hs) x (zero, a) = or_one (nat_eq x h) (is_one_of hs x) (same x h a.1)
+among_one (h ∷ hs) x (zero, a) = or_left (nat_eq x h) (is_one_of hs x) (same x h a.1)
   where
     same : (x h : ℕ) → x ≡ h → nat_eq x h ≡ true
     same x h e = by (nat_eq x h) refl
@@ -45,12 +34,12 @@ among_one (h ∷ hs) x (zero, a) = or_one (nat_eq x h) (is_one_of hs x) (same x 
         by true is = is
         by false is = absurd (eqb-false x h is e)
 among_one (h ∷ hs) x (suc i, a) =
-    or_other (nat_eq x h) (is_one_of hs x) (among_one hs x (i, (omega (arith, a.0), a.1)))
+    or_right (nat_eq x h) (is_one_of hs x) (among_one hs x (i, (omega (arith, a.0), a.1)))
 
 below_one : (h : ℕ) (hs : List ℕ) (x : ℕ) → AllBelow h hs → is_one_of hs x ≡ true → x < h
 below_one h [] x below is = absurd cc
 below_one h (y ∷ hs) x below is =
-    by (either (nat_eq x y) (is_one_of hs x) is) (below_one h hs x below.1)
+    by (or_cases (nat_eq x y) (is_one_of hs x) is) (below_one h hs x below.1)
   where
     by : (nat_eq x y ≡ true) ⊎ (is_one_of hs x ≡ true) → (is_one_of hs x ≡ true → x < h) → x < h
     by (inl same) more = subst (λ z. z < h) (sym (eqb-true x y same)) below.0
@@ -133,7 +122,7 @@ module _ (expression_has_form : Expression → Bool) (es : List Expression) (roo
       ((j : ℕ) → is_marked new j ≡ marked_with old (expression_operands e) j) → Swept old (suc h) →
       Swept new h
   next old new h e size at below marked formed marks swept = record {
-    sound = λ j is. sound j (either (is_marked old j) _ (sym (marks j) ∙ is));
+    sound = λ j is. sound j (or_cases (is_marked old j) _ (sym (marks j) ∙ is));
     kept = λ j is. stays j (swept.kept j is);
     formed = λ j d le is there. form j d is there (from_there h j le);
     closed = λ j d y le is there one lt. close j d y is there one lt (from_there h j le);
@@ -143,7 +132,7 @@ module _ (expression_has_form : Expression → Bool) (es : List Expression) (roo
       ops = expression_operands e
 
       stays : (j : ℕ) → is_marked old j ≡ true → is_marked new j ≡ true
-      stays j is = marks j ∙ or_one (is_marked old j) _ is
+      stays j is = marks j ∙ or_left (is_marked old j) _ is
 
       sound : (j : ℕ) →
           (is_marked old j ≡ true) ⊎ ((is_one_of (expression_operands e) j && nat_lt j (length old)) ≡ true) →
@@ -156,7 +145,7 @@ module _ (expression_has_form : Expression → Bool) (es : List Expression) (roo
 
       -- from this one on nothing is marked anew
       was : (j : ℕ) → h ≤ j → is_marked new j ≡ true → is_marked old j ≡ true
-      was j le is = by (either (is_marked old j) _ (sym (marks j) ∙ is))
+      was j le is = by (or_cases (is_marked old j) _ (sym (marks j) ∙ is))
         where
           by : (is_marked old j ≡ true) ⊎ ((is_one_of (expression_operands e) j && nat_lt j (length old)) ≡ true) →
               is_marked old j ≡ true
@@ -179,7 +168,7 @@ module _ (expression_has_form : Expression → Bool) (es : List Expression) (roo
       close j d y is there one lt (inl same) =
           let d_is = same_Some d e (sym there ∙ (ap (slice_get es) same ∙ at)) in
           marks y
-          ∙ or_other (is_marked old y) _
+          ∙ or_right (is_marked old y) _
           (ap₂ (λ a b. a && b) (ap (λ x. is_one_of (expression_operands x) y) (sym d_is) ∙ one)
           (lt-ltb y (length old) (subst (λ n. y < n) (sym size) lt)))
       close j d y is there one lt (inr after) =

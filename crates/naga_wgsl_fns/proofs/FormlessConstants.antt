@@ -4,6 +4,7 @@ use Rattle.std.proofs.Common.{refl, sym, ap, ap₂, ◌∙◌, map, slice_get, s
 use Rattle.std.specs.Prelude.{IsSomeAnd, not}
 use Rattle.std.specs.List.{IsAmong, find, list_all}
 use Rattle.std.specs.Option.{is_none, is_some, option_map_or}
+use Rattle.std.proofs.lemmas.Bool.{not-false, not-true, or_parts}
 use Rattle.module_meaning.proofs.Stepwise.{by_those_before}
 use Rattle.module_meaning.specs.Undeclared.{is_spellable}
 use Rattle.module_meaning.specs.ExpressionForms.{constant_is_written, global_is_written, global_is_written_over}
@@ -30,21 +31,13 @@ module _ (m : Module) (marks : List Bool) (are : MarksGlobals m marks) where
   abbrev unwritten : ℕ → Bool
   unwritten h = not (is_marked marks h)
 
-  negated : (b : Bool) → not b ≡ false → b ≡ true
-  negated true is = refl
-  negated false is = absurd cc
-
-  affirmed : (b : Bool) → not b ≡ true → b ≡ false
-  affirmed true is = absurd cc
-  affirmed false is = refl
-
   -- where none is found that is not written, all are
   all_written : (xs : List ℕ) →
       ((i x : ℕ) → slice_get xs i ≡ Some x → unwritten x ≡ false) →
       list_all (global_is_written m) xs ≡ true
   all_written [] each = refl
   all_written (x ∷ xs) each =
-      ap₂ (λ a b. a && b) (sym (are x) ∙ negated (is_marked marks x) (each 0 x refl))
+      ap₂ (λ a b. a && b) (sym (are x) ∙ not-false (is_marked marks x) (each 0 x refl))
       (all_written xs (λ i y at. each (suc i) y at))
 
   pub none_unwritten : (xs : List ℕ) → None ≡ find unwritten xs →
@@ -57,14 +50,10 @@ module _ (m : Module) (marks : List Bool) (are : MarksGlobals m marks) where
   one_unwritten xs x is =
       let found = found_passes unwritten xs x (sym is) in (
         among_there xs found.0 x found.1,
-        sym (are x) ∙ affirmed (is_marked marks x) found.2,
+        sym (are x) ∙ not-true (is_marked marks x) found.2,
       )
 
 -- ---- what has no form
-neither : (a b : Bool) → (a || b) ≡ false → (a ≡ false) × (b ≡ false)
-neither true b is = absurd cc
-neither false b is = (refl, is)
-
 unnamed : {X : Type 0} (o : Option X) → is_some o ≡ false → is_none o ≡ true
 unnamed None is = refl
 unnamed (Some x) is = absurd cc
@@ -118,7 +107,7 @@ module _ (m : Module) (ordered : GlobalsStandInOrder m) (h : ℕ)
       (k.init < h) × (global_is_written m k.init ≡ false) × (is_none k.name ≡ true)
   constant_fails e c k at same there =
       let here = at ∙ ap Some same in
-      let both = neither (is_some k.name) (global_is_written m k.init)
+      let both = or_parts (is_some k.name) (global_is_written m k.init)
       (sym
       (ap (λ o. option_map_or (λ k. is_some k.name || global_is_written m k.init) o false)
       there)
@@ -165,6 +154,6 @@ constant_named m error c k there is =
 pub initialiser_fails : (m : Module) (c : ℕ) (k : Constant) → slice_get m.constants c ≡ Some k →
     constant_is_written m c ≡ false → global_is_written m k.init ≡ false
 initialiser_fails m c k there formless =
-    (neither (is_some k.name) (global_is_written m k.init)
+    (or_parts (is_some k.name) (global_is_written m k.init)
     (sym (ap (λ o. option_map_or (λ k. is_some k.name || global_is_written m k.init) o false) there)
     ∙ formless)).1

@@ -7,7 +7,8 @@ use Rattle.std.proofs.Common.{◌≡◌, ℕ, Bool, true, false, List, [], ◌�
 use Rattle.std.proofs.Common.{length, subst, refl, sym, ◌+◌, ◌<◌, drop, slice_index_or}
 use Rattle.naga_ir.specs.StatementViews.{block_of, tree_of}
 use Rattle.naga_ir.specs.declared.statement.Statement.{Statement}
-use Rattle.naga_wgsl_fns.proofs.StatementRows.{block_step}
+use Rattle.naga_scope.proofs.Listed.{first_of}
+use Rattle.shader_runs.proofs.Update.{and_both}
 use Rattle.std.specs.Prelude.{◌&&◌, ◌||◌, nat_lt, not}
 use Rattle.std.specs.Option.{option_to_list}
 use Rattle.std.proofs.lemmas.Bool.{and_parts}
@@ -48,12 +49,12 @@ rest_inside f st b w =
 pub first_at : (f : FunctionText) (items : List Statement) (n : ℕ) (item : Statement) → n < length items → item ≡ slice_index_or items n item →
     CanWriteBlock f (block_of (drop n items)) → CanWriteStatement f (tree_of item)
 first_at f items n item lt here w =
-    first_inside f (tree_of item) (block_of (drop (n + 1) items)) (subst (CanWriteBlock f) (block_step items n item lt here) w)
+    first_inside f (tree_of item) (block_of (drop (n + 1) items)) (subst (CanWriteBlock f) (first_of items n item lt here) w)
 
 pub rest_at : (f : FunctionText) (items : List Statement) (n : ℕ) (item : Statement) → n < length items → item ≡ slice_index_or items n item →
     CanWriteBlock f (block_of (drop n items)) → CanWriteBlock f (block_of (drop (n + 1) items))
 rest_at f items n item lt here w =
-    rest_inside f (tree_of item) (block_of (drop (n + 1) items)) (subst (CanWriteBlock f) (block_step items n item lt here) w)
+    rest_inside f (tree_of item) (block_of (drop (n + 1) items)) (subst (CanWriteBlock f) (first_of items n item lt here) w)
 
 pub block_inside : (f : FunctionText) (b : BlockTree) → CanWriteStatement f (block b) → CanWriteBlock f b
 block_inside f b w = record { in_range = w.in_range; formed = w.formed; roots = w.roots; lets = w.lets }
@@ -166,10 +167,6 @@ pub stored_operands : (f : FunctionText) (p v : ℕ) → CanWriteStatement f (si
 stored_operands f p v w = w.roots
 
 -- ---- a loop's body in two parts
-both_true : (a b : Bool) → IsTrue a → IsTrue b → IsTrue (a && b)
-both_true true b one other = other
-both_true false b one other = absurd cc
-
 both_all : (P : ℕ → Type 0) (xs ys : List ℕ) → AllByRecursion P xs → AllByRecursion P ys → AllByRecursion P (xs ++ ys)
 both_all P [] ys one other = other
 both_all P (x ∷ xs) ys one other = (one.0, both_all P xs ys one.1 other)
@@ -179,8 +176,8 @@ nothing_inside f = record { in_range = refl; formed = refl; roots = tt; lets = t
 
 together : (f : FunctionText) (st : StatementTree) (b : BlockTree) → CanWriteStatement f st → CanWriteBlock f b → CanWriteBlock f (statement st b)
 together f st b one other = record {
-  in_range = both_true (statement_in_range (callees f) (count f) st) (block_in_range (callees f) (count f) b) one.in_range other.in_range;
-  formed = both_true (statement_has_form st) (block_has_forms b) one.formed other.formed;
+  in_range = and_both (statement_in_range (callees f) (count f) st) (block_in_range (callees f) (count f) b) one.in_range other.in_range;
+  formed = and_both (statement_has_form st) (block_has_forms b) one.formed other.formed;
   roots = both_all (IsInText f) (statement_roots (bound f) st) (block_roots (bound f) b) one.roots other.roots;
   lets = both_all (IsLet f) (statement_lets (bound f) st) (block_lets (bound f) b) one.lets other.lets;
 }

@@ -26,6 +26,7 @@ use Rattle.naga_ir.specs.StatementViews.{tree_of, block_of}
 use Rattle.naga_ir.specs.declared.statement.Range.{Range}
 use Rattle.naga_ir.specs.declared.statement.Statement.{Statement}
 use Rattle.naga_back.specs.Indentation.{indentation}
+use Rattle.naga_scope.proofs.Listed.{first_of}
 use Rattle.module_meaning.specs.Ranges.{statement_in_range}
 use Rattle.module_meaning.specs.StatementShapes.{barrier_bits}
 use Rattle.shader_runs.specs.Program as shapes
@@ -375,17 +376,12 @@ module _ (f : FunctionText) where
 pub drop_first : {X : Type 0} (i : ℕ) (xs : List X) (x : X) → i < length xs → x ≡ slice_index_or xs i x → drop i xs ≡ x ∷ drop (i + 1) xs
 drop_first i xs x h is = rw (add-one, drop-cons xs i x) (ap (λ y. y ∷ drop (suc i) xs) (sym is))
 
--- a block from a statement of it on
-pub block_step : (ss : List Statement) (i : ℕ) (s : Statement) → i < length ss → s ≡ slice_index_or ss i s
-    → block_of (drop i ss) ≡ statement (tree_of s) (block_of (drop (i + 1) ss))
-block_step ss i s h here = ap (λ ts. block_of ts) (drop_first i ss s h here)
-
 -- one more, and none
 pub lines_more : (f : FunctionText) (k k1 : ℕ) (s s1 : Handles) (i : ℕ) (items : List Statement) (n : ℕ) (item : Statement) → n < length items → item ≡ slice_index_or items n item
     → k1 ≡ named_behind_statement f (tree_of item) k → s1 ≡ after_statement f k (tree_of item) s
     → block_text f k s i (block_of (drop n items)) ≡ joined_texts (statement_text f k s i (tree_of item)) (block_text f k1 s1 i (block_of (drop (n + 1) items)))
 lines_more f k k1 s s1 i items n item lt here given behind =
-    ap (block_text f k s i) (block_step items n item lt here) ∙ block_row f k k1 s s1 i (tree_of item) (block_of (drop (n + 1) items)) given behind
+    ap (block_text f k s i) (first_of items n item lt here) ∙ block_row f k k1 s s1 i (tree_of item) (block_of (drop (n + 1) items)) given behind
 
 pub lines_none : (f : FunctionText) (k : ℕ) (s : Handles) (i : ℕ) (items : List Statement) (n : ℕ) → length items ≤ n → block_text f k s i (block_of (drop n items)) ≡ []
 lines_none f k s i items n past = ap (λ (ss : List Statement). block_text f k s i (block_of ss)) (drop_all n items past) ∙ no_lines f k s i
@@ -395,6 +391,6 @@ pub emit_within : (callees expressions first last : ℕ) → IsTrue (statement_i
 emit_within callees expressions first last range =
     leb-true last expressions (and_parts (nat_le first last) (nat_le last expressions) range).1
 
-pub ruleset lines = (lines_more, lines_none, block_step)
+pub ruleset lines = (lines_more, lines_none, first_of)
 
 pub ruleset jumps = (break_row, continue_row, kill_row)

@@ -14,7 +14,8 @@ use Rattle.naga_wgsl_fns.proofs.ActRows.{control_row, memory_row}
 use Rattle.naga_wgsl_fns.proofs.LoopRows.{body_row, break_if_row, continuing_row}
 use Rattle.naga_wgsl_fns.proofs.StatementParts.{back_inside, case_inside, falling_is_empty, front_inside, others_inside, rest_at}
 use Rattle.naga_wgsl_fns.proofs.SwitchRows.{cases_more, cases_none, first_within, labels_between}
-use Rattle.naga_wgsl_fns.proofs.StatementRows.{block_step, lines_more}
+use Rattle.naga_scope.proofs.Listed.{first_of}
+use Rattle.naga_wgsl_fns.proofs.StatementRows.{lines_more}
 use Rattle.naga_wgsl_fns.proofs.functions.FunctionText.+statement.Goals as goal
 
 pub write_lines-loop-statement-preserved : goal.write_lines-loop-statement-preserved
@@ -26,7 +27,7 @@ write_lines-loop-statement-preserved g t c =
     let k = c.loop-statement.scope.named in
     let s = handles_in self c.loop-statement.scope.table in
     let rest = block_of (drop (n + 1) items) in
-    let next : block_of (drop n items) ≡ _ = block_step items n x c.loop-statement-test.true c.statement-item.is in
+    let next : block_of (drop n items) ≡ _ = first_of items n x c.loop-statement-test.true c.statement-item.is in
     record {
       leaves = leaves_more _ _ _ _ _ _ _ c.loop-statement.invariant.leaves
           (lines_more self k c.write_statement.new.scope.named s (handles_in self c.write_statement.new.scope.table) c.args.indent.now
