@@ -9,6 +9,7 @@ pub mod LabelNumbers
 pub mod Labels
 pub mod Mixing
 pub mod Pairing
+pub mod Parts
 pub mod Passing
 pub mod Recounted
 pub mod Remembering
