@@ -3,7 +3,7 @@
 -- Throughout, f gives uses for each number, n and m are bounds, v is a use, types are a module's
 -- types, gs its groups, of which g has this number, and index is a place in g.
 use Rattle.std.proofs.Common.{◌≡◌, ℕ, suc, ◌<◌, true, false, List, [], ◌∷◌, ◌++◌}
-use Rattle.std.proofs.Common.{ap, sym, ◌∙◌, Some, None, Option, append-nil, refl}
+use Rattle.std.proofs.Common.{ap, sym, ◌∙◌, Some, None, Option, refl}
 use Rattle.std.specs.Option.{is_some, option_to_list}
 use Rattle.naga_ir.specs.declared.types.Type_.{Type_}
 use Rattle.module_meaning.specs.AgreeingOperators.{Group}
@@ -41,16 +41,7 @@ found_further f n m v before here within =
 
 -- ---- one expression further
 
--- it is no use
-pub nothing_more : (types : List Type_) (gs : List Group) (number : ℕ) (g : Group) (index : ℕ) →
-    use_in types g index ≡ None →
-    earlier_uses types gs number g (suc index) ≡ earlier_uses types gs number g index
-nothing_more types gs number g index none =
-    one_more types gs number g index
-    ∙ ap (λ o. earlier_uses types gs number g index ++ option_to_list o) none
-    ∙ append-nil (earlier_uses types gs number g index)
-
--- it is one
+-- it is a use
 pub use_more : (types : List Type_) (gs : List Group) (number : ℕ) (g : Group) (index : ℕ)
     (v : Operation) → use_in types g index ≡ Some v →
     earlier_uses types gs number g (suc index) ≡ earlier_uses types gs number g index ++ v ∷ []

@@ -8,8 +8,8 @@ pub mod Identities
 pub mod LabelNumbers
 pub mod Labels
 pub mod Mixing
+pub mod OperatorParts
 pub mod Pairing
-pub mod Parts
 pub mod Passing
 pub mod Recounted
 pub mod Remembering

@@ -4,10 +4,10 @@
 //! over operands of some types, by open addressing: in the first empty slot from that of its hash
 //! on. A use that finds one of its operator there is compared with that one alone.
 //!
-//! Where the table has no room for all operators, they are halved by the remainders of their hashes,
-//! and the uses of each half are gone through by themselves: those of one operator have one hash.
-//! Operators of one remainder are not halved. A use that finds all slots filled with uses of such
-//! others is compared with the first use of its operator, which is looked for from the start.
+//! Where the table has no room for all operators, they are halved by the remainders of their
+//! hashes, and the uses of each half are gone through by themselves: those of one operator have one
+//! hash. Operators of one remainder are not halved. A use that finds all slots filled with uses of
+//! such others is compared with the first use of its operator, which is looked for from the start.
 
 ghost use Rattle.std.specs.Prelude.{◌≡◌, ◌+◌, ◌<◌, ◌≤◌, ◌^◌, suc, length, slice_get, true, Some};
 ghost use Rattle.std.specs.Prelude.{◌%◌, [], IfOk, OnErr};
@@ -322,9 +322,9 @@ fn has_hash(part: Part, hash: usize) -> bool
     part.first <= remainder && remainder <= part.last
 }
 
-/// Whether the expression `index` of a group, which has this number, agrees with all uses of the part
-/// that stand before it, if it is one. It is remembered then, as far as the table, which has so many
-/// slots, has room.
+/// Whether the expression `index` of a group, which has this number, agrees with all uses of the
+/// part that stand before it, if it is one. It is remembered then, as far as the table, which has so
+/// many slots, has room.
 fn use_agrees(
     module: &Module,
     info: &ModuleInfo,
@@ -407,15 +407,16 @@ fn first_disagreeing(
     ensures crowded { OnErr result (part.first < part.last) }
 {
     for index in 0..group.arena.len() {
-        if !use_agrees(module, info, table, slots, part, number, group, index)? {
+        let agrees = use_agrees(module, info, table, slots, part, number, group, index)?;
+        if !agrees {
             return Ok(Some(index));
         }
     }
     Ok(None)
 }
 
-/// The first use of the part that does not agree with all of the part that stand before it. The table
-/// stays out of the frames of its callers, which go as deep as parts are halved.
+/// The first use of the part that does not agree with all of the part that stand before it. The
+/// table stays out of the frames of its callers, which go as deep as parts are halved.
 #[inline(never)]
 fn part_disagreement(
     module: &Module,
@@ -525,7 +526,10 @@ pub(crate) fn operators_fault(module: &Module, info: &ModuleInfo) -> Option<Unac
     ensures fault { IfSome result (Fails «module».now info.now) }
 {
     let place = disagreement(module, info)?;
-    Some(at(use_item(module, place.group, place.index), Fault::Disagreement))
+    Some(at(
+        use_item(module, place.group, place.index),
+        Fault::Disagreement,
+    ))
 }
 
 /// Whether any two operators in the module that are spelled alike, over operands of types alike,

@@ -1,4 +1,4 @@
-use Rattle.std.proofs.Common.{◌≡◌, ◌≤◌, ◌+◌, true, ap, sym, ◌∙◌, suc, length, arith}
+use Rattle.std.proofs.Common.{◌≡◌, ◌≤◌, ◌+◌, ℕ, true, ap, sym, ◌∙◌, suc, length, arith}
 use Rattle.module_meaning.specs.AgreeingOperators.{groups_of}
 use Rattle.module_meaning.specs.Operations.{all_agree}
 use Rattle.naga_acceptance.specs.Uses.{earlier_uses, group_of, group_uses, part_uses}
@@ -12,11 +12,13 @@ loop-index-preserved c =
     in let gs = groups_of c.args.module.now c.args.info.now
     in let g = group_of c.args.group
     in let next : suc c.loop-index.index ≡ c.loop-index.index + 1 = omega arith
-    in let agrees : all_agree (part_uses c.args.part (earlier_uses types gs c.args.number g (suc c.loop-index.index))) ≡ true =
-    sym c.in_ok-use_agrees.ensures.agree ∙ c.if-not-use_agrees.false
+    in let before = λ (n : ℕ). part_uses c.args.part (earlier_uses types gs c.args.number g n)
+    in let agree : all_agree (before (suc c.loop-index.index)) ≡ true =
+    sym c.in_ok-agrees.ensures.agree ∙ c.if-not-agrees.false
     in record {
-      agree = ap (λ n. all_agree (part_uses c.args.part (earlier_uses types gs c.args.number g n))) (sym next) ∙ agrees;
-      remembered = remembers_same types gs _ _ _ _ (ap (λ n. part_uses c.args.part (earlier_uses types gs c.args.number g n)) next) (c.in_ok-use_agrees.ensures.table c.if-not-use_agrees.false);
+      agree = ap (λ n. all_agree (before n)) (sym next) ∙ agree;
+      remembered = remembers_same types gs _ _ _ _ (ap before next)
+          (c.in_ok-agrees.ensures.table c.if-not-agrees.false);
     }
 
 pub returns-clause-agree : goal.returns-clause-agree
@@ -39,8 +41,8 @@ returns-clause-table c =
     ap (earlier_uses types gs c.args.number g) all ∙ group_end types gs c.args.number g c.requires.group
     in λ _. remembers_same types gs _ _ _ _ (ap (part_uses c.args.part) ended) c.loop-index.invariant.remembered
 
-pub returns-then-not-use_agrees-clause-fault : goal.returns-then-not-use_agrees-clause-fault
-returns-then-not-use_agrees-clause-fault c =
+pub returns-then-not-agrees-clause-fault : goal.returns-then-not-agrees-clause-fault
+returns-then-not-agrees-clause-fault c =
     let g = group_of c.args.group
     in let within : suc c.loop-index.index ≤ length g.expressions = omega arith
     in (
@@ -48,5 +50,5 @@ returns-then-not-use_agrees-clause-fault c =
       c.requires.group,
       within,
       c.loop-index.invariant.agree,
-      sym c.in_ok-use_agrees.ensures.agree ∙ c.if-not-use_agrees.true,
+      sym c.in_ok-agrees.ensures.agree ∙ c.if-not-agrees.true,
     )

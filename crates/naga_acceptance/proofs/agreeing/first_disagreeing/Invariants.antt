@@ -6,6 +6,9 @@ use Rattle.naga_acceptance.proofs.agreeing.first_disagreeing.Given as goal
 
 abbrev pub invariant-loop-index : goal.invariant-loop-index
 invariant-loop-index l = record {
-  agree : all_agree (part_uses l.part (earlier_uses l.module.types (groups_of l.module l.info) l.number (group_of l.group) l.index)) ≡ true;
-  remembered : Remembers l.module.types (groups_of l.module l.info) (part_uses l.part (earlier_uses l.module.types (groups_of l.module l.info) l.number (group_of l.group) l.index)) l.slots l.table;
+  agree : all_agree (part_uses l.part
+      (earlier_uses l.module.types (groups_of l.module l.info) l.number (group_of l.group) l.index)) ≡ true;
+  remembered : Remembers l.module.types (groups_of l.module l.info) (part_uses l.part
+      (earlier_uses l.module.types (groups_of l.module l.info) l.number (group_of l.group) l.index))
+      l.slots l.table;
 }

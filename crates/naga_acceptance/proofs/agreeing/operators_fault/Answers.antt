@@ -8,7 +8,7 @@ pub use_item-requires : goal.use_item-requires
 use_item-requires c =
     let m = c.args.module.now
     in let info = c.args.info.now
-    in let fails = c.in_some-place.ensures.fault
-    in let within : c.in_some-place.place.group < length (groups_of m info) =
-    slice_get_within (groups_of m info) c.in_some-place.place.group fails.0 fails.1
+    in let fails = c.in_ok-place.ensures.fault
+    in let within : c.in_ok-place.place.group < length (groups_of m info) =
+    slice_get_within (groups_of m info) c.in_ok-place.place.group fails.0 fails.1
     in omega (arith, within, groups_within m info)

@@ -1,5 +1,6 @@
 use Rattle.std.proofs.Common.{◌≡◌, ◌≤◌, ◌<◌, ◌+◌, ap, sym, ◌∙◌, suc, length, arith, refl, slice_get}
-use Rattle.std.proofs.Common.{Some, None, true, inl, inr, List, ◌⊎◌, get_or}
+use Rattle.std.proofs.Common.{ℕ, Some, None, true, inl, inr, List, ◌⊎◌, get_or}
+use Rattle.std.specs.Option.{is_none}
 use Rattle.std.proofs.lemmas.Option.{slice_get_within, slice_get_cases}
 use Rattle.module_meaning.specs.AgreeingOperators.{groups_of}
 use Rattle.module_meaning.specs.Operations.{all_agree}
@@ -29,10 +30,11 @@ loop-group-preserved c =
     in let within : c.loop-group.number < length gs =
     slice_get_within gs c.loop-group.number (group_of c.in-Some.group) (sym c.in-Some.ensures.group)
     in let next : suc c.loop-group.number ≡ c.loop-group.number + 1 = omega arith
-    in let none : is_none c.in_ok-found.found ≡ true = ap is_none c.in_default.is
+    in let before = λ (n : ℕ). part_uses c.args.part (group_uses types gs n)
+    in let none : is_none c.in_ok-found.found ≡ true = ap is_none c.in_default-found.is
     in record {
-      agree = ap (λ n. all_agree (part_uses c.args.part (group_uses types gs n))) (sym next) ∙ c.in_ok-found.ensures.agree none;
-      remembered = remembers_same types gs _ _ _ _ (ap (λ n. part_uses c.args.part (group_uses types gs n)) next) (c.in_ok-found.ensures.table none);
+      agree = ap (λ n. all_agree (before n)) (sym next) ∙ c.in_ok-found.ensures.agree none;
+      remembered = remembers_same types gs _ _ _ _ (ap before next) (c.in_ok-found.ensures.table none);
       within = omega (arith, within);
     }
 

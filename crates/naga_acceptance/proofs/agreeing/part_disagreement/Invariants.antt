@@ -8,7 +8,8 @@ use Rattle.naga_acceptance.proofs.agreeing.part_disagreement.Given as goal
 abbrev pub invariant-loop-group : goal.invariant-loop-group
 invariant-loop-group l = record {
   agree : all_agree (part_uses l.part (group_uses l.module.types (groups_of l.module l.info) l.number)) ≡ true;
-  remembered : Remembers l.module.types (groups_of l.module l.info) (part_uses l.part (group_uses l.module.types (groups_of l.module l.info) l.number)) SLOTS l.table;
+  remembered : Remembers l.module.types (groups_of l.module l.info)
+      (part_uses l.part (group_uses l.module.types (groups_of l.module l.info) l.number)) SLOTS l.table;
   within : l.number ≤ length (groups_of l.module l.info);
 }
 

@@ -4,14 +4,14 @@
 -- Throughout, p, q and r are tests, o, v, w and x are uses (os are several), xs, ys and zs are lists,
 -- types are a module's types, gs its groups, g and h are among them, by the numbers n and m, i and j are
 -- places in those, a and b places where uses stand, and part is a part with a remainder in its middle.
-use Rattle.std.proofs.Common.{◌≡◌, ◌≢◌, ℕ, zero, suc, ◌+◌, ◌-◌, ◌%◌, ◌<◌, ◌≤◌, Bool, true, false, ◌&&◌}
-use Rattle.std.proofs.Common.{◌||◌, ◌==◌, List, [], ◌∷◌, ◌++◌, length, refl, ap, sym, ◌∙◌, subst, arith}
-use Rattle.std.proofs.Common.{Option, Some, None, slice_get, ◌⊎◌, inl, inr, append_assoc, append-nil}
+use Rattle.std.proofs.Common.{◌≡◌, ◌≢◌, ℕ, zero, suc, ◌+◌, ◌%◌, ◌<◌, ◌≤◌, Bool, true, false, ◌&&◌}
+use Rattle.std.proofs.Common.{◌==◌, List, [], ◌∷◌, ◌++◌, length, refl, ap, sym, ◌∙◌, subst, arith}
+use Rattle.std.proofs.Common.{Option, Some, None, slice_get, ◌⊎◌, inl, inr, append_assoc}
 use Rattle.std.proofs.Common.{leb, ltb, cond}
 use Rattle.std.specs.Prelude.{if◌then◌else◌}
 use Rattle.std.specs.List.{filter, flat_map, list_all}
-use Rattle.std.specs.Option.{option_map_or, option_to_list}
-use Rattle.std.proofs.lemmas.Bool.{and_from, and_parts, and_cases, or_cases, or_parts, false≢true}
+use Rattle.std.specs.Option.{IfSome, is_none, option_map_or, option_to_list}
+use Rattle.std.proofs.lemmas.Bool.{and_from, and_parts, or_cases, or_parts, false≢true}
 use Rattle.std.proofs.lemmas.Bool.{leb-true, leb-false, le-leb, ltb-true, ltb-false, eqb-true, eqb-false}
 use Rattle.std.proofs.lemmas.Bool.{true_from_ne_false, false_from_ne_true}
 use Rattle.std.proofs.lemmas.List.Elements.{filter-append}
@@ -26,7 +26,7 @@ use Rattle.naga_acceptance.specs.Uses.{joined_below, use_in, group_uses, earlier
 use Rattle.naga_acceptance.specs.Uses.{is_same_operator, hash_of, has_hash, is_in, part_uses}
 use Rattle.naga_acceptance.specs.Uses.{DisagreesFirst, IsFirstDisagreement, stands_before, earlier}
 use Rattle.naga_acceptance.proofs.Agreement.{agree_behind, first_by, front_fails, other_agrees}
-use Rattle.naga_acceptance.proofs.EarlierUses.{nothing_more, use_more}
+use Rattle.naga_acceptance.proofs.EarlierUses.{use_more}
 use Rattle.naga_acceptance.proofs.Groups.{all_groups, group_end, joined_front}
 use Rattle.naga_acceptance.proofs.Remembering.{other_hash, same_hash}
 
@@ -39,19 +39,13 @@ all_taken p all [] = refl
 all_taken p all (x ∷ os) =
     ap (λ b. cond b (x ∷ filter p os) (filter p os)) (all x) ∙ ap (λ l. x ∷ l) (all_taken p all os)
 
--- one more, which passes
+-- one more does
 one_taken : (p : Operation → Bool) (os : List Operation) (v : Operation) → p v ≡ true →
     filter p (os ++ v ∷ []) ≡ filter p os ++ v ∷ []
 one_taken p os v e =
     filter-append p os (v ∷ []) ∙ ap (λ b. filter p os ++ cond b (v ∷ []) []) e
 
--- or does not
-one_left : (p : Operation → Bool) (os : List Operation) (v : Operation) → p v ≡ false →
-    filter p (os ++ v ∷ []) ≡ filter p os
-one_left p os v e =
-    filter-append p os (v ∷ []) ∙ ap (λ b. filter p os ++ cond b (v ∷ []) []) e ∙ append-nil (filter p os)
-
--- a test of each of those that pass
+-- each of those that do passes another test
 pub filtered_at : (test p : Operation → Bool) (os : List Operation) → list_all test (filter p os) ≡ true →
     (i : ℕ) (v : Operation) → slice_get os i ≡ Some v → p v ≡ true → test v ≡ true
 filtered_at test p [] all i v here passes = absurd cc
@@ -70,20 +64,20 @@ filtered_at test p (x ∷ os) all (suc i) v here passes =
         (sym (ap (λ b. list_all test (cond b (x ∷ filter p os) (filter p os))) e) ∙ all)).1
     by_first false e = sym (ap (λ b. list_all test (cond b (x ∷ filter p os) (filter p os))) e) ∙ all
 
+-- and so all of them, where each does
 pub filtered_pass : (test p : Operation → Bool) (os : List Operation)
     → ((i : ℕ) (v : Operation) → slice_get os i ≡ Some v → p v ≡ true → test v ≡ true)
     → list_all test (filter p os) ≡ true
 filtered_pass test p [] each = refl
-filtered_pass test p (x ∷ os) each = by_first (p x) refl
+filtered_pass test p (x ∷ os) each =
+    by_first (filtered_pass test p os (λ i v here. each (suc i) v here)) (p x) refl
   where
-    rest : list_all test (filter p os) ≡ true
-    rest = filtered_pass test p os (λ i v here. each (suc i) v here)
-
-    by_first : (b : Bool) → p x ≡ b → list_all test (filter p (x ∷ os)) ≡ true
-    by_first true e =
+    by_first : list_all test (filter p os) ≡ true → (b : Bool) → p x ≡ b →
+        list_all test (filter p (x ∷ os)) ≡ true
+    by_first rest true e =
         ap (λ b. list_all test (cond b (x ∷ filter p os) (filter p os))) e
         ∙ and_from (test x) (list_all test (filter p os)) (each 0 x refl e) rest
-    by_first false e = ap (λ b. list_all test (cond b (x ∷ filter p os) (filter p os))) e ∙ rest
+    by_first rest false e = ap (λ b. list_all test (cond b (x ∷ filter p os) (filter p os))) e ∙ rest
 
 -- the first passes: it agrees with all behind it that pass
 head_agrees : (p : Operation → Bool) (x : Operation) (os : List Operation) →
@@ -157,6 +151,7 @@ fewer_agree r p within os all =
       second = λ v w none _. absurd (false≢true none);
     }) os all (none_taken os)
 
+-- and where those don't, these don't
 pub more_fail : (r p : Operation → Bool) → ((v : Operation) → p v ≡ true → r v ≡ true) →
     (os : List Operation) → all_agree (filter p os) ≡ false → all_agree (filter r os) ≡ false
 more_fail r p within os fails =
@@ -197,6 +192,7 @@ first_taken p v own (x ∷ os) =
 abbrev pub StandsInFront : {X : Type 0} → List X → List X → Type 0
 StandsInFront {X} xs ys = (rest : List X) × (ys ≡ xs ++ rest)
 
+-- so does one that stands in front in what stands in front
 front_through : {X : Type 0} (xs ys zs : List X) → StandsInFront xs ys → StandsInFront ys zs →
     StandsInFront xs zs
 front_through xs ys zs one two =
@@ -267,8 +263,9 @@ module _ (types : List Type_) (gs : List Group) where
       front_of_later a.group b.group g h a.index b.index here within before
   front_of_place a b g h here there within (inr beside) =
       let same : g ≡ h = same_Some g h (sym here ∙ ap (slice_get gs) beside.0 ∙ there)
-      in subst (λ k. StandsInFront (earlier_uses types gs a.group g a.index) (earlier_uses types gs k h b.index)) beside.0
-      (subst (λ k. StandsInFront (earlier_uses types gs a.group g a.index) (earlier_uses types gs a.group k b.index)) same
+      in let front = earlier_uses types gs a.group g a.index
+      in subst (λ k. StandsInFront front (earlier_uses types gs k h b.index)) beside.0
+      (subst (λ k. StandsInFront front (earlier_uses types gs a.group k b.index)) same
       (front_in_group a.group g a.index b.index beside.1))
 
   -- ---- the first use that does not agree
@@ -320,6 +317,7 @@ module _ (types : List Type_) (gs : List Group) where
               let parts = and_parts (a.group == b.group) (ltb a.index b.index) beside
               in inr (eqb-true a.group b.group parts.0, omega (arith, ltb-true a.index b.index parts.1))
 
+      -- and where that fails
       behind : stands_before a b ≡ false →
           (b.group < a.group) ⊎ ((b.group ≡ a.group) × (b.index ≤ a.index))
       behind e = by_group (a.group == b.group) refl
@@ -387,18 +385,21 @@ pub all_in : (part : Part) → part.first ≡ 0 → part.last + 1 ≡ REMAINDERS
 all_in part from to v = from_bounds part v (omega (arith, from)) (omega (arith, to))
 
 module _ (part : Part) (middle : ℕ) (above : part.first ≤ middle) (below : middle < part.last) where
-  -- its halves, which meet behind the middle
+  -- the half up to the middle
   abbrev pub front_half : Part
   front_half = record { first = part.first; last = middle }
 
+  -- the half behind it
   abbrev pub back_half : Part
   back_half = record { first = middle + 1; last = part.last }
 
+  -- what is in it is in the part
   front_in : (v : Operation) → is_in front_half v ≡ true → is_in part v ≡ true
   front_in v own =
       let bounds = in_bounds front_half v own
       in from_bounds part v bounds.0 (omega (arith, bounds.1, below))
 
+  -- and so what is in the other
   back_in : (v : Operation) → is_in back_half v ≡ true → is_in part v ≡ true
   back_in v own =
       let bounds = in_bounds back_half v own
@@ -413,15 +414,18 @@ module _ (part : Part) (middle : ℕ) (above : part.first ≤ middle) (below : m
       in let remainders : hash_of v % REMAINDERS ≡ hash_of w % REMAINDERS = ap (λ k. k % REMAINDERS) same
       in omega (arith, one.1, two.0, remainders)
 
+  -- so that they agree
   front_agrees_back : (v w : Operation) → is_in front_half v ≡ true → is_in back_half w ≡ true →
       agrees v w ≡ true
   front_agrees_back v w front back = other_agrees v w (other_hash v w (halves_apart v w front back))
 
+  -- either way round
   back_agrees_front : (v w : Operation) → is_in back_half v ≡ true → is_in front_half w ≡ true →
       agrees v w ≡ true
   back_agrees_front v w back front =
       other_agrees v w (other_hash v w (λ same. halves_apart w v front back (sym same)))
 
+  -- each use of the part is of a half
   either_half : (v : Operation) → is_in part v ≡ true →
       (is_in front_half v ≡ true) ⊎ (is_in back_half v ≡ true)
   either_half v own = by_middle (leb (hash_of v % REMAINDERS) middle) refl
@@ -431,8 +435,10 @@ module _ (part : Part) (middle : ℕ) (above : part.first ≤ middle) (below : m
       by_middle true e =
           inl (from_bounds front_half v (in_bounds part v own).0 (leb-true (hash_of v % REMAINDERS) middle e))
       by_middle false e =
-          inr (from_bounds back_half v (omega (arith, leb-false (hash_of v % REMAINDERS) middle e)) (in_bounds part v own).1)
+          let behind = leb-false (hash_of v % REMAINDERS) middle e
+          in inr (from_bounds back_half v (omega (arith, behind)) (in_bounds part v own).1)
 
+  -- named the other way round
   swapped : (v : Operation) → is_in part v ≡ true →
       (is_in back_half v ≡ true) ⊎ (is_in front_half v ≡ true)
   swapped v own = by_half (either_half v own)
@@ -456,21 +462,7 @@ module _ (part : Part) (middle : ℕ) (above : part.first ≤ middle) (below : m
 -- ---- one expression further
 
 module _ (types : List Type_) (gs : List Group) (part : Part) (number : ℕ) (g : Group) (index : ℕ) where
-  -- it is no use
-  pub part_nothing_more : use_in types g index ≡ None →
-      part_uses part (earlier_uses types gs number g (suc index)) ≡
-      part_uses part (earlier_uses types gs number g index)
-  part_nothing_more none = ap (part_uses part) (nothing_more types gs number g index none)
-
-  -- it is one of another part
-  pub other_use_more : (v : Operation) → use_in types g index ≡ Some v → is_in part v ≡ false →
-      part_uses part (earlier_uses types gs number g (suc index)) ≡
-      part_uses part (earlier_uses types gs number g index)
-  other_use_more v here other =
-      ap (part_uses part) (use_more types gs number g index v here)
-      ∙ one_left (is_in part) (earlier_uses types gs number g index) v other
-
-  -- it is one of the part
+  -- it is a use of the part
   pub part_use_more : (v : Operation) → use_in types g index ≡ Some v → is_in part v ≡ true →
       part_uses part (earlier_uses types gs number g (suc index)) ≡
       part_uses part (earlier_uses types gs number g index) ++ v ∷ []
@@ -492,34 +484,35 @@ module _ (types : List Type_) (gs : List Group) (part : Part) (number : ℕ) (g 
 -- ---- all uses of a module
 
 module _ (types : List Type_) (gs : List Group) (part : Part) (all : (v : Operation) → is_in part v ≡ true) where
+  -- all are of the part
   all_uses_of : (os : List Operation) → all_agree (part_uses part os) ≡ all_agree os
   all_uses_of os = ap all_agree (all_taken (is_in part) all os)
 
+  -- they are those of all groups
   whole : all_agree (part_uses part (group_uses types gs (length gs))) ≡ all_agree (flat_map (uses_of types) gs)
   whole = all_uses_of (group_uses types gs (length gs)) ∙ ap all_agree (all_groups types gs)
 
-  -- no use disagrees: all agree
-  pub none_disagrees : IsFirstDisagreement types gs (is_in part) None →
-      all_agree (flat_map (uses_of types) gs) ≡ true
-  none_disagrees agree = sym whole ∙ agree
+  -- they agree where no use disagrees first
+  pub all_or_first : (found : Option UsePlace) → IsFirstDisagreement types gs (is_in part) found →
+      is_none found ≡ all_agree (flat_map (uses_of types) gs)
+  all_or_first None agree = sym (sym whole ∙ agree)
+  all_or_first (Some place) fails =
+      let within = slice_get_within gs place.group fails.0 fails.1
+      in let front =
+      front_of_groups types gs place.group (length gs) fails.0 (suc place.index) fails.1 fails.2 within
+      in sym (sym whole
+      ∙ more_behind_fail (is_in part) (earlier_uses types gs place.group fails.0 (suc place.index))
+      (group_uses types gs (length gs)) front fails.4)
 
-  -- one disagrees: they don't
-  pub some_disagrees : (n i : ℕ) → DisagreesFirst types gs (is_in part) n i →
-      all_agree (flat_map (uses_of types) gs) ≡ false
-  some_disagrees n i fails =
-      sym whole
-      ∙ more_behind_fail (is_in part) (earlier_uses types gs n fails.0 (suc i)) (group_uses types gs (length gs))
-      (front_of_groups types gs n (length gs) fails.0 (suc i) fails.1 fails.2
-      (slice_get_within gs n fails.0 fails.1)) fails.4
-
-  -- and those before it do
-  pub place_disagrees : (n i : ℕ) → DisagreesFirst types gs (is_in part) n i →
-      (g : Group) × (slice_get gs n ≡ Some g)
-      × (all_agree (earlier_uses types gs n g i) ≡ true)
-      × (all_agree (earlier_uses types gs n g (suc i)) ≡ false)
-  place_disagrees n i fails = (
+  -- and those before that one do
+  pub agree_before : (found : Option UsePlace) → IsFirstDisagreement types gs (is_in part) found →
+      IfSome found (λ place. (g : Group) × (slice_get gs place.group ≡ Some g)
+      × (all_agree (earlier_uses types gs place.group g place.index) ≡ true)
+      × (all_agree (earlier_uses types gs place.group g (suc place.index)) ≡ false))
+  agree_before None agree = tt
+  agree_before (Some place) fails = (
     fails.0,
     fails.1,
-    sym (all_uses_of (earlier_uses types gs n fails.0 i)) ∙ fails.3,
-    sym (all_uses_of (earlier_uses types gs n fails.0 (suc i))) ∙ fails.4,
+    sym (all_uses_of (earlier_uses types gs place.group fails.0 place.index)) ∙ fails.3,
+    sym (all_uses_of (earlier_uses types gs place.group fails.0 (suc place.index))) ∙ fails.4,
   )
