@@ -8,6 +8,7 @@ pub mod Identities
 pub mod LabelNumbers
 pub mod Labels
 pub mod Mixing
+pub mod OperatorParts
 pub mod Pairing
 pub mod Passing
 pub mod Recounted

@@ -63,7 +63,7 @@ same_hash v w same =
     in λ i. lists_mixed (all_mixed 0 (parts.0 i)) (parts.1 i)
 
 -- so that uses of another hash are of another operator
-other_hash : (v w : Operation) → hash_of v ≢ hash_of w → is_same_operator v w ≡ false
+pub other_hash : (v w : Operation) → hash_of v ≢ hash_of w → is_same_operator v w ≡ false
 other_hash v w other = by_same (is_same_operator v w) refl
   where
     by_same : (b : Bool) → is_same_operator v w ≡ b → is_same_operator v w ≡ false

@@ -10,6 +10,7 @@ use Rattle.std.specs.Int.Signed.{lt_z}
 use Rattle.naga_ir.specs.StatementTree.{CaseTrees, no_cases, case}
 use Rattle.naga_ir.specs.declared.statement.SwitchValue.{SwitchValue}
 use Rattle.naga_ir.specs.declared.statement.SwitchValue.TheVariants as label
+use Rattle.naga_acceptance.specs.declared.label_numbers.TheConstants.{PLACES}
 
 -- integers ascend by their numbers, and the default stands behind all
 abbrev pub is_before : SwitchValue → SwitchValue → Bool
@@ -60,7 +61,7 @@ IsTwice ns = (a : ℕ) × (2 ≤ times a ns)
 -- each of the numbers has a mark at its remainder
 abbrev pub AreMarked : List ℕ → (marks : List Bool) → Type 0
 AreMarked ns marks =
-    (k : ℕ) → k < length ns → slice_index_or marks (slice_index ns k % 32768) false ≡ true
+    (k : ℕ) → k < length ns → slice_index_or marks (slice_index ns k % PLACES) false ≡ true
 
 -- no number stands beside itself
 abbrev pub AreApart : List ℕ → Type 0

@@ -1,13 +1,14 @@
 -- What the code that compares uses of operators stands for: uses, where they stand, and what is
--- remembered of those that were seen.
+-- remembered of those that were seen, a part of them at a time.
 --
 -- Throughout, types are a module's types, g is a group of expressions that stand together (gs are
 -- the groups of a module, in order), u is a use in the code, v and w are uses (os are several), a
--- site tells a group and an expression of it, h is a hash, and steps (n) tell how far a slot is
--- behind that of a use.
-use Rattle.std.specs.Prelude.{ℕ, zero, suc, ◌+◌, ◌*◌, ◌%◌, ◌^◌, ◌<◌, ◌≡◌, Bool, true, ◌&&◌}
+-- site, or a place, tells a group and an expression of it, h is a hash, and steps (n) tell how far a
+-- slot is behind that of a use.
+use Rattle.std.specs.Prelude.{ℕ, zero, suc, ◌+◌, ◌*◌, ◌%◌, ◌^◌, ◌<◌, ◌≤◌, ◌≡◌, Bool, true, false, ◌&&◌}
 use Rattle.std.specs.Prelude.{List, [], ◌∷◌, ◌++◌, map, Option, Some, None, if◌then◌else◌, length}
-use Rattle.std.specs.Prelude.{slice_get, slice_index_or}
+use Rattle.std.specs.Prelude.{slice_get, slice_index_or, nat_lt, nat_le, ◌==◌, ◌||◌}
+use Rattle.std.specs.List.{filter}
 use Rattle.std.specs.Option.{option_map_or, option_and_then, option_to_list, is_some}
 use Rattle.std.specs.Str.{bytes_eq}
 use Rattle.naga_ir.specs.Operands.{expression_operands}
@@ -17,10 +18,13 @@ use Rattle.naga_acceptance.specs.OperatorKeys.{key}
 use Rattle.naga_acceptance.specs.declared.agreeing.Expressions.{Expressions}
 use Rattle.naga_acceptance.specs.declared.agreeing.Probe.{Probe}
 use Rattle.naga_acceptance.specs.declared.agreeing.Probe.TheVariants.{Empty, Seen, Full}
+use Rattle.naga_acceptance.specs.declared.agreeing.Part.{Part}
 use Rattle.naga_acceptance.specs.declared.agreeing.Site.{Site}
+use Rattle.naga_acceptance.specs.declared.agreeing.TheConstants.{REMAINDERS}
+use Rattle.naga_acceptance.specs.declared.agreeing.UsePlace.{UsePlace}
 use Rattle.naga_acceptance.specs.declared.uses.Use.{Use}
 use Rattle.module_meaning.specs.AgreeingOperators.{Group, expression_use, identity_at, uses_of}
-use Rattle.module_meaning.specs.Operations.{Operation, are_same_words}
+use Rattle.module_meaning.specs.Operations.{Operation, all_agree, are_same_words}
 
 -- expressions that stand together
 abbrev pub group_of : Expressions → Group
@@ -159,3 +163,44 @@ pub record Remembers (types : List Type_) (gs : List Group) (os : List Operation
       IsSiteOf types gs os site
   pub hashed : AreHashed types gs table
   pub found : (v : Operation) → IsAmong v os → IsFound types gs slots table v
+
+-- ---- parts of the operators
+
+-- operators with this hash are of the part
+abbrev pub has_hash : Part → (h : ℕ) → Bool
+has_hash part h = nat_le part.first (h % REMAINDERS) && nat_le (h % REMAINDERS) part.last
+
+abbrev pub is_in : Part → Operation → Bool
+is_in part v = has_hash part (hash_of v)
+
+-- the uses of its operators
+abbrev pub part_uses : Part → List Operation → List Operation
+part_uses part os = filter (is_in part) os
+
+-- The uses that pass the test and stand before an expression agree, and with it they don't.
+abbrev pub DisagreesFirst :
+    List Type_ → List Group → (test : Operation → Bool) → (number index : ℕ) → Type 0
+DisagreesFirst types gs test number index =
+    (g : Group) × (slice_get gs number ≡ Some g)
+    × (suc index ≤ length g.expressions)
+    × (all_agree (filter test (earlier_uses types gs number g index)) ≡ true)
+    × (all_agree (filter test (earlier_uses types gs number g (suc index))) ≡ false)
+
+-- So does the use at a place; or all that pass the test agree, where there is none.
+abbrev pub IsFirstDisagreement :
+    List Type_ → List Group → (test : Operation → Bool) → Option UsePlace → Type 0
+IsFirstDisagreement types gs test None =
+    all_agree (filter test (group_uses types gs (length gs))) ≡ true
+IsFirstDisagreement types gs test (Some place) =
+    DisagreesFirst types gs test place.group place.index
+
+abbrev pub stands_before : UsePlace → UsePlace → Bool
+stands_before place other =
+    nat_lt place.group other.group
+    || (place.group == other.group && nat_lt place.index other.index)
+
+-- the one of two places that stands before the other, where there are both
+abbrev pub earlier : Option UsePlace → Option UsePlace → Option UsePlace
+earlier None other = other
+earlier (Some place) None = Some place
+earlier (Some place) (Some other) = if stands_before place other then Some place else Some other

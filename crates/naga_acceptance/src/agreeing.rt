@@ -2,18 +2,22 @@
 //!
 //! Uses are gone through in order. A table of fixed size remembers the first use of each operator
 //! over operands of some types, by open addressing: in the first empty slot from that of its hash
-//! on. A use that finds one of its operator there is compared with that one alone. One that finds
-//! all slots filled with uses of others is compared with the first use of its operator, which is
-//! looked for from the start.
+//! on. A use that finds one of its operator there is compared with that one alone.
+//!
+//! Where the table has no room for all operators, they are halved by the remainders of their
+//! hashes, and the uses of each half are gone through by themselves: those of one operator have one
+//! hash. Operators of one remainder are not halved. A use that finds all slots filled with uses of
+//! such others is compared with the first use of its operator, which is looked for from the start.
 
 ghost use Rattle.std.specs.Prelude.{◌≡◌, ◌+◌, ◌<◌, ◌≤◌, ◌^◌, suc, length, slice_get, true, Some};
-ghost use Rattle.std.specs.Prelude.{◌%◌, []};
+ghost use Rattle.std.specs.Prelude.{◌%◌, [], IfOk, OnErr};
 ghost use Rattle.std.specs.Option.{IfSome, is_none, option_map, option_map_or, option_to_list};
 ghost use Rattle.naga_acceptance.specs.Faults.{Disagrees, Fails, site_of};
-ghost use Rattle.naga_acceptance.specs.Uses.{AreHashed, IsHashed, Probes, Remembers, earlier_uses};
+ghost use Rattle.naga_acceptance.specs.Uses.{AreHashed, DisagreesFirst, IsFirstDisagreement};
+ghost use Rattle.naga_acceptance.specs.Uses.{IsHashed, Probes, Remembers, earlier, earlier_uses};
 ghost use Rattle.naga_acceptance.specs.Uses.{first_answer, first_uses, group_of, group_uses};
-ghost use Rattle.naga_acceptance.specs.Uses.{hash_of, operation, site_answer, use_at};
-ghost use Rattle.naga_acceptance.specs.Uses.{use_in};
+ghost use Rattle.naga_acceptance.specs.Uses.{has_hash, hash_of, is_in, operation, part_uses};
+ghost use Rattle.naga_acceptance.specs.Uses.{site_answer, stands_before, use_at, use_in};
 ghost use Rattle.module_meaning.specs.AgreeingOperators.{function_group, further_groups_of};
 ghost use Rattle.module_meaning.specs.AgreeingOperators.{groups_of, module_operators_agree};
 ghost use Rattle.module_meaning.specs.AgreeingOperators.{uses_of};
@@ -35,6 +39,10 @@ pub(crate) struct Expressions<'a> {
 /// How many slots the table of remembered uses has.
 const SLOTS: usize = 509;
 
+/// How many remainders hashes have. It is a prime, so that hashes that differ by a multiple of a
+/// power of two have different ones.
+pub(crate) const REMAINDERS: usize = 1_048_573;
+
 /// Where an expression stands: in which group, and the number of its handle there; and its hash as
 /// a use. Functions and entry points together may be more than a `usize` counts.
 #[derive(Debug, Clone, Copy)]
@@ -43,6 +51,24 @@ pub(crate) struct Site {
     index: usize,
     hash: usize,
 }
+
+/// Where a use stands: in which group, and the number of its handle there.
+#[derive(Debug, Clone, Copy)]
+pub(crate) struct UsePlace {
+    group: u128,
+    index: usize,
+}
+
+/// A part of the operators: those whose hashes have one of these remainders.
+#[derive(Debug, Clone, Copy)]
+pub(crate) struct Part {
+    first: usize,
+    last: usize,
+}
+
+/// The table has no room for the operators of a part, which can be halved.
+#[derive(Debug, Clone, Copy)]
+struct Crowded;
 
 /// What the slots of the table tell of a use, from that of its hash on.
 #[derive(Debug, Clone, Copy)]
@@ -288,37 +314,51 @@ fn probe_table(
     Probe::Full
 }
 
-/// Whether the expression `index` of a group, which has this number, agrees with all that stand
-/// before it, if it is a use. It is remembered then, as far as the table, which has so many slots,
-/// has room.
+/// Whether operators with this hash are of the part.
+fn has_hash(part: Part, hash: usize) -> bool
+    ensures { result ≡ has_hash part hash }
+{
+    let remainder = hash % REMAINDERS;
+    part.first <= remainder && remainder <= part.last
+}
+
+/// Whether the expression `index` of a group, which has this number, agrees with all uses of the
+/// part that stand before it, if it is one. It is remembered then, as far as the table, which has so
+/// many slots, has room.
 fn use_agrees(
     module: &Module,
     info: &ModuleInfo,
     table: &mut [Option<Site>],
     slots: usize,
+    part: Part,
     number: u128,
     group: Expressions<'_>,
     index: usize,
-) -> bool
+) -> Result<bool, Crowded>
     requires group { slice_get (groups_of «module».now info.now) number ≡ Some (group_of group) }
-    requires agree { all_agree (earlier_uses «module».now.types
-        (groups_of «module».now info.now) number (group_of group) index) ≡ true }
+    requires agree { all_agree (part_uses part (earlier_uses «module».now.types
+        (groups_of «module».now info.now) number (group_of group) index)) ≡ true }
     requires slots { 0 < slots }
     requires table { Remembers «module».now.types (groups_of «module».now info.now)
+        (part_uses part (earlier_uses «module».now.types (groups_of «module».now info.now) number
+        (group_of group) index)) slots table.now }
+    ensures agree { IfOk result (λ agrees. agrees ≡ all_agree (part_uses part
         (earlier_uses «module».now.types (groups_of «module».now info.now) number
-        (group_of group) index) slots table.now }
-    ensures agree { result ≡ all_agree (earlier_uses «module».now.types
-        (groups_of «module».now info.now) number (group_of group.entry) (suc index)) }
-    ensures table { result ≡ true →
+        (group_of group.entry) (suc index)))) }
+    ensures table { IfOk result (λ agrees. agrees ≡ true →
         Remembers «module».now.types (groups_of «module».now info.now)
-        (earlier_uses «module».now.types (groups_of «module».now info.now) number
-        (group_of group.entry) (suc index)) slots table.new }
+        (part_uses part (earlier_uses «module».now.types (groups_of «module».now info.now) number
+        (group_of group.entry) (suc index))) slots table.new) }
+    ensures crowded { OnErr result (part.first < part.last) }
 {
     let types = &module.types;
     let Some(used) = use_in(types, group, index) else {
-        return true;
+        return Ok(true);
     };
     let hash = hash_of(types, &used);
+    if !has_hash(part, hash) {
+        return Ok(true);
+    }
     match probe_table(module, info, table, slots, hash, &used) {
         Probe::Empty(slot) => {
             table[slot] = Some(Site {
@@ -326,43 +366,139 @@ fn use_agrees(
                 index,
                 hash,
             });
-            true
+            Ok(true)
         }
-        Probe::Seen(alike) => alike,
-        Probe::Full => { earlier_answer(module, info, number, group, index, &used).unwrap_or(true) }
+        Probe::Seen(alike) => Ok(alike),
+        Probe::Full => {
+            if part.first < part.last {
+                return Err(Crowded);
+            }
+            Ok(earlier_answer(module, info, number, group, index, &used).unwrap_or(true))
+        }
     }
 }
 
-/// The first use of a group, which has this number, that does not agree with all that stand before
-/// it, in the group or in the groups before it.
+/// The first use of a group, which has this number, that is of the part and does not agree with all
+/// of the part that stand before it, in the group or in the groups before it.
 fn first_disagreeing(
     module: &Module,
     info: &ModuleInfo,
     table: &mut [Option<Site>],
     slots: usize,
+    part: Part,
     number: u128,
     group: Expressions<'_>,
-) -> Option<usize>
+) -> Result<Option<usize>, Crowded>
     requires group { slice_get (groups_of «module».now info.now) number ≡ Some (group_of group) }
-    requires agree { all_agree (group_uses «module».now.types
-        (groups_of «module».now info.now) number) ≡ true }
+    requires agree { all_agree (part_uses part (group_uses «module».now.types
+        (groups_of «module».now info.now) number)) ≡ true }
     requires slots { 0 < slots }
     requires table { Remembers «module».now.types (groups_of «module».now info.now)
-        (group_uses «module».now.types (groups_of «module».now info.now) number) slots table.now }
-    ensures agree { is_none result ≡ all_agree (group_uses «module».now.types
-        (groups_of «module».now info.now) (suc number)) }
-    ensures table { is_none result ≡ true →
+        (part_uses part (group_uses «module».now.types (groups_of «module».now info.now) number))
+        slots table.now }
+    ensures agree { IfOk result (λ found. is_none found ≡ true → all_agree (part_uses part
+        (group_uses «module».now.types (groups_of «module».now info.now) (suc number))) ≡ true) }
+    ensures table { IfOk result (λ found. is_none found ≡ true →
         Remembers «module».now.types (groups_of «module».now info.now)
-        (group_uses «module».now.types (groups_of «module».now info.now) (suc number))
-        slots table.new }
-    ensures fault { IfSome result (λ index. Disagrees «module».now info.now number index) }
+        (part_uses part (group_uses «module».now.types (groups_of «module».now info.now)
+        (suc number))) slots table.new) }
+    ensures fault { IfOk result (λ found. IfSome found (λ index. DisagreesFirst «module».now.types
+        (groups_of «module».now info.now) (is_in part) number index)) }
+    ensures crowded { OnErr result (part.first < part.last) }
 {
     for index in 0..group.arena.len() {
-        if !use_agrees(module, info, table, slots, number, group, index) {
-            return Some(index);
+        let agrees = use_agrees(module, info, table, slots, part, number, group, index)?;
+        if !agrees {
+            return Ok(Some(index));
         }
     }
-    None
+    Ok(None)
+}
+
+/// The first use of the part that does not agree with all of the part that stand before it. The
+/// table stays out of the frames of its callers, which go as deep as parts are halved.
+#[inline(never)]
+fn part_disagreement(
+    module: &Module,
+    info: &ModuleInfo,
+    part: Part,
+) -> Result<Option<UsePlace>, Crowded>
+    ensures found { IfOk result (IsFirstDisagreement «module».now.types
+        (groups_of «module».now info.now) (is_in part)) }
+    ensures crowded { OnErr result (part.first < part.last) }
+{
+    let mut table: [Option<Site>; SLOTS] = [None; SLOTS];
+    let mut number = 0;
+    while let Some(group) = group_at(module, info, number) {
+        let found = first_disagreeing(module, info, &mut table, SLOTS, part, number, group)?;
+        if let Some(index) = found {
+            return Ok(Some(UsePlace {
+                group: number,
+                index,
+            }));
+        }
+        number += 1;
+    }
+    Ok(None)
+}
+
+fn stands_before(place: UsePlace, other: UsePlace) -> bool
+    ensures { result ≡ stands_before place other }
+{
+    place.group < other.group || (place.group == other.group && place.index < other.index)
+}
+
+/// The one of two uses that stands before the other, where there are both.
+fn earlier(found: Option<UsePlace>, other: Option<UsePlace>) -> Option<UsePlace>
+    ensures { result ≡ earlier found other }
+{
+    let Some(place) = found else {
+        return other;
+    };
+    let Some(further) = other else {
+        return found;
+    };
+    if stands_before(place, further) {
+        found
+    } else {
+        other
+    }
+}
+
+/// The same as [`part_disagreement`], half by half where the table has no room.
+fn first_disagreement(module: &Module, info: &ModuleInfo, part: Part) -> Option<UsePlace>
+    ensures { IsFirstDisagreement «module».now.types (groups_of «module».now info.now) (is_in part)
+        result }
+{
+    match part_disagreement(module, info, part) {
+        Ok(found) => found,
+        Err(Crowded) => {
+            let middle = part.first + (part.last - part.first) / 2;
+            let front = Part {
+                first: part.first,
+                last: middle,
+            };
+            let back = Part {
+                first: middle + 1,
+                last: part.last,
+            };
+            let found = first_disagreement(module, info, front);
+            earlier(found, first_disagreement(module, info, back))
+        }
+    }
+}
+
+/// The first use of an operator that does not agree with all that stand before it.
+fn disagreement(module: &Module, info: &ModuleInfo) -> Option<UsePlace>
+    ensures agree { is_none result ≡ module_operators_agree «module».now info.now }
+    ensures fault { IfSome result
+        (λ place. Disagrees «module».now info.now place.group place.index) }
+{
+    let all = Part {
+        first: 0,
+        last: REMAINDERS - 1,
+    };
+    first_disagreement(module, info, all)
 }
 
 /// Where an expression stands that is in the group of this number, with this number there.
@@ -383,22 +519,17 @@ fn use_item(module: &Module, number: u128, index: usize) -> Item
     Item::GlobalExpression(expression)
 }
 
-/// The first use of an operator that does not agree with all that stand before it
+/// Where the first use of an operator stands that does not agree with all that stand before it
 /// ([`operators_agree`]).
 pub(crate) fn operators_fault(module: &Module, info: &ModuleInfo) -> Option<Unaccepted>
     ensures agree { is_none result ≡ module_operators_agree «module».now info.now }
     ensures fault { IfSome result (Fails «module».now info.now) }
 {
-    let mut table: [Option<Site>; SLOTS] = [None; SLOTS];
-    let mut number = 0;
-    while let Some(group) = group_at(module, info, number) {
-        let disagreeing = first_disagreeing(module, info, &mut table, SLOTS, number, group);
-        if let Some(index) = disagreeing {
-            return Some(at(use_item(module, number, index), Fault::Disagreement));
-        }
-        number += 1;
-    }
-    None
+    let place = disagreement(module, info)?;
+    Some(at(
+        use_item(module, place.group, place.index),
+        Fault::Disagreement,
+    ))
 }
 
 /// Whether any two operators in the module that are spelled alike, over operands of types alike,
@@ -408,8 +539,10 @@ pub(crate) fn operators_fault(module: &Module, info: &ModuleInfo) -> Option<Unac
 /// them. Expressions of which nothing is known by `info` are not looked at.
 ///
 /// It takes no memory. Time grows with the expressions, as long as there are no more than 509
-/// operators over operands of different types. Uses of further ones are looked for from the start,
-/// each as far as the first of its operator.
+/// operators over operands of different types, and otherwise with the expressions times the
+/// operators: all uses are gone through once for some 270 of these. Only where hashes of more than
+/// 509 operators are chosen to have one remainder, uses of further ones are looked for from the
+/// start, each as far as the first of its operator.
 pub fn operators_agree(module: &Module, info: &ModuleInfo) -> bool
     ensures { result ≡ module_operators_agree «module».now info.now }
 {

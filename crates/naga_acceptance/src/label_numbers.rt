@@ -57,8 +57,8 @@ fn has_equal_neighbours(numbers: &[u64]) -> bool
 
 /// Where a number is marked.
 fn place_of(number: u64) -> usize
-    ensures place { result ≡ number % 32768 }
-    ensures within { result < 32768 }
+    ensures place { result ≡ number % PLACES }
+    ensures within { result < PLACES }
 {
     (number % PLACES as u64) as usize
 }
@@ -66,7 +66,7 @@ fn place_of(number: u64) -> usize
 /// The marks of these numbers, which tell of most others at once that they are none of these.
 fn marks_of(numbers: &[u64]) -> [bool; PLACES]
     ensures marks { AreMarked numbers.now result }
-    ensures size { length result ≡ 32768 }
+    ensures size { length result ≡ PLACES }
 {
     let mut marks = [false; PLACES];
     for number in numbers {
@@ -79,7 +79,7 @@ fn marks_of(numbers: &[u64]) -> [bool; PLACES]
 fn is_among(numbers: &[u64], marks: &[bool], number: u64) -> bool
     requires rise { IsNonDecreasing numbers.now }
     requires marks { AreMarked numbers.now marks.now }
-    requires size { length marks.now ≡ 32768 }
+    requires size { length marks.now ≡ PLACES }
     ensures { result ≡ nat_lt 0 (times number numbers.now) }
 {
     if !marks[place_of(number)] {
@@ -92,7 +92,7 @@ fn is_among(numbers: &[u64], marks: &[bool], number: u64) -> bool
 fn any_among(numbers: &[u64], marks: &[bool], cases: &[SwitchCase]) -> bool
     requires rise { IsNonDecreasing numbers.now }
     requires marks { AreMarked numbers.now marks.now }
-    requires size { length marks.now ≡ 32768 }
+    requires size { length marks.now ≡ PLACES }
     ensures { result ≡ shares numbers.now (numbers_of (cases_of cases.now)) }
 {
     for case in cases {

@@ -1,20 +1,10 @@
-use Rattle.std.proofs.Common.{◌≡◌, ◌≤◌, ◌+◌, true, ap, sym, ◌∙◌, suc, length, arith}
+use Rattle.std.proofs.Common.{◌≡◌, ◌≤◌, ◌+◌, ℕ, true, ap, sym, ◌∙◌, suc, length, arith}
 use Rattle.module_meaning.specs.AgreeingOperators.{groups_of}
 use Rattle.module_meaning.specs.Operations.{all_agree}
-use Rattle.naga_acceptance.specs.Uses.{earlier_uses, group_of, group_uses}
-use Rattle.naga_acceptance.proofs.EarlierUses.{group_fails}
+use Rattle.naga_acceptance.specs.Uses.{earlier_uses, group_of, group_uses, part_uses}
 use Rattle.naga_acceptance.proofs.Groups.{group_end}
 use Rattle.naga_acceptance.proofs.Remembering.{remembers_same}
 use Rattle.naga_acceptance.proofs.agreeing.first_disagreeing.Goals as goal
-
-pub returns-then-not-use_agrees-clause-agree : goal.returns-then-not-use_agrees-clause-agree
-returns-then-not-use_agrees-clause-agree c =
-    let types = c.args.module.now.types
-    in let gs = groups_of c.args.module.now c.args.info.now
-    in let g = group_of c.args.group
-    in let within : suc c.loop-index.index ≤ length g.expressions = omega arith
-    in sym (group_fails types gs c.args.number g (suc c.loop-index.index) c.requires.group within
-    (sym c.use_agrees.ensures.agree ∙ c.if-not-use_agrees.true))
 
 pub loop-index-preserved : goal.loop-index-preserved
 loop-index-preserved c =
@@ -22,11 +12,13 @@ loop-index-preserved c =
     in let gs = groups_of c.args.module.now c.args.info.now
     in let g = group_of c.args.group
     in let next : suc c.loop-index.index ≡ c.loop-index.index + 1 = omega arith
-    in let agrees : all_agree (earlier_uses types gs c.args.number g (suc c.loop-index.index)) ≡ true =
-    sym c.use_agrees.ensures.agree ∙ c.if-not-use_agrees.false
+    in let before = λ (n : ℕ). part_uses c.args.part (earlier_uses types gs c.args.number g n)
+    in let agree : all_agree (before (suc c.loop-index.index)) ≡ true =
+    sym c.in_ok-agrees.ensures.agree ∙ c.if-not-agrees.false
     in record {
-      agree = ap (λ n. all_agree (earlier_uses types gs c.args.number g n)) (sym next) ∙ agrees;
-      remembered = remembers_same types gs _ _ _ _ (ap (earlier_uses types gs c.args.number g) next) (c.use_agrees.ensures.table c.if-not-use_agrees.false);
+      agree = ap (λ n. all_agree (before n)) (sym next) ∙ agree;
+      remembered = remembers_same types gs _ _ _ _ (ap before next)
+          (c.in_ok-agrees.ensures.table c.if-not-agrees.false);
     }
 
 pub returns-clause-agree : goal.returns-clause-agree
@@ -37,7 +29,7 @@ returns-clause-agree c =
     in let all : c.loop-index.index ≡ length g.expressions = omega arith
     in let ended : earlier_uses types gs c.args.number g c.loop-index.index ≡ group_uses types gs (suc c.args.number) =
     ap (earlier_uses types gs c.args.number g) all ∙ group_end types gs c.args.number g c.requires.group
-    in sym (ap all_agree (sym ended) ∙ c.loop-index.invariant.agree)
+    in λ _. ap (λ os. all_agree (part_uses c.args.part os)) (sym ended) ∙ c.loop-index.invariant.agree
 
 pub returns-clause-table : goal.returns-clause-table
 returns-clause-table c =
@@ -47,12 +39,16 @@ returns-clause-table c =
     in let all : c.loop-index.index ≡ length g.expressions = omega arith
     in let ended : earlier_uses types gs c.args.number g c.loop-index.index ≡ group_uses types gs (suc c.args.number) =
     ap (earlier_uses types gs c.args.number g) all ∙ group_end types gs c.args.number g c.requires.group
-    in λ _. remembers_same types gs _ _ _ _ ended c.loop-index.invariant.remembered
+    in λ _. remembers_same types gs _ _ _ _ (ap (part_uses c.args.part) ended) c.loop-index.invariant.remembered
 
-pub returns-then-not-use_agrees-clause-fault : goal.returns-then-not-use_agrees-clause-fault
-returns-then-not-use_agrees-clause-fault c = (
-  group_of c.args.group,
-  c.requires.group,
-  c.loop-index.invariant.agree,
-  sym c.use_agrees.ensures.agree ∙ c.if-not-use_agrees.true,
-)
+pub returns-then-not-agrees-clause-fault : goal.returns-then-not-agrees-clause-fault
+returns-then-not-agrees-clause-fault c =
+    let g = group_of c.args.group
+    in let within : suc c.loop-index.index ≤ length g.expressions = omega arith
+    in (
+      g,
+      c.requires.group,
+      within,
+      c.loop-index.invariant.agree,
+      sym c.in_ok-agrees.ensures.agree ∙ c.if-not-agrees.true,
+    )

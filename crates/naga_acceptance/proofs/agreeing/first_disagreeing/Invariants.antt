@@ -1,11 +1,14 @@
 use Rattle.std.proofs.Common.{◌≡◌, true}
 use Rattle.module_meaning.specs.AgreeingOperators.{groups_of}
 use Rattle.module_meaning.specs.Operations.{all_agree}
-use Rattle.naga_acceptance.specs.Uses.{Remembers, earlier_uses, group_of}
+use Rattle.naga_acceptance.specs.Uses.{Remembers, earlier_uses, group_of, part_uses}
 use Rattle.naga_acceptance.proofs.agreeing.first_disagreeing.Given as goal
 
 abbrev pub invariant-loop-index : goal.invariant-loop-index
 invariant-loop-index l = record {
-  agree : all_agree (earlier_uses l.module.types (groups_of l.module l.info) l.number (group_of l.group) l.index) ≡ true;
-  remembered : Remembers l.module.types (groups_of l.module l.info) (earlier_uses l.module.types (groups_of l.module l.info) l.number (group_of l.group) l.index) l.slots l.table;
+  agree : all_agree (part_uses l.part
+      (earlier_uses l.module.types (groups_of l.module l.info) l.number (group_of l.group) l.index)) ≡ true;
+  remembered : Remembers l.module.types (groups_of l.module l.info) (part_uses l.part
+      (earlier_uses l.module.types (groups_of l.module l.info) l.number (group_of l.group) l.index))
+      l.slots l.table;
 }

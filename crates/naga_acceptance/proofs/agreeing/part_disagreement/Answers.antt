@@ -1,0 +1,56 @@
+use Rattle.std.proofs.Common.{◌≡◌, ◌≤◌, ◌<◌, ◌+◌, ap, sym, ◌∙◌, suc, length, arith, refl, slice_get}
+use Rattle.std.proofs.Common.{ℕ, Some, None, true, inl, inr, List, ◌⊎◌, get_or}
+use Rattle.std.specs.Option.{is_none}
+use Rattle.std.proofs.lemmas.Option.{slice_get_within, slice_get_cases}
+use Rattle.module_meaning.specs.AgreeingOperators.{groups_of}
+use Rattle.module_meaning.specs.Operations.{all_agree}
+use Rattle.naga_acceptance.specs.declared.agreeing.TheConstants.{SLOTS}
+use Rattle.naga_acceptance.specs.Uses.{group_of, group_uses, part_uses}
+use Rattle.naga_acceptance.proofs.Remembering.{none_remembered, remembers_same}
+use Rattle.naga_acceptance.proofs.agreeing.part_disagreement.Goals as goal
+
+pub loop-group-init : goal.loop-group-init
+loop-group-init c = record {
+  agree = refl;
+  remembered = none_remembered c.args.module.now.types (groups_of c.args.module.now c.args.info.now) SLOTS _ refl;
+  within = omega arith;
+}
+
+pub loop-group-smaller : goal.loop-group-smaller
+loop-group-smaller c =
+    let gs = groups_of c.args.module.now c.args.info.now
+    in let within : c.loop-group.number < length gs =
+    slice_get_within gs c.loop-group.number (group_of c.in-Some.group) (sym c.in-Some.ensures.group)
+    in omega (arith, within)
+
+pub loop-group-preserved : goal.loop-group-preserved
+loop-group-preserved c =
+    let types = c.args.module.now.types
+    in let gs = groups_of c.args.module.now c.args.info.now
+    in let within : c.loop-group.number < length gs =
+    slice_get_within gs c.loop-group.number (group_of c.in-Some.group) (sym c.in-Some.ensures.group)
+    in let next : suc c.loop-group.number ≡ c.loop-group.number + 1 = omega arith
+    in let before = λ (n : ℕ). part_uses c.args.part (group_uses types gs n)
+    in let none : is_none c.in_ok-found.found ≡ true = ap is_none c.in_default-found.is
+    in record {
+      agree = ap (λ n. all_agree (before n)) (sym next) ∙ c.in_ok-found.ensures.agree none;
+      remembered = remembers_same types gs _ _ _ _ (ap before next) (c.in_ok-found.ensures.table none);
+      within = omega (arith, within);
+    }
+
+-- where there is no item, the list has ended
+past_end : {X : Type 0} (xs : List X) (n : ℕ) → slice_get xs n ≡ None → length xs ≤ n
+past_end {X} xs n none = by_place (slice_get_cases xs n).1
+  where
+    by_place : ((x : X) × (n < length xs) × (slice_get xs n ≡ Some x) × (get_or xs n x ≡ x))
+        ⊎ ((length xs ≤ n) × (slice_get xs n ≡ None)) → length xs ≤ n
+    by_place (inl within) = absurd cc
+    by_place (inr past) = past.0
+
+pub returns-clause-found : goal.returns-clause-found
+returns-clause-found c =
+    let types = c.args.module.now.types
+    in let gs = groups_of c.args.module.now c.args.info.now
+    in let past : length gs ≤ c.loop-group.number = past_end gs c.loop-group.number (sym c.in_default.ensures.group)
+    in let all : length gs ≡ c.loop-group.number = omega (arith, past, c.loop-group.invariant.within)
+    in ap (λ n. all_agree (part_uses c.args.part (group_uses types gs n))) all ∙ c.loop-group.invariant.agree
