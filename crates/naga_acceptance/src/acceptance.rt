@@ -64,8 +64,8 @@ pub fn unaccepted(module: &Module, info: &ModuleInfo) -> Option<Unaccepted>
 ///
 /// It takes no memory and answers whatever numbers a module holds. Time grows with the module; labels
 /// of a switch that don't ascend, the default behind all, are sorted, 4,096 at a time, and those
-/// behind are looked for among each 4,096; operators that come behind the first 509 are looked for
-/// from the start.
+/// behind are looked for among each 4,096; where there are more than 509 operators, all expressions
+/// are gone through once for some 270 of these.
 ///
 /// A module that is accepted may be counted and written:
 ///
