@@ -564,8 +564,7 @@ fn blocks_inside_blocks_are_written(rt: HostRuntime) -> Result<(), Fail> {
     Ok(())
 }
 
-/// A function that returns an element of a vector, whose index is so often the sum of an element with
-/// itself.
+/// A function that returns an element at the sum of an element with itself, and so on, so often.
 fn double_text(alloc: Global, doublings: usize) -> Result<String, AllocError> {
     let mut element = String::from_str(alloc, "t[x]")?;
     for _ in 0..doublings {
