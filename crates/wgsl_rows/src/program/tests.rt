@@ -564,6 +564,25 @@ fn blocks_inside_blocks_are_written(rt: HostRuntime) -> Result<(), Fail> {
     Ok(())
 }
 
+/// A function that returns an element at the sum of an element with itself, and so on, so often.
+fn double_text(alloc: Global, doublings: usize) -> Result<String, AllocError> {
+    let mut element = String::from_str(alloc, "t[x]")?;
+    for _ in 0..doublings {
+        element = format!(in alloc; "t[({element} + {element})]")?;
+    }
+    format!(in alloc; "fn d(t: vec4<i32>, x: i32) -> i32 {{\n    return {element};\n}}\n\n")
+}
+
+#[test]
+fn elements_that_double_are_written(rt: HostRuntime) -> Result<(), Fail> {
+    let text = double_text(rt.alloc(), 12)?;
+    // the element's own text has 49,144 bytes
+    assert_eq!(rt; text.len(), 49_196);
+    assert!(rt; gives(rt.alloc(), &["double"], text.as_str(), "", 0)?);
+    assert!(rt; gives(rt.alloc(), &["double", "explicit"], text.as_str(), "", 0)?);
+    Ok(())
+}
+
 /// An output that takes nothing.
 #[derive(Drop)]
 struct Broken;
