@@ -14,7 +14,9 @@ fn types_hold(rt: &impl Abort, shader: &mut ModuleBuilder) -> Handle<Type_> {
     let truth = TypeInner::Scalar(Scalar::BOOL);
     shader.type_of(truth).expect(rt, "memory");
     let i32_type = shader.scalar(Scalar::I32).expect(rt, "memory");
-    let pair = shader.vector(VectorSize::Bi, Scalar::I32).expect(rt, "memory");
+    let pair = shader
+        .vector(VectorSize::Bi, Scalar::I32)
+        .expect(rt, "memory");
     assert_eq!(rt; pair.index(), 2);
     let same = Type_ {
         name: None,
@@ -51,7 +53,9 @@ fn add_expressions(
     let chosen = function
         .select(condition, negated, one, i32_type)
         .expect(rt, "memory");
-    function.splat(VectorSize::Bi, chosen, pair).expect(rt, "memory");
+    function
+        .splat(VectorSize::Bi, chosen, pair)
+        .expect(rt, "memory");
     function.zero(pair).expect(rt, "memory");
     let parts = vec![in alloc; x, chosen].expect(rt, "memory");
     function.compose(pair, parts).expect(rt, "memory");
@@ -75,7 +79,8 @@ fn add_statements(
     reject.return_nothing().expect(rt, "memory");
     body.if_else(value, accept, reject).expect(rt, "memory");
     let (inner, continuing) = (BlockBuilder::new(alloc), BlockBuilder::new(alloc));
-    body.loop_(inner, continuing, Some(value)).expect(rt, "memory");
+    body.loop_(inner, continuing, Some(value))
+        .expect(rt, "memory");
     body.block(BlockBuilder::new(alloc)).expect(rt, "memory");
     body.switch(value, Vec::new(alloc)).expect(rt, "memory");
     body.push(Statement::Kill).expect(rt, "memory");
@@ -155,12 +160,7 @@ fn structs_hold(rt: &impl Abort, alloc: Global, shader: &mut ModuleBuilder) {
 }
 
 /// Reads what stands in a variable and a constant of the module, under names of a front end.
-fn names_hold(
-    rt: &impl Abort,
-    alloc: Global,
-    shader: &mut ModuleBuilder,
-    i32_type: Handle<Type_>,
-) {
+fn names_hold(rt: &impl Abort, alloc: Global, shader: &mut ModuleBuilder, i32_type: Handle<Type_>) {
     let mut function = FunctionBuilder::unlabelled(alloc);
     function.label("g").expect(rt, "memory");
     function.label("h").expect(rt, "memory");
@@ -216,7 +216,12 @@ fn items_hold(rt: &impl Abort, shader: &mut ModuleBuilder, ty: Handle<Type_>) {
     };
     let count = shader.add_override(count).expect(rt, "memory");
     assert_eq!(rt;
-        [constant.index(), variable.index(), one.index(), count.index()],
+        [
+            constant.index(),
+            variable.index(),
+            one.index(),
+            count.index()
+        ],
         [0, 0, 1, 0]
     );
 }

@@ -40,7 +40,10 @@ fn rules_are_read_and_told(rt: HostRuntime) {
 
 /// The rule is shown so.
 fn is_shown(rt: &impl Abort, alloc: Global, rule: &FilterableTriggeringRule, want: &str) {
-    let shown = rule.display_wgsl_ident().to_string(alloc).expect(rt, "memory");
+    let shown = rule
+        .display_wgsl_ident()
+        .to_string(alloc)
+        .expect(rt, "memory");
     assert_eq!(rt; shown.as_str(), want);
 }
 
@@ -51,8 +54,18 @@ fn rules_are_shown(rt: HostRuntime) {
     let standard = FilterableTriggeringRule::Standard(known);
     is_shown(&rt, alloc, &standard, "derivative_uniformity");
     let name = String::from_str(alloc, "no rule").expect(&rt, "memory");
-    is_shown(&rt, alloc, &FilterableTriggeringRule::Unknown(name), "no rule");
+    is_shown(
+        &rt,
+        alloc,
+        &FilterableTriggeringRule::Unknown(name),
+        "no rule",
+    );
     let tool = String::from_str(alloc, "a").expect(&rt, "memory");
     let rule = String::from_str(alloc, "b").expect(&rt, "memory");
-    is_shown(&rt, alloc, &FilterableTriggeringRule::User([tool, rule]), "a.b");
+    is_shown(
+        &rt,
+        alloc,
+        &FilterableTriggeringRule::User([tool, rule]),
+        "a.b",
+    );
 }

@@ -56,5 +56,9 @@ fn an_initialiser_is_written(rt: HostRuntime) {
     assert!(rt; accepts(&known.module, &known.info));
     let (names, _namer) = names_of(rt.alloc(), &known.module).expect(&rt, "names");
     let text = text_of(rt.alloc(), &known.module, &known.info, &names, vector);
-    reads(&rt, text.expect(&rt, "a text").as_str(), "vec2<i32>(-7i, -7i)");
+    reads(
+        &rt,
+        text.expect(&rt, "a text").as_str(),
+        "vec2<i32>(-7i, -7i)",
+    );
 }

@@ -76,9 +76,10 @@ const BEHIND_A_RESET: &[Calls] = &[
     &[("<a,b>", "_a_b"), ("a_", "a"), ("a__b", "a_b")],
 ];
 
+type Label = Option<&'static str>;
+
 /// Labels, or none, of calls with the fallback `param`, and their names.
-const OR_PARAM: &[(Option<&str>, &str)] =
-    &[(None, "param"), (Some(""), "unnamed"), (None, "param_1")];
+const OR_PARAM: &[(Label, &str)] = &[(None, "param"), (Some(""), "unnamed"), (None, "param_1")];
 
 /// Calls with these labels, in order, give these names.
 fn gives(rt: &impl Abort, namer: &mut Namer, rows: &[(&str, &str)]) {
@@ -249,7 +250,8 @@ fn add_argument_keys(
 /// Adds the keys of the global variables, each before those of its parts.
 fn add_global_keys(rt: &impl Abort, module: &Module, keys: &mut Vec<NameKey>) {
     for (variable, item) in module.global_variables.iter() {
-        keys.push(NameKey::GlobalVariable(variable)).expect(rt, "memory");
+        keys.push(NameKey::GlobalVariable(variable))
+            .expect(rt, "memory");
         if is_external(&module.types, item.ty) {
             for part in PARTS {
                 let key = NameKey::ExternalTextureGlobalVariable(variable, part);
@@ -312,7 +314,14 @@ fn check_reset(
     let builtin = KeywordSet::from_slice(alloc, BUILTIN_IDENTIFIERS).expect(rt, "memory");
     let caseless = CaseInsensitiveKeywordSet::new(alloc);
     namer
-        .reset(module, keywords, builtin, caseless, &["__", "_naga"], &mut names)
+        .reset(
+            module,
+            keywords,
+            builtin,
+            caseless,
+            &["__", "_naga"],
+            &mut names,
+        )
         .expect(rt, "names");
     have_names(rt, keys_of(rt, alloc, module).as_slice(), &names, want);
     gives(rt, &mut namer, calls);
@@ -327,12 +336,7 @@ fn items_are_named(rt: HostRuntime) {
 }
 
 /// The name of the label, or else of `param`.
-fn name_or_param(
-    rt: &impl Abort,
-    alloc: Global,
-    namer: &mut Namer,
-    label: Option<&str>,
-) -> String {
+fn name_or_param(rt: &impl Abort, alloc: Global, namer: &mut Namer, label: Label) -> String {
     let label = match label {
         Some(label) => Some(String::from_str(alloc, label).expect(rt, "memory")),
         None => None,
@@ -341,8 +345,8 @@ fn name_or_param(
 }
 
 /// Labels, or none, give these names with the fallback `param`.
-fn gives_or_param(rt: &impl Abort, alloc: Global, namer: &mut Namer) {
-    for (label, want) in OR_PARAM {
+fn gives_or_param(rt: &impl Abort, alloc: Global, namer: &mut Namer, rows: &[(Label, &str)]) {
+    for (label, want) in rows {
         let name = name_or_param(rt, alloc, namer, *label);
         assert_eq!(rt; name.as_str(), *want, "for {label:?}");
     }
@@ -353,7 +357,7 @@ fn names_are_given(rt: HostRuntime) {
     let alloc = rt.alloc();
     gives(&rt, &mut Namer::default(alloc), BY_THEIR_BASE);
     gives(&rt, &mut Namer::default(alloc), MARKS_AND_FOREIGN);
-    gives_or_param(&rt, alloc, &mut Namer::default(alloc));
+    gives_or_param(&rt, alloc, &mut Namer::default(alloc), OR_PARAM);
 }
 
 #[test]

@@ -95,8 +95,9 @@ fn add_sums(rt: &impl Abort, alloc: Global, shader: &mut ModuleBuilder, depth: u
 fn sums_text(rt: &impl Abort, alloc: Global, depth: usize) -> String {
     let opened = repeated(rt, alloc, "(", depth);
     let closed = repeated(rt, alloc, " + x)", depth);
-    format!(in alloc; "fn sums(x: i32) -> i32 {{\n    return {opened}x{closed};\n}}\n\n")
-        .expect(rt, "memory")
+    format!(in alloc; "fn sums(x: i32) -> i32 {{\n    return {opened}x{closed};\n}}\n\n").expect(
+        rt, "memory",
+    )
 }
 
 #[test]

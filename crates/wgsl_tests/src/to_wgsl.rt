@@ -46,5 +46,9 @@ fn wordless_values_are_refused(rt: HostRuntime) {
     assert_eq!(rt; word, "u64");
     let refused = to_wgsl_if_implemented(alloc, MathFunction::Outer);
     let told = refused.expect_err(&rt, "a word").to_string(alloc);
-    reads(&rt, told.expect(&rt, "memory").as_str(), "Unsupported math function: Outer");
+    reads(
+        &rt,
+        told.expect(&rt, "memory").as_str(),
+        "Unsupported math function: Outer",
+    );
 }

@@ -86,7 +86,10 @@ fn debug_texts(rt: HostRuntime) {
     let _ = arena.append(truth).expect(&rt, "memory");
     let triangle = RayIntersectionType::Triangle;
     let shown = format!(in alloc; "{triangle:?} {arena:?}").expect(&rt, "memory");
-    assert_eq!(rt; shown.as_str(), "Triangle Arena { items: [Literal(Bool(true))] }");
+    assert_eq!(rt;
+        shown.as_str(),
+        "Triangle Arena { items: [Literal(Bool(true))] }"
+    );
 }
 
 /// The text of a context of a function without expressions.
@@ -130,7 +133,12 @@ fn errors(rt: HostRuntime) {
     is_told_as(&rt, alloc, &NamerError::KeyFull, "name key out of range");
     is_told_as(&rt, alloc, &NamerError::from(AllocError), "out of memory");
     is_told_as(&rt, alloc, &SinkError::Failed, "sink failed");
-    is_told_as(&rt, alloc, &TypeTextError::NoForm, "type without a WGSL form");
+    is_told_as(
+        &rt,
+        alloc,
+        &TypeTextError::NoForm,
+        "type without a WGSL form",
+    );
     let failed = Error::from(SinkError::Failed);
     is_told_as(&rt, alloc, &failed, "sink failed");
     let shown = format!(in alloc; "{failed:?}").expect(&rt, "memory");

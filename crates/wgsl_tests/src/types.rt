@@ -39,7 +39,9 @@ fn formless() -> TypeInner
 
 /// What is spelled without a look at any type of the context.
 fn values_hold<C: TypeContext>(rt: &impl Abort, alloc: Global, context: &C, text: &mut String) {
-    context.write_scalar(alloc, Scalar::I32, text).expect(rt, "a text");
+    context
+        .write_scalar(alloc, Scalar::I32, text)
+        .expect(rt, "a text");
     stands(rt, text, "i32");
     let odd = Scalar {
         kind: ScalarKind::Sint,
@@ -147,7 +149,9 @@ fn global_holds(rt: &impl Abort, alloc: Global, context: &GlobalCtx<'_>, text: &
     assert!(rt; 0 < context.types.len() && 0 < context.overrides.len());
     assert!(rt; types_in_order(context.types, context.overrides.len()));
     let first = Place::from_index(0);
-    context.write_override(alloc, first, text).expect(rt, "a text");
+    context
+        .write_override(alloc, first, text)
+        .expect(rt, "a text");
     let bare = TypeInner::Struct {
         members: Vec::new(alloc),
         span: 0,

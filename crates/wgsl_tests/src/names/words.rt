@@ -23,7 +23,8 @@ fn case_counts(rt: HostRuntime) {
     let alloc = rt.alloc();
     let mut set = set_of(&rt, alloc, &["fn", "let", "fn"]);
     assert!(rt; set.contains("fn") && !set.contains("Fn") && !set.contains(""));
-    set.extend(["Fn", "if"].iter().copied()).expect(&rt, "memory");
+    set.extend(["Fn", "if"].iter().copied())
+        .expect(&rt, "memory");
     assert!(rt; set.contains("Fn") && set.contains("if"));
     let words = ["if", "Fn", "let", "fn"];
     let same = KeywordSet::from_words(alloc, words.iter().copied()).expect(&rt, "memory");

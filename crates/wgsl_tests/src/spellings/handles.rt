@@ -24,10 +24,16 @@ const ROWS: &[(&str, Option<&str>)] = &[
          space: Handle }}",
         None,
     ),
-    ("{non-WGSL Naga scalar Scalar { kind: Sint, width: 3 }}", None),
+    (
+        "{non-WGSL Naga scalar Scalar { kind: Sint, width: 3 }}",
+        None,
+    ),
     ("atomic<{AbstractFloat}>", None),
     ("{anonymous type}", Some("T10")),
-    ("ptr<function, {anonymous type}>", Some("ptr<function, T10>")),
+    (
+        "ptr<function, {anonymous type}>",
+        Some("ptr<function, T10>"),
+    ),
     ("{anonymous type}", Some("T12")),
     ("{anonymous type}", Some("T13")),
 ];
@@ -39,7 +45,11 @@ fn rows_hold(rt: &impl Abort, alloc: Global, context: &NumberedTypes<'_>) {
     for (index, (shown, numbered)) in ROWS.iter().enumerate() {
         let handle = Place::from_index(index);
         assert!(rt; index < context.types.len());
-        reads(rt, &context.types.type_to_string(alloc, handle), Some(*shown));
+        reads(
+            rt,
+            &context.types.type_to_string(alloc, handle),
+            Some(*shown),
+        );
         reads(rt, &context.type_to_string(alloc, handle), *numbered);
     }
 }
@@ -74,7 +84,11 @@ fn written_names_hold(rt: &impl Abort, alloc: Global, context: &WriterTypeContex
         scalar: Scalar::U32,
         space: AddressSpace::Handle,
     });
-    reads(rt, &context.type_resolution_to_string(alloc, &pointer), None);
+    reads(
+        rt,
+        &context.type_resolution_to_string(alloc, &pointer),
+        None,
+    );
 }
 
 /// The types as a writer names them, with a name for the struct that has a label.
@@ -84,5 +98,12 @@ pub fn writer_holds(rt: &impl Abort, alloc: Global, module: &Module) {
     let key = NameKey::Type_(Place::from_index(LABELLED));
     let inserted: Result<_, _> = names.insert(key, name);
     inserted.expect(rt, "memory");
-    written_names_hold(rt, alloc, &WriterTypeContext { module, names: &names });
+    written_names_hold(
+        rt,
+        alloc,
+        &WriterTypeContext {
+            module,
+            names: &names,
+        },
+    );
 }

@@ -110,7 +110,11 @@ fn rule_holds<C: TypeContext>(
     for limit in 0..=want.len() {
         written_within(rt, alloc, context, name, rule, want, limit);
     }
-    reads(rt, &context.type_rule_to_string(alloc, name, rule), Some(want));
+    reads(
+        rt,
+        &context.type_rule_to_string(alloc, name, rule),
+        Some(want),
+    );
 }
 
 /// Rules that name no type of the context.

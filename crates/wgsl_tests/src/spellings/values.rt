@@ -18,14 +18,8 @@ const ROWS: &[(&str, &str)] = &[
             "scalar": {"kind": "Float", "width": 2}, "role": "B"}}"#,
         "coop_mat8x16<f16,B>",
     ),
-    (
-        r#"{"Atomic": {"kind": "Uint", "width": 4}}"#,
-        "atomic<u32>",
-    ),
-    (
-        r#"{"Sampler": {"comparison": true}}"#,
-        "sampler_comparison",
-    ),
+    (r#"{"Atomic": {"kind": "Uint", "width": 4}}"#, "atomic<u32>"),
+    (r#"{"Sampler": {"comparison": true}}"#, "sampler_comparison"),
     (
         r#"{"AccelerationStructure": {"vertex_return": true}}"#,
         "acceleration_structure<vertex_return>",
@@ -78,10 +72,7 @@ const ROWS: &[(&str, &str)] = &[
         r#"{"Pointer": {"base": 2, "space": {"Storage": {"access": "LOAD | STORE"}}}}"#,
         "ptr<storage, i32, read_write>",
     ),
-    (
-        r#"{"Pointer": {"base": 15, "space": "Handle"}}"#,
-        "sampler",
-    ),
+    (r#"{"Pointer": {"base": 15, "space": "Handle"}}"#, "sampler"),
     (
         r#"{"Pointer": {"base": 17, "space": "Private"}}"#,
         "ptr<private, S>",
@@ -154,7 +145,11 @@ fn value_holds(
     };
     assert!(rt; types_in_order(context.types, context.overrides.len()));
     assert!(rt; type_fits(context.types.len(), context.overrides.len(), inner));
-    reads(rt, &context.type_resolution_to_string(alloc, value), Some(want));
+    reads(
+        rt,
+        &context.type_resolution_to_string(alloc, value),
+        Some(want),
+    );
 }
 
 /// Each type has its text in the module.
@@ -190,7 +185,11 @@ fn struct_holds(
     };
     assert!(rt; types_in_order(types, 0));
     assert!(rt; type_fits(types.len(), 0, inner));
-    reads(rt, &types.type_resolution_to_string(alloc, bare), Some(want));
+    reads(
+        rt,
+        &types.type_resolution_to_string(alloc, bare),
+        Some(want),
+    );
 }
 
 /// Each struct has its text where there are no types.

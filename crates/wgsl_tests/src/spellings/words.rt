@@ -24,7 +24,11 @@ fn words_for_diagnostics(rt: HostRuntime) {
         width: 16,
     };
     let odd = odd.to_wgsl_for_diagnostics(alloc);
-    names(&rt, odd, "{non-WGSL scalar Scalar { kind: Uint, width: 16 }}");
+    names(
+        &rt,
+        odd,
+        "{non-WGSL scalar Scalar { kind: Uint, width: 16 }}",
+    );
 }
 
 const SIZES: &[(Option<VectorSize>, &str, &str)] = &[
@@ -92,7 +96,12 @@ fn modf_is_named(
     scalar: Scalar,
     want: &str,
 ) {
-    is_named(rt, alloc, PredeclaredType::ModfResult { size, scalar }, want);
+    is_named(
+        rt,
+        alloc,
+        PredeclaredType::ModfResult { size, scalar },
+        want,
+    );
 }
 
 #[test]
