@@ -11,10 +11,9 @@ use naga_wgsl_out::ir::{
     Statement, TypeInner,
 };
 use naga_wgsl_out::namer::{ExternalTextureNameKey, NameKey};
-use std::alloc::{AllocError, Global};
+use std::alloc::Global;
 use std::collections::HashSet;
 use std::process::Abort;
-use std::test::Fail;
 
 #[test]
 fn letters_and_signs(rt: HostRuntime) {
@@ -24,28 +23,29 @@ fn letters_and_signs(rt: HostRuntime) {
 }
 
 #[test]
-fn levels_and_handles_are_shown(rt: HostRuntime) -> Result<(), Fail> {
+fn levels_and_handles_are_shown(rt: HostRuntime) {
     let alloc = rt.alloc();
-    assert_eq!(rt; Level(0).to_string(alloc)?.as_str(), "");
-    assert_eq!(rt; Level(1).next().to_string(alloc)?.as_str(), "        ");
-    let baked = Baked(Place::from_index(7)).to_string(alloc)?;
-    assert_eq!(rt; baked.as_str(), "_e7");
-    Ok(())
+    let outer = Level(0).to_string(alloc).expect(&rt, "memory");
+    let inner = Level(1).next().to_string(alloc).expect(&rt, "memory");
+    assert_eq!(rt; (outer.as_str(), inner.as_str()), ("", "        "));
+    let baked = Baked(Place::from_index(7)).to_string(alloc);
+    assert_eq!(rt; baked.expect(&rt, "memory").as_str(), "_e7");
 }
 
 #[test]
-fn uses_that_bind(rt: HostRuntime) -> Result<(), Fail> {
+fn uses_that_bind(rt: HostRuntime) {
     let base = Place::from_index(0);
     assert_eq!(rt;
-        Expression::AccessIndex { base, index: 0 }.bake_ref_count(),
-        usize::MAX
+        [
+            Expression::AccessIndex { base, index: 0 }.bake_ref_count(),
+            Expression::Load { pointer: base }.bake_ref_count(),
+            Expression::Literal(Literal::I32(0)).bake_ref_count(),
+        ],
+        [usize::MAX, 1, 2]
     );
-    assert_eq!(rt; Expression::Load { pointer: base }.bake_ref_count(), 1);
-    assert_eq!(rt; Expression::Literal(Literal::I32(0)).bake_ref_count(), 2);
     let mut needed: NeedBakeExpressions = HashSet::new(rt.alloc());
-    needed.insert(base)?;
+    needed.insert(base).expect(&rt, "memory");
     assert!(rt; needed.contains(&base) && !needed.contains(&Place::from_index(1)));
-    Ok(())
 }
 
 #[test]
@@ -159,12 +159,10 @@ fn inputs_hold(rt: &impl Abort, module: &Module, info: &FunctionInfo) {
 }
 
 #[test]
-fn inputs_of_an_entry_point(rt: HostRuntime) -> Result<(), Fail> {
-    let known = read_known(rt.alloc(), FRAGMENT)?;
+fn inputs_of_an_entry_point(rt: HostRuntime) {
+    let known = read_known(rt.alloc(), FRAGMENT).expect(&rt, "a module");
     assert!(rt; known.info.entry_points.len() == 1);
     inputs_hold(&rt, &known.module, &known.info.entry_points[0]);
-    drop(known);
-    Ok(())
 }
 
 /// The keys of what the function has.
@@ -200,13 +198,13 @@ fn keys_hold(rt: &impl Abort, info: &FunctionInfo, function: &Function) {
 }
 
 /// The type of an expression that is known by itself.
-fn type_holds(rt: &impl Abort, alloc: Global, function: &Function) -> Result<(), AllocError> {
+fn type_holds(rt: &impl Abort, alloc: Global, function: &Function) {
     let only = ExpressionInfo {
         ref_count: 0,
         ty: TypeResolution::Value(TypeInner::Scalar(Scalar::F32)),
     };
     let info = FunctionInfo {
-        expressions: vec![in alloc; only]?,
+        expressions: vec![in alloc; only].expect(rt, "memory"),
     };
     let context = FunctionCtx {
         ty: FunctionType::EntryPoint(0),
@@ -218,14 +216,11 @@ fn type_holds(rt: &impl Abort, alloc: Global, function: &Function) -> Result<(),
     let ty = context.resolve_type(Place::from_index(0), &types);
     assert!(rt; matches!(ty, TypeInner::Scalar(_)));
     keys_hold(rt, &info, function);
-    Ok(())
 }
 
 #[test]
-fn types_and_keys_in_a_function(rt: HostRuntime) -> Result<(), Fail> {
-    let function = Function::new(rt.alloc());
-    type_holds(&rt, rt.alloc(), &function)?;
-    Ok(())
+fn types_and_keys_in_a_function(rt: HostRuntime) {
+    type_holds(&rt, rt.alloc(), &Function::new(rt.alloc()));
 }
 
 const STAGES: &[(ShaderStage, bool)] = &[
@@ -247,27 +242,16 @@ fn forms_workgroups(rt: &impl Abort, module: &Module) -> bool {
     FunctionType::EntryPoint(0).is_compute_like_entry_point(module)
 }
 
-/// The same of an entry point of this stage.
-fn stage_forms_workgroups(
-    rt: &impl Abort,
-    alloc: Global,
-    stage: ShaderStage,
-) -> Result<bool, Fail> {
-    let text = format!(in alloc;
-        r#"{{"entry_points": [{{"name": "", "stage": "{stage:?}", "workgroup_size": [1, 1, 1],
-            "function": {{}}}}]}}"#
-    )?;
-    let module = read_module(alloc, text.as_str())?;
-    let forms = forms_workgroups(rt, &module);
-    drop(module);
-    Ok(forms)
-}
-
 #[test]
-fn stages_with_workgroups(rt: HostRuntime) -> Result<(), Fail> {
+fn stages_with_workgroups(rt: HostRuntime) {
+    let alloc = rt.alloc();
     for (stage, want) in STAGES {
-        let forms = stage_forms_workgroups(&rt, rt.alloc(), *stage)?;
-        assert_eq!(rt; forms, *want, "{stage:?}");
+        let text = format!(in alloc;
+            r#"{{"entry_points": [{{"name": "", "stage": "{stage:?}", "workgroup_size": [1, 1, 1],
+                "function": {{}}}}]}}"#
+        )
+        .expect(&rt, "memory");
+        let module = read_module(alloc, text.as_str()).expect(&rt, "a module");
+        assert_eq!(rt; forms_workgroups(&rt, &module), *want, "{stage:?}");
     }
-    Ok(())
 }

@@ -3,9 +3,8 @@ use naga_wgsl_out::diagnostics::{
     DisplayWgslIdent, FilterableTriggeringRule, FromWgslIdent, Severity,
     StandardFilterableTriggeringRule, ToWgslIdent,
 };
-use std::alloc::{AllocError, Global};
+use std::alloc::Global;
 use std::process::Abort;
-use std::test::Fail;
 
 const SEVERITIES: &[(&str, Option<Severity>)] = &[
     ("off", Some(Severity::Off)),
@@ -40,44 +39,33 @@ fn rules_are_read_and_told(rt: HostRuntime) {
 }
 
 /// The rule is shown so.
-fn is_shown(
-    rt: &impl Abort,
-    alloc: Global,
-    rule: FilterableTriggeringRule,
-    want: &str,
-) -> Result<(), AllocError> {
-    let shown = rule.display_wgsl_ident().to_string(alloc)?;
+fn is_shown(rt: &impl Abort, alloc: Global, rule: &FilterableTriggeringRule, want: &str) {
+    let shown = rule
+        .display_wgsl_ident()
+        .to_string(alloc)
+        .expect(rt, "memory");
     assert_eq!(rt; shown.as_str(), want);
-    Ok(())
-}
-
-fn shown_in(rt: &impl Abort, alloc: Global) -> Result<(), AllocError> {
-    let known = StandardFilterableTriggeringRule::DerivativeUniformity;
-    is_shown(
-        rt,
-        alloc,
-        FilterableTriggeringRule::Standard(known),
-        "derivative_uniformity",
-    )?;
-    let unknown = String::from_str(alloc, "no rule")?;
-    is_shown(
-        rt,
-        alloc,
-        FilterableTriggeringRule::Unknown(unknown),
-        "no rule",
-    )?;
-    let tool = String::from_str(alloc, "a")?;
-    let rule = String::from_str(alloc, "b")?;
-    is_shown(
-        rt,
-        alloc,
-        FilterableTriggeringRule::User([tool, rule]),
-        "a.b",
-    )
 }
 
 #[test]
-fn rules_are_shown(rt: HostRuntime) -> Result<(), Fail> {
-    shown_in(&rt, rt.alloc())?;
-    Ok(())
+fn rules_are_shown(rt: HostRuntime) {
+    let alloc = rt.alloc();
+    let known = StandardFilterableTriggeringRule::DerivativeUniformity;
+    let standard = FilterableTriggeringRule::Standard(known);
+    is_shown(&rt, alloc, &standard, "derivative_uniformity");
+    let name = String::from_str(alloc, "no rule").expect(&rt, "memory");
+    is_shown(
+        &rt,
+        alloc,
+        &FilterableTriggeringRule::Unknown(name),
+        "no rule",
+    );
+    let tool = String::from_str(alloc, "a").expect(&rt, "memory");
+    let rule = String::from_str(alloc, "b").expect(&rt, "memory");
+    is_shown(
+        &rt,
+        alloc,
+        &FilterableTriggeringRule::User([tool, rule]),
+        "a.b",
+    );
 }

@@ -5,15 +5,13 @@ ghost use Rattle.module_meaning.specs.Names.{HasNamesOf};
 ghost use Rattle.naga_names.specs.Keys.{names_in};
 
 use crate::texts::reads;
-use naga_json::{Known, read_known};
+use naga_json::read_known;
 use naga_wgsl_out::info::{ModuleInfo, accepts};
 use naga_wgsl_out::ir::{Expression, Handle, Module, Place};
 use naga_wgsl_out::namer::NameKey;
 use naga_wgsl_out::wgsl::{Error, names_of, write_global_expression};
 use std::alloc::Global;
 use std::collections::HashMap;
-use std::process::Abort;
-use std::test::Fail;
 
 /// The text of an initialiser. What is known of the module is asked for here, since the call itself
 /// asks for it in its condition alone.
@@ -50,21 +48,17 @@ const VECTOR: &str = r#"{
     "info": {"const_expression_types": [0, 0, 1]}
 }"#;
 
-fn writes(rt: &impl Abort, alloc: Global, known: &Known) -> Result<(), Error> {
+#[test]
+fn an_initialiser_is_written(rt: HostRuntime) {
+    let known = read_known(rt.alloc(), VECTOR).expect(&rt, "a module");
     let vector = Place::from_index(2);
     assert!(rt; vector.index() < known.module.global_expressions.len());
     assert!(rt; accepts(&known.module, &known.info));
-    let (names, _namer) = names_of(alloc, &known.module)?;
-    let text = text_of(alloc, &known.module, &known.info, &names, vector)?;
-    reads(rt, text.as_str(), "vec2<i32>(-7i, -7i)");
-    Ok(())
-}
-
-#[test]
-fn an_initialiser_is_written(rt: HostRuntime) -> Result<(), Fail> {
-    let known = read_known(rt.alloc(), VECTOR)?;
-    let written = writes(&rt, rt.alloc(), &known);
-    drop(known);
-    written?;
-    Ok(())
+    let (names, _namer) = names_of(rt.alloc(), &known.module).expect(&rt, "names");
+    let text = text_of(rt.alloc(), &known.module, &known.info, &names, vector);
+    reads(
+        &rt,
+        text.expect(&rt, "a text").as_str(),
+        "vec2<i32>(-7i, -7i)",
+    );
 }

@@ -2,9 +2,8 @@
 use naga_wgsl_out::builder::{FunctionBuilder, ModuleBuilder};
 use naga_wgsl_out::info::accepts;
 use naga_wgsl_out::ir::{Block, Literal, SwitchCase, SwitchValue};
-use std::alloc::{AllocError, Global};
+use std::alloc::Global;
 use std::process::Abort;
-use std::test::Fail;
 
 /// How many labels, what they are multiples of, the largest first, and one of them, which is found
 /// if it stands once more: among the 4,096 that are sorted at once, as the last of them, as the
@@ -40,73 +39,55 @@ fn label(number: u32, step: u32) -> SwitchValue {
 }
 
 /// The labels of a row, and a default.
-fn labels(alloc: Global, count: u32, step: u32) -> Result<Vec<SwitchValue>, AllocError> {
+fn labels(rt: &impl Abort, alloc: Global, count: u32, step: u32) -> Vec<SwitchValue> {
     let mut labels = Vec::new(alloc);
     for number in (0..count).rev() {
-        labels.push(label(number, step))?;
+        labels.push(label(number, step)).expect(rt, "memory");
     }
-    labels.push(SwitchValue::Default)?;
-    Ok(labels)
+    labels.push(SwitchValue::Default).expect(rt, "memory");
+    labels
 }
 
 /// An empty case for each label.
-fn cases(alloc: Global, labels: &[SwitchValue]) -> Result<Vec<SwitchCase>, AllocError> {
+fn cases(rt: &impl Abort, alloc: Global, labels: &[SwitchValue]) -> Vec<SwitchCase> {
     let mut cases = Vec::new(alloc);
     for label in labels {
-        cases.push(SwitchCase {
+        let case = SwitchCase {
             value: *label,
             body: Block::new(alloc),
             fall_through: false,
-        })?;
+        };
+        cases.push(case).expect(rt, "memory");
     }
-    Ok(cases)
+    cases
 }
 
-/// Adds a function whose body is a switch over a number.
-fn add_switch(
-    alloc: Global,
-    labels: &[SwitchValue],
-    shader: &mut ModuleBuilder,
-) -> Result<(), AllocError> {
+/// Whether a module is accepted whose function's body is a switch over a number.
+fn is_accepted(rt: &impl Abort, alloc: Global, labels: &[SwitchValue]) -> bool {
     let mut function = FunctionBuilder::unlabelled(alloc);
-    let selector = function.literal(Literal::U32(1))?;
-    function.body.switch(selector, cases(alloc, labels)?)?;
-    shader.add_function(function)?;
-    Ok(())
-}
-
-/// Whether a module of such a function is accepted.
-fn is_accepted(alloc: Global, labels: &[SwitchValue]) -> Result<bool, AllocError> {
+    let selector = function.literal(Literal::U32(1)).expect(rt, "memory");
+    let cases = cases(rt, alloc, labels);
+    function.body.switch(selector, cases).expect(rt, "memory");
     let mut shader = ModuleBuilder::new(alloc);
-    let added = add_switch(alloc, labels, &mut shader);
-    let is_accepted = accepts(&shader.module, &shader.info);
-    drop(shader);
-    added?;
-    Ok(is_accepted)
+    shader.add_function(function).expect(rt, "memory");
+    accepts(&shader.module, &shader.info)
 }
 
 /// The switch is accepted with these labels, and no longer with one of them once more, or with
 /// another default.
-fn check(
-    rt: &impl Abort,
-    alloc: Global,
-    labels: &mut Vec<SwitchValue>,
-    again: u32,
-) -> Result<(), AllocError> {
-    assert!(rt; is_accepted(alloc, labels)?, "{again}");
-    labels.push(SwitchValue::U32(again))?;
-    assert!(rt; !is_accepted(alloc, labels)?, "{again}");
+fn check(rt: &impl Abort, alloc: Global, labels: &mut Vec<SwitchValue>, again: u32) {
+    assert!(rt; is_accepted(rt, alloc, labels), "{again}");
+    labels.push(SwitchValue::U32(again)).expect(rt, "memory");
+    assert!(rt; !is_accepted(rt, alloc, labels), "{again}");
     labels.pop();
-    labels.push(SwitchValue::Default)?;
-    assert!(rt; !is_accepted(alloc, labels)?, "{again}");
-    Ok(())
+    labels.push(SwitchValue::Default).expect(rt, "memory");
+    assert!(rt; !is_accepted(rt, alloc, labels), "{again}");
 }
 
 #[test]
-fn no_label_stands_twice(rt: HostRuntime) -> Result<(), Fail> {
+fn no_label_stands_twice(rt: HostRuntime) {
     for (count, step, again) in ROWS {
-        let mut labels = labels(rt.alloc(), *count, *step)?;
-        check(&rt, rt.alloc(), &mut labels, *again)?;
+        let mut labels = labels(&rt, rt.alloc(), *count, *step);
+        check(&rt, rt.alloc(), &mut labels, *again);
     }
-    Ok(())
 }

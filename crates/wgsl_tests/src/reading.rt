@@ -2,8 +2,8 @@
 //! of an info.
 
 use naga_json::{read_info, read_known, read_module};
-use std::alloc::{AllocError, Global};
-use std::test::Fail;
+use std::alloc::Global;
+use std::process::Abort;
 
 /// A module's text, an info's, and the message of the refusal.
 const REFUSALS: &[(&str, &str, &str)] = &[
@@ -212,6 +212,13 @@ const REFUSALS: &[(&str, &str, &str)] = &[
         r#"{"functions": [[null]]}"#,
         "info.functions[0][0]: no number and no object with one member",
     ),
+    (
+        r#"{"special_types": {"predeclared_types": [
+            [{"ModfResult": {"size": "Bi", "scalar": {"kind": "Float", "width": 4}}}, 1],
+            [{"ModfResult": {"size": "Bi", "scalar": {"kind": "Float", "width": 4}}}, 2]]}}"#,
+        "{}",
+        "module.special_types.predeclared_types[1]: equals an earlier type",
+    ),
 ];
 
 /// A module's text, an info's, and a part of how what is read is printed.
@@ -287,95 +294,54 @@ const READINGS: &[(&str, &str, &str)] = &[
         r#"{"functions": [[0, {"Value": {"Sampler": {}}}]]}"#,
         "ExpressionInfo { ref_count: 0, ty: Value(Sampler { comparison: false }) }",
     ),
+    // predeclared types are keys, and so pairs
+    (
+        r#"{"special_types": {"predeclared_types": [
+            [{"ModfResult": {"size": "Bi", "scalar": {"kind": "Float", "width": 4}}}, 1]]}}"#,
+        "{}",
+        "{ModfResult { size: Some(Bi), scalar: Scalar { kind: Float, width: 4 } }: \
+         Place { index: 1, mark: PhantomData<_> }}",
+    ),
 ];
 
 /// An object with module and info.
-fn known_text(alloc: Global, module: &str, info: &str) -> Result<String, AllocError> {
-    format!(in alloc; "{{\"module\": {module}, \"info\": {info}}}")
+fn known_text(rt: &impl Abort, alloc: Global, module: &str, info: &str) -> String {
+    format!(in alloc; "{{\"module\": {module}, \"info\": {info}}}").expect(rt, "memory")
 }
 
 #[test]
-fn a_refusal_tells_place_and_problem(rt: HostRuntime) -> Result<(), Fail> {
+fn a_refusal_tells_place_and_problem(rt: HostRuntime) {
     let alloc = rt.alloc();
-    for (module, info, wanted) in REFUSALS {
-        let text = known_text(alloc, module, info)?;
-        let Err(error) = read_known(alloc, text.as_str()) else {
-            panic!(rt; "it was read: {text}");
-        };
-        let message = format!(in alloc; "{error}")?;
-        assert_eq!(rt; message.as_str(), *wanted, "{text}");
+    for (module, info, want) in REFUSALS {
+        let text = known_text(&rt, alloc, *module, *info);
+        let error = read_known(alloc, text.as_str()).expect_err(&rt, text.as_str());
+        let message = format!(in alloc; "{error}").expect(&rt, "memory");
+        assert_eq!(rt; message.as_str(), *want, "{text}");
     }
-    Ok(())
 }
 
 #[test]
-fn values_are_read(rt: HostRuntime) -> Result<(), Fail> {
+fn values_are_read(rt: HostRuntime) {
     let alloc = rt.alloc();
-    for (module, info, wanted) in READINGS {
-        let text = known_text(alloc, module, info)?;
-        let known = read_known(alloc, text.as_str())?;
-        let printed = format!(in alloc; "{known:?}")?;
-        assert!(rt; printed.as_str().contains(*wanted), "{text}: {printed}");
+    for (module, info, want) in READINGS {
+        let text = known_text(&rt, alloc, *module, *info);
+        let known = read_known(alloc, text.as_str()).expect(&rt, text.as_str());
+        let printed = format!(in alloc; "{known:?}").expect(&rt, "memory");
+        assert!(rt; printed.as_str().contains(*want), "{text}: {printed}");
     }
-    Ok(())
-}
-
-/// A predeclared type, which is a key.
-const MODF: &str = r#"{"ModfResult": {"size": "Bi", "scalar": {"kind": "Float", "width": 4}}}"#;
-
-/// A module with these pairs of predeclared types.
-fn with_predeclared(alloc: Global, pairs: &str) -> Result<String, AllocError> {
-    format!(in alloc; "{{\"special_types\": {{\"predeclared_types\": [{pairs}]}}}}")
 }
 
 #[test]
-fn predeclared_types_are_pairs(rt: HostRuntime) -> Result<(), Fail> {
-    let alloc = rt.alloc();
-    let pair = format!(in alloc; "[{MODF}, 1]")?;
-    let text = with_predeclared(alloc, pair.as_str())?;
-    let module = read_module(alloc, text.as_str())?;
-    let printed = format!(in alloc; "{:?}", module.special_types.predeclared_types)?;
-    assert_eq!(rt;
-        printed.as_str(),
-        "{ModfResult { size: Some(Bi), scalar: Scalar { kind: Float, width: 4 } }: \
-        Place { index: 1, mark: PhantomData<_> }}"
-    );
-    Ok(())
-}
-
-#[test]
-fn no_predeclared_type_comes_twice(rt: HostRuntime) -> Result<(), Fail> {
-    let alloc = rt.alloc();
-    let pairs = format!(in alloc; "[{MODF}, 1], [{MODF}, 2]")?;
-    let text = with_predeclared(alloc, pairs.as_str())?;
-    let Err(error) = read_module(alloc, text.as_str()) else {
-        panic!(rt; "it was read: {text}");
-    };
-    let message = format!(in alloc; "{error}")?;
-    assert_eq!(rt;
-        message.as_str(),
-        "special_types.predeclared_types[1]: equals an earlier type"
-    );
-    Ok(())
-}
-
-#[test]
-fn a_module_and_an_info_are_read_by_themselves(rt: HostRuntime) -> Result<(), Fail> {
-    let alloc = rt.alloc();
-    let module = read_module(alloc, "{}")?;
+fn a_module_and_an_info_are_read_by_themselves(rt: HostRuntime) {
+    let module = read_module(rt.alloc(), "{}").expect(&rt, "a module");
     assert!(rt; module.types.is_empty());
-    let info = read_info(alloc, "{}")?;
+    let info = read_info(rt.alloc(), "{}").expect(&rt, "an info");
     assert!(rt; info.functions.is_empty());
-    Ok(())
 }
 
 #[test]
-fn no_json_is_told_with_its_line_and_column(rt: HostRuntime) -> Result<(), Fail> {
-    let alloc = rt.alloc();
-    let Err(error) = read_module(alloc, "[") else {
-        panic!(rt; "half a list was read");
-    };
-    let message = format!(in alloc; "{error}")?;
+fn no_json_is_told_with_its_line_and_column(rt: HostRuntime) {
+    let error = read_module(rt.alloc(), "[").expect_err(&rt, "half a list was read");
+    let message = format!(in rt.alloc(); "{error}").expect(&rt, "memory");
     assert_eq!(rt; message.as_str(), "no JSON at line 1, column 1");
-    Ok(())
 }

@@ -1,6 +1,6 @@
 //! Sinks, and what the writer leaves in those that refuse a piece.
 
-ghost use Rattle.std.specs.Prelude.{◌≡◌, ◌++◌, IsTrue, OnErr, OnOk, alloc_error, string_bytes};
+ghost use Rattle.std.specs.Prelude.{◌≡◌, ◌<◌, ◌++◌, IsErrOf, IsTrue, OnErr, OnOk};
 ghost use Rattle.module_meaning.specs.Accepted.{is_accepted};
 
 use crate::whole_module;
@@ -8,77 +8,77 @@ use naga_json::{Known, read_known};
 use naga_wgsl_out::info::{accepts, count};
 use naga_wgsl_out::sinks::{IoSink, Limited};
 use naga_wgsl_out::types::{SinkError, TextSink};
-use naga_wgsl_out::wgsl::{Error, Writer, no_flags, write_string};
+use naga_wgsl_out::wgsl::{Error, Writer, WriterFlags, no_flags, write_string};
 use std::alloc::{AllocError, Global};
 use std::io::Cursor;
 use std::process::Abort;
-use std::test::Fail;
+
+/// Pieces for a sink with room for three bytes, what it answers, and what it then holds.
+const PIECES: &[(&str, Result<(), SinkError>, &str)] = &[
+    ("ab", Ok(()), "ab"),
+    ("cd", Err(SinkError::Failed), "ab"),
+    ("e", Ok(()), "abe"),
+    ("cd", Ok(()), "abecd"),
+    ("efg", Ok(()), "abecdefg"),
+];
 
 #[test]
-fn a_limited_text_refuses_once(rt: HostRuntime) -> Result<(), Fail> {
+fn a_limited_text_refuses_once(rt: HostRuntime) {
     let mut sink = Limited::new(rt.alloc(), 3);
-    sink.write_str("ab")?;
-    assert!(&rt; sink.write_str("cd") == Err(SinkError::Failed));
-    sink.write_str("e")?;
-    assert_eq!(&rt; sink.text(), "abe");
-    Ok(())
+    for (piece, want, text) in PIECES {
+        assert_eq!(&rt; sink.write_str(*piece), *want, "for {piece:?}");
+        assert_eq!(&rt; sink.text(), *text);
+    }
 }
 
 #[test]
-fn a_writer_of_bytes_gets_the_text(rt: HostRuntime) -> Result<(), Fail> {
+fn a_writer_of_bytes_gets_the_text(rt: HostRuntime) {
     let mut room = [0u8; 4];
     let bytes: &mut [u8] = &mut room;
     let mut sink = IoSink::new(rt.alloc(), Cursor::new(bytes));
-    sink.write_str("ab")?;
+    sink.write_str("ab").expect(&rt, "room");
     assert!(&rt; sink.write_str("cde") == Err(SinkError::Failed));
     assert_eq!(&rt; sink.text(), "abcde");
     let _ = sink.finish();
     assert_eq!(&rt; room, *b"abcd");
-    Ok(())
 }
 
-/// A text that finds no memory for what would take it past its limit.
+/// A text that refuses once what would take it past its limit, and tells it as a failure or as
+/// want of memory.
 #[derive(Drop)]
-struct Filling {
-    text: String,
-    limit: usize,
+struct Refusing {
+    limited: Limited,
+    refusal: SinkError,
 }
 
-impl TextSink for Filling {
-    ghost text = { λ s. string_bytes s.text };
+impl TextSink for Refusing {
+    ghost text = { λ s. s.limited.text };
 
-    ghost failures = { λ _. 0 };
+    ghost failures = { λ s. s.limited.failures };
 
     fn write_str(&mut self, piece: &str) -> Result<(), SinkError>
         ensures text_ok { OnOk result
-            (string_bytes self.new.text ≡ string_bytes self.old.text ++ piece.now) }
-        ensures text_err { OnErr result
-            (string_bytes self.new.text ≡ string_bytes self.old.text) }
-        ensures memory { OnErr result (result ≡ Err (SinkError.Memory alloc_error)) }
+            (self.new.limited.text ≡ self.old.limited.text ++ piece.now) }
+        ensures text_err { OnErr result (self.new.limited.text ≡ self.old.limited.text) }
+        ensures failures_ok { OnOk result
+            (self.new.limited.failures ≡ self.old.limited.failures) }
+        ensures failed { IsErrOf result SinkError.Failed →
+            self.old.limited.failures < self.new.limited.failures }
     {
-        if piece.len() > self.limit.saturating_sub(self.text.len()) {
-            return Err(SinkError::Memory(AllocError));
+        match self.limited.write_str(piece) {
+            Err(SinkError::Failed) => Err(self.refusal),
+            answer => answer,
         }
-        self.text.push_str(piece)?;
-        Ok(())
     }
 }
 
-/// What a call of the writer answered.
-#[derive(Debug, Clone, Copy, PartialEq, Eq)]
-enum Answer {
-    Written,
-    Failed,
-    Memory,
-    Other,
-}
-
-fn answer_of(written: &Result<(), Error>) -> Answer {
+/// The refusal of a sink that a call of the writer tells, if it tells one.
+fn refusal_of(rt: &impl Abort, written: &Result<(), Error>) -> Option<SinkError> {
     match written {
-        Ok(()) => Answer::Written,
-        Err(Error::FmtError(SinkError::Failed)) => Answer::Failed,
-        Err(Error::Memory(_)) => Answer::Memory,
-        Err(_) => Answer::Other,
+        Ok(()) => None,
+        Err(Error::FmtError(refusal)) => Some(*refusal),
+        Err(Error::Memory(error)) => Some(SinkError::Memory(*error)),
+        Err(error) => panic!(rt; "{error}"),
     }
 }
 
@@ -90,88 +90,51 @@ fn is_begun_and_whole(held: &str, text: &str, limit: usize) -> bool {
     }
 }
 
-/// A module is written twice to a sink that fails at the first piece past its limit. The call that
+/// A module is written twice to a sink that refuses the first piece past its limit. The call that
 /// comes to it tells so and leaves a beginning of the text, and the other writes the whole.
-fn fails_once(rt: &impl Abort, alloc: Global, known: &Known, text: &str, limit: usize)
+fn refuses_once(
+    rt: &impl Abort,
+    alloc: Global,
+    known: &Known,
+    flags: WriterFlags,
+    text: &str,
+    limit: usize,
+    refusal: SinkError,
+)
     requires { IsTrue (is_accepted known.now.module known.now.info) }
 {
-    let mut writer = Writer::new(alloc, Limited::new(alloc, limit), no_flags());
-    let first = answer_of(&writer.write(&known.module, &known.info));
-    let second = answer_of(&writer.write(&known.module, &known.info));
+    let limited = Limited::new(alloc, limit);
+    let mut writer = Writer::new(alloc, Refusing { limited, refusal }, flags);
+    let first = refusal_of(rt, &writer.write(&known.module, &known.info));
+    let second = refusal_of(rt, &writer.write(&known.module, &known.info));
     let sink = writer.finish();
     let wanted = if limit < text.len() {
-        (Answer::Failed, Answer::Written)
+        (Some(refusal), None)
     } else {
-        (Answer::Written, Answer::Failed)
+        (None, Some(refusal))
     };
     assert_eq!(rt; (first, second), wanted, "with room for {limit} bytes");
     assert!(rt;
-        is_begun_and_whole(sink.text(), text, limit),
+        is_begun_and_whole(sink.limited.text(), text, limit),
         "with room for {limit} bytes"
     );
 }
 
-/// A sink that finds no memory is told as want of memory, and holds a beginning of the text.
-fn finds_no_memory(rt: &impl Abort, alloc: Global, known: &Known, text: &str, limit: usize)
-    requires { IsTrue (is_accepted known.now.module known.now.info) }
-{
-    let sink = Filling {
-        text: String::new(alloc),
-        limit,
-    };
-    let mut writer = Writer::new(alloc, sink, no_flags());
-    let answer = answer_of(&writer.write(&known.module, &known.info));
-    let sink = writer.finish();
-    let wanted = if limit < text.len() {
-        Answer::Memory
-    } else {
-        Answer::Written
-    };
-    assert_eq!(rt; answer, wanted, "with room for {limit} bytes");
-    assert!(rt;
-        sink.text.len() <= limit && text.starts_with(sink.text.as_str()),
-        "with room for {limit} bytes"
-    );
-}
-
-/// How a sink refuses what would take it past its limit.
-#[derive(Clone, Copy)]
-enum Refusal {
-    Failure,
-    NoMemory,
-}
-
-/// Each limit up to the text's length.
+/// Each limit up to the length of the text.
 fn refuses_at_each_limit(
     rt: &impl Abort,
     alloc: Global,
     known: &Known,
-    text: &str,
-    refusal: Refusal,
+    flags: WriterFlags,
+    refusal: SinkError,
 )
     requires { IsTrue (is_accepted known.now.module known.now.info) }
 {
+    let whole = write_string(alloc, &known.module, &known.info, flags).expect(rt, "a text");
+    let text = whole.as_str();
     for limit in 0..=text.len() {
-        match refusal {
-            Refusal::Failure => fails_once(rt, alloc, known, text, limit),
-            Refusal::NoMemory => finds_no_memory(rt, alloc, known, text, limit),
-        }
+        refuses_once(rt, alloc, known, flags, text, limit, refusal);
     }
-}
-
-fn check_limits(
-    rt: &impl Abort,
-    alloc: Global,
-    known: &mut Known,
-    length: usize,
-    refusal: Refusal,
-) -> Result<(), Error> {
-    count(&mut known.info, &known.module);
-    assert!(rt; accepts(&known.module, &known.info));
-    let text = write_string(alloc, &known.module, &known.info, no_flags())?;
-    assert_eq!(rt; text.len(), length);
-    refuses_at_each_limit(rt, alloc, known, text.as_str(), refusal);
-    Ok(())
 }
 
 /// `fn f(x: i32) -> i32 { return x; }`, with what is known of it.
@@ -189,25 +152,23 @@ const IDENTITY: &str = r#"{
     "info": {"functions": [[0]]}
 }"#;
 
-/// Modules, and how many bytes the text of each has.
-const MODULES: &[(&str, usize)] = &[(IDENTITY, 39), (whole_module::MODULE, whole_module::LENGTH)];
-
-fn check_modules(rt: &impl Abort, alloc: Global, refusal: Refusal) -> Result<(), Fail> {
-    for (text, length) in MODULES {
-        let mut known = read_known(alloc, *text)?;
-        let checked = check_limits(rt, alloc, &mut known, *length, refusal);
-        drop(known);
-        checked?;
+/// Two modules, with each setting of the flags.
+fn modules_are_refused(rt: &impl Abort, alloc: Global, refusal: SinkError) {
+    for text in [IDENTITY, whole_module::MODULE] {
+        let mut known = read_known(alloc, text).expect(rt, "a module");
+        count(&mut known.info, &known.module);
+        assert!(rt; accepts(&known.module, &known.info));
+        refuses_at_each_limit(rt, alloc, &known, no_flags(), refusal);
+        refuses_at_each_limit(rt, alloc, &known, WriterFlags::EXPLICIT_TYPES, refusal);
     }
-    Ok(())
 }
 
 #[test]
-fn failures_of_sinks_are_told(rt: HostRuntime) -> Result<(), Fail> {
-    check_modules(&rt, rt.alloc(), Refusal::Failure)
+fn failures_of_sinks_are_told(rt: HostRuntime) {
+    modules_are_refused(&rt, rt.alloc(), SinkError::Failed);
 }
 
 #[test]
-fn want_of_memory_in_sinks_is_told(rt: HostRuntime) -> Result<(), Fail> {
-    check_modules(&rt, rt.alloc(), Refusal::NoMemory)
+fn want_of_memory_in_sinks_is_told(rt: HostRuntime) {
+    modules_are_refused(&rt, rt.alloc(), SinkError::Memory(AllocError));
 }

@@ -1,45 +1,29 @@
 //! The types that the tests spell, in a module.
-use super::*;
 use crate::NumberedTypes;
-use naga_json::read_module;
+use naga_json::{read_info, read_module};
 use naga_wgsl_out::info::{Conclusion, GlobalCtx, Rule, TypeResolution};
 use naga_wgsl_out::ir::{
-    AddressSpace, ArraySize, BuiltIn, CooperativeRole, CooperativeSize, Handle, ImageClass,
-    ImageDimension, MathFunction, Module, Place, PredeclaredType, Scalar, ScalarKind,
-    StorageAccess, StorageFormat, StructMember, Type_, TypeInner, UniqueArena, VectorSize,
+    AddressSpace, BuiltIn, MathFunction, Module, Place, PredeclaredType, Scalar, ScalarKind, Type_,
+    TypeInner, UniqueArena, VectorSize,
 };
 use naga_wgsl_out::namer::NameKey;
 use naga_wgsl_out::predeclared::PredeclaredName;
 use naga_wgsl_out::sinks::Limited;
 use naga_wgsl_out::to_wgsl::TryToWgsl;
 use naga_wgsl_out::types::{
-    SinkError, TextSink, TypeContext, TypeTextError, WriterTypeContext, type_fits, types_in_order,
+    SinkError, TypeContext, TypeTextError, WriterTypeContext, type_fits, types_in_order,
 };
-use std::alloc::{AllocError, Global};
+use std::alloc::Global;
 use std::collections::HashMap;
-use std::num::NonZeroU32;
 use std::process::Abort;
-use std::test::Fail;
 
 mod handles;
-mod labels;
 mod rules;
+mod values;
 mod words;
 
-/// The struct without a label.
-const UNLABELLED: usize = 0;
-/// The type `i32`.
-const SIGNED: usize = 2;
-/// The sampler.
-const SAMPLER: usize = 15;
-/// The array of `u32`.
-const UNSIGNED_ARRAY: usize = 16;
 /// The struct with the label `S`.
 const LABELLED: usize = 17;
-/// The override with the label `N`.
-const NUMBER: usize = 0;
-/// The override without a label.
-const UNNAMED_NUMBER: usize = 1;
 
 /// The types, and the overrides.
 const TYPES: &str = r#"{
@@ -66,61 +50,36 @@ const TYPES: &str = r#"{
     "overrides": [{"name": "N", "ty": 14}, {"ty": 14}]
 }"#;
 
-/// The answer is this text.
-fn reads(
-    rt: &impl Abort,
-    answer: &Result<String, TypeTextError>,
-    want: &str,
-) -> Result<(), TypeTextError> {
-    match answer {
-        Ok(text) => assert_eq!(rt; text.as_str(), want),
-        Err(error) => return Err(*error),
-    }
-    Ok(())
+/// The answer is this text, or that the type has no form.
+fn reads(rt: &impl Abort, answer: &Result<String, TypeTextError>, want: Option<&str>) {
+    let text = match answer {
+        Ok(text) => Some(text.as_str()),
+        Err(TypeTextError::NoForm) => None,
+        Err(error) => panic!(rt; "{error}"),
+    };
+    assert_eq!(rt; text, want);
 }
 
-/// The answer is that the type has no form.
-fn refuses(rt: &impl Abort, answer: &Result<String, TypeTextError>) -> Result<(), TypeTextError> {
-    match answer {
-        Err(TypeTextError::NoForm) => Ok(()),
-        Err(error) => Err(*error),
-        Ok(text) => panic!(rt; "a type without a form is {text}"),
-    }
+/// The type by itself that the JSON tells.
+fn value_of(rt: &impl Abort, alloc: Global, json: &str) -> TypeResolution {
+    let text = format!(in alloc; r#"{{"const_expression_types": [{{"Value": {json}}}]}}"#);
+    let text = text.expect(rt, "memory");
+    let mut info = read_info(alloc, text.as_str()).expect(rt, json);
+    info.const_expression_types.pop().expect(rt, "a type")
 }
 
-/// Whether memory was refused.
-fn found_no_memory(answer: &Result<String, TypeTextError>) -> bool {
-    match answer {
-        Err(TypeTextError::Memory(_)) => true,
-        Err(TypeTextError::Sink(SinkError::Memory(_))) => true,
-        _ => false,
-    }
-}
-
-/// The types in each context.
-fn spells(rt: &impl Abort, alloc: Global, module: &Module) -> Result<(), Fail> {
-    labels::values_hold(rt, alloc, module)?;
-    handles::types_hold(rt, alloc, &module.types)?;
-    handles::writer_holds(rt, alloc, module)?;
-    Ok(())
+#[test]
+fn types_of_a_module(rt: HostRuntime) {
+    let module = read_module(rt.alloc(), TYPES).expect(&rt, "a module");
+    values::values_hold(&rt, rt.alloc(), &module);
+    handles::types_hold(&rt, rt.alloc(), &module.types);
+    handles::writer_holds(&rt, rt.alloc(), &module);
 }
 
 /// What names no type, where there are none.
-fn spells_without_types(rt: &impl Abort, alloc: Global, module: &Module) -> Result<(), Fail> {
-    handles::structs_without_a_handle(rt, alloc, &module.types)?;
-    rules::rules_without_types(rt, alloc, &module.types)?;
-    Ok(())
-}
-
 #[test]
-fn types_of_a_module(rt: HostRuntime) -> Result<(), Fail> {
-    let module = read_module(rt.alloc(), TYPES)?;
-    let held = spells(&rt, rt.alloc(), &module);
-    drop(module);
-    held
-}
-
-#[test]
-fn no_types(rt: HostRuntime) -> Result<(), Fail> {
-    spells_without_types(&rt, rt.alloc(), &Module::new(rt.alloc()))
+fn no_types(rt: HostRuntime) {
+    let module = Module::new(rt.alloc());
+    values::structs_hold(&rt, rt.alloc(), &module.types);
+    rules::rules_without_types(&rt, rt.alloc(), &module.types);
 }

@@ -5,10 +5,6 @@ use naga_wgsl_out::ir::{
     Scalar, StorageAccess, StorageFormat,
 };
 use naga_wgsl_out::to_wgsl::{ToWgsl, TryToWgsl, address_space_str, to_wgsl_if_implemented};
-use naga_wgsl_out::wgsl::Error;
-use std::alloc::Global;
-use std::process::Abort;
-use std::test::Fail;
 
 #[test]
 fn words_are_told(rt: HostRuntime) {
@@ -43,21 +39,16 @@ fn spaces_have_words(rt: HostRuntime) {
 }
 
 /// A value without a word is refused with its kind and its debug text.
-fn refusal_in(rt: &impl Abort, alloc: Global) -> Result<(), Error> {
-    reads(rt, to_wgsl_if_implemented(alloc, Scalar::U64)?, "u64");
-    let Err(error) = to_wgsl_if_implemented(alloc, MathFunction::Outer) else {
-        panic!(rt; "a function without a word has one");
-    };
-    if let Error::Memory(_) = error {
-        return Err(error);
-    }
-    let told = error.to_string(alloc)?;
-    reads(rt, told.as_str(), "Unsupported math function: Outer");
-    Ok(())
-}
-
 #[test]
-fn wordless_values_are_refused(rt: HostRuntime) -> Result<(), Fail> {
-    refusal_in(&rt, rt.alloc())?;
-    Ok(())
+fn wordless_values_are_refused(rt: HostRuntime) {
+    let alloc = rt.alloc();
+    let word = to_wgsl_if_implemented(alloc, Scalar::U64).expect(&rt, "a word");
+    assert_eq!(rt; word, "u64");
+    let refused = to_wgsl_if_implemented(alloc, MathFunction::Outer);
+    let told = refused.expect_err(&rt, "a word").to_string(alloc);
+    reads(
+        &rt,
+        told.expect(&rt, "memory").as_str(),
+        "Unsupported math function: Outer",
+    );
 }

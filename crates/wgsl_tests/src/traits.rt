@@ -15,7 +15,6 @@ use std::alloc::{AllocError, Global};
 use std::fmt::Debug;
 use std::hash::{DefaultHasher, Hash, Hasher};
 use std::process::Abort;
-use std::test::Fail;
 
 fn hash_of<T: Hash>(value: &T) -> u64 {
     let mut hasher = DefaultHasher::new();
@@ -29,30 +28,22 @@ fn is_plain_data<T: Clone + Copy + Debug + Eq + Hash>(value: T) -> bool {
     copy == value && hash_of(&copy) == hash_of(&value)
 }
 
-/// Whether a copy of each has the same text.
-fn has_text<T: Clone + Copy + Debug>(
-    alloc: Global,
-    value: T,
-    text: &str,
-) -> Result<bool, AllocError> {
+/// A copy of the value has this text, as the value has.
+fn is_shown_as<T: Clone + Copy + Debug>(rt: &impl Abort, alloc: Global, value: T, want: &str) {
     let copy = value;
-    let (first, second) = (
-        format!(in alloc; "{value:?}")?,
-        format!(in alloc; "{copy:?}")?,
-    );
-    Ok(first.as_str() == text && second.as_str() == text)
+    let shown = format!(in alloc; "{value:?} {copy:?}").expect(rt, "memory");
+    let wanted = format!(in alloc; "{want} {want}").expect(rt, "memory");
+    assert_eq!(rt; shown.as_str(), wanted.as_str());
 }
 
-fn is_told_as<E: std::error::Error>(
-    alloc: Global,
-    error: &E,
-    text: &str,
-) -> Result<bool, AllocError> {
-    Ok(format!(in alloc; "{error}")?.as_str() == text)
+/// The error has this text.
+fn is_told_as<E: std::error::Error>(rt: &impl Abort, alloc: Global, error: &E, want: &str) {
+    let told = format!(in alloc; "{error}").expect(rt, "memory");
+    assert_eq!(rt; told.as_str(), want);
 }
 
 #[test]
-fn plain_data(rt: HostRuntime) -> Result<(), Fail> {
+fn plain_data(rt: HostRuntime) {
     assert!(rt; is_plain_data(ExternalTextureNameKey::Plane(1)));
     assert!(rt; is_plain_data(NameKey::Function(Place::from_index(2))));
     assert!(rt; is_plain_data(AsciiUniCase { word: "If" }));
@@ -63,51 +54,50 @@ fn plain_data(rt: HostRuntime) -> Result<(), Fail> {
         binding: None,
     };
     assert!(rt; is_plain_data(result));
-    Ok(())
 }
 
 /// A mark of nothing, and without a trait: those of its handles ask none of it.
 enum NoItem {}
 
 #[test]
-fn handles_are_ordered(rt: HostRuntime) -> Result<(), Fail> {
+fn handles_are_ordered(rt: HostRuntime) {
     let (first, second) = (
         Place::<NoItem>::from_index(0),
         Place::<NoItem>::from_index(1),
     );
     assert!(rt; first < second && second > first && first == first && first != second);
-    Ok(())
 }
 
 #[test]
-fn flags(rt: HostRuntime) -> Result<(), Fail> {
+fn flags(rt: HostRuntime) {
     let (none, opaque) = (RayFlag::default(), RayFlag::OPAQUE);
     assert!(rt; none == RayFlag::empty() && none != opaque && opaque == opaque);
     let (plain, typed) = (WriterFlags::empty(), WriterFlags::EXPLICIT_TYPES);
     assert!(rt; plain != typed && typed == typed);
-    Ok(())
 }
 
 #[test]
-fn debug_texts(rt: HostRuntime) -> Result<(), Fail> {
+fn debug_texts(rt: HostRuntime) {
     let alloc = rt.alloc();
-    assert!(rt; has_text(alloc, Level(2), "Level(2)")?);
-    assert!(rt; has_text(alloc, FunctionType::EntryPoint(1), "EntryPoint(1)")?);
-    let triangle = RayIntersectionType::Triangle;
-    assert_eq!(rt; format!(in alloc; "{triangle:?}")?.as_str(), "Triangle");
+    is_shown_as(&rt, alloc, Level(2), "Level(2)");
+    is_shown_as(&rt, alloc, FunctionType::EntryPoint(1), "EntryPoint(1)");
     let mut arena = Arena::new(alloc);
-    let _ = arena.append(Expression::Literal(Literal::Bool(true)))?;
+    let truth = Expression::Literal(Literal::Bool(true));
+    let _ = arena.append(truth).expect(&rt, "memory");
+    let triangle = RayIntersectionType::Triangle;
+    let shown = format!(in alloc; "{triangle:?} {arena:?}").expect(&rt, "memory");
     assert_eq!(rt;
-        format!(in alloc; "{arena:?}")?.as_str(),
-        "Arena { items: [Literal(Bool(true))] }"
+        shown.as_str(),
+        "Triangle Arena { items: [Literal(Bool(true))] }"
     );
-    Ok(())
 }
 
-/// The text of a function without expressions.
-fn context_is_told(rt: &impl Abort, alloc: Global, function: &Function) -> Result<(), AllocError> {
+/// The text of a context of a function without expressions.
+#[test]
+fn context_of_a_function(rt: HostRuntime) {
+    let function = Function::new(rt.alloc());
     let info = FunctionInfo {
-        expressions: Vec::new(alloc),
+        expressions: Vec::new(rt.alloc()),
     };
     let context = FunctionCtx {
         ty: FunctionType::EntryPoint(0),
@@ -115,23 +105,16 @@ fn context_is_told(rt: &impl Abort, alloc: Global, function: &Function) -> Resul
         expressions: &function.expressions,
         named_expressions: &function.named_expressions,
     };
+    let shown = format!(in rt.alloc(); "{context:?}").expect(&rt, "memory");
     assert_eq!(rt;
-        format!(in alloc; "{context:?}")?.as_str(),
+        shown.as_str(),
         "FunctionCtx { ty: EntryPoint(0), info: FunctionInfo { expressions: [] }, \
          expressions: Arena { items: [] }, named_expressions: {} }"
     );
-    Ok(())
 }
 
 #[test]
-fn context_of_a_function(rt: HostRuntime) -> Result<(), Fail> {
-    let function = Function::new(rt.alloc());
-    context_is_told(&rt, rt.alloc(), &function)?;
-    Ok(())
-}
-
-#[test]
-fn types_are_compared(rt: HostRuntime) -> Result<(), Fail> {
+fn types_are_compared(rt: HostRuntime) {
     let one = Type_ {
         name: None,
         inner: TypeInner::Scalar(Scalar::U32),
@@ -141,24 +124,26 @@ fn types_are_compared(rt: HostRuntime) -> Result<(), Fail> {
         inner: TypeInner::Scalar(Scalar::I32),
     };
     assert!(rt; one == one && one != other && hash_of(&one) == hash_of(&one));
-    Ok(())
 }
 
 #[test]
-fn errors(rt: HostRuntime) -> Result<(), Fail> {
+fn errors(rt: HostRuntime) {
     let alloc = rt.alloc();
-    assert!(rt; is_told_as(alloc, &NamerError::Full, "namer is full")?);
-    assert!(rt; is_told_as(alloc, &SinkError::Failed, "sink failed")?);
-    assert!(rt; is_told_as(alloc, &TypeTextError::NoForm, "type without a WGSL form")?);
-    let failed = Error::from(SinkError::Failed);
-    assert!(rt; is_told_as(alloc, &failed, "sink failed")?);
-    assert!(rt; matches!(&failed, Error::FmtError(SinkError::Failed)));
-    assert_eq!(rt;
-        format!(in alloc; "{failed:?}")?.as_str(),
-        "FmtError(Failed)"
+    is_told_as(&rt, alloc, &NamerError::Full, "namer is full");
+    is_told_as(&rt, alloc, &NamerError::KeyFull, "name key out of range");
+    is_told_as(&rt, alloc, &NamerError::from(AllocError), "out of memory");
+    is_told_as(&rt, alloc, &SinkError::Failed, "sink failed");
+    is_told_as(
+        &rt,
+        alloc,
+        &TypeTextError::NoForm,
+        "type without a WGSL form",
     );
+    let failed = Error::from(SinkError::Failed);
+    is_told_as(&rt, alloc, &failed, "sink failed");
+    let shown = format!(in alloc; "{failed:?}").expect(&rt, "memory");
+    assert_eq!(rt; shown.as_str(), "FmtError(Failed)");
     let full = Error::from(SinkError::Memory(AllocError));
+    is_told_as(&rt, alloc, &full, "out of memory");
     assert!(rt; matches!(&full, Error::Memory(_)));
-    assert!(rt; is_told_as(alloc, &full, "out of memory")?);
-    Ok(())
 }

@@ -12,7 +12,6 @@ use naga_wgsl_out::wgsl::{
 use sample_modules::Row;
 use std::alloc::Global;
 use std::process::Abort;
-use std::test::Fail;
 
 const STORE: &str =
     "fn g() -> i32 {\n    var a: i32 = 1i;\n\n    let _e2 = a;\n    a = 2i;\n    return _e2;\n}\n\n";
@@ -20,20 +19,27 @@ const STORE: &str =
 const STORE_WITH_TYPES: &str =
     "fn g() -> i32 {\n    var a: i32 = 1i;\n\n    let _e2: i32 = a;\n    a = 2i;\n    return _e2;\n}\n\n";
 
-fn writes(rt: &impl Abort, alloc: Global, shader: &mut ModuleBuilder) -> Result<(), Error> {
-    Row::Store.build(alloc, shader)?;
+/// A sample, whose expressions' uses are counted.
+fn sample(rt: &impl Abort, alloc: Global, row: Row) -> ModuleBuilder {
+    let mut shader = ModuleBuilder::new(alloc);
+    row.build(alloc, &mut shader).expect(rt, "memory");
     count(&mut shader.info, &shader.module);
+    shader
+}
+
+#[test]
+fn a_module_is_written(rt: HostRuntime) {
+    let alloc = rt.alloc();
+    let shader = sample(&rt, alloc, Row::Store);
     assert!(rt; accepts(&shader.module, &shader.info));
     assert_eq!(rt; unaccepted(&shader.module, &shader.info), None);
-    let text = write_string(alloc, &shader.module, &shader.info, WriterFlags::empty())?;
-    reads(rt, text.as_str(), STORE);
+    let text = write_string(alloc, &shader.module, &shader.info, WriterFlags::empty());
+    reads(&rt, text.expect(&rt, "a text").as_str(), STORE);
     let mut writer = Writer::new(alloc, String::new(alloc), WriterFlags::EXPLICIT_TYPES);
     let written = writer.write(&shader.module, &shader.info);
-    let text = writer.finish();
-    written?;
-    reads(rt, text.as_str(), STORE_WITH_TYPES);
+    written.expect(&rt, "a text");
+    reads(&rt, writer.finish().as_str(), STORE_WITH_TYPES);
     assert_eq!(rt; WriterFlags::EXPLICIT_TYPES.bits(), 1);
-    Ok(())
 }
 
 const NAMED: &str = "fn e(x: i32) -> i32 {\n    let x_1 = (x + x);\n    return x_1;\n}\n";
@@ -41,16 +47,13 @@ const NAMED: &str = "fn e(x: i32) -> i32 {\n    let x_1 = (x + x);\n    return x
 const NAMED_AGAIN: &str = "fn e(x: i32) -> i32 {\n    let x_2 = (x + x);\n    return x_2;\n}\n";
 
 /// A function is written twice behind one `names_of`.
-fn writes_a_function(
-    rt: &impl Abort,
-    alloc: Global,
-    shader: &mut ModuleBuilder,
-) -> Result<(), Error> {
-    Row::Named.build(alloc, shader)?;
-    count(&mut shader.info, &shader.module);
+#[test]
+fn a_function_is_written_by_itself(rt: HostRuntime) {
+    let alloc = rt.alloc();
+    let shader = sample(&rt, alloc, Row::Named);
     assert!(rt; accepts(&shader.module, &shader.info));
     assert_eq!(rt; shader.module.functions.len(), 1);
-    let (names, mut namer) = names_of(alloc, &shader.module)?;
+    let (names, mut namer) = names_of(alloc, &shader.module).expect(&rt, "names");
     let mut text = String::new(alloc);
     write_function(
         alloc,
@@ -61,9 +64,10 @@ fn writes_a_function(
         &mut namer,
         WriterFlags::empty(),
         &mut text,
-    )?;
-    reads(rt, text.as_str(), NAMED);
-    let mut text = String::new(alloc);
+    )
+    .expect(&rt, "a text");
+    reads(&rt, text.as_str(), NAMED);
+    text.clear();
     write_function(
         alloc,
         &shader.module,
@@ -73,33 +77,21 @@ fn writes_a_function(
         &mut namer,
         WriterFlags::empty(),
         &mut text,
-    )?;
-    reads(rt, text.as_str(), NAMED_AGAIN);
-    Ok(())
-}
-
-#[test]
-fn a_function_is_written_by_itself(rt: HostRuntime) -> Result<(), Fail> {
-    let mut shader = ModuleBuilder::new(rt.alloc());
-    let written = writes_a_function(&rt, rt.alloc(), &mut shader);
-    drop(shader);
-    written?;
-    Ok(())
+    )
+    .expect(&rt, "a text");
+    reads(&rt, text.as_str(), NAMED_AGAIN);
 }
 
 const COMPUTE: &str = "@compute @workgroup_size(64, 1, 1) \nfn main() {\n}\n";
 
 /// An entry point is written behind the attributes of its stage.
-fn writes_an_entry_point(
-    rt: &impl Abort,
-    alloc: Global,
-    shader: &mut ModuleBuilder,
-) -> Result<(), Error> {
-    Row::Compute.build(alloc, shader)?;
-    count(&mut shader.info, &shader.module);
+#[test]
+fn an_entry_point_is_written_by_itself(rt: HostRuntime) {
+    let alloc = rt.alloc();
+    let shader = sample(&rt, alloc, Row::Compute);
     assert!(rt; accepts(&shader.module, &shader.info));
     assert_eq!(rt; shader.module.entry_points.len(), 1);
-    let (names, mut namer) = names_of(alloc, &shader.module)?;
+    let (names, mut namer) = names_of(alloc, &shader.module).expect(&rt, "names");
     let mut text = String::new(alloc);
     write_function(
         alloc,
@@ -110,18 +102,9 @@ fn writes_an_entry_point(
         &mut namer,
         WriterFlags::empty(),
         &mut text,
-    )?;
-    reads(rt, text.as_str(), COMPUTE);
-    Ok(())
-}
-
-#[test]
-fn an_entry_point_is_written_by_itself(rt: HostRuntime) -> Result<(), Fail> {
-    let mut shader = ModuleBuilder::new(rt.alloc());
-    let written = writes_an_entry_point(&rt, rt.alloc(), &mut shader);
-    drop(shader);
-    written?;
-    Ok(())
+    )
+    .expect(&rt, "a text");
+    reads(&rt, text.as_str(), COMPUTE);
 }
 
 /// Bindings, and the attributes that are written for them.
@@ -152,66 +135,35 @@ const BINDINGS: &[(Binding, &str)] = &[
     ),
 ];
 
-/// The binding has these attributes.
-fn has_attributes(
-    rt: &impl Abort,
-    alloc: Global,
-    binding: &Binding,
-    want: &str,
-) -> Result<(), Error> {
-    let mut text = String::new(alloc);
-    write_binding(alloc, binding, &mut text)?;
-    reads(rt, text.as_str(), want);
-    Ok(())
+#[test]
+fn bindings_are_written_by_themselves(rt: HostRuntime) {
+    for (binding, want) in BINDINGS {
+        let mut text = String::new(rt.alloc());
+        write_binding(rt.alloc(), binding, &mut text).expect(&rt, "a text");
+        reads(&rt, text.as_str(), *want);
+    }
 }
 
 /// A binding to a value without a word is refused, and nothing is written.
-fn is_refused(rt: &impl Abort, alloc: Global) {
-    let mut text = String::new(alloc);
-    let refused = write_binding(alloc, &Binding::BuiltIn(BuiltIn::PointSize), &mut text);
+#[test]
+fn a_binding_without_a_word_is_refused(rt: HostRuntime) {
+    let mut text = String::new(rt.alloc());
+    let refused = write_binding(rt.alloc(), &Binding::BuiltIn(BuiltIn::PointSize), &mut text);
     assert!(rt;
         matches!(&refused, Err(Error::Unsupported { kind, .. }) if *kind == "builtin value")
     );
-    reads(rt, text.as_str(), "");
+    reads(&rt, text.as_str(), "");
 }
 
+/// A module is asked for, counted and written at once, and not without what is known of it.
 #[test]
-fn bindings_are_written_by_themselves(rt: HostRuntime) -> Result<(), Fail> {
-    for (binding, want) in BINDINGS {
-        has_attributes(&rt, rt.alloc(), binding, *want)?;
-    }
-    is_refused(&rt, rt.alloc());
-    Ok(())
-}
-
-/// A module is asked for, counted and written at once, and not without what is known of its function.
-fn checks_and_writes(
-    rt: &impl Abort,
-    alloc: Global,
-    shader: &mut ModuleBuilder,
-) -> Result<(), Fail> {
-    Row::Store.build(alloc, shader)?;
-    let text = write_checked(alloc, &shader.module, &mut shader.info, no_flags())?;
-    reads(rt, text.as_str(), STORE);
+fn a_module_is_asked_for_and_written(rt: HostRuntime) {
+    let alloc = rt.alloc();
+    let mut shader = ModuleBuilder::new(alloc);
+    Row::Store.build(alloc, &mut shader).expect(&rt, "memory");
+    let text = write_checked(alloc, &shader.module, &mut shader.info, no_flags());
+    reads(&rt, text.expect(&rt, "a text").as_str(), STORE);
     shader.info.functions.clear();
     let answer = write_checked(alloc, &shader.module, &mut shader.info, no_flags());
     assert!(rt; matches!(answer, Err(CheckedError::NotAccepted(_))));
-    Ok(())
-}
-
-#[test]
-fn a_module_is_asked_for_and_written(rt: HostRuntime) -> Result<(), Fail> {
-    let mut shader = ModuleBuilder::new(rt.alloc());
-    let written = checks_and_writes(&rt, rt.alloc(), &mut shader);
-    drop(shader);
-    written
-}
-
-#[test]
-fn a_module_is_written(rt: HostRuntime) -> Result<(), Fail> {
-    let mut shader = ModuleBuilder::new(rt.alloc());
-    let written = writes(&rt, rt.alloc(), &mut shader);
-    drop(shader);
-    written?;
-    Ok(())
 }

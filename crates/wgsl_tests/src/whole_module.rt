@@ -290,6 +290,3 @@ pub const MODULE: &str = r#"{
     ]
   }
 }"#;
-
-/// How many bytes its text has.
-pub const LENGTH: usize = 2_406;

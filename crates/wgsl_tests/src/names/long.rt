@@ -1,9 +1,9 @@
 //! Labels of a mebibyte, each of one text again and again.
 use super::*;
+use crate::texts::{repeated, written};
 use naga_wgsl_out::builder::{FunctionBuilder, ModuleBuilder};
-use naga_wgsl_out::info::{accepts, count};
 use naga_wgsl_out::ir::{BinaryOperator, Scalar};
-use naga_wgsl_out::wgsl::{Error, no_flags, write_string};
+use naga_wgsl_out::wgsl::no_flags;
 
 const MEBIBYTE: usize = 1_048_576;
 
@@ -43,108 +43,61 @@ const NO_LETTERS: Long = Long {
     again: "_1",
 };
 
-fn repeated(alloc: Global, part: &str, times: usize) -> Result<String, AllocError> {
-    let mut text = String::new(alloc);
-    for _ in 0..times {
-        text.push_str(part)?;
-    }
-    Ok(text)
-}
-
 /// The label has these names when it comes and when it comes again.
-fn are_given(
-    rt: &impl Abort,
-    alloc: Global,
-    label: &str,
-    name: &str,
-    again: &str,
-) -> Result<(), NamerError> {
-    let mut namer = Namer::for_wgsl(alloc)?;
-    assert!(rt; namer.call(label)?.as_str() == name);
-    assert!(rt; namer.call(label)?.as_str() == again);
-    Ok(())
+fn are_given(rt: &impl Abort, alloc: Global, label: &str, name: &str, again: &str) {
+    let mut namer = Namer::for_wgsl(alloc).expect(rt, "memory");
+    assert!(rt; namer.call(label).expect(rt, "a name").as_str() == name);
+    assert!(rt; namer.call(label).expect(rt, "a name").as_str() == again);
 }
 
 /// Adds a function with this label, and one that returns a sum which a front end named so too.
-fn add_functions(alloc: Global, shader: &mut ModuleBuilder, label: &str) -> Result<(), AllocError> {
-    shader.add_function(FunctionBuilder::new(alloc, label)?)?;
-    let i32_type = shader.scalar(Scalar::I32)?;
-    let mut function = FunctionBuilder::new(alloc, "f")?;
-    let p = function.argument("p", i32_type)?;
+fn add_functions(rt: &impl Abort, alloc: Global, shader: &mut ModuleBuilder, label: &str) {
+    let named = FunctionBuilder::new(alloc, label).expect(rt, "memory");
+    shader.add_function(named).expect(rt, "memory");
+    let i32_type = shader.scalar(Scalar::I32).expect(rt, "memory");
+    let mut function = FunctionBuilder::new(alloc, "f").expect(rt, "memory");
+    let p = function.argument("p", i32_type).expect(rt, "memory");
     function.returns(i32_type);
-    let sum = function.binary(BinaryOperator::Add, p, p, i32_type)?;
-    function.name(sum, label)?;
-    function.body.emit(sum, sum)?;
-    function.body.return_value(sum)?;
-    shader.add_function(function)?;
-    Ok(())
+    let add = BinaryOperator::Add;
+    let sum = function.binary(add, p, p, i32_type).expect(rt, "memory");
+    function.name(sum, label).expect(rt, "memory");
+    function.body.emit(sum, sum).expect(rt, "memory");
+    function.body.return_value(sum).expect(rt, "memory");
+    shader.add_function(function).expect(rt, "memory");
 }
 
 /// The text of the module has these names, whole.
-fn are_written(
-    rt: &impl Abort,
-    alloc: Global,
-    shader: &mut ModuleBuilder,
-    name: &str,
-    again: &str,
-) -> Result<(), Error> {
-    count(&mut shader.info, &shader.module);
-    assert!(rt; accepts(&shader.module, &shader.info));
-    let text = write_string(alloc, &shader.module, &shader.info, no_flags())?;
+fn are_written(rt: &impl Abort, alloc: Global, label: &str, name: &str, again: &str) {
+    let mut shader = ModuleBuilder::new(alloc);
+    add_functions(rt, alloc, &mut shader, label);
+    let text = written(rt, alloc, &shader.module, &mut shader.info, no_flags());
     let want = format!(in alloc;
         "fn {name}() {{\n}}\n\n\
          fn f(p: i32) -> i32 {{\n    let {again} = (p + p);\n    return {again};\n}}\n\n"
-    )?;
-    assert!(rt; text.as_str() == want.as_str());
-    Ok(())
-}
-
-fn add_and_write(
-    rt: &impl Abort,
-    alloc: Global,
-    shader: &mut ModuleBuilder,
-    label: &str,
-    name: &str,
-    again: &str,
-) -> Result<(), Error> {
-    add_functions(alloc, shader, label)?;
-    are_written(rt, alloc, shader, name, again)
-}
-
-fn check_long(rt: &impl Abort, alloc: Global, long: &Long) -> Result<(), Error> {
-    let label = repeated(alloc, long.part, long.times)?;
-    let name = repeated(alloc, long.named, long.named_times)?;
-    let more = long.again;
-    let again = format!(in alloc; "{name}{more}")?;
-    let named = are_given(rt, alloc, label.as_str(), name.as_str(), again.as_str());
-    assert!(rt; named.is_ok());
-    let mut shader = ModuleBuilder::new(alloc);
-    let written = add_and_write(
-        rt,
-        alloc,
-        &mut shader,
-        label.as_str(),
-        name.as_str(),
-        again.as_str(),
     );
-    drop(shader);
-    written
+    assert!(rt; text.as_str() == want.expect(rt, "memory").as_str());
+}
+
+fn check_long(rt: &impl Abort, alloc: Global, long: &Long) {
+    let label = repeated(rt, alloc, long.part, long.times);
+    let name = repeated(rt, alloc, long.named, long.named_times);
+    let more = long.again;
+    let again = format!(in alloc; "{name}{more}").expect(rt, "memory");
+    are_given(rt, alloc, label.as_str(), name.as_str(), again.as_str());
+    are_written(rt, alloc, label.as_str(), name.as_str(), again.as_str());
 }
 
 #[test]
-fn a_long_label_is_a_name(rt: HostRuntime) -> Result<(), Fail> {
-    check_long(&rt, rt.alloc(), &LETTERS)?;
-    Ok(())
+fn a_long_label_is_a_name(rt: HostRuntime) {
+    check_long(&rt, rt.alloc(), &LETTERS);
 }
 
 #[test]
-fn a_long_label_in_another_script_has_a_name(rt: HostRuntime) -> Result<(), Fail> {
-    check_long(&rt, rt.alloc(), &FOREIGN)?;
-    Ok(())
+fn a_long_label_in_another_script_has_a_name(rt: HostRuntime) {
+    check_long(&rt, rt.alloc(), &FOREIGN);
 }
 
 #[test]
-fn a_long_label_without_letters_has_a_name(rt: HostRuntime) -> Result<(), Fail> {
-    check_long(&rt, rt.alloc(), &NO_LETTERS)?;
-    Ok(())
+fn a_long_label_without_letters_has_a_name(rt: HostRuntime) {
+    check_long(&rt, rt.alloc(), &NO_LETTERS);
 }

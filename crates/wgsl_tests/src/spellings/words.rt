@@ -1,61 +1,34 @@
 //! Words for diagnostics, and the names of structs that WGSL has without a declaration.
 use super::*;
+use std::alloc::AllocError;
 
 /// The answer is this text.
-fn names(
-    rt: &impl Abort,
-    answer: &Result<String, AllocError>,
-    want: &str,
-) -> Result<(), AllocError> {
-    match answer {
-        Ok(text) => assert_eq!(rt; text.as_str(), want),
-        Err(error) => return Err(*error),
-    }
-    Ok(())
-}
-
-/// What each kind is called.
-fn descriptions_hold(rt: &impl Abort) {
-    assert_eq!(rt; MathFunction::DESCRIPTION, "math function");
-    assert_eq!(rt; BuiltIn::DESCRIPTION, "builtin value");
-    assert_eq!(rt; <Scalar as TryToWgsl>::DESCRIPTION, "scalar type");
+fn names(rt: &impl Abort, answer: Result<String, AllocError>, want: &str) {
+    assert_eq!(rt; answer.expect(rt, "memory").as_str(), want);
 }
 
 /// A word for a diagnostic, of what has one and of what has none.
-fn words_in(rt: &impl Abort, alloc: Global) -> Result<(), AllocError> {
-    let known = MathFunction::SmoothStep;
-    names(rt, &known.to_wgsl_for_diagnostics(alloc), "smoothstep")?;
-    names(
-        rt,
-        &MathFunction::Inverse.to_wgsl_for_diagnostics(alloc),
-        "{non-WGSL math function Inverse}",
-    )?;
-    names(
-        rt,
-        &BuiltIn::PointSize.to_wgsl_for_diagnostics(alloc),
-        "{non-WGSL builtin value PointSize}",
-    )?;
-    names(
-        rt,
-        &Scalar::ABSTRACT_INT.to_wgsl_for_diagnostics(alloc),
-        "{AbstractInt}",
-    )?;
+#[test]
+fn words_for_diagnostics(rt: HostRuntime) {
+    let alloc = rt.alloc();
+    let known = MathFunction::SmoothStep.to_wgsl_for_diagnostics(alloc);
+    names(&rt, known, "smoothstep");
+    let unknown = MathFunction::Inverse.to_wgsl_for_diagnostics(alloc);
+    names(&rt, unknown, "{non-WGSL math function Inverse}");
+    let size = BuiltIn::PointSize.to_wgsl_for_diagnostics(alloc);
+    names(&rt, size, "{non-WGSL builtin value PointSize}");
+    let number = Scalar::ABSTRACT_INT.to_wgsl_for_diagnostics(alloc);
+    names(&rt, number, "{AbstractInt}");
     let odd = Scalar {
         kind: ScalarKind::Uint,
         width: 16,
     };
+    let odd = odd.to_wgsl_for_diagnostics(alloc);
     names(
-        rt,
-        &odd.to_wgsl_for_diagnostics(alloc),
+        &rt,
+        odd,
         "{non-WGSL scalar Scalar { kind: Uint, width: 16 }}",
-    )
-}
-
-#[test]
-fn words_for_diagnostics(rt: HostRuntime) -> Result<(), Fail> {
-    descriptions_hold(&rt);
-    words_in(&rt, rt.alloc())?;
-    Ok(())
+    );
 }
 
 const SIZES: &[(Option<VectorSize>, &str, &str)] = &[
@@ -111,62 +84,53 @@ const EXCHANGES: &[(ScalarKind, u8, &str)] = &[
 ];
 
 /// The struct has this name.
-fn is_named(
-    rt: &impl Abort,
-    alloc: Global,
-    predeclared: PredeclaredType,
-    want: &str,
-) -> Result<(), AllocError> {
-    names(rt, &predeclared.struct_name(alloc), want)
+fn is_named(rt: &impl Abort, alloc: Global, predeclared: PredeclaredType, want: &str) {
+    names(rt, predeclared.struct_name(alloc), want);
 }
 
-fn predeclared_in(rt: &impl Abort, alloc: Global) -> Result<(), AllocError> {
+/// The struct of what `modf` gives of so many of these numbers has this name.
+fn modf_is_named(
+    rt: &impl Abort,
+    alloc: Global,
+    size: Option<VectorSize>,
+    scalar: Scalar,
+    want: &str,
+) {
+    is_named(
+        rt,
+        alloc,
+        PredeclaredType::ModfResult { size, scalar },
+        want,
+    );
+}
+
+#[test]
+fn names_of_predeclared_structs(rt: HostRuntime) {
+    let alloc = rt.alloc();
     for (size, modf, frexp) in SIZES {
-        let parts = PredeclaredType::ModfResult {
-            size: *size,
-            scalar: Scalar::F32,
-        };
-        is_named(rt, alloc, parts, *modf)?;
+        modf_is_named(&rt, alloc, *size, Scalar::F32, *modf);
         let significand = PredeclaredType::FrexpResult {
             size: *size,
             scalar: Scalar::F16,
         };
-        is_named(rt, alloc, significand, *frexp)?;
+        is_named(&rt, alloc, significand, *frexp);
     }
     for (kind, width, want) in EXCHANGES {
-        let scalar = Scalar {
-            kind: *kind,
-            width: *width,
-        };
-        let exchange = PredeclaredType::AtomicCompareExchangeWeakResult(scalar);
-        is_named(rt, alloc, exchange, *want)?;
-    }
-    Ok(())
-}
-
-/// The result of `modf` for one number of so many bytes.
-fn parts_of(width: u8) -> PredeclaredType {
-    PredeclaredType::ModfResult {
-        size: None,
-        scalar: Scalar {
-            kind: ScalarKind::Float,
-            width,
-        },
+        let (kind, width) = (*kind, *width);
+        let exchange = PredeclaredType::AtomicCompareExchangeWeakResult(Scalar { kind, width });
+        is_named(&rt, alloc, exchange, *want);
     }
 }
 
-fn widths_in(rt: &impl Abort, alloc: Global) -> Result<(), AllocError> {
-    for width in 0..=u8::MAX {
-        let want = format!(in alloc; "__modf_result_f{}", 8 * u32::from(width))?;
-        is_named(rt, alloc, parts_of(width), want.as_str())?;
-    }
-    is_named(rt, alloc, parts_of(255), "__modf_result_f2040")
-}
-
+/// The greatest is told by hand.
 #[test]
-fn names_of_predeclared_structs(rt: HostRuntime) -> Result<(), Fail> {
-    let alloc = rt.alloc();
-    predeclared_in(&rt, alloc)?;
-    widths_in(&rt, alloc)?;
-    Ok(())
+fn names_of_predeclared_structs_tell_each_width(rt: HostRuntime) {
+    let (alloc, kind) = (rt.alloc(), ScalarKind::Float);
+    for width in 0..=u8::MAX {
+        let want = format!(in alloc; "__modf_result_f{}", 8 * u32::from(width));
+        let want = want.expect(&rt, "memory");
+        modf_is_named(&rt, alloc, None, Scalar { kind, width }, want.as_str());
+    }
+    let greatest = Scalar { kind, width: 255 };
+    modf_is_named(&rt, alloc, None, greatest, "__modf_result_f2040");
 }
