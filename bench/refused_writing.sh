@@ -9,7 +9,7 @@
 [ $# -gt 0 ] || set -- '500 identity' '500 store' '500 store explicit' '500 vertex' '500 continue' '500 pointer' \
     '500 modf' '500 modf explicit' '500 sample' '500 sample explicit' '4000 mixed' '4000 mixed explicit' '500 tail' \
     '500 tail explicit' '500 call' '500 call explicit' '500 switch' '500 switch explicit' '500 deep' \
-    '500 deep explicit' '8000 read' '8000 read explicit'
+    '500 deep explicit' '1800 read' '1800 read explicit'
 asked=$(mktemp)
 printf '%s\n' "$@" > "$asked"
 whole=$(mktemp)
