@@ -20,7 +20,6 @@ pub mod soundness;
 pub mod statements;
 mod type_hash;
 mod type_numbers;
-pub mod undeclared;
 mod uses;
 mod walk;
 
@@ -28,4 +27,3 @@ pub use acceptance::{accepts, unaccepted};
 pub use alike::is_spelled;
 pub use counts::count;
 pub use faults::{Fault, FunctionPlace, Item, Unaccepted};
-pub use undeclared::is_spellable;

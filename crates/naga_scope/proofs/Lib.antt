@@ -8,6 +8,7 @@ pub mod Listed
 pub mod Logs
 pub mod Marking
 pub mod Offsets
+pub mod FilledTables
 pub mod FirstValues
 pub mod Planned
 pub mod KeptPoints

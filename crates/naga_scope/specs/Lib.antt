@@ -11,4 +11,5 @@ pub mod Marks
 pub mod Plans
 pub mod Results
 pub mod SpelledTypes
+pub mod Tables
 pub mod Walks

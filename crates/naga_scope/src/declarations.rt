@@ -12,11 +12,9 @@ ghost use Rattle.naga_scope.specs.Declarations.{IsFormlessHead, IsFormlessMember
 ghost use Rattle.naga_scope.specs.Declarations.{IsFormlessPassed, IsFormlessType, IsFormlessValue};
 ghost use Rattle.naga_scope.specs.Declarations.{MemberHasForm, PassedHasForm, TypeHasForm};
 ghost use Rattle.naga_scope.specs.Declarations.{ValueHasForm};
-ghost use Rattle.naga_scope.specs.Marks.{MarksGlobals};
+ghost use Rattle.naga_scope.specs.Tables.{AreTablesOf};
 
-use crate::forms::type_is_spellable;
-use crate::global_expressions::GlobalExpressions;
-use naga_acceptance::undeclared::is_undeclared;
+use crate::tables::ModuleTables;
 use naga_back::FunctionType;
 use naga_ir::{
     Arena, Binding, BuiltIn, Constant, EntryPoint, Expression, Function, FunctionArgument, Handle,
@@ -68,24 +66,21 @@ pub fn formless_head(module: &Module, ty: FunctionType) -> Option<FormlessHead>
 /// The first of the module's declarations that has no form, if there is one, or what has none in it:
 /// of its structs, constants, overrides, variables, functions and entry points, in this order. It
 /// takes no memory.
-pub fn formless_declaration(
-    module: &Module,
-    globals: &GlobalExpressions,
-) -> Option<FormlessDeclaration>
-    requires globals { MarksGlobals «module».now globals.now }
+pub fn formless_declaration(module: &Module, tables: &ModuleTables) -> Option<FormlessDeclaration>
+    requires tables { AreTablesOf «module».now tables.now }
     ensures none { IfNone result (DeclarationsHaveForms «module».now) }
     ensures some { IfSome result (IsFormlessDeclaration «module».now) }
 {
-    if let Some(formless) = formless_in_structs(module) {
+    if let Some(formless) = formless_in_structs(module, tables) {
         return Some(formless);
     }
-    if let Some(formless) = formless_in_constants(module, globals) {
+    if let Some(formless) = formless_in_constants(module, tables) {
         return Some(formless);
     }
-    if let Some(formless) = formless_in_overrides(module, globals) {
+    if let Some(formless) = formless_in_overrides(module, tables) {
         return Some(formless);
     }
-    if let Some(formless) = formless_in_variables(module, globals) {
+    if let Some(formless) = formless_in_variables(module, tables) {
         return Some(formless);
     }
     if let Some(value) = formless_in_functions(&module.functions) {
@@ -98,12 +93,13 @@ pub fn formless_declaration(
 }
 
 /// The first type or binding without a form of a member of a struct that a text declares.
-fn formless_in_structs(module: &Module) -> Option<FormlessDeclaration>
+fn formless_in_structs(module: &Module, tables: &ModuleTables) -> Option<FormlessDeclaration>
+    requires tables { AreTablesOf «module».now tables.now }
     ensures { Finds «module».now.types (TypeHasForm «module».now) (IsFormlessType «module».now)
         result }
 {
     for (handle, ty) in module.types.iter() {
-        if let Some(formless) = formless_in_type(module, handle, ty) {
+        if let Some(formless) = formless_in_type(module, tables, handle, ty) {
             return Some(formless);
         }
     }
@@ -113,40 +109,52 @@ fn formless_in_structs(module: &Module) -> Option<FormlessDeclaration>
 /// The same of the type with this handle.
 fn formless_in_type(
     module: &Module,
+    tables: &ModuleTables,
     handle: Handle<Type_>,
     ty: &Type_,
 ) -> Option<FormlessDeclaration>
+    requires tables { AreTablesOf «module».now tables.now }
     ensures { MatchOption result (TypeHasForm «module».now handle ty.now)
         (IsFormlessType «module».now handle ty.now) }
 {
     match &ty.inner {
         TypeInner::Struct { members, .. } => {
-            if is_undeclared(&module.special_types, handle) {
+            if tables.is_undeclared(module, handle) {
                 None
             } else {
-                formless_in_members(module, members)
+                formless_in_members(module, tables, members)
             }
         }
         _ => None,
     }
 }
 
-fn formless_in_members(module: &Module, members: &[StructMember]) -> Option<FormlessDeclaration>
+fn formless_in_members(
+    module: &Module,
+    tables: &ModuleTables,
+    members: &[StructMember],
+) -> Option<FormlessDeclaration>
+    requires tables { AreTablesOf «module».now tables.now }
     ensures { FindsMember «module».now members.now result }
 {
     for member in members {
-        if let Some(formless) = formless_member(module, member) {
+        if let Some(formless) = formless_member(module, tables, member) {
             return Some(formless);
         }
     }
     None
 }
 
-fn formless_member(module: &Module, member: &StructMember) -> Option<FormlessDeclaration>
+fn formless_member(
+    module: &Module,
+    tables: &ModuleTables,
+    member: &StructMember,
+) -> Option<FormlessDeclaration>
+    requires tables { AreTablesOf «module».now tables.now }
     ensures { MatchOption result (MemberHasForm «module».now member.now)
         (IsFormlessMember «module».now member.now) }
 {
-    if !type_is_spellable(module, member.ty) {
+    if !tables.is_spellable(module, member.ty) {
         return Some(FormlessDeclaration::Type_(member.ty));
     }
     match formless_binding(member.binding) {
@@ -172,16 +180,13 @@ fn formless_binding(binding: Option<Binding>) -> Option<BuiltIn>
 }
 
 /// The first type or initialiser without a form of a constant that has a name.
-fn formless_in_constants(
-    module: &Module,
-    globals: &GlobalExpressions,
-) -> Option<FormlessDeclaration>
-    requires globals { MarksGlobals «module».now globals.now }
+fn formless_in_constants(module: &Module, tables: &ModuleTables) -> Option<FormlessDeclaration>
+    requires tables { AreTablesOf «module».now tables.now }
     ensures { Finds «module».now.constants (λ i. ConstantHasForm «module».now)
         (λ i. IsFormlessConstant «module».now) result }
 {
     for (_, constant) in module.constants.iter() {
-        if let Some(formless) = formless_constant(module, globals, constant) {
+        if let Some(formless) = formless_constant(module, tables, constant) {
             return Some(formless);
         }
     }
@@ -190,31 +195,28 @@ fn formless_in_constants(
 
 fn formless_constant(
     module: &Module,
-    globals: &GlobalExpressions,
+    tables: &ModuleTables,
     constant: &Constant,
 ) -> Option<FormlessDeclaration>
-    requires globals { MarksGlobals «module».now globals.now }
+    requires tables { AreTablesOf «module».now tables.now }
     ensures { MatchOption result (ConstantHasForm «module».now constant.now)
         (IsFormlessConstant «module».now constant.now) }
 {
     if constant.name.is_some() {
-        formless_value(module, globals, constant.ty, Some(constant.init))
+        formless_value(module, tables, constant.ty, Some(constant.init))
     } else {
         None
     }
 }
 
 /// The first type or initialiser without a form of an override.
-fn formless_in_overrides(
-    module: &Module,
-    globals: &GlobalExpressions,
-) -> Option<FormlessDeclaration>
-    requires globals { MarksGlobals «module».now globals.now }
+fn formless_in_overrides(module: &Module, tables: &ModuleTables) -> Option<FormlessDeclaration>
+    requires tables { AreTablesOf «module».now tables.now }
     ensures { Finds «module».now.overrides (λ i o. ValueHasForm «module».now o.ty o.init)
         (λ i o. IsFormlessValue «module».now o.ty o.init) result }
 {
     for (_, item) in module.overrides.iter() {
-        if let Some(formless) = formless_value(module, globals, item.ty, item.init) {
+        if let Some(formless) = formless_value(module, tables, item.ty, item.init) {
             return Some(formless);
         }
     }
@@ -222,16 +224,13 @@ fn formless_in_overrides(
 }
 
 /// The first type or initialiser without a form of a variable of the module.
-fn formless_in_variables(
-    module: &Module,
-    globals: &GlobalExpressions,
-) -> Option<FormlessDeclaration>
-    requires globals { MarksGlobals «module».now globals.now }
+fn formless_in_variables(module: &Module, tables: &ModuleTables) -> Option<FormlessDeclaration>
+    requires tables { AreTablesOf «module».now tables.now }
     ensures { Finds «module».now.global_variables (λ i g. ValueHasForm «module».now g.ty g.init)
         (λ i g. IsFormlessValue «module».now g.ty g.init) result }
 {
     for (_, variable) in module.global_variables.iter() {
-        if let Some(formless) = formless_value(module, globals, variable.ty, variable.init) {
+        if let Some(formless) = formless_value(module, tables, variable.ty, variable.init) {
             return Some(formless);
         }
     }
@@ -241,20 +240,20 @@ fn formless_in_variables(
 /// The type or the initialiser of a declaration, if it has no form.
 fn formless_value(
     module: &Module,
-    globals: &GlobalExpressions,
+    tables: &ModuleTables,
     ty: Handle<Type_>,
     init: Option<Handle<Expression>>,
 ) -> Option<FormlessDeclaration>
-    requires globals { MarksGlobals «module».now globals.now }
+    requires tables { AreTablesOf «module».now tables.now }
     ensures { MatchOption result (ValueHasForm «module».now ty init)
         (IsFormlessValue «module».now ty init) }
 {
-    if !type_is_spellable(module, ty) {
+    if !tables.is_spellable(module, ty) {
         return Some(FormlessDeclaration::Type_(ty));
     }
     match init {
         Some(init) => {
-            if globals.is_written(init) {
+            if tables.is_written(module, init) {
                 None
             } else {
                 Some(FormlessDeclaration::Initialiser(init))

@@ -17,14 +17,12 @@ ghost use Rattle.naga_ir.specs.declared.types.Type_.{Type_};
 ghost use Rattle.naga_names.specs.Keys.{names_in};
 ghost use Rattle.naga_names.specs.declared.key.NameKey.TheVariants as key;
 ghost use Rattle.naga_scope.specs.Forms.{AreKnownIn};
-ghost use Rattle.naga_scope.specs.Marks.{MarksGlobals};
+ghost use Rattle.naga_scope.specs.Tables.{AreTablesOf};
 ghost use Rattle.wgsl_text.specs.Words.{stands_in};
 ghost use Rattle.wgsl_words.specs.Words.{scalar_word};
 
-use crate::global_expressions::GlobalExpressions;
-use naga_acceptance::is_spellable;
+use crate::tables::ModuleTables;
 use naga_acceptance::parts::known_has_parts;
-use naga_acceptance::undeclared::is_undeclared;
 use naga_info::{FunctionInfo, TypeResolution};
 use naga_ir::{
     CooperativeRole, CooperativeSize, Expression, Handle, Literal, Module, RelationalFunction,
@@ -37,18 +35,18 @@ use wgsl_words::TryToWgsl;
 /// Whether an expression is one that is written, where its offset, if it has one, is written out.
 pub(crate) fn is_written(
     module: &Module,
-    globals: &GlobalExpressions,
+    tables: &ModuleTables,
     names: &HashMap<NameKey, String>,
     info: &FunctionInfo,
     expression: &Expression,
 ) -> bool
-    requires globals { MarksGlobals «module».now globals.now }
+    requires tables { AreTablesOf «module».now tables.now }
     requires named { HasNamesOf «module».now (names_in names.now) }
     requires known { AreKnownIn «module».now.types info.now }
     ensures { result ≡ expression_is_written «module».now info.now expression.now }
 {
     match expression {
-        Expression::Constant(constant) => globals.writes(module, *constant),
+        Expression::Constant(constant) => tables.writes(module, *constant),
         Expression::GlobalVariable(variable) => variable.index() < module.global_variables.len(),
         Expression::Override(_)
         | Expression::Access { .. }
@@ -77,11 +75,11 @@ pub(crate) fn is_written(
             ..
         } => sampling_has_form(*gather, *level, depth_ref.is_some(), *clamp_to_edge),
         Expression::AccessIndex { base, index } => {
-            part_is_written(module, names, info, *base, *index)
+            part_is_written(module, tables, names, info, *base, *index)
         }
         Expression::ImageLoad { sample, level, .. } => sample.is_none() || level.is_none(),
-        Expression::ZeroValue(ty) => type_is_spellable(module, *ty),
-        Expression::Compose { ty, .. } => type_is_spellable(module, *ty),
+        Expression::ZeroValue(ty) => tables.is_spellable(module, *ty),
+        Expression::Compose { ty, .. } => tables.is_spellable(module, *ty),
         Expression::As {
             expr,
             kind,
@@ -125,29 +123,24 @@ pub fn sampling_has_form(
     }
 }
 
-/// Whether a text can spell the type with this handle.
-pub(crate) fn type_is_spellable(module: &Module, ty: Handle<Type_>) -> bool
-    ensures { result ≡ is_spellable «module».now (OfHandle ty) }
-{
-    is_spellable(module, &TypeResolution::Handle(ty))
-}
-
 /// Whether an expression has parts, and the one with this number is written: it is no member of a
 /// struct that no text declares, or a text can name it.
 fn part_is_written(
     module: &Module,
+    tables: &ModuleTables,
     names: &HashMap<NameKey, String>,
     info: &FunctionInfo,
     base: Handle<Expression>,
     index: u32,
 ) -> bool
+    requires tables { AreTablesOf «module».now tables.now }
     requires named { HasNamesOf «module».now (names_in names.now) }
     requires known { AreKnownIn «module».now.types info.now }
     ensures { result ≡ part_is_written «module».now info.now base index }
 {
     known_has_parts(&module.types, info.expressions.as_slice(), base)
         && match whole_known(&module.types, info, base) {
-            Some(whole) => part_is_written_at(module, names, index, whole),
+            Some(whole) => part_is_written_at(module, tables, names, index, whole),
             None => true,
         }
 }
@@ -181,10 +174,12 @@ fn whole_of(types: &UniqueArena<Type_>, ty: &TypeResolution) -> Option<Handle<Ty
 /// Whether the part with this number of a type of the module is no member of a struct, or is written.
 fn part_is_written_at(
     module: &Module,
+    tables: &ModuleTables,
     names: &HashMap<NameKey, String>,
     index: u32,
     whole: Handle<Type_>,
 ) -> bool
+    requires tables { AreTablesOf «module».now tables.now }
     requires named { HasNamesOf «module».now (names_in names.now) }
     ensures { result ≡ part_is_written_at «module».now index whole }
 {
@@ -194,7 +189,7 @@ fn part_is_written_at(
     match &module.types[whole].inner {
         TypeInner::Struct { members, .. } => {
             (index as usize) < members.len()
-                && (!is_undeclared(&module.special_types, whole)
+                && (!tables.is_undeclared(module, whole)
                     || has_member_word(module, names, whole, index))
         }
         _ => true,

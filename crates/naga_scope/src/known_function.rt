@@ -4,6 +4,7 @@ ghost use Rattle.std.specs.Prelude.{◌≡◌};
 ghost use Rattle.naga_scope.specs.KnownFunctions.{bound_in};
 
 use crate::binding::binds;
+use crate::tables::ModuleTables;
 use naga_info::{FunctionInfo, ModuleInfo};
 use naga_ir::{Expression, Function, Handle, Module};
 
@@ -14,6 +15,8 @@ pub(crate) struct KnownFunction<'a> {
     pub(crate) shader: &'a Module,
     /// What is known of it.
     pub(crate) module_info: &'a ModuleInfo,
+    /// What is looked up of it.
+    pub(crate) tables: &'a ModuleTables,
     /// The function.
     pub(crate) function: &'a Function,
     /// What is known of its expressions.

@@ -11,20 +11,20 @@ ghost use Rattle.naga_names.specs.Keys.{names_in};
 ghost use Rattle.naga_scope.specs.ExpressionNames.{HasBegunLabels, NamesLabels};
 ghost use Rattle.naga_scope.specs.Forms.{AreKnownIn};
 ghost use Rattle.naga_scope.specs.KnownFunctions.{expressions_of};
-ghost use Rattle.naga_scope.specs.Marks.{MarksGlobals};
 ghost use Rattle.naga_scope.specs.Plans.{IsPlanFor, IsPlanOf, IsRefusalToPlanFor};
 ghost use Rattle.naga_scope.specs.Plans.{IsRefusalToPlanOf};
 ghost use Rattle.naga_scope.specs.Results.{ResultsFit};
+ghost use Rattle.naga_scope.specs.Tables.{AreTablesOf};
 ghost use Rattle.naga_scope.specs.declared.plan.PlanError.TheVariants.{Memory, Unnamed};
 
 use crate::check::function_holds;
 use crate::functions::function_of;
-use crate::global_expressions::GlobalExpressions;
 use crate::known_function::KnownFunction;
 use crate::named::expression_names;
 use crate::points::Scope;
 use crate::spelled::{annotated_without_form, declared_without_form};
 use crate::statements::{FormlessStatement, formless_statement};
+use crate::tables::ModuleTables;
 use crate::written::written_without_form;
 use naga_back::FunctionType;
 use naga_info::ModuleInfo;
@@ -112,14 +112,14 @@ impl Plan {
         module: &'a Module,
         info: &'a ModuleInfo,
         ty: FunctionType,
-        globals: &GlobalExpressions,
+        tables: &'a ModuleTables,
         names: &HashMap<NameKey, String>,
         explicit: bool,
         namer: &mut Namer,
     ) -> Result<Plan, PlanError>
         requires accepted { IsTrue (is_accepted «module».now info.now) }
         requires there { IsFunctionOf ty «module».now }
-        requires globals { MarksGlobals «module».now globals.now }
+        requires tables { AreTablesOf «module».now tables.now }
         requires names { HasNamesOf «module».now (names_in names.now) }
         ensures ok { IfOk result
             (IsPlanOf explicit «module».now info.now (function_number «module».now ty)) }
@@ -135,16 +135,16 @@ impl Plan {
         let known = KnownFunction {
             shader: module,
             module_info: info,
+            tables,
             function,
             info: function_info,
         };
-        Plan::of_function(alloc, &known, globals, names, explicit, namer)
+        Plan::of_function(alloc, &known, names, explicit, namer)
     }
 
     fn of_function(
         alloc: Global,
         known: &KnownFunction<'_>,
-        globals: &GlobalExpressions,
         names: &HashMap<NameKey, String>,
         explicit: bool,
         namer: &mut Namer,
@@ -152,7 +152,7 @@ impl Plan {
         requires ordered { OperandsStandBefore (expressions_of known.now) }
         requires results { ResultsFit (length (expressions_of known.now))
             known.now.function.now.body }
-        requires globals { MarksGlobals known.now.shader.now globals.now }
+        requires tables { AreTablesOf known.now.shader.now known.now.tables.now }
         requires names { HasNamesOf known.now.shader.now (names_in names.now) }
         requires types { AreKnownIn known.now.shader.now.types known.now.info.now }
         ensures ok { IfOk result (IsPlanFor explicit known.now) }
@@ -170,10 +170,10 @@ impl Plan {
         if let Some(formless) = formless_statement(&known.function.body) {
             return Err(PlanError::StatementWithoutForm(formless));
         }
-        if let Some(handle) = written_without_form(alloc, known, globals, names)? {
+        if let Some(handle) = written_without_form(alloc, known, names)? {
             return Err(PlanError::WithoutForm(handle));
         }
-        if let Some(ty) = declared_without_form(known.shader, known.function) {
+        if let Some(ty) = declared_without_form(known.shader, known.tables, known.function) {
             return Err(PlanError::TypeWithoutForm(ty));
         }
         if let Some(handle) = annotated_without_form(known, explicit) {

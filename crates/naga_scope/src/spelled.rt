@@ -9,36 +9,46 @@ ghost use Rattle.naga_ir.specs.StatementViews.{cases_of, tree_of};
 ghost use Rattle.naga_scope.specs.KnownFunctions.{bound_in};
 ghost use Rattle.naga_scope.specs.SpelledTypes.{annotated_formless, declared_formless};
 ghost use Rattle.naga_scope.specs.SpelledTypes.{is_formless, is_formless_let};
+ghost use Rattle.naga_scope.specs.Tables.{AreTablesOf};
 ghost use Rattle.shader_runs.specs.Program.{from};
 
-use crate::forms::type_is_spellable;
 use crate::known_function::KnownFunction;
+use crate::tables::ModuleTables;
 use naga_acceptance::is_spelled;
-use naga_acceptance::undeclared::names_undeclared;
 use naga_info::FunctionInfo;
 use naga_ir::{
     Block, Expression, Function, FunctionArgument, FunctionResult, Handle, Module, Place, Range,
     Statement, SwitchCase, Type_,
 };
 
-fn argument_without_form(module: &Module, arguments: &[FunctionArgument]) -> Option<Handle<Type_>>
+fn argument_without_form(
+    module: &Module,
+    tables: &ModuleTables,
+    arguments: &[FunctionArgument],
+) -> Option<Handle<Type_>>
+    requires tables { AreTablesOf «module».now tables.now }
     ensures { result ≡ find (is_formless «module».now) (map (λ a. a.ty) arguments.now) }
 {
     for argument in arguments {
-        if !type_is_spellable(module, argument.ty) {
+        if !tables.is_spellable(module, argument.ty) {
             return Some(argument.ty);
         }
     }
     None
 }
 
-fn answer_without_form(module: &Module, answer: &Option<FunctionResult>) -> Option<Handle<Type_>>
+fn answer_without_form(
+    module: &Module,
+    tables: &ModuleTables,
+    answer: &Option<FunctionResult>,
+) -> Option<Handle<Type_>>
+    requires tables { AreTablesOf «module».now tables.now }
     ensures { result
         ≡ find (is_formless «module».now) (option_to_list (option_map (λ r. r.ty) answer.now)) }
 {
     match answer {
         Some(answer) => {
-            if type_is_spellable(module, answer.ty) {
+            if tables.is_spellable(module, answer.ty) {
                 None
             } else {
                 Some(answer.ty)
@@ -48,12 +58,17 @@ fn answer_without_form(module: &Module, answer: &Option<FunctionResult>) -> Opti
     }
 }
 
-fn local_without_form(module: &Module, function: &Function) -> Option<Handle<Type_>>
+fn local_without_form(
+    module: &Module,
+    tables: &ModuleTables,
+    function: &Function,
+) -> Option<Handle<Type_>>
+    requires tables { AreTablesOf «module».now tables.now }
     ensures { result
         ≡ find (is_formless «module».now) (map (λ l. l.ty) function.now.local_variables) }
 {
     for (_, local) in function.local_variables.iter() {
-        if !type_is_spellable(module, local.ty) {
+        if !tables.is_spellable(module, local.ty) {
             return Some(local.ty);
         }
     }
@@ -62,40 +77,53 @@ fn local_without_form(module: &Module, function: &Function) -> Option<Handle<Typ
 
 /// The first type of the function's arguments, its result and its locals that no text can spell, if
 /// there is one.
-pub(crate) fn declared_without_form(module: &Module, function: &Function) -> Option<Handle<Type_>>
+pub(crate) fn declared_without_form(
+    module: &Module,
+    tables: &ModuleTables,
+    function: &Function,
+) -> Option<Handle<Type_>>
+    requires tables { AreTablesOf «module».now tables.now }
     ensures { result ≡ declared_formless «module».now function.now }
 {
-    if let Some(ty) = argument_without_form(module, &function.arguments) {
+    if let Some(ty) = argument_without_form(module, tables, &function.arguments) {
         return Some(ty);
     }
-    if let Some(ty) = answer_without_form(module, &function.result) {
+    if let Some(ty) = answer_without_form(module, tables, &function.result) {
         return Some(ty);
     }
-    local_without_form(module, function)
+    local_without_form(module, tables, function)
 }
 
 /// Whether the type of the expression with this handle is known, names no struct that no text
 /// declares, and has no form.
-fn is_known_formless(module: &Module, info: &FunctionInfo, handle: Handle<Expression>) -> bool
+fn is_known_formless(
+    module: &Module,
+    tables: &ModuleTables,
+    info: &FunctionInfo,
+    handle: Handle<Expression>,
+) -> bool
+    requires tables { AreTablesOf «module».now tables.now }
     ensures { result ≡ is_formless_let «module».now info.now handle }
 {
     match info.expressions.get(handle.index()) {
         Some(known) => {
-            !names_undeclared(module, &known.ty) && !is_spelled(&module.types, &known.ty)
+            !tables.names_undeclared(module, &known.ty) && !is_spelled(&module.types, &known.ty)
         }
         None => false,
     }
 }
 
 fn is_formless_let(known: &KnownFunction<'_>, handle: Handle<Expression>) -> bool
+    requires tables { AreTablesOf known.now.shader.now known.now.tables.now }
     ensures { result ≡ is_formless_let known.now.shader.now known.now.info.now handle }
 {
-    is_known_formless(known.shader, known.info, handle)
+    is_known_formless(known.shader, known.tables, known.info, handle)
 }
 
 /// Whether a `let` binds the expression with this handle where it is emitted, and its type has no
 /// form.
 fn is_bound_formless(known: &KnownFunction<'_>, handle: Handle<Expression>) -> bool
+    requires tables { AreTablesOf known.now.shader.now known.now.tables.now }
     ensures { result ≡ (bound_in known.now handle
         && is_formless_let known.now.shader.now known.now.info.now handle) }
 {
@@ -104,6 +132,7 @@ fn is_bound_formless(known: &KnownFunction<'_>, handle: Handle<Expression>) -> b
 
 /// The first of these expressions that a `let` binds and whose type has no form.
 fn emitted_without_form(known: &KnownFunction<'_>, range: Range) -> Option<Handle<Expression>>
+    requires tables { AreTablesOf known.now.shader.now known.now.tables.now }
     ensures { result ≡ find (is_formless_let known.now.shader.now known.now.info.now)
         (filter (bound_in known.now) (from range.first (range.end - range.first))) }
 {
@@ -121,6 +150,7 @@ fn result_without_form(
     known: &KnownFunction<'_>,
     statement: &Statement,
 ) -> Option<Handle<Expression>>
+    requires tables { AreTablesOf known.now.shader.now known.now.tables.now }
     ensures { result ≡ find (is_formless_let known.now.shader.now known.now.info.now)
         (option_to_list (own_result (tree_of statement.now))) }
 {
@@ -139,6 +169,7 @@ fn result_without_form(
 /// The first expression of the block whose `let` tells a type without a form.
 #[cycle(lets)]
 fn let_in_block(known: &KnownFunction<'_>, block: &Block) -> Option<Handle<Expression>>
+    requires tables { AreTablesOf known.now.shader.now known.now.tables.now }
     ensures { result ≡ find (is_formless_let known.now.shader.now known.now.info.now)
         (block_lets (bound_in known.now) block.now) }
 {
@@ -152,6 +183,7 @@ fn let_in_block(known: &KnownFunction<'_>, block: &Block) -> Option<Handle<Expre
 
 #[cycle(lets)]
 fn let_in_statement(known: &KnownFunction<'_>, statement: &Statement) -> Option<Handle<Expression>>
+    requires tables { AreTablesOf known.now.shader.now known.now.tables.now }
     ensures { result ≡ find (is_formless_let known.now.shader.now known.now.info.now)
         (statement_lets (bound_in known.now) (tree_of statement.now)) }
 {
@@ -175,6 +207,7 @@ fn let_in_either(
     first: &Block,
     second: &Block,
 ) -> Option<Handle<Expression>>
+    requires tables { AreTablesOf known.now.shader.now known.now.tables.now }
     ensures { result ≡ find (is_formless_let known.now.shader.now known.now.info.now)
         (block_lets (bound_in known.now) first.now ++ block_lets (bound_in known.now) second.now) }
 {
@@ -186,6 +219,7 @@ fn let_in_either(
 
 #[cycle(lets)]
 fn let_in_cases(known: &KnownFunction<'_>, cases: &[SwitchCase]) -> Option<Handle<Expression>>
+    requires tables { AreTablesOf known.now.shader.now known.now.tables.now }
     ensures { result ≡ find (is_formless_let known.now.shader.now known.now.info.now)
         (cases_lets (bound_in known.now) (cases_of cases.now)) }
 {
@@ -203,6 +237,7 @@ pub(crate) fn annotated_without_form(
     known: &KnownFunction<'_>,
     explicit: bool,
 ) -> Option<Handle<Expression>>
+    requires tables { AreTablesOf known.now.shader.now known.now.tables.now }
     ensures { result ≡ annotated_formless explicit known.now.shader.now known.now.info.now
         (bound_in known.now) known.now.function.now }
 {

@@ -18,25 +18,27 @@ ghost use Rattle.module_meaning.specs.Written.{statement_roots};
 ghost use Rattle.module_meaning.specs.ExpressionForms.{expression_has_form};
 ghost use Rattle.naga_scope.specs.Forms.{AreKnownIn};
 ghost use Rattle.naga_scope.specs.KnownFunctions.{bound_in, expressions_of, has_form_in};
-ghost use Rattle.naga_scope.specs.Marks.{MarksAlso, MarksConstants, MarksGlobals, MarksJust};
-ghost use Rattle.naga_scope.specs.Marks.{Sweeps, is_marked};
+ghost use Rattle.naga_scope.specs.Marks.{MarksAlso, MarksConstants, MarksJust, Sweeps};
+ghost use Rattle.naga_scope.specs.Marks.{is_marked};
+ghost use Rattle.naga_scope.specs.Tables.{AreTablesOf};
 ghost use Rattle.shader_runs.specs.Program.{from};
 
 use crate::forms::is_written;
-use crate::global_expressions::GlobalExpressions;
 use crate::known_function::KnownFunction;
+use crate::tables::ModuleTables;
 use naga_info::FunctionInfo;
 use naga_ir::{Block, Expression, Function, Handle, Module, Place, Range, Statement, SwitchCase};
 use naga_names::NameKey;
 use std::alloc::{AllocError, Global};
 use std::collections::HashMap;
 
-/// Notes that the expression with this handle is written, if there is one.
-fn mark(marks: &mut [bool], handle: Handle<Expression>)
+/// Marks the item with this handle, if there is one.
+pub(crate) fn mark<M>(marks: &mut [bool], handle: Place<M>)
     ensures { MarksAlso marks.old (handle ∷ []) marks.new }
 {
-    if handle.index() < marks.len() {
-        marks[handle.index()] = true;
+    let index = handle.index();
+    if index < marks.len() {
+        marks[index] = true;
     }
 }
 
@@ -48,8 +50,8 @@ fn mark_if(marks: &mut [bool], handle: Handle<Expression>, is_written: bool)
     }
 }
 
-/// Whether the expression with this handle has a mark.
-pub(crate) fn is_marked(marks: &[bool], handle: Handle<Expression>) -> bool
+/// Whether the item with this handle has a mark.
+pub(crate) fn is_marked<M>(marks: &[bool], handle: Place<M>) -> bool
     ensures { result ≡ is_marked marks.now handle }
 {
     match marks.get(handle.index()) {
@@ -116,18 +118,18 @@ fn offset_has_form(constants: &[bool], expression: &Expression) -> bool
 fn expression_has_form(
     constants: &[bool],
     module: &Module,
-    globals: &GlobalExpressions,
+    tables: &ModuleTables,
     names: &HashMap<NameKey, String>,
     info: &FunctionInfo,
     expression: &Expression,
 ) -> bool
-    requires globals { MarksGlobals «module».now globals.now }
+    requires tables { AreTablesOf «module».now tables.now }
     requires named { HasNamesOf «module».now (names_in names.now) }
     requires known { AreKnownIn «module».now.types info.now }
     ensures { (es : List Expression) → MarksConstants es constants.now →
         result ≡ expression_has_form «module».now info.now es expression.now }
 {
-    is_written(module, globals, names, info, expression) && offset_has_form(constants, expression)
+    is_written(module, tables, names, info, expression) && offset_has_form(constants, expression)
 }
 
 /// Marks what these handles of an `Emit` write: those that a `let` binds.
@@ -246,9 +248,9 @@ fn mark_loop(
     mark_present(marks, break_if);
 }
 
-/// Notes that the expression with this handle, if there is one, is written.
+/// Marks the item with this handle, if there is one.
 #[tactic(auto, using(crate::proofs::Marking::marks_none))]
-fn mark_present(marks: &mut [bool], handle: Option<Handle<Expression>>)
+pub(crate) fn mark_present<M>(marks: &mut [bool], handle: Option<Place<M>>)
     ensures { MarksAlso marks.old (option_to_list handle) marks.new }
 {
     if let Some(handle) = handle {
@@ -277,11 +279,11 @@ fn mark_operands(marks: &mut [bool], expression: &Expression)
     }
 }
 
-/// A table without marks.
-fn no_marks(alloc: Global, function: &Function) -> Result<Vec<bool>, AllocError>
-    ensures { IfOk result (λ marks. marks.items ≡ replicate (length function.now.expressions) false) }
+/// A table of so many cells without marks.
+pub(crate) fn no_marks(alloc: Global, count: usize) -> Result<Vec<bool>, AllocError>
+    ensures { IfOk result (λ marks. marks.items ≡ replicate count false) }
 {
-    vec![in alloc; false; function.expressions.len()]
+    vec![in alloc; false; count]
 }
 
 /// Goes from the last expression to the first and marks the operands of what is marked, up to one
@@ -290,7 +292,7 @@ fn sweep(
     marks: &mut [bool],
     constants: &[bool],
     module: &Module,
-    globals: &GlobalExpressions,
+    tables: &ModuleTables,
     names: &HashMap<NameKey, String>,
     function: &Function,
     info: &FunctionInfo,
@@ -298,7 +300,7 @@ fn sweep(
     requires size { length marks.old ≡ length function.now.expressions }
     requires constants { MarksConstants function.now.expressions constants.now }
     requires ordered { OperandsStandBefore function.now.expressions }
-    requires globals { MarksGlobals «module».now globals.now }
+    requires tables { AreTablesOf «module».now tables.now }
     requires named { HasNamesOf «module».now (names_in names.now) }
     requires known { AreKnownIn «module».now.types info.now }
     ensures { (roots : List ℕ) → MarksJust roots marks.old →
@@ -311,7 +313,7 @@ fn sweep(
         if marks[end] {
             let handle = Place::from_index(end);
             let expression = &function.expressions[handle];
-            if !expression_has_form(constants, module, globals, names, info, expression) {
+            if !expression_has_form(constants, module, tables, names, info, expression) {
                 return Some(handle);
             }
             mark_operands(marks, expression);
@@ -326,13 +328,12 @@ fn without_form(
     marks: &mut [bool],
     constants: &[bool],
     known: &KnownFunction<'_>,
-    globals: &GlobalExpressions,
     names: &HashMap<NameKey, String>,
 ) -> Option<Handle<Expression>>
     requires ordered { OperandsStandBefore (expressions_of known.now) }
     requires marks { marks.old ≡ replicate (length (expressions_of known.now)) false }
     requires constants { MarksConstants (expressions_of known.now) constants.now }
-    requires globals { MarksGlobals known.now.shader.now globals.now }
+    requires tables { AreTablesOf known.now.shader.now known.now.tables.now }
     requires named { HasNamesOf known.now.shader.now (names_in names.now) }
     requires types { AreKnownIn known.now.shader.now.types known.now.info.now }
     ensures { Sweeps (has_form_in known.now) (expressions_of known.now)
@@ -344,7 +345,7 @@ fn without_form(
         marks,
         constants,
         known.shader,
-        globals,
+        known.tables,
         names,
         known.function,
         known.info,
@@ -355,18 +356,17 @@ fn without_form(
 pub(crate) fn written_without_form(
     alloc: Global,
     known: &KnownFunction<'_>,
-    globals: &GlobalExpressions,
     names: &HashMap<NameKey, String>,
 ) -> Result<Option<Handle<Expression>>, AllocError>
     requires ordered { OperandsStandBefore (expressions_of known.now) }
-    requires globals { MarksGlobals known.now.shader.now globals.now }
+    requires tables { AreTablesOf known.now.shader.now known.now.tables.now }
     requires named { HasNamesOf known.now.shader.now (names_in names.now) }
     requires types { AreKnownIn known.now.shader.now.types known.now.info.now }
     ensures { IfOk result (Sweeps (has_form_in known.now) (expressions_of known.now)
         (function_roots (bound_in known.now) known.now.function.now)) }
 {
-    let mut constants = no_marks(alloc, known.function)?;
+    let mut constants = no_marks(alloc, known.function.expressions.len())?;
     mark_constants(&mut constants, known.function);
-    let mut marks = no_marks(alloc, known.function)?;
-    Ok(without_form(&mut marks, &constants, known, globals, names))
+    let mut marks = no_marks(alloc, known.function.expressions.len())?;
+    Ok(without_form(&mut marks, &constants, known, names))
 }

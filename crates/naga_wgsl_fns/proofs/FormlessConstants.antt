@@ -17,7 +17,7 @@ use Rattle.naga_ir.specs.declared.module.Constant.{Constant}
 use Rattle.naga_ir.specs.declared.module.Module.{Module}
 use Rattle.naga_scope.proofs.SpelledTypes.{among_there, found_passes, none_passes, there_among}
 use Rattle.naga_scope.proofs.WrittenConstants.{global_same}
-use Rattle.naga_scope.specs.Marks.{GlobalsStandInOrder, MarksGlobals, is_marked}
+use Rattle.naga_scope.specs.Marks.{GlobalsStandInOrder}
 use Rattle.naga_wgsl_fns.specs.declared.error.Error.{Error}
 use Rattle.shader_runs.specs.Premises.{AllBelow}
 use Rattle.naga_wgsl_fns.specs.Refusals.{NamesConstant, NamesGlobal, is_operation}
@@ -26,10 +26,10 @@ pub as_it_is : (xs : List ℕ) → map (λ (x : ℕ). x) xs ≡ xs
 as_it_is [] = refl
 as_it_is (x ∷ xs) = ap (λ ys. x ∷ ys) (as_it_is xs)
 
--- ---- marks
-module _ (m : Module) (marks : List Bool) (are : MarksGlobals m marks) where
+-- ---- operands
+module _ (m : Module) where
   abbrev unwritten : ℕ → Bool
-  unwritten h = not (is_marked marks h)
+  unwritten h = not (global_is_written m h)
 
   -- where none is found that is not written, all are
   all_written : (xs : List ℕ) →
@@ -37,7 +37,7 @@ module _ (m : Module) (marks : List Bool) (are : MarksGlobals m marks) where
       list_all (global_is_written m) xs ≡ true
   all_written [] each = refl
   all_written (x ∷ xs) each =
-      ap₂ (λ a b. a && b) (sym (are x) ∙ not-false (is_marked marks x) (each 0 x refl))
+      ap₂ (λ a b. a && b) (not-false (global_is_written m x) (each 0 x refl))
       (all_written xs (λ i y at. each (suc i) y at))
 
   pub none_unwritten : (xs : List ℕ) → None ≡ find unwritten xs →
@@ -50,7 +50,7 @@ module _ (m : Module) (marks : List Bool) (are : MarksGlobals m marks) where
   one_unwritten xs x is =
       let found = found_passes unwritten xs x (sym is) in (
         among_there xs found.0 x found.1,
-        sym (are x) ∙ not-true (is_marked marks x) found.2,
+        not-true (global_is_written m x) found.2,
       )
 
 -- ---- what has no form

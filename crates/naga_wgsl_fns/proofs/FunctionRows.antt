@@ -39,6 +39,7 @@ use Rattle.shader_runs.specs.Scope.{Handles}
 use Rattle.module_meaning.specs.ExpressionLabels.{expression_labels}
 use Rattle.module_meaning.specs.Names.{HasNamesOf, module_names}
 use Rattle.module_meaning.specs.Written.{WrittenHaveForms}
+use Rattle.naga_scope.specs.Tables.{AreTablesOf}
 use Rattle.naga_scope.specs.Availabilities.{TextPoint}
 use Rattle.naga_scope.specs.declared.points.Availability.{Availability}
 use Rattle.naga_words.specs.declared.error.TypeTextError.{TypeTextError}
@@ -80,19 +81,20 @@ known_is : (info : ModuleInfo) (g : ℕ) (es : List ExpressionInfo) → slice_ge
 known_is info g es at = ap (λ o. unwrap_or o []) at
 
 pub can_write : (t : FunctionText) → IsTrue (is_accepted t.shader.now t.module_info.now) →
-    HasNamesOf t.shader.now (names_in t.names.now) →
+    AreTablesOf t.shader.now t.tables.now → HasNamesOf t.shader.now (names_in t.names.now) →
     IsFunctionOf t.ty t.shader.now →
     slice_get (all_functions t.shader.now) (number t) ≡ Some t.function.now →
     slice_get (all_infos t.module_info.now) (number t) ≡ Some t.info.now →
     WrittenHaveForms (annotates_types t.flags) t.shader.now t.module_info.now t.function.now
     t.info.now → HeadHasForm t.shader.now (number t) →
     length (expression_labels t.function.now) < 2 ^ 64 → CanWrite t
-can_write t accepted named there here known formed head room =
+can_write t accepted tables named there here known formed head room =
     let m = t.shader.now in
     let info = t.module_info.now in
     let f = t.function.now in
     record {
       named = named;
+      tables = tables;
       accepted = accepted;
       there = there;
       function = here;

@@ -2,6 +2,7 @@
 use Rattle.std.proofs.Common.{◌≡◌, subst, sym}
 use Rattle.module_meaning.specs.Names.{HasNamesOf}
 use Rattle.naga_names.specs.Keys.{names_in}
+use Rattle.naga_scope.specs.Tables.{AreTablesOf}
 use Rattle.naga_wgsl_fns.specs.FunctionText.{CanWrite}
 use Rattle.naga_wgsl_fns.specs.ModuleText.{CanWriteIn, CanWriteOf}
 use Rattle.naga_wgsl_fns.specs.declared.functions.FunctionText.{FunctionText}
@@ -13,11 +14,13 @@ can_of f can = record {
   accepted = can.accepted;
 }
 
--- a text of its module under its names
+-- a text of its module under its names, with what is looked up of it
 pub can_in : (f : FunctionText) → CanWrite f → (t : ModuleText) → t.shader.now ≡ f.shader.now →
-    t.names.now ≡ f.names.now → CanWriteIn t
-can_in f can t shader names = record {
+    t.tables.now ≡ f.tables.now → t.names.now ≡ f.names.now → CanWriteIn t
+can_in f can t shader tables names = record {
   of_module = subst CanWriteOf (sym shader) (can_of f can);
   named = subst (λ m. HasNamesOf m (names_in t.names.now)) (sym shader)
       (subst (λ n. HasNamesOf f.shader.now (names_in n)) (sym names) can.named);
+  tables = subst (λ m. AreTablesOf m t.tables.now) (sym shader)
+      (subst (AreTablesOf f.shader.now) (sym tables) can.tables);
 }

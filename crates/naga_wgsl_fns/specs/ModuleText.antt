@@ -5,6 +5,7 @@ use Rattle.naga_info.specs.declared.info.ModuleInfo.{ModuleInfo}
 use Rattle.module_meaning.specs.Accepted.{is_accepted}
 use Rattle.module_meaning.specs.Names.{HasNamesOf}
 use Rattle.naga_names.specs.Keys.{names_in}
+use Rattle.naga_scope.specs.Tables.{AreTablesOf}
 use Rattle.naga_wgsl_fns.specs.declared.module_text.ModuleText.{ModuleText}
 
 -- it is accepted, whatever is known of it
@@ -12,7 +13,8 @@ pub record CanWriteOf (m : Module) : Type 0 where
   pub info : ModuleInfo
   pub accepted : IsTrue (is_accepted m info)
 
--- and its text has its names
+-- and its text has its names, and what is looked up of it
 pub record CanWriteIn (t : ModuleText) : Type 0 where
   pub of_module : CanWriteOf t.shader.now
   pub named : HasNamesOf t.shader.now (names_in t.names.now)
+  pub tables : AreTablesOf t.shader.now t.tables.now

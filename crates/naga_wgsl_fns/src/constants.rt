@@ -34,22 +34,41 @@ impl FunctionText<'_> {
         self.of_module().write_constant(alloc, constant, out);
     }
 
-    /// The function's module, and the names of its items.
+    /// The function's module, the names of its items, and what is looked up of it.
     pub(crate) fn of_module(&self) -> ModuleText<'_>
         ensures shader { result.shader.now ≡ self.now.shader.now }
+        ensures tables { result.tables.now ≡ self.now.tables.now }
         ensures names { result.names.now ≡ self.now.names.now }
     {
         ModuleText {
             shader: self.shader,
+            tables: self.tables,
             names: self.names,
         }
     }
 }
 
 impl ModuleText<'_> {
-    /// One of the module's own expressions.
+    /// One of the module's own expressions. Through constants without names it takes one step, however
+    /// many name one another.
     #[cycle(global)]
     pub fn write_global<W: TextSink>(
+        &self,
+        alloc: Global,
+        handle: Handle<Expression>,
+        out: &mut Output<'_, W>,
+    )
+        requires can { CanWriteIn self.now }
+        requires written { IsTrue (global_is_written self.now.shader.now handle) }
+        ensures { Writes W.text W.failures out.old out.new
+            (global_text self.now.shader.now handle) }
+    {
+        self.write_target(alloc, self.tables.target(handle), out);
+    }
+
+    /// The same, by what it is.
+    #[cycle(global)]
+    fn write_target<W: TextSink>(
         &self,
         alloc: Global,
         handle: Handle<Expression>,

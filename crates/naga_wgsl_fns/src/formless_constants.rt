@@ -3,14 +3,15 @@
 ghost use Rattle.std.specs.Prelude.{◌≡◌, ◌<◌, IsFalse, length, not};
 ghost use Rattle.std.specs.List.{find};
 ghost use Rattle.module_meaning.specs.ExpressionForms.{constant_is_written, global_is_written};
-ghost use Rattle.naga_scope.specs.Marks.{GlobalsStandInOrder, MarksGlobals, is_marked};
+ghost use Rattle.naga_scope.specs.Marks.{GlobalsStandInOrder};
+ghost use Rattle.naga_scope.specs.Tables.{AreTablesOf};
 ghost use Rattle.naga_wgsl_fns.specs.Refusals.{NamesConstant, NamesGlobal};
 
 use crate::error::{Error, custom};
 use crate::forms::{literal_without_form, type_without_form};
 use naga_info::TypeResolution;
 use naga_ir::{Constant, Expression, Handle, Module};
-use naga_scope::GlobalExpressions;
+use naga_scope::ModuleTables;
 use std::alloc::Global;
 
 /// The refusal that names a constant that has no form, by the first part of its initialiser that has
@@ -18,16 +19,16 @@ use std::alloc::Global;
 pub(crate) fn constant_without_form(
     alloc: Global,
     module: &Module,
-    globals: &GlobalExpressions,
+    tables: &ModuleTables,
     constant: Handle<Constant>,
 ) -> Error
     requires ordered { GlobalsStandInOrder «module».now }
-    requires globals { MarksGlobals «module».now globals.now }
+    requires tables { AreTablesOf «module».now tables.now }
     requires there { constant < length «module».now.constants }
     requires formless { IsFalse (constant_is_written «module».now constant) }
     ensures { NamesConstant «module».now constant result }
 {
-    global_without_form(alloc, module, globals, module.constants[constant].init)
+    global_without_form(alloc, module, tables, module.constants[constant].init)
 }
 
 /// The refusal that names one of the module's own expressions that has no form; want of memory where
@@ -35,11 +36,11 @@ pub(crate) fn constant_without_form(
 pub(crate) fn global_without_form(
     alloc: Global,
     module: &Module,
-    globals: &GlobalExpressions,
+    tables: &ModuleTables,
     handle: Handle<Expression>,
 ) -> Error
     requires ordered { GlobalsStandInOrder «module».now }
-    requires globals { MarksGlobals «module».now globals.now }
+    requires tables { AreTablesOf «module».now tables.now }
     requires there { handle < length «module».now.global_expressions }
     requires formless { IsFalse (global_is_written «module».now handle) }
     ensures { NamesGlobal «module».now result handle }
@@ -47,32 +48,34 @@ pub(crate) fn global_without_form(
     match &module.global_expressions[handle] {
         Expression::Literal(literal) => literal_without_form(alloc, literal),
         Expression::Constant(constant) => {
-            global_without_form(alloc, module, globals, module.constants[*constant].init)
+            global_without_form(alloc, module, tables, module.constants[*constant].init)
         }
         Expression::Override(_) => unreachable!(),
         Expression::ZeroValue(ty) => {
-            type_without_form(alloc, module, &TypeResolution::Handle(*ty))
+            type_without_form(alloc, module, tables, &TypeResolution::Handle(*ty))
         }
         Expression::Compose { ty, components } => {
-            match first_unwritten(globals, components.as_slice()) {
-                Some(component) => global_without_form(alloc, module, globals, component),
-                None => type_without_form(alloc, module, &TypeResolution::Handle(*ty)),
+            match first_unwritten(module, tables, components.as_slice()) {
+                Some(component) => global_without_form(alloc, module, tables, component),
+                None => type_without_form(alloc, module, tables, &TypeResolution::Handle(*ty)),
             }
         }
-        Expression::Splat { value, .. } => global_without_form(alloc, module, globals, *value),
+        Expression::Splat { value, .. } => global_without_form(alloc, module, tables, *value),
         _ => custom(alloc, "operator in a constant"),
     }
 }
 
 /// The first of these that is not written, if there is one.
 fn first_unwritten(
-    globals: &GlobalExpressions,
+    module: &Module,
+    tables: &ModuleTables,
     handles: &[Handle<Expression>],
 ) -> Option<Handle<Expression>>
-    ensures { result ≡ find (λ h. not (is_marked globals.now h)) handles.now }
+    requires tables { AreTablesOf «module».now tables.now }
+    ensures { result ≡ find (λ h. not (global_is_written «module».now h)) handles.now }
 {
     for handle in handles {
-        if !globals.is_written(*handle) {
+        if !tables.is_written(module, *handle) {
             return Some(*handle);
         }
     }

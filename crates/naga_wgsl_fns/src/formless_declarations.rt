@@ -5,7 +5,7 @@ ghost use Rattle.module_meaning.specs.Accepted.{is_accepted};
 ghost use Rattle.naga_info.specs.declared.info.ModuleInfo.{ModuleInfo};
 ghost use Rattle.naga_ir.specs.declared.module.Module.{Module};
 ghost use Rattle.naga_scope.specs.Declarations.{IsFormlessDeclaration, IsFormlessHead};
-ghost use Rattle.naga_scope.specs.Marks.{MarksGlobals};
+ghost use Rattle.naga_scope.specs.Tables.{AreTablesOf};
 ghost use Rattle.naga_wgsl_fns.specs.DeclarationRefusals.{NamesBuiltin, NamesDeclaration};
 ghost use Rattle.naga_wgsl_fns.specs.DeclarationRefusals.{NamesHead};
 
@@ -14,30 +14,30 @@ use crate::formless_constants::global_without_form;
 use crate::forms::type_without_form;
 use naga_info::TypeResolution;
 use naga_ir::{BuiltIn, Module};
-use naga_scope::{FormlessDeclaration, FormlessHead, GlobalExpressions};
+use naga_scope::{FormlessDeclaration, FormlessHead, ModuleTables};
 use std::alloc::Global;
 use wgsl_words::TryToWgsl;
 
 /// The refusal that names a declaration of an accepted module that has no form, by what has none in
-/// it and by the marks of the module's own expressions; want of memory where there is none for its
+/// it and by what is looked up of the module; want of memory where there is none for its
 /// text.
 pub fn declaration_without_form(
     alloc: Global,
     module: &Module,
-    globals: &GlobalExpressions,
+    tables: &ModuleTables,
     declaration: FormlessDeclaration,
 ) -> Error
     requires accepted { (info : ModuleInfo) × IsTrue (is_accepted «module».now info) }
-    requires globals { MarksGlobals «module».now globals.now }
+    requires tables { AreTablesOf «module».now tables.now }
     requires formless { IsFormlessDeclaration «module».now declaration }
     ensures { NamesDeclaration «module».now result }
 {
     match declaration {
         FormlessDeclaration::Type_(ty) => {
-            type_without_form(alloc, module, &TypeResolution::Handle(ty))
+            type_without_form(alloc, module, tables, &TypeResolution::Handle(ty))
         }
         FormlessDeclaration::Initialiser(handle) => {
-            global_without_form(alloc, module, globals, handle)
+            global_without_form(alloc, module, tables, handle)
         }
         FormlessDeclaration::BuiltIn(value) => builtin_without_word(alloc, value),
         FormlessDeclaration::Head(head) => head_without_form(alloc, head),

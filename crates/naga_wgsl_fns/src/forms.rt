@@ -8,7 +8,8 @@ ghost use Rattle.module_meaning.specs.Conversions.{conversion_target};
 ghost use Rattle.module_meaning.specs.Sampling.{sampling_is_written};
 ghost use Rattle.naga_ir.specs.declared.expression.Expression.{Expression};
 ghost use Rattle.naga_scope.specs.Forms.{AreKnownIn};
-ghost use Rattle.naga_scope.specs.Marks.{GlobalsStandInOrder, MarksGlobals};
+ghost use Rattle.naga_scope.specs.Marks.{GlobalsStandInOrder};
+ghost use Rattle.naga_scope.specs.Tables.{AreTablesOf};
 ghost use Rattle.naga_wgsl_fns.specs.Refusals.{NamesConversion, NamesExpression};
 ghost use Rattle.naga_wgsl_fns.specs.Refusals.{NamesFunction, NamesLiteral, NamesSampling};
 ghost use Rattle.naga_wgsl_fns.specs.Refusals.{NamesMatrix, NamesPart, NamesScalar, NamesType};
@@ -19,14 +20,13 @@ use crate::error::{Error, custom, unimplemented};
 use crate::formless_constants::constant_without_form;
 use crate::lacking::lacking_scalar;
 use naga_acceptance::parts::known_has_parts;
-use naga_acceptance::undeclared::names_undeclared;
 use naga_info::{FunctionInfo, TypeResolution};
 use naga_ir::{
     Expression, Handle, Literal, MathFunction, Module, SampleLevel, Scalar, ScalarKind,
     SwizzleComponent, Type_, TypeInner, UniqueArena,
 };
 use naga_scope::{
-    FormlessStatement, GlobalExpressions, converted_scalar, sampling_has_form, scalar_behind,
+    FormlessStatement, ModuleTables, converted_scalar, sampling_has_form, scalar_behind,
 };
 use std::alloc::Global;
 use wgsl_words::TryToWgsl;
@@ -36,13 +36,13 @@ use wgsl_words::TryToWgsl;
 pub(crate) fn without_form(
     alloc: Global,
     module: &Module,
-    globals: &GlobalExpressions,
+    tables: &ModuleTables,
     info: &FunctionInfo,
     expression: &Expression,
 ) -> Error
     requires known { AreKnownIn «module».now.types info.now }
     requires ordered { GlobalsStandInOrder «module».now }
-    requires globals { MarksGlobals «module».now globals.now }
+    requires tables { AreTablesOf «module».now tables.now }
     requires named { NamesItemsOf «module».now expression.now }
     requires formless { (es : List Expression) ×
         IsFalse (expression_has_form «module».now info.now es expression.now) }
@@ -53,7 +53,7 @@ pub(crate) fn without_form(
     let types = &module.types;
     match expression {
         Expression::Constant(constant) => {
-            constant_without_form(alloc, module, globals, *constant)
+            constant_without_form(alloc, module, tables, *constant)
         }
         Expression::Literal(literal) => literal_without_form(alloc, literal),
         Expression::Math { fun, .. } => function_without_word(alloc, *fun),
@@ -71,9 +71,14 @@ pub(crate) fn without_form(
             ..
         } => sampling_without_form(alloc, *gather, *level, depth_ref.is_some(), *clamp_to_edge),
         Expression::ImageLoad { .. } => custom(alloc, "image load with sample and level"),
-        Expression::ZeroValue(ty) => type_without_form(alloc, module, &TypeResolution::Handle(*ty)),
+        Expression::ZeroValue(ty) => type_without_form(
+            alloc,
+            module,
+            tables,
+            &TypeResolution::Handle(*ty),
+        ),
         Expression::Compose { ty, .. } => {
-            type_without_form(alloc, module, &TypeResolution::Handle(*ty))
+            type_without_form(alloc, module, tables, &TypeResolution::Handle(*ty))
         }
         Expression::AccessIndex { base, .. } => part_without_form(alloc, types, info, *base),
         Expression::CooperativeLoad { data_, .. } => {
@@ -102,10 +107,16 @@ pub(crate) fn statement_without_form(alloc: Global, statement: FormlessStatement
 
 /// What is told of a type that no text can spell: it names a struct that no text declares, a scalar
 /// has no word, or it has no form for another reason.
-pub(crate) fn type_without_form(alloc: Global, module: &Module, ty: &TypeResolution) -> Error
+pub(crate) fn type_without_form(
+    alloc: Global,
+    module: &Module,
+    tables: &ModuleTables,
+    ty: &TypeResolution,
+) -> Error
+    requires tables { AreTablesOf «module».now tables.now }
     ensures { NamesType «module».now ty.now result }
 {
-    if names_undeclared(module, ty) {
+    if tables.names_undeclared(module, ty) {
         return undeclared(alloc);
     }
     match lacking_scalar(&module.types, ty) {

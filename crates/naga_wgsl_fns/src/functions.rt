@@ -12,6 +12,7 @@ ghost use Rattle.naga_names.specs.Keys.{names_in};
 ghost use Rattle.naga_scope.specs.Changes.{block_changes};
 ghost use Rattle.naga_scope.specs.Log.{HasRoom};
 ghost use Rattle.naga_scope.specs.Plans.{IsPlanOf};
+ghost use Rattle.naga_scope.specs.Tables.{AreTablesOf};
 ghost use Rattle.naga_words.specs.Output.{Writes};
 ghost use Rattle.naga_words.specs.Sink.{IsBehind};
 ghost use Rattle.naga_wgsl_fns.specs.Errors.{IsWant};
@@ -37,7 +38,7 @@ use naga_ir::{
     Expression, Function, FunctionArgument, FunctionResult, Handle, LocalVariable, Module, Place,
 };
 use naga_names::NameKey;
-use naga_scope::{Plan, Scope, function_of};
+use naga_scope::{ModuleTables, Plan, Scope, function_of};
 use naga_words::{Output, TextSink};
 use std::alloc::Global;
 use std::collections::HashMap;
@@ -46,8 +47,8 @@ use std::collections::HashMap;
 /// arguments and its locals under their names in `names`, which has them all, and what front ends
 /// named under the names that the plan has. In front of an entry point stands its stage.
 ///
-/// The module is accepted with what is known of it, and what the function takes and gives and its
-/// stage have forms. The plan is that of the function, for `let`s that tell types where the flags
+/// The module is accepted with what is known of it, `tables` has what is looked up of it, and what the
+/// function takes and gives and its stage have forms. The plan is that of the function, for `let`s that tell types where the flags
 /// ask for it.
 ///
 /// Where the call gives up, because the sink failed or for want of memory, a beginning of the text
@@ -58,6 +59,7 @@ pub fn write_planned<'a, W: TextSink>(
     alloc: Global,
     module: &'a Module,
     info: &'a ModuleInfo,
+    tables: &'a ModuleTables,
     names: &'a HashMap<NameKey, String>,
     flags: WriterFlags,
     ty: &FunctionType,
@@ -67,6 +69,7 @@ pub fn write_planned<'a, W: TextSink>(
     requires accepted { IsTrue (is_accepted «module».now info.now) }
     requires there { IsFunctionOf ty.now «module».now }
     requires head { HeadHasForm «module».now (function_number «module».now ty.now) }
+    requires tables { AreTablesOf «module».now tables.now }
     requires names { HasNamesOf «module».now (names_in names.now) }
     requires planned { IsPlanOf (annotates_types flags) «module».now info.now
         (function_number «module».now ty.now) plan }
@@ -84,6 +87,7 @@ pub fn write_planned<'a, W: TextSink>(
     let text = FunctionText {
         shader: module,
         module_info: info,
+        tables,
         names,
         named: named.as_slice(),
         flags,
@@ -104,6 +108,7 @@ pub fn write_planned<'a, W: TextSink>(
 pub(crate) struct FunctionText<'a> {
     pub(crate) shader: &'a Module,
     pub(crate) module_info: &'a ModuleInfo,
+    pub(crate) tables: &'a ModuleTables,
     pub(crate) names: &'a HashMap<NameKey, String>,
     /// The names that front ends gave, in the order of the text.
     pub(crate) named: &'a [String],

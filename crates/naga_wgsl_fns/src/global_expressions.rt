@@ -17,7 +17,7 @@ use crate::formless_constants::global_without_form;
 use crate::module_text::ModuleText;
 use naga_ir::{Expression, Handle, Module};
 use naga_names::NameKey;
-use naga_scope::GlobalExpressions;
+use naga_scope::ModuleTables;
 use naga_words::{Output, TextSink};
 use std::alloc::Global;
 use std::collections::HashMap;
@@ -48,19 +48,20 @@ pub fn write_global_expression<W: TextSink>(
     ensures { GlobalWriting «module».now handle result (W.text out.old) (W.text out.new)
         (W.failures out.old) (W.failures out.new) }
 {
-    let globals = GlobalExpressions::of(alloc, module)?;
-    if globals.is_written(handle) {
+    let tables = ModuleTables::of(alloc, module)?;
+    if tables.is_written(module, handle) {
         write_written_global(
             alloc,
             ModuleText {
                 shader: module,
+                tables: &tables,
                 names,
             },
             handle,
             out,
         )
     } else {
-        Err(global_without_form(alloc, module, &globals, handle))
+        Err(global_without_form(alloc, module, &tables, handle))
     }
 }
 

@@ -19,7 +19,7 @@ use naga_info::ModuleInfo;
 use naga_ir::Module;
 use naga_names::NameKey;
 use naga_names::namer::Namer;
-use naga_scope::{GlobalExpressions, formless_head};
+use naga_scope::{ModuleTables, formless_head};
 use naga_words::TextSink;
 use std::alloc::Global;
 use std::collections::HashMap;
@@ -84,7 +84,7 @@ fn write_by_plan<W: TextSink>(
         (W.text out.old) (W.text out.new) (W.failures out.old) (W.failures out.new) }
     ensures words { HasOtherUses namer.old namer.new }
 {
-    let globals = GlobalExpressions::of(alloc, module)?;
-    let plan = plan_of(alloc, module, info, ty, &globals, names, flags, namer)?;
-    write_planned(alloc, module, info, names, flags, ty, plan, out)
+    let tables = ModuleTables::of(alloc, module)?;
+    let plan = plan_of(alloc, module, info, ty, &tables, names, flags, namer)?;
+    write_planned(alloc, module, info, &tables, names, flags, ty, plan, out)
 }

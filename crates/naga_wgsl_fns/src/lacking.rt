@@ -4,9 +4,9 @@ ghost use Rattle.std.specs.Prelude.{◌≡◌};
 ghost use Rattle.module_meaning.specs.LackingScalars.{handle_lacks, image_lacks, lacking_scalar};
 ghost use Rattle.module_meaning.specs.LackingScalars.{own_lacks, wordless};
 
-use naga_acceptance::undeclared::over;
 use naga_info::TypeResolution;
 use naga_ir::{Handle, ImageClass, Scalar, Type_, TypeInner, UniqueArena};
+use naga_scope::tables::over;
 use wgsl_words::TryToWgsl;
 
 /// The scalar, where WGSL has no word for it.

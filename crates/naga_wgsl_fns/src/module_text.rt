@@ -9,19 +9,23 @@ ghost use Rattle.naga_wgsl_fns.specs.Types.{spelled_text};
 
 use naga_ir::{Handle, Module, Type_};
 use naga_names::NameKey;
+use naga_scope::ModuleTables;
 use naga_words::types::write_type_in;
 use naga_words::{Output, TextSink, WriterTypeContext};
 use std::alloc::Global;
 use std::collections::HashMap;
 
-/// A module, and the names of its items.
+/// A module, the names of its items, and what is looked up of it.
 ///
 /// Its methods write what the texts of several declarations share: types, values and names. What they
-/// ask of the module is that it is accepted and has its names in the map.
+/// ask of the module is that it is accepted, has its names in the map and what is looked up of it in
+/// the tables.
 #[derive(Clone, Copy)]
 pub struct ModuleText<'a> {
     /// The module.
     pub shader: &'a Module,
+    /// What is looked up of it.
+    pub tables: &'a ModuleTables,
     /// The names of its items in WGSL.
     pub names: &'a HashMap<NameKey, String>,
 }

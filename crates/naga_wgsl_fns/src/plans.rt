@@ -10,8 +10,9 @@ ghost use Rattle.naga_names.specs.Keys.{names_in};
 ghost use Rattle.naga_names.specs.Naming.{HasNamed};
 ghost use Rattle.naga_scope.specs.Forms.{AreKnownIn};
 ghost use Rattle.naga_scope.specs.ExpressionNames.{HasBegunLabels, HasOtherUses, NamesLabels};
-ghost use Rattle.naga_scope.specs.Marks.{GlobalsStandInOrder, MarksGlobals};
+ghost use Rattle.naga_scope.specs.Marks.{GlobalsStandInOrder};
 ghost use Rattle.naga_scope.specs.Plans.{IsPlanOf};
+ghost use Rattle.naga_scope.specs.Tables.{AreTablesOf};
 ghost use Rattle.naga_wgsl_fns.specs.FunctionText.{annotates_types};
 ghost use Rattle.naga_wgsl_fns.specs.Refusals.{IsOfPlan, IsPlanRefusal, NamesItemsOf};
 ghost use Rattle.naga_wgsl_fns.specs.Refusals.{TellsPlanError};
@@ -24,12 +25,12 @@ use naga_info::{FunctionInfo, ModuleInfo, TypeResolution};
 use naga_ir::{Function, Module};
 use naga_names::NameKey;
 use naga_names::namer::Namer;
-use naga_scope::{GlobalExpressions, Plan, PlanError, function_of};
+use naga_scope::{ModuleTables, Plan, PlanError, function_of};
 use std::alloc::Global;
 use std::collections::HashMap;
 
-/// The plan of a function of an accepted module, by the marks of the module's own expressions and
-/// the names of its items: the rules of scope hold in the function,
+/// The plan of a function of an accepted module, by what is looked up of the module and the
+/// names of its items: the rules of scope hold in the function,
 /// each statement and each written expression has a form, each type that its text spells can be
 /// spelled, and the labels that front ends gave in it have names, which `namer` has given them in
 /// the order of the text. Its words and prefixes are those of WGSL.
@@ -41,14 +42,14 @@ pub fn plan_of<'a>(
     module: &'a Module,
     info: &'a ModuleInfo,
     ty: &FunctionType,
-    globals: &GlobalExpressions,
+    tables: &'a ModuleTables,
     names: &HashMap<NameKey, String>,
     flags: WriterFlags,
     namer: &mut Namer,
 ) -> Result<Plan, Error>
     requires accepted { IsTrue (is_accepted «module».now info.now) }
     requires there { IsFunctionOf ty.now «module».now }
-    requires globals { MarksGlobals «module».now globals.now }
+    requires tables { AreTablesOf «module».now tables.now }
     requires names { HasNamesOf «module».now (names_in names.now) }
     requires words { HasOtherUses wgsl_names namer.old }
     ensures ok { IfOk result (IsPlanOf (annotates_types flags) «module».now info.now
@@ -66,7 +67,7 @@ pub fn plan_of<'a>(
         module,
         info,
         *ty,
-        globals,
+        tables,
         names,
         annotates_types(flags),
         namer,
@@ -74,7 +75,7 @@ pub fn plan_of<'a>(
         Ok(plan) => Ok(plan),
         Err(error) => {
             let (function, function_info) = function_of(module, info, *ty);
-            Err(error_of_plan(alloc, module, globals, function, function_info, error))
+            Err(error_of_plan(alloc, module, tables, function, function_info, error))
         }
     }
 }
@@ -83,14 +84,14 @@ pub fn plan_of<'a>(
 fn error_of_plan(
     alloc: Global,
     module: &Module,
-    globals: &GlobalExpressions,
+    tables: &ModuleTables,
     function: &Function,
     info: &FunctionInfo,
     error: PlanError,
 ) -> Error
     requires known { AreKnownIn «module».now.types info.now }
     requires ordered { GlobalsStandInOrder «module».now }
-    requires globals { MarksGlobals «module».now globals.now }
+    requires tables { AreTablesOf «module».now tables.now }
     requires named { (h : ℕ) (e : Expression) → slice_get function.now.expressions h ≡ Some e →
         NamesItemsOf «module».now e }
     requires formless { IsOfPlan «module».now function.now info.now error }
@@ -100,12 +101,14 @@ fn error_of_plan(
         PlanError::OutOfScope => custom(alloc, "operand out of scope"),
         PlanError::StatementWithoutForm(statement) => statement_without_form(alloc, statement),
         PlanError::WithoutForm(handle) => {
-            without_form(alloc, module, globals, info, &function.expressions[handle])
+            without_form(alloc, module, tables, info, &function.expressions[handle])
         }
         PlanError::TypeWithoutForm(ty) => {
-            type_without_form(alloc, module, &TypeResolution::Handle(ty))
+            type_without_form(alloc, module, tables, &TypeResolution::Handle(ty))
         }
-        PlanError::LetWithoutForm(handle) => { type_without_form(alloc, module, &info[handle].ty) }
+        PlanError::LetWithoutForm(handle) => {
+            type_without_form(alloc, module, tables, &info[handle].ty)
+        }
         PlanError::Unnamed(error) => names_error(alloc, error),
         PlanError::Memory(error) => Error::Memory(error),
     }

@@ -11,7 +11,6 @@ ghost use Rattle.naga_wgsl_fns.specs.Types.{type_text};
 
 use crate::functions::FunctionText;
 use bitflags::Flags;
-use naga_acceptance::undeclared::names_undeclared;
 use naga_back::WriterFlags;
 use naga_info::TypeResolution;
 use naga_ir::{Expression, Handle, Type_};
@@ -86,7 +85,7 @@ impl FunctionText<'_> {
         ensures { Writes W.text W.failures out.old out.new (let_annotation_text self.now handle) }
     {
         let ty = &self.info[handle].ty;
-        if !names_undeclared(self.shader, ty) {
+        if !self.tables.names_undeclared(self.shader, ty) {
             self.write_annotation(alloc, ty, out);
         }
     }

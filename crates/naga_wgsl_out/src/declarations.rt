@@ -8,6 +8,7 @@ ghost use Rattle.module_meaning.specs.Names.{HasNamesOf};
 ghost use Rattle.module_meaning.specs.ExpressionForms.{global_is_written};
 ghost use Rattle.naga_info.specs.declared.info.TypeResolution.TheVariants as resolution;
 ghost use Rattle.naga_names.specs.Keys.{names_in};
+ghost use Rattle.naga_scope.specs.Tables.{AreTablesOf};
 ghost use Rattle.naga_words.specs.Output.{Writes};
 ghost use Rattle.naga_wgsl_fns.specs.Appends.{Appends};
 ghost use Rattle.naga_wgsl_fns.specs.ModuleText.{CanWriteIn, CanWriteOf};
@@ -21,6 +22,7 @@ use crate::structs::write_structs;
 use crate::variables::write_variables;
 use naga_ir::{Expression, Handle, Module, Type_};
 use naga_names::NameKey;
+use naga_scope::ModuleTables;
 use naga_wgsl_fns::Error;
 use naga_wgsl_fns::error::error_of_want;
 use naga_wgsl_fns::module_text::ModuleText;
@@ -37,10 +39,12 @@ use std::collections::HashMap;
 pub(crate) fn write_declarations<W: TextSink>(
     alloc: Global,
     module: &Module,
+    tables: &ModuleTables,
     names: &HashMap<NameKey, String>,
     out: &mut W,
 ) -> Result<(), Error>
     requires can { CanWriteOf «module».now }
+    requires tables { AreTablesOf «module».now tables.now }
     requires declared { DeclarationsHaveForms «module».now }
     requires names { HasNamesOf «module».now (names_in names.now) }
     requires keys { KeyIsOutOfRange «module».now → ⊥ }
@@ -49,6 +53,7 @@ pub(crate) fn write_declarations<W: TextSink>(
 {
     let text = ModuleText {
         shader: module,
+        tables,
         names,
     };
     let mut written = Output::new(out);

@@ -9,7 +9,6 @@ ghost use Rattle.naga_wgsl_out.specs.Structs.{member_text, members_text, struct_
 ghost use Rattle.naga_wgsl_out.specs.Structs.{structs_text};
 
 use crate::declarations::write_typed;
-use naga_acceptance::undeclared::is_undeclared;
 use naga_ir::{Handle, StructMember, Type_, TypeInner};
 use naga_names::NameKey;
 use naga_wgsl_fns::bindings::write_passing;
@@ -45,7 +44,7 @@ fn write_declared<W: TextSink>(
         (declared_text text.now.shader.now handle ty.now) }
 {
     if let TypeInner::Struct { members, .. } = &ty.inner {
-        if !is_undeclared(&text.shader.special_types, handle) {
+        if !text.tables.is_undeclared(text.shader, handle) {
             write_struct(alloc, text, handle, members, out);
         }
     }

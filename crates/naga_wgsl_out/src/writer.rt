@@ -11,8 +11,8 @@ ghost use Rattle.naga_names.specs.Refusal.{IsResetRefusal};
 ghost use Rattle.module_meaning.specs.Names.{HasNamesOf, wgsl_names};
 ghost use Rattle.module_meaning.specs.Resolution.{ResolvesAs};
 ghost use Rattle.module_meaning.specs.Bindings.{BindsAs};
-ghost use Rattle.naga_scope.specs.Marks.{MarksGlobals};
 ghost use Rattle.naga_scope.specs.Plans.{AreExpressionNames, IsPlanOf};
+ghost use Rattle.naga_scope.specs.Tables.{AreTablesOf};
 ghost use Rattle.naga_wgsl_fns.specs.Appends.{Appends};
 ghost use Rattle.naga_wgsl_fns.specs.FunctionText.{annotates_types};
 ghost use Rattle.naga_wgsl_out.specs.Headline.{EachReading, FaithfulWriting, answer_of, text_of};
@@ -35,7 +35,7 @@ use naga_names::by_bytes::{builtin_words, reserved_words};
 use naga_names::keyword_set::CaseInsensitiveKeywordSet;
 use naga_names::keywords::RESERVED_PREFIXES;
 use naga_names::namer::{NameKey, Namer, NamerError};
-use naga_scope::{GlobalExpressions, Plan, formless_declaration};
+use naga_scope::{ModuleTables, Plan, formless_declaration};
 use naga_wgsl_fns::error::names_error;
 use naga_wgsl_fns::{Error, declaration_without_form, plan_of, put, write_planned};
 use naga_words::TextSink;
@@ -137,17 +137,17 @@ impl<W: TextSink> Writer<W> {
             W.failures self.new.sink ≡ W.failures self.old.sink) }
         ensures flags { self.new.flags ≡ self.old.flags }
     {
-        let globals = GlobalExpressions::of(self.alloc, module)?;
-        if let Some(declaration) = formless_declaration(module, &globals) {
-            return Err(declaration_without_form(self.alloc, module, &globals, declaration));
+        let tables = ModuleTables::of(self.alloc, module)?;
+        if let Some(declaration) = formless_declaration(module, &tables) {
+            return Err(declaration_without_form(self.alloc, module, &tables, declaration));
         }
         let (names, mut namer) = names_of(self.alloc, module)?;
-        write_front(self.alloc, module, &names, &mut self.out)?;
+        write_front(self.alloc, module, &tables, &names, &mut self.out)?;
         write_functions(
             self.alloc,
             module,
             info,
-            &globals,
+            &tables,
             &names,
             &mut namer,
             self.flags,
@@ -160,17 +160,19 @@ impl<W: TextSink> Writer<W> {
 fn write_front<W: TextSink>(
     alloc: Global,
     module: &Module,
+    tables: &ModuleTables,
     names: &HashMap<NameKey, String>,
     out: &mut W,
 ) -> Result<(), Error>
     requires can { CanWriteOf «module».now }
+    requires tables { AreTablesOf «module».now tables.now }
     requires declared { DeclarationsHaveForms «module».now }
     requires names { HasAllNames «module».now (names_in names.now) }
     ensures { Appends result (W.text out.old) (W.failures out.old) (front_text «module».now)
         (W.text out.new) (W.failures out.new) }
 {
     write_enables(module, out)?;
-    write_declarations(alloc, module, names, out)
+    write_declarations(alloc, module, tables, names, out)
 }
 
 /// Writes the functions of the module and then its entry points, up to the first in which an operand
@@ -181,7 +183,7 @@ fn write_functions<W: TextSink>(
     alloc: Global,
     module: &Module,
     info: &ModuleInfo,
-    globals: &GlobalExpressions,
+    tables: &ModuleTables,
     names: &HashMap<NameKey, String>,
     namer: &mut Namer,
     flags: WriterFlags,
@@ -189,7 +191,7 @@ fn write_functions<W: TextSink>(
 ) -> Result<(), Error>
     requires accepted { IsTrue (is_accepted «module».now info.now) }
     requires declared { DeclarationsHaveForms «module».now }
-    requires globals { MarksGlobals «module».now globals.now }
+    requires tables { AreTablesOf «module».now tables.now }
     requires names { HasAllNames «module».now (names_in names.now) }
     requires namer { HasNamedBefore «module».now 0 namer.old }
     ensures { WritesFunctions «module».now info.now flags result (W.text out.old)
@@ -197,11 +199,11 @@ fn write_functions<W: TextSink>(
 {
     for index in 0..module.functions.len() {
         let ty = FunctionType::Function(Place::from_index(index));
-        write_next(alloc, module, info, globals, names, &ty, namer, flags, out)?;
+        write_next(alloc, module, info, tables, names, &ty, namer, flags, out)?;
     }
     for index in 0..module.entry_points.len() {
         let ty = FunctionType::EntryPoint(index as u16);
-        write_next(alloc, module, info, globals, names, &ty, namer, flags, out)?;
+        write_next(alloc, module, info, tables, names, &ty, namer, flags, out)?;
     }
     Ok(())
 }
@@ -211,7 +213,7 @@ fn write_next<W: TextSink>(
     alloc: Global,
     module: &Module,
     info: &ModuleInfo,
-    globals: &GlobalExpressions,
+    tables: &ModuleTables,
     names: &HashMap<NameKey, String>,
     ty: &FunctionType,
     namer: &mut Namer,
@@ -221,15 +223,15 @@ fn write_next<W: TextSink>(
     requires accepted { IsTrue (is_accepted «module».now info.now) }
     requires declared { DeclarationsHaveForms «module».now }
     requires there { IsFunctionOf ty.now «module».now }
-    requires globals { MarksGlobals «module».now globals.now }
+    requires tables { AreTablesOf «module».now tables.now }
     requires names { HasNamesOf «module».now (names_in names.now) }
     requires namer { HasNamedBefore «module».now (function_number «module».now ty.now) namer.old }
     ensures { WritesNext «module».now info.now flags (function_number «module».now ty.now)
         namer.new result (W.text out.old) (W.failures out.old) (W.text out.new)
         (W.failures out.new) }
 {
-    let plan = plan_of(alloc, module, info, ty, globals, names, flags, namer)?;
-    write_with_line(alloc, module, info, names, flags, ty, plan, out)
+    let plan = plan_of(alloc, module, info, ty, tables, names, flags, namer)?;
+    write_with_line(alloc, module, info, tables, names, flags, ty, plan, out)
 }
 
 /// A function or an entry point by its plan, with its empty line.
@@ -237,6 +239,7 @@ fn write_with_line<W: TextSink>(
     alloc: Global,
     module: &Module,
     info: &ModuleInfo,
+    tables: &ModuleTables,
     names: &HashMap<NameKey, String>,
     flags: WriterFlags,
     ty: &FunctionType,
@@ -246,6 +249,7 @@ fn write_with_line<W: TextSink>(
     requires accepted { IsTrue (is_accepted «module».now info.now) }
     requires declared { DeclarationsHaveForms «module».now }
     requires there { IsFunctionOf ty.now «module».now }
+    requires tables { AreTablesOf «module».now tables.now }
     requires names { HasNamesOf «module».now (names_in names.now) }
     requires planned { IsPlanOf (annotates_types flags) «module».now info.now
         (function_number «module».now ty.now) plan }
@@ -255,7 +259,7 @@ fn write_with_line<W: TextSink>(
         (line_at «module».now info.now flags (function_number «module».now ty.now))
         (W.text out.new) (W.failures out.new) }
 {
-    write_planned(alloc, module, info, names, flags, ty, plan, out)?;
+    write_planned(alloc, module, info, tables, names, flags, ty, plan, out)?;
     put(line_behind(module, ty), out)
 }
 

@@ -1,4 +1,4 @@
--- LogicalOf runs of each statement, in step.
+-- Both runs of each statement, in step.
 use Rattle.std.proofs.Common.{◌≡◌, ℕ, Bool, true, false, cond, List, [], ◌∷◌, ◌++◌, Option, Some}
 use Rattle.std.proofs.Common.{None, ◌||◌, refl, sym, ap, ap₂, ◌∙◌, subst, true≢false}
 use Rattle.std.specs.Prelude.{IsTrue, ℤ}

@@ -5,16 +5,16 @@ use Rattle.naga_scope.specs.SpelledTypes.{is_formless}
 use Rattle.naga_scope.proofs.SpelledTypes.{found_here, not_here}
 use Rattle.naga_scope.proofs.spelled.argument_without_form.Goals as goal
 
-pub returns-then-not-type_is_spellable : goal.returns-then-not-type_is_spellable
-returns-then-not-type_is_spellable c =
+pub returns-then-not-is_spellable : goal.returns-then-not-is_spellable
+returns-then-not-is_spellable c =
     found_here (λ (a : FunctionArgument). a.ty) (is_formless c.args.module.now) c.args.arguments.now
     c.loop-argument.argument-index c.argument-item.result c.loop-argument-test.true c.argument-item.is
-    (ap not (sym c.type_is_spellable.ensures ∙ c.if-not-type_is_spellable.true))
+    (ap not (sym c.is_spellable.ensures ∙ c.if-not-is_spellable.true))
     ∙ c.loop-argument.invariant
 
 pub loop-argument-preserved : goal.loop-argument-preserved
 loop-argument-preserved c =
     not_here (λ (a : FunctionArgument). a.ty) (is_formless c.args.module.now) c.args.arguments.now
     c.loop-argument.argument-index c.argument-item.result c.loop-argument-test.true c.argument-item.is
-    (ap not (sym c.type_is_spellable.ensures ∙ c.if-not-type_is_spellable.false))
+    (ap not (sym c.is_spellable.ensures ∙ c.if-not-is_spellable.false))
     ∙ c.loop-argument.invariant

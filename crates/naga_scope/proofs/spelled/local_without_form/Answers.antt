@@ -16,15 +16,15 @@ loop-local-init c =
     (c.into_iter-local-iterator.ensures.into_iter_gives ∙ c.iter-local-items.ensures)
     ∙ ap (find p) (numbered_mapped (λ (v : LocalVariable). v.ty) 0 c.args.function.now.local_variables)
 
-pub returns-then-not-type_is_spellable : goal.returns-then-not-type_is_spellable
-returns-then-not-type_is_spellable c =
+pub returns-then-not-is_spellable : goal.returns-then-not-is_spellable
+returns-then-not-is_spellable c =
     let p = is_formless c.args.module.now in
     let ty = c.in-Some.local.now.ty in
     let rest = find p (types_of c.next.new.self) in
     sym
     (ap (λ ps. find p (types_of ps)) c.in-Some.ensures.steps
     ∙ ap (λ b. cond b (Some ty) rest)
-    (ap not (sym c.type_is_spellable.ensures ∙ c.if-not-type_is_spellable.true)))
+    (ap not (sym c.is_spellable.ensures ∙ c.if-not-is_spellable.true)))
     ∙ c.loop-local.invariant
 
 pub loop-local-preserved : goal.loop-local-preserved
@@ -35,7 +35,7 @@ loop-local-preserved c =
     sym
     (ap (λ ps. find p (types_of ps)) c.in-Some.ensures.steps
     ∙ ap (λ b. cond b (Some ty) rest)
-    (ap not (sym c.type_is_spellable.ensures ∙ c.if-not-type_is_spellable.false)))
+    (ap not (sym c.is_spellable.ensures ∙ c.if-not-is_spellable.false)))
     ∙ c.loop-local.invariant
 
 pub returns : goal.returns

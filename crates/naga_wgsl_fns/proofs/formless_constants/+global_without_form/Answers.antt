@@ -1,14 +1,15 @@
 use Rattle.std.proofs.Common.{arith, ap, sym, ◌∙◌, Some, refl}
 use Rattle.std.specs.List.{find}
-use Rattle.std.specs.Prelude.{List, Bool, ℕ, not}
+use Rattle.std.specs.Prelude.{Bool, ℕ, not}
+use Rattle.module_meaning.specs.ExpressionForms.{global_is_written}
 use Rattle.naga_ir.specs.declared.expression.Expression.TheVariants as expression
-use Rattle.naga_scope.specs.Marks.{is_marked}
+use Rattle.naga_ir.specs.declared.module.Module.{Module}
 use Rattle.naga_wgsl_fns.proofs.FormlessConstants as formless
 use Rattle.naga_wgsl_fns.specs.Refusals.NamesGlobal.{OfConstant, OfLiteral, OfOperand, OfOperation, OfType}
 use Rattle.naga_wgsl_fns.proofs.formless_constants.+global_without_form.Goals as goal
 
-abbrev unwritten : List Bool → ℕ → Bool
-unwritten marks h = not (is_marked marks h)
+abbrev unwritten : Module → ℕ → Bool
+unwritten m h = not (global_is_written m h)
 
 -- ---- a literal
 pub returns-in-Literal : goal.returns-in-Literal
@@ -27,7 +28,7 @@ global_without_form-requires t c =
     c.index.ensures c.in-Constant.is c.index-in-Constant.ensures in
     let within = c.requires.there in (
       omega (arith, before.0, c.decreases),
-      (c.requires.ordered, (c.requires.globals, (omega (arith, before.0, within), before.1))),
+      (c.requires.ordered, (c.requires.tables, (omega (arith, before.0, within), before.1))),
     )
 
 pub returns-in-Constant : goal.returns-in-Constant
@@ -62,9 +63,9 @@ returns-in-None t c =
     (c.index.ensures ∙ ap Some c.in-Compose.is) refl
     (formless.composed_fails c.args.«module».now c.requires.ordered c.args.handle
     c.requires.formless c.index.result.now c.in-Compose.ty parts c.index.ensures c.in-Compose.is
-    (formless.none_unwritten c.args.«module».now c.args.globals.now c.requires.globals parts.items
+    (formless.none_unwritten c.args.«module».now parts.items
     (sym c.in-None.is ∙ c.first_unwritten.ensures
-    ∙ ap (find (unwritten c.args.globals.now)) c.as_slice.ensures.value)))
+    ∙ ap (find (unwritten c.args.«module».now)) c.as_slice.ensures.value)))
     c.type_without_form-in-None.ensures
 
 -- ---- operands
@@ -72,25 +73,25 @@ pub global_without_form-requires-in-Some : goal.global_without_form-requires-in-
 global_without_form-requires-in-Some t c =
     let parts = c.in-Compose.components in
     let found =
-    formless.one_unwritten c.args.«module».now c.args.globals.now c.requires.globals parts.items
+    formless.one_unwritten c.args.«module».now parts.items
     c.in-Some.component (sym c.in-Some.is ∙ c.first_unwritten.ensures
-    ∙ ap (find (unwritten c.args.globals.now)) c.as_slice.ensures.value) in
+    ∙ ap (find (unwritten c.args.«module».now)) c.as_slice.ensures.value) in
     let before =
     formless.operand_before c.args.«module».now c.requires.ordered c.args.handle
     c.requires.formless (expression.Compose c.in-Compose.ty parts) c.in-Some.component
     (c.index.ensures ∙ ap Some c.in-Compose.is) found.0 in
     let within = c.requires.there in (
       omega (arith, before, c.decreases),
-      (c.requires.ordered, (c.requires.globals, (omega (arith, before, within), found.1))),
+      (c.requires.ordered, (c.requires.tables, (omega (arith, before, within), found.1))),
     )
 
 pub returns-in-Some : goal.returns-in-Some
 returns-in-Some t c =
     let parts = c.in-Compose.components in
     let found =
-    formless.one_unwritten c.args.«module».now c.args.globals.now c.requires.globals parts.items
+    formless.one_unwritten c.args.«module».now parts.items
     c.in-Some.component (sym c.in-Some.is ∙ c.first_unwritten.ensures
-    ∙ ap (find (unwritten c.args.globals.now)) c.as_slice.ensures.value) in
+    ∙ ap (find (unwritten c.args.«module».now)) c.as_slice.ensures.value) in
     OfOperand c.args.handle c.in-Some.component (expression.Compose c.in-Compose.ty parts)
     (c.index.ensures ∙ ap Some c.in-Compose.is) found.0 c.global_without_form-in-Some.ensures
 
@@ -106,7 +107,7 @@ global_without_form-requires-in-Splat t c =
       (
         c.requires.ordered,
         (
-          c.requires.globals,
+          c.requires.tables,
           (
             omega (arith, before, within),
             formless.splat_fails c.args.«module».now c.requires.ordered c.args.handle c.requires.formless

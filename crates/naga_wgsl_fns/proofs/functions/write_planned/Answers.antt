@@ -21,7 +21,7 @@ write_item-requires-clause-can g c =
     let plan = plan_found (annotates_types c.args.flags) c.args.module.now c.args.info.now
     (function_number c.args.module.now c.args.ty.now) c.function_of.result.0.now
     c.function_of.result.1.now c.args.plan c.function_of.ensures.function c.function_of.ensures.known c.requires.planned in
-    can_write _ c.requires.accepted c.requires.names c.requires.there
+    can_write _ c.requires.accepted c.requires.tables c.requires.names c.requires.there
     c.function_of.ensures.function c.function_of.ensures.known plan.formed c.requires.head plan.room
 
 pub write_item-requires-clause-start : goal.write_item-requires-clause-start

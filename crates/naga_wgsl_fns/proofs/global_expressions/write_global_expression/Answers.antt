@@ -1,4 +1,5 @@
 use Rattle.std.proofs.Common.{◌∙◌, refl, sym}
+use Rattle.naga_scope.proofs.FilledTables.{items_in_order}
 use Rattle.naga_scope.proofs.WrittenConstants.{globals_in_order}
 use Rattle.naga_wgsl_fns.proofs.SingleExpressions.{global_for_form, global_refused}
 use Rattle.naga_wgsl_fns.proofs.SingleExpressions.{global_writes}
@@ -7,11 +8,11 @@ use Rattle.naga_wgsl_fns.proofs.global_expressions.write_global_expression.Goals
 pub of-requires : goal.of-requires
 of-requires g c = record {
   ordered =
-      globals_in_order c.args.«module».now c.requires.accepted.0 c.requires.accepted.1;
+      items_in_order c.args.«module».now c.requires.accepted.0 c.requires.accepted.1;
 }
 
-pub returns-in_err-globals : goal.returns-in_err-globals
-returns-in_err-globals g c =
+pub returns-in_err-tables : goal.returns-in_err-tables
+returns-in_err-tables g c =
     global_refused c.args.«module».now c.args.handle (g.W.TextSink.text c.args.out.now)
     (g.W.TextSink.failures c.args.out.now) c.from_residual.result _ c.from_residual.ensures.1 tt
 
@@ -23,16 +24,15 @@ write_written_global-requires g c = record {
       accepted = c.requires.accepted.1;
     };
     named = c.requires.names;
+    tables = c.in_ok-tables.ensures;
   };
-  written = sym (c.in_ok-globals.ensures c.args.handle)
-      ∙ (sym c.is_written.ensures ∙ c.if-is_written.true);
+  written = sym c.is_written.ensures ∙ c.if-is_written.true;
 }
 
 pub returns-then-is_written : goal.returns-then-is_written
 returns-then-is_written g c =
     global_writes c.args.«module».now c.args.handle c.requires.accepted.0 c.requires.accepted.1
-    (sym (c.in_ok-globals.ensures c.args.handle)
-    ∙ (sym c.is_written.ensures ∙ c.if-is_written.true))
+    (sym c.is_written.ensures ∙ c.if-is_written.true)
     c.write_written_global.result (g.W.TextSink.text c.args.out.now)
     (g.W.TextSink.text c.write_written_global.new.out) (g.W.TextSink.failures c.args.out.now)
     (g.W.TextSink.failures c.write_written_global.new.out) c.write_written_global.ensures.text_ok
@@ -43,10 +43,9 @@ pub global_without_form-requires : goal.global_without_form-requires
 global_without_form-requires g c = record {
   ordered =
       globals_in_order c.args.«module».now c.requires.accepted.0 c.requires.accepted.1;
-  globals = c.in_ok-globals.ensures;
+  tables = c.in_ok-tables.ensures;
   there = c.requires.there;
-  formless = sym (c.in_ok-globals.ensures c.args.handle)
-      ∙ (sym c.is_written.ensures ∙ c.if-is_written.false);
+  formless = sym c.is_written.ensures ∙ c.if-is_written.false;
 }
 
 pub returns : goal.returns
@@ -56,6 +55,5 @@ returns g c =
     let before = g.W.TextSink.failures c.args.out.now in
     global_refused m c.args.handle content before _ c.global_without_form.result refl
     (global_for_form m c.args.handle content before c.global_without_form.result
-    (sym (c.in_ok-globals.ensures c.args.handle)
-    ∙ (sym c.is_written.ensures ∙ c.if-is_written.false))
+    (sym c.is_written.ensures ∙ c.if-is_written.false)
     c.global_without_form.ensures)

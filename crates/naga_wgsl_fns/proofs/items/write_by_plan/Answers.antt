@@ -1,15 +1,15 @@
-use Rattle.naga_scope.proofs.WrittenConstants.{globals_in_order}
+use Rattle.naga_scope.proofs.FilledTables.{items_in_order}
 use Rattle.naga_wgsl_fns.proofs.SingleFunctions.{for_plan, none_named, refused, writes}
 use Rattle.naga_wgsl_fns.proofs.items.write_by_plan.Goals as goal
 
 pub of-requires : goal.of-requires
 of-requires g c = record {
   ordered =
-      globals_in_order c.args.«module».now c.args.info.now c.requires.accepted;
+      items_in_order c.args.«module».now c.args.info.now c.requires.accepted;
 }
 
-pub returns-in_err-globals-clause-function : goal.returns-in_err-globals-clause-function
-returns-in_err-globals-clause-function g c =
+pub returns-in_err-tables-clause-function : goal.returns-in_err-tables-clause-function
+returns-in_err-tables-clause-function g c =
     λ earlier has.
     refused c.args.«module».now c.args.info.now c.args.flags earlier c.args.ty.now
     (g.W.TextSink.text c.args.out.now) (g.W.TextSink.failures c.args.out.now) c.from_residual.result

@@ -40,7 +40,11 @@ error_of_want-requires g c is =
 
 pub write_all-requires : goal.write_all-requires
 write_all-requires g c = record {
-  can = record { of_module = c.requires.can; named = c.requires.names };
+  can = record {
+    of_module = c.requires.can;
+    named = c.requires.names;
+    tables = c.requires.tables;
+  };
   forms = c.requires.declared;
   keys = c.requires.keys;
 }

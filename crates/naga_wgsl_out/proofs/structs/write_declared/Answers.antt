@@ -5,6 +5,9 @@ use Rattle.naga_wgsl_out.proofs.StructRows.{undeclared_row}
 use Rattle.naga_wgsl_out.specs.Structs.{AreDeclaredMembers, struct_text}
 use Rattle.naga_wgsl_out.proofs.structs.write_declared.Goals as goal
 
+pub is_undeclared-requires : goal.is_undeclared-requires
+is_undeclared-requires g c = record { tables = c.requires.can.can.tables }
+
 pub write_struct-requires-clause-members : goal.write_struct-requires-clause-members
 write_struct-requires-clause-members g c =
     let m = c.args.text.now.shader.now in

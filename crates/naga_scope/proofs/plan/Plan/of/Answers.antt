@@ -25,7 +25,7 @@ of_function-requires c =
     record {
       ordered = operands_stand_before m is.callees f is.ranges;
       results = results_fit is.callees (length f.expressions) f.body (ranges_are m is.callees f is.ranges).1;
-      globals = c.requires.globals;
+      tables = c.requires.tables;
       names = c.requires.names;
       types = λ h k at. fits_in_range (length m.overrides) m.types k.ty
           (known_is_fit m info c.requires.accepted g es c.function_of.ensures.known h k at);

@@ -47,7 +47,7 @@ write_own-write_constant-requires-clause-written g t c =
 pub write_own-write_override_name-requires-clause-can : goal.write_own-write_override_name-requires-clause-can
 write_own-write_override_name-requires-clause-can g t c =
     can_in c.args.self.now c.requires.can c.of_module.result c.of_module.ensures.shader
-    c.of_module.ensures.names
+    c.of_module.ensures.tables c.of_module.ensures.names
 
 pub write_own-write_override_name-requires-clause-there : goal.write_own-write_override_name-requires-clause-there
 write_own-write_override_name-requires-clause-there g t c =

@@ -8,7 +8,7 @@ use Rattle.naga_wgsl_fns.proofs.functions.FunctionText.write_constant.Goals as g
 pub write_constant-requires-clause-can : goal.write_constant-requires-clause-can
 write_constant-requires-clause-can g c =
     can_in c.args.self.now c.requires.can c.of_module.result c.of_module.ensures.shader
-    c.of_module.ensures.names
+    c.of_module.ensures.tables c.of_module.ensures.names
 
 pub write_constant-requires-clause-written : goal.write_constant-requires-clause-written
 write_constant-requires-clause-written g c =

@@ -8,6 +8,9 @@ use Rattle.naga_wgsl_fns.proofs.functions.FunctionText.write_let_type.Goals as g
 pub index-requires : goal.index-requires
 index-requires g c = known_within_infos c.args.self.now c.requires.can c.args.handle c.requires.handle
 
+pub names_undeclared-requires : goal.names_undeclared-requires
+names_undeclared-requires g c = record { tables = c.requires.can.tables }
+
 pub write_annotation-requires-clause-formed : goal.write_annotation-requires-clause-formed
 write_annotation-requires-clause-formed g c =
     annotated_is_formed c.args.self.now c.requires.can c.args.handle c.index.result.now

@@ -9,7 +9,7 @@ use Rattle.naga_wgsl_fns.proofs.functions.FunctionText.write_own_stage.Goals as 
 pub write_stage-requires-clause-can : goal.write_stage-requires-clause-can
 write_stage-requires-clause-can g c =
     can_in c.args.self.now c.requires c.of_module.result c.of_module.ensures.shader
-    c.of_module.ensures.names
+    c.of_module.ensures.tables c.of_module.ensures.names
 
 pub write_stage-requires-clause-there : goal.write_stage-requires-clause-there
 write_stage-requires-clause-there g c =

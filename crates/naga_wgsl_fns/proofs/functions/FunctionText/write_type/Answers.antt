@@ -10,7 +10,7 @@ use Rattle.naga_wgsl_fns.proofs.functions.FunctionText.write_type.Goals as goal
 pub write_type-requires-clause-can : goal.write_type-requires-clause-can
 write_type-requires-clause-can g c =
     can_in c.args.self.now c.requires.can c.of_module.result c.of_module.ensures.shader
-    c.of_module.ensures.names
+    c.of_module.ensures.tables c.of_module.ensures.names
 
 pub write_type-requires-clause-formed : goal.write_type-requires-clause-formed
 write_type-requires-clause-formed g c =

@@ -8,22 +8,25 @@ use Rattle.naga_wgsl_fns.proofs.module_text.ModuleText.+global.Given as goal
 
 -- An expression is made of those before it.
 abbrev pub decreases-write_parts : goal.decreases-write_parts
-decreases-write_parts g l = 4 * l.handle
+decreases-write_parts g l = 5 * l.handle
 
 abbrev pub decreases-write_made_global : goal.decreases-write_made_global
-decreases-write_made_global g l = 4 * l.handle + 1
+decreases-write_made_global g l = 5 * l.handle + 1
 
 abbrev pub decreases-write_called_global : goal.decreases-write_called_global
-decreases-write_called_global g l = 4 * l.handle + 1
+decreases-write_called_global g l = 5 * l.handle + 1
+
+abbrev pub decreases-write_target : goal.decreases-write_target
+decreases-write_target g l = 5 * l.handle + 2
 
 abbrev pub decreases-write_global : goal.decreases-write_global
-decreases-write_global g l = 4 * l.handle + 2
+decreases-write_global g l = 5 * l.handle + 3
 
 abbrev pub decreases-write_constant : goal.decreases-write_constant
-decreases-write_constant g l = 4 * initialiser_at l.self.now.shader.now l.constant + 3
+decreases-write_constant g l = 5 * initialiser_at l.self.now.shader.now l.constant + 4
 
 abbrev pub decreases-write_next_part : goal.decreases-write_next_part
-decreases-write_next_part g l = 4 * l.part + 3
+decreases-write_next_part g l = 5 * l.part + 4
 
 -- what is left to be written of the parts, which stand before the expression and are written
 pub record PartsLeft (start now : OutputView) (m : Module) (handle : ℕ) (first : Bool)

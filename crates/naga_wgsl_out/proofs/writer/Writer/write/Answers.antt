@@ -1,5 +1,5 @@
 use Rattle.std.proofs.Common.{◌≡◌, ◌∙◌, ap, subst, sym, true}
-use Rattle.naga_scope.proofs.WrittenConstants.{globals_in_order}
+use Rattle.naga_scope.proofs.FilledTables.{items_in_order}
 use Rattle.naga_wgsl_out.proofs.Faithful.{Concludes, behind_nothing, concludes, concludes_in_front}
 use Rattle.naga_wgsl_out.proofs.Faithful.{refused, refused_behind_nothing}
 use Rattle.naga_wgsl_out.proofs.ModuleScopes.{declaration_refuses, declaration_tells_of_none}
@@ -75,7 +75,7 @@ returns-in_err-names-clause-written_before g c =
 pub of-requires : goal.of-requires
 of-requires g c = record {
   ordered =
-      globals_in_order c.args.«module».now c.args.info.now c.requires.accepted;
+      items_in_order c.args.«module».now c.args.info.now c.requires.accepted;
 }
 
 pub returns-in-Some-clause-faithful : goal.returns-in-Some-clause-faithful
@@ -92,8 +92,8 @@ returns-in-Some-clause-written_before g c =
 pub returns-in-Some-clause-text_err : goal.returns-in-Some-clause-text_err
 returns-in-Some-clause-text_err g c = behind_nothing _ _
 
-pub returns-in_err-globals-clause-text_err : goal.returns-in_err-globals-clause-text_err
-returns-in_err-globals-clause-text_err g c = refused_behind_nothing c.from_residual.result _ _
+pub returns-in_err-tables-clause-text_err : goal.returns-in_err-tables-clause-text_err
+returns-in_err-tables-clause-text_err g c = refused_behind_nothing c.from_residual.result _ _
 
 pub returns-in_err-names-clause-text_err : goal.returns-in_err-names-clause-text_err
 returns-in_err-names-clause-text_err g c =

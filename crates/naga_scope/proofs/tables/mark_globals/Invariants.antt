@@ -1,7 +1,7 @@
 use Rattle.std.proofs.Common.{length}
 use Rattle.module_meaning.specs.ExpressionForms.{global_is_written}
 use Rattle.naga_scope.proofs.WrittenConstants.{MarksBelow}
-use Rattle.naga_scope.proofs.global_expressions.mark_globals.Given as goal
+use Rattle.naga_scope.proofs.tables.mark_globals.Given as goal
 
 abbrev pub invariant-loop-index : goal.invariant-loop-index
 invariant-loop-index l =

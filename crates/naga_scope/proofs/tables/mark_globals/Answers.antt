@@ -3,7 +3,7 @@ use Rattle.std.specs.Prelude.{slice_get}
 use Rattle.module_meaning.specs.ExpressionForms.{global_is_written}
 use Rattle.naga_scope.proofs.WrittenConstants.{MarksBelow, all_below, global_by, no_global_beyond}
 use Rattle.naga_scope.proofs.WrittenConstants.{none_below, one_below}
-use Rattle.naga_scope.proofs.global_expressions.mark_globals.Goals as goal
+use Rattle.naga_scope.proofs.tables.mark_globals.Goals as goal
 
 pub loop-index-init : goal.loop-index-init
 loop-index-init c =
@@ -21,7 +21,7 @@ loop-index-preserved c =
     one_below (global_is_written m) (length es) c.loop-index.marks c.loop-index.index
     c.is_written_over-is_written.result within
     (c.is_written_over-is_written.ensures
-    ∙ global_by m c.requires.ordered c.loop-index.index c.index-expression.result.now at
+    ∙ global_by m c.requires.ordered.globals c.loop-index.index c.index-expression.result.now at
     c.loop-index.marks c.loop-index.invariant)
     c.loop-index.invariant
 

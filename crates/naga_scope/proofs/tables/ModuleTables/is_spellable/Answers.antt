@@ -1,0 +1,11 @@
+use Rattle.std.proofs.Common.{ap, subst, sym, ◌∙◌}
+use Rattle.naga_scope.specs.Tables.{MarksNaming, Tables}
+use Rattle.naga_scope.proofs.tables.ModuleTables.is_spellable.Goals as goal
+
+pub is_spellable_by-requires : goal.is_spellable_by-requires
+is_spellable_by-requires c = record {
+  naming =
+      subst (MarksNaming c.args.module.now)
+      (sym (c.deref.ensures.value ∙ ap (λ (t : Tables). t.naming) c.self.view_is))
+      c.requires.tables.naming;
+}

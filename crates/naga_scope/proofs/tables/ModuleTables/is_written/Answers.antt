@@ -1,0 +1,11 @@
+use Rattle.std.proofs.Common.{ap, ◌∙◌}
+use Rattle.naga_scope.specs.Marks.{is_marked}
+use Rattle.naga_scope.specs.Tables.{Tables}
+use Rattle.naga_scope.proofs.tables.ModuleTables.is_written.Goals as goal
+
+pub returns : goal.returns
+returns c =
+    c.is_marked.ensures
+    ∙ (ap (λ marks. is_marked marks c.args.handle)
+    (c.deref.ensures.value ∙ ap (λ (t : Tables). t.written) c.self.view_is)
+    ∙ c.requires.tables.written c.args.handle)

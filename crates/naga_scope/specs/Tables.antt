@@ -1,0 +1,95 @@
+-- What is looked up of a module again and again while its text is decided and written.
+--
+-- Throughout, m is a module, h the handle of one of its types or of one of its own expressions, e an
+-- expression, it a type by itself and r a type of an expression.
+use Rattle.std.specs.Prelude.{◌≡◌, ◌++◌, ◌<◌, ℕ, Bool, false, List, Option, Some, None, IsTrue}
+use Rattle.std.specs.Prelude.{get_or, if◌then◌else◌, length, slice_get}
+use Rattle.std.specs.Option.{is_some, option_and_then, option_map_or, option_to_list}
+use Rattle.indexmap.specs.IndexMap.{values}
+use Rattle.module_meaning.specs.LackingScalars.{over}
+use Rattle.module_meaning.specs.Ranges.{special_types_fit}
+use Rattle.module_meaning.specs.Undeclared.{handle_names_undeclared, is_undeclared}
+use Rattle.naga_info.specs.declared.info.TypeResolution.{TypeResolution}
+use Rattle.naga_info.specs.declared.info.TypeResolution.TheVariants.{Handle, Value}
+use Rattle.naga_ir.specs.declared.expression.Expression.{Expression}
+use Rattle.naga_ir.specs.declared.expression.Expression.TheVariants as expression
+use Rattle.naga_ir.specs.declared.module.Module.{Module}
+use Rattle.naga_ir.specs.declared.module.SpecialTypes.{SpecialTypes}
+use Rattle.naga_ir.specs.declared.types.Type_.{Type_}
+use Rattle.naga_ir.specs.declared.types.TypeInner.{TypeInner}
+use Rattle.naga_scope.specs.Marks.{GlobalsStandInOrder, MarksGlobals, is_marked}
+
+-- The tables, with a cell for each of the module's own expressions or for each type: which expressions
+-- are written, and by which; which structs no text declares, and which types name one.
+pub record Tables : Type 0 where
+  pub written : List Bool
+  pub targets : List ℕ
+  pub undeclared : List Bool
+  pub naming : List Bool
+
+-- ---- types
+-- the structs that no text declares
+abbrev pub undeclared_handles : SpecialTypes → List ℕ
+undeclared_handles s =
+    values s.predeclared_types ++
+    (option_to_list s.external_texture_params ++
+    option_to_list s.external_texture_transfer_function)
+
+-- just these have marks
+abbrev pub MarksUndeclared : Module → List Bool → Type 0
+MarksUndeclared m marks = (h : ℕ) → is_marked marks h ≡ is_undeclared m.special_types h
+
+-- just the types whose spelling would name one have marks
+abbrev pub MarksNaming : Module → List Bool → Type 0
+MarksNaming m marks = (h : ℕ) → is_marked marks h ≡ handle_names_undeclared m h
+
+-- the type that a pointer or an array is over has a mark
+abbrev pub is_marked_over : List Bool → TypeInner → Bool
+is_marked_over marks it = option_map_or (is_marked marks) (over it) false
+
+-- a type of the module has a mark, or the one that a type by itself is over
+abbrev pub is_marked_type : List Bool → TypeResolution → Bool
+is_marked_type marks (Handle h) = is_marked marks h
+is_marked_type marks (Value it) = is_marked_over marks it
+
+-- ---- own expressions
+-- the initialiser of a constant that has no name
+abbrev pub unnamed_value : Module → (constant : ℕ) → Option ℕ
+unnamed_value m c =
+    option_and_then (λ k. if is_some k.name then None else Some k.init) (slice_get m.constants c)
+
+-- the same of the constant that an expression names
+abbrev pub unnamed_initialiser : Module → Expression → Option ℕ
+unnamed_initialiser m (expression.Constant c) = unnamed_value m c
+unnamed_initialiser m _ = None
+
+-- An expression is written by itself or, if it names a constant without a name, by what the initialiser
+-- of that one is written by, as f tells of those that stand before it.
+abbrev pub target_over : Module → (f : ℕ → ℕ) → (h : ℕ) → Expression → ℕ
+target_over m f h e = option_map_or f (unnamed_initialiser m e) h
+
+-- what a table tells of one: itself where the table has no cell for it
+abbrev pub target_at : (targets : List ℕ) → (h : ℕ) → ℕ
+target_at targets h = get_or targets h h
+
+-- each cell tells by what its expression is written
+abbrev pub AreTargets : Module → (targets : List ℕ) → Type 0
+AreTargets m targets =
+    (h : ℕ) (e : Expression) → slice_get m.global_expressions h ≡ Some e →
+    target_at targets h ≡ target_over m (target_at targets) h e
+
+-- ---- modules
+-- What the module's own expressions are made of stands before them, and so does what a type is over;
+-- the structs that no text declares are there.
+pub record ItemsStandInOrder (m : Module) : Type 0 where
+  pub globals : GlobalsStandInOrder m
+  pub types : (h base : ℕ) (t : Type_) → slice_get m.types h ≡ Some t → over t.inner ≡ Some base →
+      base < h
+  pub special : IsTrue (special_types_fit (length m.types) m.special_types)
+
+-- the tables are those of the module
+pub record AreTablesOf (m : Module) (t : Tables) : Type 0 where
+  pub written : MarksGlobals m t.written
+  pub targets : AreTargets m t.targets
+  pub undeclared : MarksUndeclared m t.undeclared
+  pub naming : MarksNaming m t.naming

@@ -1,0 +1,380 @@
+//! What is looked up of a module again and again while its text is decided and written, found once.
+
+ghost use Rattle.std.specs.Prelude.{◌≡◌, IfOk, false, if◌then◌else◌, length, replicate};
+ghost use Rattle.indexmap.specs.IndexMap.{values};
+ghost use Rattle.module_meaning.specs.ExpressionForms.{constant_is_written, constant_is_written_over};
+ghost use Rattle.module_meaning.specs.ExpressionForms.{global_is_written, global_is_written_over};
+ghost use Rattle.module_meaning.specs.LackingScalars.{over};
+ghost use Rattle.module_meaning.specs.Undeclared.{handle_names_undeclared, is_spellable};
+ghost use Rattle.module_meaning.specs.Undeclared.{is_undeclared, names_undeclared};
+ghost use Rattle.naga_info.specs.declared.info.TypeResolution.TheVariants.{Handle as OfHandle};
+ghost use Rattle.naga_scope.specs.Marks.{MarksAlso, MarksGlobals, is_marked};
+ghost use Rattle.naga_scope.specs.Tables.{AreTablesOf, AreTargets, ItemsStandInOrder};
+ghost use Rattle.naga_scope.specs.Tables.{MarksNaming, MarksUndeclared, is_marked_over};
+ghost use Rattle.naga_scope.specs.Tables.{is_marked_type, target_at, target_over};
+ghost use Rattle.naga_scope.specs.Tables.{undeclared_handles, unnamed_initialiser, unnamed_value};
+ghost use Rattle.naga_words.specs.Spelling.{is_struct};
+
+use crate::forms::literal_has_form;
+use crate::written::{are_marked, is_marked, mark, mark_present, no_marks};
+use naga_acceptance::is_spelled;
+use naga_info::TypeResolution;
+use naga_ir::{Constant, Expression, Handle, Module, Place, SpecialTypes, Type_, TypeInner};
+use std::alloc::{AllocError, Global};
+use std::marker::Model;
+
+/// What is asked of a module again and again while its text is decided and written: which of its own
+/// expressions are written, and by which others; which structs no text declares, and which types name
+/// one. Each is looked up in one step, where the module itself would be searched.
+#[derive(Debug, Drop)]
+pub struct ModuleTables {
+    written: Vec<bool>,
+    targets: Vec<Handle<Expression>>,
+    undeclared: Vec<bool>,
+    naming: Vec<bool>,
+}
+
+/// Contracts see them as lists, of one cell for each own expression or for each type.
+impl Model for ModuleTables {
+    ghost use Rattle.naga_scope.specs.Tables.{Tables};
+
+    ghost Value = { Tables };
+
+    ghost view = { λ t. record {
+      written = t.written.items;
+      targets = t.targets.items;
+      undeclared = t.undeclared.items;
+      naming = t.naming.items;
+    } };
+}
+
+impl ModuleTables {
+    /// Those of a module, in one pass over the structs that WGSL's own functions give, one over its
+    /// types and two over its own expressions. It takes memory for two tables of a cell for each type
+    /// and two of one for each expression, and none where there is none. What items are made of stands
+    /// before them, as it does in a module that is accepted.
+    pub fn of(alloc: Global, module: &Module) -> Result<ModuleTables, AllocError>
+        requires ordered { ItemsStandInOrder «module».now }
+        ensures { IfOk result (AreTablesOf «module».now) }
+    {
+        let undeclared = undeclared_structs(alloc, module)?;
+        let naming = naming_types(alloc, module, &undeclared)?;
+        let written = written_globals(alloc, module, &naming)?;
+        let targets = targets_of(alloc, module)?;
+        Ok(ModuleTables {
+            written,
+            targets,
+            undeclared,
+            naming,
+        })
+    }
+
+    /// Whether one of the module's own expressions is written: whether it is made of literals, zero
+    /// values, compositions, splats, overrides and constants that all have forms.
+    pub fn is_written(&self, module: &Module, handle: Handle<Expression>) -> bool
+        requires tables { AreTablesOf «module».now self.now }
+        ensures { result ≡ global_is_written «module».now handle }
+    {
+        is_marked(&self.written, handle)
+    }
+
+    /// Whether a constant is written: it has a name, or its initialiser is written.
+    pub(crate) fn writes(&self, module: &Module, constant: Handle<Constant>) -> bool
+        requires tables { AreTablesOf «module».now self.now }
+        ensures { result ≡ constant_is_written «module».now constant }
+    {
+        constant_is_marked(&self.written, module, constant)
+    }
+
+    /// The expression by which one of the module's own is written: itself, or, if it is a constant
+    /// without a name, the one by which that constant's initialiser is written.
+    pub fn target(&self, handle: Handle<Expression>) -> Handle<Expression>
+        ensures { result ≡ target_at self.now.targets handle }
+    {
+        target_in(&self.targets, handle)
+    }
+
+    /// Whether no text declares the struct with this handle: one of WGSL's own functions gives it, or
+    /// it is one of those of external textures.
+    pub fn is_undeclared(&self, module: &Module, handle: Handle<Type_>) -> bool
+        requires tables { AreTablesOf «module».now self.now }
+        ensures { result ≡ is_undeclared «module».now.special_types handle }
+    {
+        is_marked(&self.undeclared, handle)
+    }
+
+    /// Whether the spelling of a type would name a struct that no text declares.
+    pub fn names_undeclared(&self, module: &Module, ty: &TypeResolution) -> bool
+        requires tables { AreTablesOf «module».now self.now }
+        ensures { result ≡ names_undeclared «module».now ty.now }
+    {
+        is_marked_type(&self.naming, ty)
+    }
+
+    /// Whether a text can spell the type with this handle.
+    pub(crate) fn is_spellable(&self, module: &Module, ty: Handle<Type_>) -> bool
+        requires tables { AreTablesOf «module».now self.now }
+        ensures { result ≡ is_spellable «module».now (OfHandle ty) }
+    {
+        is_spellable_by(&self.naming, module, ty)
+    }
+}
+
+/// Marks the structs that no text declares.
+fn undeclared_structs(alloc: Global, module: &Module) -> Result<Vec<bool>, AllocError>
+    requires ordered { ItemsStandInOrder «module».now }
+    ensures { IfOk result (λ marks. MarksUndeclared «module».now marks.items) }
+{
+    let mut marks = no_marks(alloc, module.types.len())?;
+    mark_undeclared(&mut marks, module);
+    Ok(marks)
+}
+
+/// Marks them in a table without marks.
+fn mark_undeclared(marks: &mut [bool], module: &Module)
+    requires none { marks.old ≡ replicate (length «module».now.types) false }
+    requires ordered { ItemsStandInOrder «module».now }
+    ensures { MarksUndeclared «module».now marks.new }
+{
+    mark_special(marks, &module.special_types);
+}
+
+#[tactic(auto, using(crate::proofs::Marking::marks_then))]
+fn mark_special(marks: &mut [bool], special_types: &SpecialTypes)
+    ensures { MarksAlso marks.old (undeclared_handles special_types.now) marks.new }
+{
+    mark_predeclared(marks, special_types);
+    mark_present(marks, special_types.external_texture_params);
+    mark_present(marks, special_types.external_texture_transfer_function);
+}
+
+/// Marks the structs that WGSL's own functions give.
+fn mark_predeclared(marks: &mut [bool], special_types: &SpecialTypes)
+    ensures { MarksAlso marks.old (values special_types.now.predeclared_types) marks.new }
+{
+    for known in special_types.predeclared_types.values() {
+        mark(marks, *known);
+    }
+}
+
+/// Marks the types that name a struct that no text declares, by marks of those structs.
+fn naming_types(
+    alloc: Global,
+    module: &Module,
+    undeclared: &[bool],
+) -> Result<Vec<bool>, AllocError>
+    requires ordered { ItemsStandInOrder «module».now }
+    requires undeclared { MarksUndeclared «module».now undeclared.now }
+    ensures { IfOk result (λ marks. MarksNaming «module».now marks.items) }
+{
+    let mut marks = no_marks(alloc, module.types.len())?;
+    mark_naming(&mut marks, undeclared, module);
+    Ok(marks)
+}
+
+/// Marks them from the first to the last.
+fn mark_naming(marks: &mut [bool], undeclared: &[bool], module: &Module)
+    requires size { length marks.old ≡ length «module».now.types }
+    requires ordered { ItemsStandInOrder «module».now }
+    requires undeclared { MarksUndeclared «module».now undeclared.now }
+    ensures { MarksNaming «module».now marks.new }
+{
+    for index in 0..module.types.len() {
+        let handle = Place::from_index(index);
+        let names = names_by(marks, undeclared, handle, &module.types[handle].inner);
+        marks[index] = names;
+    }
+}
+
+/// Whether the type with this handle is a struct that no text declares or is over one, by marks of
+/// those before it.
+fn names_by(marks: &[bool], undeclared: &[bool], handle: Handle<Type_>, inner: &TypeInner) -> bool
+    ensures { result ≡ (if is_struct inner.now then is_marked undeclared.now handle
+        else is_marked_over marks.now inner.now) }
+{
+    match inner {
+        TypeInner::Struct { .. } => is_marked(undeclared, handle),
+        _ => is_marked_over(marks, inner),
+    }
+}
+
+/// The type that a pointer or an array is over.
+pub fn over(inner: &TypeInner) -> Option<Handle<Type_>>
+    ensures { result ≡ over inner.now }
+{
+    match inner {
+        TypeInner::Pointer { base, .. }
+        | TypeInner::Array { base, .. }
+        | TypeInner::BindingArray { base, .. } => Some(*base),
+        _ => None,
+    }
+}
+
+/// Whether the type that a pointer or an array is over has a mark.
+fn is_marked_over(marks: &[bool], inner: &TypeInner) -> bool
+    ensures { result ≡ is_marked_over marks.now inner.now }
+{
+    match over(inner) {
+        Some(base) => is_marked(marks, base),
+        None => false,
+    }
+}
+
+/// Whether a type of the module has a mark, or the one that a type by itself is over.
+fn is_marked_type(marks: &[bool], ty: &TypeResolution) -> bool
+    ensures { result ≡ is_marked_type marks.now ty.now }
+{
+    match ty {
+        TypeResolution::Handle(handle) => is_marked(marks, *handle),
+        TypeResolution::Value(inner) => is_marked_over(marks, inner),
+    }
+}
+
+/// Whether a text can spell the type with this handle, by marks of those that name a struct which no
+/// text declares.
+fn is_spellable_by(naming: &[bool], module: &Module, ty: Handle<Type_>) -> bool
+    requires naming { MarksNaming «module».now naming.now }
+    ensures { result ≡ is_spellable «module».now (OfHandle ty) }
+{
+    is_spelled(&module.types, &TypeResolution::Handle(ty)) && !handle_names(naming, module, ty)
+}
+
+fn handle_names(naming: &[bool], module: &Module, ty: Handle<Type_>) -> bool
+    requires naming { MarksNaming «module».now naming.now }
+    ensures { result ≡ handle_names_undeclared «module».now ty }
+{
+    is_marked(naming, ty)
+}
+
+/// Marks the module's own expressions that are written.
+fn written_globals(alloc: Global, module: &Module, naming: &[bool]) -> Result<Vec<bool>, AllocError>
+    requires ordered { ItemsStandInOrder «module».now }
+    requires naming { MarksNaming «module».now naming.now }
+    ensures { IfOk result (λ marks. MarksGlobals «module».now marks.items) }
+{
+    let mut marks = no_marks(alloc, module.global_expressions.len())?;
+    mark_globals(&mut marks, naming, module);
+    Ok(marks)
+}
+
+/// Marks them from the first to the last.
+fn mark_globals(marks: &mut [bool], naming: &[bool], module: &Module)
+    requires size { length marks.old ≡ length «module».now.global_expressions }
+    requires ordered { ItemsStandInOrder «module».now }
+    requires naming { MarksNaming «module».now naming.now }
+    ensures { MarksGlobals «module».now marks.new }
+{
+    for index in 0..module.global_expressions.len() {
+        let expression = &module.global_expressions[Place::from_index(index)];
+        let is_written = is_written_over(marks, naming, module, expression);
+        marks[index] = is_written;
+    }
+}
+
+/// Whether one is written, by marks of those before it.
+fn is_written_over(
+    marks: &[bool],
+    naming: &[bool],
+    module: &Module,
+    expression: &Expression,
+) -> bool
+    requires naming { MarksNaming «module».now naming.now }
+    ensures { result ≡ global_is_written_over «module».now (is_marked marks.now) expression.now }
+{
+    match expression {
+        Expression::Literal(literal) => literal_has_form(*literal),
+        Expression::Constant(constant) => constant_is_marked(marks, module, *constant),
+        Expression::Override(_) => true,
+        Expression::ZeroValue(ty) => is_spellable_by(naming, module, *ty),
+        Expression::Compose { ty, components } => {
+            is_spellable_by(naming, module, *ty) && are_marked(marks, components.as_slice())
+        }
+        Expression::Splat { value, .. } => is_marked(marks, *value),
+        _ => false,
+    }
+}
+
+/// Whether a constant has a name, or its initialiser a mark.
+fn constant_is_marked(marks: &[bool], module: &Module, constant: Handle<Constant>) -> bool
+    ensures { result ≡ constant_is_written_over «module».now (is_marked marks.now) constant }
+{
+    if constant.index() >= module.constants.len() {
+        return false;
+    }
+    let item = &module.constants[constant];
+    item.name.is_some() || is_marked(marks, item.init)
+}
+
+/// By which of the module's own expressions each of them is written.
+fn targets_of(alloc: Global, module: &Module) -> Result<Vec<Handle<Expression>>, AllocError>
+    requires ordered { ItemsStandInOrder «module».now }
+    ensures { IfOk result (λ targets. AreTargets «module».now targets.items) }
+{
+    let first: Handle<Expression> = Place::from_index(0);
+    let mut targets = vec![in alloc; first; module.global_expressions.len()]?;
+    set_targets(&mut targets, module);
+    Ok(targets)
+}
+
+/// Sets them from the first to the last.
+fn set_targets(targets: &mut [Handle<Expression>], module: &Module)
+    requires size { length targets.old ≡ length «module».now.global_expressions }
+    requires ordered { ItemsStandInOrder «module».now }
+    ensures { AreTargets «module».now targets.new }
+{
+    for index in 0..module.global_expressions.len() {
+        let handle = Place::from_index(index);
+        let target = target_by(targets, module, handle, &module.global_expressions[handle]);
+        targets[index] = target;
+    }
+}
+
+/// By which one is written, by what is known of those before it.
+fn target_by(
+    targets: &[Handle<Expression>],
+    module: &Module,
+    handle: Handle<Expression>,
+    expression: &Expression,
+) -> Handle<Expression>
+    ensures { result ≡ target_over «module».now (target_at targets.now) handle expression.now }
+{
+    match unnamed_initialiser(module, expression) {
+        Some(initialiser) => target_in(targets, initialiser),
+        None => handle,
+    }
+}
+
+/// What is known of one: itself where nothing is.
+fn target_in(targets: &[Handle<Expression>], handle: Handle<Expression>) -> Handle<Expression>
+    ensures { result ≡ target_at targets.now handle }
+{
+    match targets.get(handle.index()) {
+        Some(target) => *target,
+        None => handle,
+    }
+}
+
+/// The initialiser of the constant without a name that an expression names, if it names one.
+fn unnamed_initialiser(module: &Module, expression: &Expression) -> Option<Handle<Expression>>
+    ensures { result ≡ unnamed_initialiser «module».now expression.now }
+{
+    match expression {
+        Expression::Constant(constant) => unnamed_value(module, *constant),
+        _ => None,
+    }
+}
+
+/// The initialiser of a constant, if that has no name.
+fn unnamed_value(module: &Module, constant: Handle<Constant>) -> Option<Handle<Expression>>
+    ensures { result ≡ unnamed_value «module».now constant }
+{
+    if constant.index() >= module.constants.len() {
+        return None;
+    }
+    let item = &module.constants[constant];
+    if item.name.is_some() {
+        None
+    } else {
+        Some(item.init)
+    }
+}

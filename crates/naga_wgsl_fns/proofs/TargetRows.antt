@@ -1,0 +1,97 @@
+-- A module's own expression is written by another where it names constants without names.
+--
+-- Throughout, m is a module, targets tell by which each of its own expressions is written, h is one of
+-- these, and e what stands there.
+use Rattle.std.proofs.Common.{◌≡◌, ◌≤◌, ◌<◌, ◌+◌, ℕ, zero, suc, Bool, true, false, List, Option, Some}
+use Rattle.std.proofs.Common.{None, refl, sym, ap, ◌∙◌, arith, slice_get, subst}
+use Rattle.std.specs.Prelude.{if◌then◌else◌}
+use Rattle.std.specs.Option.{is_some, option_and_then, option_map_or}
+use Rattle.module_meaning.specs.ExpressionForms.{global_is_written, global_is_written_over}
+use Rattle.module_meaning.specs.ExpressionForms.{global_is_written_within}
+use Rattle.naga_ir.specs.declared.expression.Expression.{Expression}
+use Rattle.naga_ir.specs.declared.expression.Expression.TheVariants as expression
+use Rattle.naga_ir.specs.declared.module.Constant.{Constant}
+use Rattle.naga_ir.specs.declared.module.Module.{Module}
+use Rattle.naga_scope.specs.Tables.{AreTargets, target_at, target_over, unnamed_value}
+use Rattle.naga_wgsl_fns.proofs.ConstantRows.{constant_passes, constant_row, in_order}
+use Rattle.naga_wgsl_fns.proofs.ConstantRows.{initialiser_written, unnamed_constant}
+use Rattle.naga_wgsl_fns.specs.Constants.{global_text}
+use Rattle.naga_wgsl_fns.specs.ModuleText.{CanWriteOf}
+
+-- what one is written by has its text, is written as it is, and does not stand behind it
+pub record IsTarget (m : Module) (h target : ℕ) : Type 0 where
+  pub text : global_text m target ≡ global_text m h
+  pub written : global_is_written m target ≡ true
+  pub before : target ≤ h
+
+module _ (m : Module) (can : CanWriteOf m) (targets : List ℕ) (are : AreTargets m targets) where
+  itself : (h : ℕ) → global_is_written m h ≡ true → IsTarget m h h
+  itself h is = record { text = refl; written = is; before = omega arith }
+
+  -- by the initialiser of the constant that it names
+  of_initialiser : (h c : ℕ) (k : Constant) →
+      slice_get m.global_expressions h ≡ Some (expression.Constant c) →
+      slice_get m.constants c ≡ Some k → is_some k.name ≡ false → global_is_written m h ≡ true →
+      (target : ℕ) → IsTarget m k.init target → IsTarget m h target
+  of_initialiser h c k at there unnamed is target of =
+      let before = (in_order m can).initialisers h c k at there in
+      record {
+        text =
+            of.text
+            ∙ (unnamed_constant m c k there unnamed
+            ∙ constant_row m can h (expression.Constant c) c at refl);
+        written = of.written;
+        before = omega (arith, before, of.before);
+      }
+
+  -- the initialiser of a constant without a name is written where the constant is
+  written_initialiser : (h c : ℕ) (k : Constant) →
+      slice_get m.global_expressions h ≡ Some (expression.Constant c) →
+      slice_get m.constants c ≡ Some k → is_some k.name ≡ false → global_is_written m h ≡ true →
+      global_is_written m k.init ≡ true
+  written_initialiser h c k at there unnamed is =
+      let order = in_order m can in
+      initialiser_written m order c (constant_passes m order h (expression.Constant c) c at refl is) k
+      there unnamed
+
+  -- so it is for one by those before it
+  over_those : (h : ℕ) (e : Expression) → slice_get m.global_expressions h ≡ Some e →
+      global_is_written m h ≡ true →
+      ((x : ℕ) → x < h → global_is_written m x ≡ true → IsTarget m x (target_at targets x)) →
+      IsTarget m h (target_over m (target_at targets) h e)
+  over_those h (expression.Constant c) at is earlier = by (slice_get m.constants c) refl
+    where
+      named : (k : Constant) → slice_get m.constants c ≡ Some k → (b : Bool) →
+          is_some k.name ≡ b →
+          IsTarget m h (option_map_or (target_at targets) (if b then None else Some k.init) h)
+      named k there true is_named = itself h is
+      named k there false unnamed =
+          of_initialiser h c k at there unnamed is (target_at targets k.init)
+          (earlier k.init ((in_order m can).initialisers h c k at there)
+          (written_initialiser h c k at there unnamed is))
+
+      by : (o : Option Constant) → slice_get m.constants c ≡ o →
+          IsTarget m h
+          (option_map_or (target_at targets)
+          (option_and_then (λ k. if is_some k.name then None else Some k.init) o) h)
+      by None there = itself h is
+      by (Some k) there = named k there (is_some k.name) refl
+  over_those h _ at is earlier = itself h is
+
+  below : (bound h : ℕ) → h < bound → global_is_written m h ≡ true →
+      IsTarget m h (target_at targets h)
+  below zero h lt is = absurd (omega (arith, lt))
+  below (suc bound) h lt is = by (slice_get m.global_expressions h) refl is (below bound)
+    where
+      by : (o : Option Expression) → slice_get m.global_expressions h ≡ o →
+          option_map_or (global_is_written_over m (global_is_written_within h m)) o false ≡ true →
+          ((x : ℕ) → x < bound → global_is_written m x ≡ true → IsTarget m x (target_at targets x)) →
+          IsTarget m h (target_at targets h)
+      by None at is_over earlier = absurd cc
+      by (Some e) at is_over earlier =
+          subst (IsTarget m h) (sym (are h e at))
+          (over_those h e at is (λ x lt_x. earlier x (omega (arith, lt, lt_x))))
+
+  -- what the table tells of one
+  pub target_is : (h : ℕ) → global_is_written m h ≡ true → IsTarget m h (target_at targets h)
+  target_is h is = below (suc h) h (omega arith) is
