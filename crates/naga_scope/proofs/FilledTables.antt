@@ -1,7 +1,7 @@
 -- What is looked up of a module, by one pass over its types and one over its own expressions.
 use Rattle.std.proofs.Common.{◌≡◌, ◌≤◌, ◌<◌, ◌+◌, ◌&&◌, ◌||◌, ℕ, zero, suc, Bool, true, false}
 use Rattle.std.proofs.Common.{List, [], ◌∷◌, ◌++◌, Option, Some, None, refl, sym, ap, ap₂, ◌∙◌, arith}
-use Rattle.std.proofs.Common.{below_more, get_or, length, nat_eq, nat_lt, replicate, slice_get}
+use Rattle.std.proofs.Common.{below_more, length, nat_eq, nat_lt, replicate, slice_get}
 use Rattle.std.proofs.Common.{slice_set, subst}
 use Rattle.std.specs.Prelude.{IsTrue, if◌then◌else◌}
 use Rattle.std.specs.List.{list_all, list_any}
@@ -37,7 +37,7 @@ use Rattle.naga_scope.proofs.WrittenConstants.{MarksBelow, globals_in_order}
 use Rattle.naga_scope.specs.Marks.{MarksAlso, is_marked, is_one_of}
 use Rattle.naga_scope.specs.Tables.{AreTargets, ItemsStandInOrder, MarksNaming, MarksUndeclared}
 use Rattle.naga_scope.specs.Tables.{is_marked_over, is_marked_type, target_at, target_over}
-use Rattle.naga_scope.specs.Tables.{undeclared_handles, unnamed_initialiser}
+use Rattle.naga_scope.specs.Tables.{undeclared_handles}
 
 -- ---- structs that no text declares
 one_present : (o : Option ℕ) (h : ℕ) →

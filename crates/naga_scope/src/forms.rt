@@ -1,6 +1,6 @@
 //! Which expressions have a form.
 
-ghost use Rattle.std.specs.Prelude.{◌≡◌, List, IsTrue, Some};
+ghost use Rattle.std.specs.Prelude.{◌≡◌, List, Some};
 ghost use Rattle.std.specs.Option.{is_some, option_and_then};
 ghost use Rattle.module_meaning.specs.Conversions.{converted_scalar};
 ghost use Rattle.module_meaning.specs.ExpressionForms.{converts, expression_is_written};
@@ -9,10 +9,9 @@ ghost use Rattle.module_meaning.specs.ExpressionOperators.{scalar_behind, scalar
 ghost use Rattle.module_meaning.specs.Names.{HasNamesOf, module_names, name_in};
 ghost use Rattle.module_meaning.specs.ExpressionForms.{known_passes, loads_matrix, part_is_written};
 ghost use Rattle.module_meaning.specs.Sampling.{sampling_is_written};
-ghost use Rattle.module_meaning.specs.Undeclared.{is_spellable, member_words, part_is_written_at};
+ghost use Rattle.module_meaning.specs.Undeclared.{member_words, part_is_written_at};
 ghost use Rattle.module_meaning.specs.Undeclared.{whole_known, whole_of};
 ghost use Rattle.naga_info.specs.Resolution.{InRange, inner_of};
-ghost use Rattle.naga_info.specs.declared.info.TypeResolution.TheVariants.{Handle as OfHandle};
 ghost use Rattle.naga_ir.specs.declared.types.Type_.{Type_};
 ghost use Rattle.naga_names.specs.Keys.{names_in};
 ghost use Rattle.naga_names.specs.declared.key.NameKey.TheVariants as key;

@@ -25,7 +25,8 @@ use std::marker::Model;
 
 /// What is asked of a module again and again while its text is decided and written: which of its own
 /// expressions are written, and by which others; which structs no text declares, and which types name
-/// one. Each is looked up in one step, where the module itself would be searched.
+/// one. Each is looked up in one step, where the module itself would be searched; whether a type has a
+/// form takes a step for each level of it.
 #[derive(Debug, Drop)]
 pub struct ModuleTables {
     written: Vec<bool>,
@@ -52,7 +53,8 @@ impl ModuleTables {
     /// Those of a module, in one pass over the structs that WGSL's own functions give, one over its
     /// types and two over its own expressions. It takes memory for two tables of a cell for each type
     /// and two of one for each expression, and none where there is none. What items are made of stands
-    /// before them, as it does in a module that is accepted.
+    /// before them, and the structs that no text declares are there, as it is in a module that is
+    /// accepted.
     pub fn of(alloc: Global, module: &Module) -> Result<ModuleTables, AllocError>
         requires ordered { ItemsStandInOrder «module».now }
         ensures { IfOk result (AreTablesOf «module».now) }
@@ -70,7 +72,8 @@ impl ModuleTables {
     }
 
     /// Whether one of the module's own expressions is written: whether it is made of literals, zero
-    /// values, compositions, splats, overrides and constants that all have forms.
+    /// values, compositions, splats, overrides and constants that all have forms. One that is not there
+    /// is not.
     pub fn is_written(&self, module: &Module, handle: Handle<Expression>) -> bool
         requires tables { AreTablesOf «module».now self.now }
         ensures { result ≡ global_is_written «module».now handle }
@@ -95,7 +98,7 @@ impl ModuleTables {
     }
 
     /// Whether no text declares the struct with this handle: one of WGSL's own functions gives it, or
-    /// it is one of those of external textures.
+    /// it is one of those of external textures. One that is not there is none of these.
     pub fn is_undeclared(&self, module: &Module, handle: Handle<Type_>) -> bool
         requires tables { AreTablesOf «module».now self.now }
         ensures { result ≡ is_undeclared «module».now.special_types handle }
@@ -103,7 +106,8 @@ impl ModuleTables {
         is_marked(&self.undeclared, handle)
     }
 
-    /// Whether the spelling of a type would name a struct that no text declares.
+    /// Whether the spelling of a type would name a struct that no text declares. That of one that is
+    /// not there would not.
     pub fn names_undeclared(&self, module: &Module, ty: &TypeResolution) -> bool
         requires tables { AreTablesOf «module».now self.now }
         ensures { result ≡ names_undeclared «module».now ty.now }
@@ -139,6 +143,7 @@ fn mark_undeclared(marks: &mut [bool], module: &Module)
     mark_special(marks, &module.special_types);
 }
 
+/// Marks the structs that WGSL's own functions give, and those of external textures.
 #[tactic(auto, using(crate::proofs::Marking::marks_then))]
 fn mark_special(marks: &mut [bool], special_types: &SpecialTypes)
     ensures { MarksAlso marks.old (undeclared_handles special_types.now) marks.new }
@@ -239,6 +244,7 @@ fn is_spellable_by(naming: &[bool], module: &Module, ty: Handle<Type_>) -> bool
     is_spelled(&module.types, &TypeResolution::Handle(ty)) && !handle_names(naming, module, ty)
 }
 
+/// Whether the type with this handle names a struct that no text declares, by such marks.
 fn handle_names(naming: &[bool], module: &Module, ty: Handle<Type_>) -> bool
     requires naming { MarksNaming «module».now naming.now }
     ensures { result ≡ handle_names_undeclared «module».now ty }

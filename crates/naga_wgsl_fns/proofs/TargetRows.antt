@@ -2,8 +2,8 @@
 --
 -- Throughout, m is a module, targets tell by which each of its own expressions is written, h is one of
 -- these, and e what stands there.
-use Rattle.std.proofs.Common.{◌≡◌, ◌≤◌, ◌<◌, ◌+◌, ℕ, zero, suc, Bool, true, false, List, Option, Some}
-use Rattle.std.proofs.Common.{None, refl, sym, ap, ◌∙◌, arith, slice_get, subst}
+use Rattle.std.proofs.Common.{◌≡◌, ◌≤◌, ◌<◌, ℕ, zero, suc, Bool, true, false, List, Option, Some}
+use Rattle.std.proofs.Common.{None, refl, sym, ◌∙◌, arith, slice_get, subst}
 use Rattle.std.specs.Prelude.{if◌then◌else◌}
 use Rattle.std.specs.Option.{is_some, option_and_then, option_map_or}
 use Rattle.module_meaning.specs.ExpressionForms.{global_is_written, global_is_written_over}
@@ -12,7 +12,7 @@ use Rattle.naga_ir.specs.declared.expression.Expression.{Expression}
 use Rattle.naga_ir.specs.declared.expression.Expression.TheVariants as expression
 use Rattle.naga_ir.specs.declared.module.Constant.{Constant}
 use Rattle.naga_ir.specs.declared.module.Module.{Module}
-use Rattle.naga_scope.specs.Tables.{AreTargets, target_at, target_over, unnamed_value}
+use Rattle.naga_scope.specs.Tables.{AreTargets, target_at, target_over}
 use Rattle.naga_wgsl_fns.proofs.ConstantRows.{constant_passes, constant_row, in_order}
 use Rattle.naga_wgsl_fns.proofs.ConstantRows.{initialiser_written, unnamed_constant}
 use Rattle.naga_wgsl_fns.specs.Constants.{global_text}

@@ -19,8 +19,7 @@ use std::alloc::Global;
 use wgsl_words::TryToWgsl;
 
 /// The refusal that names a declaration of an accepted module that has no form, by what has none in
-/// it and by what is looked up of the module; want of memory where there is none for its
-/// text.
+/// it and by what is looked up of the module; want of memory where there is none for its text.
 pub fn declaration_without_form(
     alloc: Global,
     module: &Module,

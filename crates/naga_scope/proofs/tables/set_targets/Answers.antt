@@ -1,4 +1,4 @@
-use Rattle.std.proofs.Common.{◌≡◌, ◌<◌, ap, arith, length, sym, subst, ◌∙◌}
+use Rattle.std.proofs.Common.{◌≡◌, ap, arith, length, sym, subst, ◌∙◌}
 use Rattle.std.specs.Prelude.{slice_get}
 use Rattle.naga_scope.proofs.FilledTables.{TargetsBelow, all_targets, no_targets, one_target}
 use Rattle.naga_scope.specs.Tables.{target_at, target_over}
