@@ -61,6 +61,30 @@ part_form number access y =
 abbrev pub PartsStand : Module → Type 0
 PartsStand m = (h : ℕ) (t : Type_) → slice_get m.types h ≡ Some t → parts_before h t.inner ≡ true
 
+-- ---- forms at any depth that suffices
+same_found : (f g : ℕ → Option (List ℕ)) (h : ℕ) → ((b : ℕ) → b < h → f b ≡ g b) →
+    (o : Option Type_) → ((t : Type_) → o ≡ Some t → parts_before h t.inner ≡ true) →
+    found_key_by f h o ≡ found_key_by g h o
+same_found f g h same None before = refl
+same_found f g h same (Some t) before = by t.inner (before t refl)
+  where
+    by : (it : TypeInner) → parts_before h it ≡ true → named_key_by f h it ≡ named_key_by g h it
+    by (inner.Pointer base at) lt = ap (pointer_key at) (same base (ltb-true base h lt))
+    by (inner.Array base n stride) lt = ap (array_key 6 n) (same base (ltb-true base h lt))
+    by (inner.BindingArray base n) lt = ap (array_key 7 n) (same base (ltb-true base h lt))
+    by _ lt = refl
+
+levels_agree : (m : Module) → PartsStand m → (n k h : ℕ) → h < n → h < k → key_within n m.types h ≡ key_within k m.types h
+levels_agree m stand zero k h p q = absurd (omega (arith, p))
+levels_agree m stand (suc n) zero h p q = absurd (omega (arith, q))
+levels_agree m stand (suc n) (suc k) h p q =
+    same_found (key_within n m.types) (key_within k m.types) h (λ b lt. levels_agree m stand n k b (omega (arith, p, lt)) (omega (arith, q, lt)))
+    (slice_get m.types h) (stand h)
+
+pub at_depth : (m : Module) → PartsStand m → (n h : ℕ) → h < n → key_within n m.types h ≡ handle_key m.types h
+unfolding handle_key
+at_depth m stand n h lt = levels_agree m stand n (suc h) h lt (omega arith)
+
 module _ (m : Module) (are : TypesAreCounted m) (stand : PartsStand m) where
   -- both are missing, or both are there, fit and told by the same numbers
   abbrev pub PartsAlike : Option TypeResolution → Option TypeResolution → Type 0
@@ -79,30 +103,6 @@ module _ (m : Module) (are : TypesAreCounted m) (stand : PartsStand m) where
     Plain : (number access : ℕ) (y : List ℕ) → form ≡ level 5 number access 0 0 0 ++ y → nat_eq (get_or y 0 0) 8 ≡ false →
         ((index : Option ℕ) → PartIs (part_form number access y) (part_type m.types it index)) → Pointed it form
     Whole : (number access h : ℕ) → form ≡ level 5 number access 0 0 0 ++ level 8 h 0 0 0 0 → has_computed_parts m.types it ≡ false → Pointed it form
-
-  -- ---- forms at any depth that suffices
-  same_found : (f g : ℕ → Option (List ℕ)) (h : ℕ) → ((b : ℕ) → b < h → f b ≡ g b) →
-      (o : Option Type_) → ((t : Type_) → o ≡ Some t → parts_before h t.inner ≡ true) →
-      found_key_by f h o ≡ found_key_by g h o
-  same_found f g h same None before = refl
-  same_found f g h same (Some t) before = by t.inner (before t refl)
-    where
-      by : (it : TypeInner) → parts_before h it ≡ true → named_key_by f h it ≡ named_key_by g h it
-      by (inner.Pointer base at) lt = ap (pointer_key at) (same base (ltb-true base h lt))
-      by (inner.Array base n stride) lt = ap (array_key 6 n) (same base (ltb-true base h lt))
-      by (inner.BindingArray base n) lt = ap (array_key 7 n) (same base (ltb-true base h lt))
-      by _ lt = refl
-
-  levels_agree : (n k h : ℕ) → h < n → h < k → key_within n m.types h ≡ key_within k m.types h
-  levels_agree zero k h p q = absurd (omega (arith, p))
-  levels_agree (suc n) zero h p q = absurd (omega (arith, q))
-  levels_agree (suc n) (suc k) h p q =
-      same_found (key_within n m.types) (key_within k m.types) h (λ b lt. levels_agree n k b (omega (arith, p, lt)) (omega (arith, q, lt)))
-      (slice_get m.types h) (stand h)
-
-  at_depth : (n h : ℕ) → h < n → key_within n m.types h ≡ handle_key m.types h
-  unfolding handle_key
-  at_depth n h lt = levels_agree n (suc h) h lt (omega arith)
 
   -- ---- pointers by their forms
   abbrev behind : AddressSpace → List ℕ → List ℕ
@@ -185,7 +185,7 @@ module _ (m : Module) (are : TypesAreCounted m) (stand : PartsStand m) where
       elements it is element size other form parts before (Some z) f x g =
           plain it is (size z) (other z)
           (λ index. subst (λ o. PartIs o (pointed_part at it index)) (sym (form z)) (subst (PartIs (Some (behind at z))) (sym (parts index))
-          (ap (pointer_key at) (sym (at_depth n element (depth before deep)) ∙ f))))
+          (ap (pointer_key at) (sym (at_depth m stand n element (depth before deep)) ∙ f))))
           (Some (size z)) refl x g
         where
           depth : element < base → base ≤ n → element < n

@@ -5,7 +5,8 @@ use Rattle.std.proofs.Common.{below_more, length, nat_eq, nat_lt, replicate, sli
 use Rattle.std.proofs.Common.{slice_set, subst}
 use Rattle.std.specs.Prelude.{IsTrue, if◌then◌else◌}
 use Rattle.std.specs.List.{list_all, list_any}
-use Rattle.std.specs.Option.{is_some, option_and_then, option_map_or, option_to_list}
+use Rattle.std.specs.Option.{is_some, option_and_then, option_map, option_map_or}
+use Rattle.std.specs.Option.{option_to_list}
 use Rattle.std.proofs.lemmas.Bool.{and_parts, eqb-true, ltb-true}
 use Rattle.std.proofs.lemmas.Grind.{get_or-set_at}
 use Rattle.std.proofs.lemmas.List.{get_or-set_other, length-replicate, length-set}
@@ -14,11 +15,16 @@ use Rattle.std.proofs.lemmas.Option.{same_Some, slice_get_past, slice_get_within
 use Rattle.indexmap.specs.IndexMap.{values}
 use Rattle.module_meaning.proofs.Lists.{placed_at}
 use Rattle.module_meaning.specs.Accepted.{is_accepted}
+use Rattle.module_meaning.specs.AlikeTypes.{found_key_by, handle_key, inner_key_by, is_spelled}
+use Rattle.module_meaning.specs.AlikeTypes.{key_within}
 use Rattle.module_meaning.specs.LackingScalars.{over}
-use Rattle.module_meaning.specs.Ranges.{is_below, parts_before, special_types_fit, types_in_range}
+use Rattle.module_meaning.specs.Ranges.{is_below, parts_before, parts_stand_before}
+use Rattle.module_meaning.specs.Ranges.{special_types_fit, types_in_range}
+use Rattle.module_meaning.specs.TypeIdentity.{level}
 use Rattle.module_meaning.specs.Undeclared.{handle_names_undeclared, is_undeclared, names_undeclared}
 use Rattle.module_meaning.specs.Undeclared.{names_undeclared_by, names_undeclared_within}
 use Rattle.naga_form.proofs.AcceptedGroups.{types_range}
+use Rattle.naga_form.proofs.AlikeParts.{PartsStand, at_depth}
 use Rattle.naga_form.proofs.WrittenOut.{declared_in_range}
 use Rattle.naga_info.specs.declared.info.ModuleInfo.{ModuleInfo}
 use Rattle.naga_info.specs.declared.info.TypeResolution.{TypeResolution}
@@ -35,9 +41,10 @@ use Rattle.naga_words.specs.Spelling.{is_struct}
 use Rattle.naga_scope.proofs.Marking.{just_marked}
 use Rattle.naga_scope.proofs.WrittenConstants.{MarksBelow, globals_in_order}
 use Rattle.naga_scope.specs.Marks.{MarksAlso, is_marked, is_one_of}
-use Rattle.naga_scope.specs.Tables.{AreTargets, ItemsStandInOrder, MarksNaming, MarksUndeclared}
-use Rattle.naga_scope.specs.Tables.{is_marked_over, is_marked_type, target_at, target_over}
-use Rattle.naga_scope.specs.Tables.{undeclared_handles}
+use Rattle.naga_scope.specs.Tables.{AreRepresentatives, ItemsStandInOrder, MarksNaming, MarksSpelled}
+use Rattle.naga_scope.specs.Tables.{MarksUndeclared, is_marked_over, is_marked_type}
+use Rattle.naga_scope.specs.Tables.{representative_at, representative_over, spelled_over}
+use Rattle.naga_scope.specs.Tables.{type_is_spelled, undeclared_handles}
 
 -- ---- structs that no text declares
 one_present : (o : Option ℕ) (h : ℕ) →
@@ -127,10 +134,32 @@ undeclared_marked m fit first marks none are h =
     by true below = below refl
     by false below = refl
 
+-- ---- order of types
+-- what a type is made of stands before it
+parts_stand : (m : Module) → IsTrue (parts_stand_before m.types) → PartsStand m
+parts_stand m stand h t at =
+    let from : 0 + h ≡ h = omega arith in
+    sym (ap (λ k. parts_before k t.inner) from)
+    ∙ placed_at (λ here t. parts_before here t.inner) 0 m.types h t stand at
+
+over_before : (it : TypeInner) (h base : ℕ) → parts_before h it ≡ true → over it ≡ Some base →
+    base < h
+over_before (inner.Pointer b space) h base before is =
+    ltb-true base h (ap (λ n. nat_lt n h) (same_Some base b (sym is)) ∙ before)
+over_before (inner.Array b size stride) h base before is =
+    ltb-true base h (ap (λ n. nat_lt n h) (same_Some base b (sym is)) ∙ before)
+over_before (inner.BindingArray b size) h base before is =
+    ltb-true base h (ap (λ n. nat_lt n h) (same_Some base b (sym is)) ∙ before)
+over_before _ h base before is = absurd cc
+
+-- so does what it is over
+base_before : (m : Module) → IsTrue (parts_stand_before m.types) → (h base : ℕ) (t : Type_) →
+    slice_get m.types h ≡ Some t → over t.inner ≡ Some base → base < h
+base_before m stand h base t at is = over_before t.inner h base (parts_stand m stand h t at) is
+
 -- ---- types that name one
 -- what is computed of a type over what is computed of those before it: enough levels give the same
-module _ (m : Module) (ordered : (h base : ℕ) (t : Type_) → slice_get m.types h ≡ Some t →
-    over t.inner ≡ Some base → base < h) where
+module _ (m : Module) (stand : IsTrue (parts_stand_before m.types)) where
   by_alike : (h : ℕ) (t : Type_) → slice_get m.types h ≡ Some t → (a b : ℕ → Bool) →
       ((x : ℕ) → x < h → a x ≡ b x) →
       names_undeclared_by m.special_types a h t.inner ≡
@@ -141,7 +170,7 @@ module _ (m : Module) (ordered : (h base : ℕ) (t : Type_) → slice_get m.type
     where
       by : (o : Option ℕ) → over t.inner ≡ o → option_map_or a o false ≡ option_map_or b o false
       by None is = refl
-      by (Some base) is = same base (ordered h base t at is)
+      by (Some base) is = same base (base_before m stand h base t at is)
 
   levels_same : (j k h : ℕ) → h < j → h < k →
       names_undeclared_within j m h ≡ names_undeclared_within k m h
@@ -195,30 +224,98 @@ type_marked m marks are (Value it) = by (over it)
     by None = refl
     by (Some base) = are base
 
+-- ---- types that are spelled
+some_kept : {X Y : Type 0} (f : X → Y) (o : Option X) → is_some (option_map f o) ≡ is_some o
+some_kept f None = refl
+some_kept f (Some x) = refl
+
+-- a type that is over one is spelled where that one is
+spelled_as_base : (f : ℕ → Option (List ℕ)) (it : TypeInner) (base : ℕ) → over it ≡ Some base →
+    is_some (inner_key_by f it) ≡ is_some (f base)
+spelled_as_base f (inner.Pointer b at) base is =
+    some_kept _ (f b) ∙ ap (λ x. is_some (f x)) (same_Some b base is)
+spelled_as_base f (inner.Array b n stride) base is =
+    some_kept _ (f b) ∙ ap (λ x. is_some (f x)) (same_Some b base is)
+spelled_as_base f (inner.BindingArray b n) base is =
+    some_kept _ (f b) ∙ ap (λ x. is_some (f x)) (same_Some b base is)
+spelled_as_base f _ base is = absurd cc
+
+-- and it is no struct
+not_over : (it : TypeInner) (base : ℕ) → over it ≡ Some base → is_struct it ≡ false
+not_over (inner.Pointer b at) base is = refl
+not_over (inner.Array b n stride) base is = refl
+not_over (inner.BindingArray b n) base is = refl
+not_over _ base is = absurd cc
+
+module _ (m : Module) (stand : IsTrue (parts_stand_before m.types)) where
+  base_is_spelled : (h base : ℕ) (t : Type_) → slice_get m.types h ≡ Some t →
+      over t.inner ≡ Some base → is_spelled m.types (Handle base) ≡ is_spelled m.types (Handle h)
+  unfolding handle_key
+  base_is_spelled h base t at is =
+      let before = base_before m stand h base t at is in
+      sym
+      (ap (λ o. is_some (found_key_by (key_within h m.types) h o)) at
+      ∙ (ap
+      (λ b. is_some (if b then Some (level 8 h 0 0 0 0) else inner_key_by (key_within h m.types) t.inner))
+      (not_over t.inner base is)
+      ∙ (spelled_as_base (key_within h m.types) t.inner base is
+      ∙ ap is_some (at_depth m (parts_stand m stand) h base before))))
+
+  -- so a type is spelled by which of those before it are
+  pub spelled_by : (h : ℕ) (t : Type_) → slice_get m.types h ≡ Some t → (marks : List Bool) →
+      MarksBelow (λ h. is_spelled m.types (Handle h)) (length m.types) marks h →
+      spelled_over marks m.types (Handle h) t.inner ≡ is_spelled m.types (Handle h)
+  spelled_by h t at marks below = by (over t.inner) refl
+    where
+      by : (o : Option ℕ) → over t.inner ≡ o →
+          option_map_or (is_marked marks) o (is_spelled m.types (Handle h)) ≡
+          is_spelled m.types (Handle h)
+      by None is = refl
+      by (Some base) is =
+          below.cells base (base_before m stand h base t at is) ∙ base_is_spelled h base t at is
+
+pub no_spelled_beyond : (m : Module) (h : ℕ) → length m.types ≤ h →
+    is_spelled m.types (Handle h) ≡ false
+unfolding handle_key
+no_spelled_beyond m h le =
+    ap (λ o. is_some (found_key_by (key_within h m.types) h o)) (slice_get_past m.types h le)
+
+-- the type of an expression is spelled, by the marks
+pub spelled_marked : (m : Module) (marks : List Bool) → MarksSpelled m marks → (r : TypeResolution) →
+    type_is_spelled marks m.types r ≡ is_spelled m.types r
+spelled_marked m marks are (Handle h) = are h
+spelled_marked m marks are (Value it) = by (over it) refl
+  where
+    by : (o : Option ℕ) → over it ≡ o →
+        option_map_or (is_marked marks) o (is_spelled m.types (Value it)) ≡
+        is_spelled m.types (Value it)
+    by None is = refl
+    by (Some base) is = are base ∙ sym (spelled_as_base (handle_key m.types) it base is)
+
 -- ---- own expressions
 -- a table in which the cells below i are right
-pub record TargetsBelow (m : Module) (targets : List ℕ) (i : ℕ) : Type 0 where
-  pub size : length targets ≡ length m.global_expressions
+pub record RepresentativesBelow (m : Module) (representatives : List ℕ) (i : ℕ) : Type 0 where
+  pub size : length representatives ≡ length m.global_expressions
   pub cells : (h : ℕ) → h < i → (e : Expression) → slice_get m.global_expressions h ≡ Some e →
-      target_at targets h ≡ target_over m (target_at targets) h e
+      representative_at representatives h ≡ representative_over m (representative_at representatives) h e
 
-pub no_targets : (m : Module) (targets : List ℕ) →
-    length targets ≡ length m.global_expressions → TargetsBelow m targets 0
-no_targets m targets size = record {
+pub no_representatives : (m : Module) (representatives : List ℕ) →
+    length representatives ≡ length m.global_expressions → RepresentativesBelow m representatives 0
+no_representatives m representatives size = record {
   size = size;
   cells = λ h lt. absurd (omega (arith, lt));
 }
 
-pub all_targets : (m : Module) (targets : List ℕ) →
-    TargetsBelow m targets (length m.global_expressions) → AreTargets m targets
-all_targets m targets below h e at =
+pub all_representatives : (m : Module) (representatives : List ℕ) →
+    RepresentativesBelow m representatives (length m.global_expressions) → AreRepresentatives m representatives
+all_representatives m representatives below h e at =
     below.cells h (slice_get_within m.global_expressions h e at) e at
 
 module _ (m : Module) (ordered : ItemsStandInOrder m) where
   -- by what one is written, by what those before it are
-  target_same : (h : ℕ) (e : Expression) → slice_get m.global_expressions h ≡ Some e →
-      (f g : ℕ → ℕ) → ((x : ℕ) → x < h → f x ≡ g x) → target_over m f h e ≡ target_over m g h e
-  target_same h (expression.Constant c) at f g same = by (slice_get m.constants c) refl
+  representative_same : (h : ℕ) (e : Expression) → slice_get m.global_expressions h ≡ Some e →
+      (f g : ℕ → ℕ) → ((x : ℕ) → x < h → f x ≡ g x) → representative_over m f h e ≡ representative_over m g h e
+  representative_same h (expression.Constant c) at f g same = by (slice_get m.constants c) refl
     where
       named : (k : Constant) (b : Bool) → f k.init ≡ g k.init →
           option_map_or f (if b then None else Some k.init) h ≡
@@ -234,33 +331,33 @@ module _ (m : Module) (ordered : ItemsStandInOrder m) where
       by None there = refl
       by (Some k) there =
           named k (is_some k.name) (same k.init (ordered.globals.initialisers h c k at there))
-  target_same h _ at f g same = refl
+  representative_same h _ at f g same = refl
 
-  pub one_target : (targets : List ℕ) (i target : ℕ) (e : Expression) →
-      slice_get m.global_expressions i ≡ Some e → target ≡ target_over m (target_at targets) i e →
-      TargetsBelow m targets i → TargetsBelow m (slice_set targets i target) (i + 1)
-  one_target targets i target e at is below =
+  pub one_representative : (representatives : List ℕ) (i representative : ℕ) (e : Expression) →
+      slice_get m.global_expressions i ≡ Some e → representative ≡ representative_over m (representative_at representatives) i e →
+      RepresentativesBelow m representatives i → RepresentativesBelow m (slice_set representatives i representative) (i + 1)
+  one_representative representatives i representative e at is below =
       let there = slice_get_within m.global_expressions i e at in
-      let within : i < length targets = subst (λ n. i < n) (sym below.size) there in
-      let now = slice_set targets i target in
-      let kept : (x : ℕ) → x < i → target_at now x ≡ target_at targets x =
-      λ x lt. get_or-set_other targets i x target x (λ same. absurd (omega (arith, lt, same))) in
+      let within : i < length representatives = subst (λ n. i < n) (sym below.size) there in
+      let now = slice_set representatives i representative in
+      let kept : (x : ℕ) → x < i → representative_at now x ≡ representative_at representatives x =
+      λ x lt. get_or-set_other representatives i x representative x (λ same. absurd (omega (arith, lt, same))) in
       record {
-        size = length-set targets i target ∙ below.size;
+        size = length-set representatives i representative ∙ below.size;
         cells = below_more
             (λ h. (e : Expression) → slice_get m.global_expressions h ≡ Some e →
-            target_at now h ≡ target_over m (target_at now) h e)
+            representative_at now h ≡ representative_over m (representative_at now) h e)
             i
             (λ h lt e at.
             kept h lt
             ∙ (below.cells h lt e at
-            ∙ target_same h e at (target_at targets) (target_at now)
+            ∙ representative_same h e at (representative_at representatives) (representative_at now)
             (λ x lt_x. sym (kept x (omega (arith, lt, lt_x))))))
             (λ own here.
-            get_or-set_at targets i i target i refl within
+            get_or-set_at representatives i i representative i refl within
             ∙ (is
-            ∙ (ap (target_over m (target_at targets) i) (same_Some e own (sym at ∙ here))
-            ∙ target_same i own here (target_at targets) (target_at now) (λ x lt. sym (kept x lt)))));
+            ∙ (ap (representative_over m (representative_at representatives) i) (same_Some e own (sym at ∙ here))
+            ∙ representative_same i own here (representative_at representatives) (representative_at now) (λ x lt. sym (kept x lt)))));
       }
 
 -- ---- order
@@ -269,26 +366,9 @@ pub items_in_order : (m : Module) (info : ModuleInfo) → IsTrue (is_accepted m 
     ItemsStandInOrder m
 items_in_order m info accepted = record {
   globals = globals_in_order m info accepted;
-  types = λ h base t at is. over_before t.inner h base (parts h t at) is;
+  types = (and_parts _ _ (types_range m info accepted)).0;
   special =
       (and_parts (special_types_fit (length m.types) m.special_types) _
       (and_parts (types_in_range (length m.overrides) m.types) _
       (declared_in_range m info accepted)).1).0;
 }
-  where
-    parts : (h : ℕ) (t : Type_) → slice_get m.types h ≡ Some t → parts_before h t.inner ≡ true
-    parts h t at =
-        let from : 0 + h ≡ h = omega arith in
-        sym (ap (λ k. parts_before k t.inner) from)
-        ∙ placed_at (λ here t. parts_before here t.inner) 0 m.types h t
-        (and_parts _ _ (types_range m info accepted)).0 at
-
-    over_before : (it : TypeInner) (h base : ℕ) → parts_before h it ≡ true → over it ≡ Some base →
-        base < h
-    over_before (inner.Pointer b space) h base before is =
-        ltb-true base h (ap (λ n. nat_lt n h) (same_Some base b (sym is)) ∙ before)
-    over_before (inner.Array b size stride) h base before is =
-        ltb-true base h (ap (λ n. nat_lt n h) (same_Some base b (sym is)) ∙ before)
-    over_before (inner.BindingArray b size) h base before is =
-        ltb-true base h (ap (λ n. nat_lt n h) (same_Some base b (sym is)) ∙ before)
-    over_before _ h base before is = absurd cc

@@ -1,13 +1,15 @@
 -- What is looked up of a module again and again while its text is decided and written.
 --
--- Throughout, m is a module, h the handle of one of its types or of one of its own expressions, e an
--- expression, it a type by itself and r a type of an expression.
-use Rattle.std.specs.Prelude.{◌≡◌, ◌++◌, ◌<◌, ℕ, Bool, false, List, Option, Some, None, IsTrue}
+-- Throughout, m is a module, t are its tables, h is the handle of one of its types or of one of its own
+-- expressions, c that of a constant, k a constant, e an expression, s are special types, it is a type by
+-- itself and r a type of an expression.
+use Rattle.std.specs.Prelude.{◌≡◌, ◌++◌, ℕ, Bool, false, List, Option, Some, None, IsTrue}
 use Rattle.std.specs.Prelude.{get_or, if◌then◌else◌, length, slice_get}
 use Rattle.std.specs.Option.{is_some, option_and_then, option_map_or, option_to_list}
 use Rattle.indexmap.specs.IndexMap.{values}
+use Rattle.module_meaning.specs.AlikeTypes.{is_spelled}
 use Rattle.module_meaning.specs.LackingScalars.{over}
-use Rattle.module_meaning.specs.Ranges.{special_types_fit}
+use Rattle.module_meaning.specs.Ranges.{parts_stand_before, special_types_fit}
 use Rattle.module_meaning.specs.Undeclared.{handle_names_undeclared, is_undeclared}
 use Rattle.naga_info.specs.declared.info.TypeResolution.{TypeResolution}
 use Rattle.naga_info.specs.declared.info.TypeResolution.TheVariants.{Handle, Value}
@@ -20,12 +22,14 @@ use Rattle.naga_ir.specs.declared.types.TypeInner.{TypeInner}
 use Rattle.naga_scope.specs.Marks.{GlobalsStandInOrder, MarksGlobals, is_marked}
 
 -- The tables, with a cell for each of the module's own expressions or for each type: which expressions
--- are written, and by which; which structs no text declares, and which types name one.
+-- are written, and by which; which structs no text declares, which types name one, and which are
+-- spelled.
 pub record Tables : Type 0 where
   pub written : List Bool
-  pub targets : List ℕ
+  pub representatives : List ℕ
   pub undeclared : List Bool
   pub naming : List Bool
+  pub spelled : List Bool
 
 -- ---- types
 -- the structs that no text declares
@@ -52,6 +56,19 @@ abbrev pub is_marked_type : List Bool → TypeResolution → Bool
 is_marked_type marks (Handle h) = is_marked marks h
 is_marked_type marks (Value it) = is_marked_over marks it
 
+-- just the types that WGSL spells have marks
+abbrev pub MarksSpelled : Module → List Bool → Type 0
+MarksSpelled m marks = (h : ℕ) → is_marked marks h ≡ is_spelled m.types (Handle h)
+
+-- what a type is over has a mark, or the type is over none and spelled
+abbrev pub spelled_over : List Bool → List Type_ → TypeResolution → TypeInner → Bool
+spelled_over marks types r it = option_map_or (is_marked marks) (over it) (is_spelled types r)
+
+-- the same of the type of an expression
+abbrev pub type_is_spelled : List Bool → List Type_ → TypeResolution → Bool
+type_is_spelled marks types (Handle h) = is_marked marks h
+type_is_spelled marks types (Value it) = spelled_over marks types (Value it) it
+
 -- ---- own expressions
 -- the initialiser of a constant that has no name
 abbrev pub unnamed_value : Module → (constant : ℕ) → Option ℕ
@@ -65,31 +82,31 @@ unnamed_initialiser m _ = None
 
 -- An expression is written by itself or, if it names a constant without a name, by what the initialiser
 -- of that one is written by, as f tells of those that stand before it.
-abbrev pub target_over : Module → (f : ℕ → ℕ) → (h : ℕ) → Expression → ℕ
-target_over m f h e = option_map_or f (unnamed_initialiser m e) h
+abbrev pub representative_over : Module → (f : ℕ → ℕ) → (h : ℕ) → Expression → ℕ
+representative_over m f h e = option_map_or f (unnamed_initialiser m e) h
 
 -- what a table tells of one: itself where the table has no cell for it
-abbrev pub target_at : (targets : List ℕ) → (h : ℕ) → ℕ
-target_at targets h = get_or targets h h
+abbrev pub representative_at : (representatives : List ℕ) → (h : ℕ) → ℕ
+representative_at representatives h = get_or representatives h h
 
 -- each cell tells by what its expression is written
-abbrev pub AreTargets : Module → (targets : List ℕ) → Type 0
-AreTargets m targets =
+abbrev pub AreRepresentatives : Module → (representatives : List ℕ) → Type 0
+AreRepresentatives m representatives =
     (h : ℕ) (e : Expression) → slice_get m.global_expressions h ≡ Some e →
-    target_at targets h ≡ target_over m (target_at targets) h e
+    representative_at representatives h ≡ representative_over m (representative_at representatives) h e
 
 -- ---- modules
 -- What the module's own expressions are made of stands before them, and so does what a type is over;
 -- the structs that no text declares are there.
 pub record ItemsStandInOrder (m : Module) : Type 0 where
   pub globals : GlobalsStandInOrder m
-  pub types : (h base : ℕ) (t : Type_) → slice_get m.types h ≡ Some t → over t.inner ≡ Some base →
-      base < h
+  pub types : IsTrue (parts_stand_before m.types)
   pub special : IsTrue (special_types_fit (length m.types) m.special_types)
 
 -- the tables are those of the module
 pub record AreTablesOf (m : Module) (t : Tables) : Type 0 where
   pub written : MarksGlobals m t.written
-  pub targets : AreTargets m t.targets
+  pub representatives : AreRepresentatives m t.representatives
   pub undeclared : MarksUndeclared m t.undeclared
   pub naming : MarksNaming m t.naming
+  pub spelled : MarksSpelled m t.spelled

@@ -14,7 +14,6 @@ ghost use Rattle.shader_runs.specs.Program.{from};
 
 use crate::known_function::KnownFunction;
 use crate::tables::ModuleTables;
-use naga_acceptance::is_spelled;
 use naga_info::FunctionInfo;
 use naga_ir::{
     Block, Expression, Function, FunctionArgument, FunctionResult, Handle, Module, Place, Range,
@@ -107,7 +106,7 @@ fn is_known_formless(
 {
     match info.expressions.get(handle.index()) {
         Some(known) => {
-            !tables.names_undeclared(module, &known.ty) && !is_spelled(&module.types, &known.ty)
+            !tables.names_undeclared(module, &known.ty) && !tables.is_spelled(module, &known.ty)
         }
         None => false,
     }

@@ -2,6 +2,7 @@
 
 ghost use Rattle.std.specs.Prelude.{◌≡◌, IfOk, false, if◌then◌else◌, length, replicate};
 ghost use Rattle.indexmap.specs.IndexMap.{values};
+ghost use Rattle.module_meaning.specs.AlikeTypes.{is_spelled};
 ghost use Rattle.module_meaning.specs.ExpressionForms.{constant_is_written, constant_is_written_over};
 ghost use Rattle.module_meaning.specs.ExpressionForms.{global_is_written, global_is_written_over};
 ghost use Rattle.module_meaning.specs.LackingScalars.{over};
@@ -9,9 +10,10 @@ ghost use Rattle.module_meaning.specs.Undeclared.{handle_names_undeclared, is_sp
 ghost use Rattle.module_meaning.specs.Undeclared.{is_undeclared, names_undeclared};
 ghost use Rattle.naga_info.specs.declared.info.TypeResolution.TheVariants.{Handle as OfHandle};
 ghost use Rattle.naga_scope.specs.Marks.{MarksAlso, MarksGlobals, is_marked};
-ghost use Rattle.naga_scope.specs.Tables.{AreTablesOf, AreTargets, ItemsStandInOrder};
-ghost use Rattle.naga_scope.specs.Tables.{MarksNaming, MarksUndeclared, is_marked_over};
-ghost use Rattle.naga_scope.specs.Tables.{is_marked_type, target_at, target_over};
+ghost use Rattle.naga_scope.specs.Tables.{AreRepresentatives, AreTablesOf, ItemsStandInOrder};
+ghost use Rattle.naga_scope.specs.Tables.{MarksNaming, MarksSpelled, MarksUndeclared};
+ghost use Rattle.naga_scope.specs.Tables.{is_marked_over, is_marked_type, representative_at};
+ghost use Rattle.naga_scope.specs.Tables.{representative_over, spelled_over, type_is_spelled};
 ghost use Rattle.naga_scope.specs.Tables.{undeclared_handles, unnamed_initialiser, unnamed_value};
 ghost use Rattle.naga_words.specs.Spelling.{is_struct};
 
@@ -19,20 +21,23 @@ use crate::forms::literal_has_form;
 use crate::written::{are_marked, is_marked, mark, mark_present, no_marks};
 use naga_acceptance::is_spelled;
 use naga_info::TypeResolution;
-use naga_ir::{Constant, Expression, Handle, Module, Place, SpecialTypes, Type_, TypeInner};
+use naga_ir::{
+    Constant, Expression, Handle, Module, Place, SpecialTypes, Type_, TypeInner, UniqueArena,
+};
 use std::alloc::{AllocError, Global};
 use std::marker::Model;
 
 /// What is asked of a module again and again while its text is decided and written: which of its own
-/// expressions are written, and by which others; which structs no text declares, and which types name
-/// one. Each is looked up in one step, where the module itself would be searched; whether a type has a
-/// form takes a step for each level of it.
+/// expressions are written, and by which others; which structs no text declares, which types name one,
+/// and which types have a form. Each is looked up in one step, where the module itself would be
+/// searched.
 #[derive(Debug, Drop)]
 pub struct ModuleTables {
     written: Vec<bool>,
-    targets: Vec<Handle<Expression>>,
+    representatives: Vec<Handle<Expression>>,
     undeclared: Vec<bool>,
     naming: Vec<bool>,
+    spelled: Vec<bool>,
 }
 
 /// Contracts see them as lists, of one cell for each own expression or for each type.
@@ -43,15 +48,16 @@ impl Model for ModuleTables {
 
     ghost view = { λ t. record {
       written = t.written.items;
-      targets = t.targets.items;
+      representatives = t.representatives.items;
       undeclared = t.undeclared.items;
       naming = t.naming.items;
+      spelled = t.spelled.items;
     } };
 }
 
 impl ModuleTables {
-    /// Those of a module, in one pass over the structs that WGSL's own functions give, one over its
-    /// types and two over its own expressions. It takes memory for two tables of a cell for each type
+    /// Those of a module, in one pass over the structs that WGSL's own functions give, two over its
+    /// types and two over its own expressions. It takes memory for three tables of a cell for each type
     /// and two of one for each expression, and none where there is none. What items are made of stands
     /// before them, and the structs that no text declares are there, as it is in a module that is
     /// accepted.
@@ -61,13 +67,15 @@ impl ModuleTables {
     {
         let undeclared = undeclared_structs(alloc, module)?;
         let naming = naming_types(alloc, module, &undeclared)?;
-        let written = written_globals(alloc, module, &naming)?;
-        let targets = targets_of(alloc, module)?;
+        let spelled = spelled_types(alloc, module)?;
+        let written = written_globals(alloc, module, &naming, &spelled)?;
+        let representatives = representatives_of(alloc, module)?;
         Ok(ModuleTables {
             written,
-            targets,
+            representatives,
             undeclared,
             naming,
+            spelled,
         })
     }
 
@@ -91,10 +99,10 @@ impl ModuleTables {
 
     /// The expression by which one of the module's own is written: itself, or, if it is a constant
     /// without a name, the one by which that constant's initialiser is written.
-    pub fn target(&self, handle: Handle<Expression>) -> Handle<Expression>
-        ensures { result ≡ target_at self.now.targets handle }
+    pub fn representative(&self, handle: Handle<Expression>) -> Handle<Expression>
+        ensures { result ≡ representative_at self.now.representatives handle }
     {
-        target_in(&self.targets, handle)
+        representative_in(&self.representatives, handle)
     }
 
     /// Whether no text declares the struct with this handle: one of WGSL's own functions gives it, or
@@ -120,7 +128,15 @@ impl ModuleTables {
         requires tables { AreTablesOf «module».now self.now }
         ensures { result ≡ is_spellable «module».now (OfHandle ty) }
     {
-        is_spellable_by(&self.naming, module, ty)
+        is_spellable_by(&self.naming, &self.spelled, module, ty)
+    }
+
+    /// Whether WGSL spells an expression's type.
+    pub(crate) fn is_spelled(&self, module: &Module, ty: &TypeResolution) -> bool
+        requires tables { AreTablesOf «module».now self.now }
+        ensures { result ≡ is_spelled «module».now.types ty.now }
+    {
+        type_is_spelled(&self.spelled, &module.types, ty)
     }
 }
 
@@ -235,13 +251,71 @@ fn is_marked_type(marks: &[bool], ty: &TypeResolution) -> bool
     }
 }
 
+/// Marks the types that WGSL spells.
+fn spelled_types(alloc: Global, module: &Module) -> Result<Vec<bool>, AllocError>
+    requires ordered { ItemsStandInOrder «module».now }
+    ensures { IfOk result (λ marks. MarksSpelled «module».now marks.items) }
+{
+    let mut marks = no_marks(alloc, module.types.len())?;
+    mark_spelled(&mut marks, module);
+    Ok(marks)
+}
+
+/// Marks them from the first to the last.
+fn mark_spelled(marks: &mut [bool], module: &Module)
+    requires size { length marks.old ≡ length «module».now.types }
+    requires ordered { ItemsStandInOrder «module».now }
+    ensures { MarksSpelled «module».now marks.new }
+{
+    for index in 0..module.types.len() {
+        let handle = Place::from_index(index);
+        let whole = TypeResolution::Handle(handle);
+        let spelled = spelled_over(marks, &module.types, &whole, &module.types[handle].inner);
+        marks[index] = spelled;
+    }
+}
+
+/// Whether WGSL spells a type, by marks of those before it: as what it is over, or by itself.
+fn spelled_over(
+    marks: &[bool],
+    types: &UniqueArena<Type_>,
+    ty: &TypeResolution,
+    inner: &TypeInner,
+) -> bool
+    ensures { result ≡ spelled_over marks.now types.now ty.now inner.now }
+{
+    match over(inner) {
+        Some(under) => is_marked(marks, under),
+        None => is_spelled(types, ty),
+    }
+}
+
+/// Whether WGSL spells an expression's type, by marks of the module's types.
+fn type_is_spelled(marks: &[bool], types: &UniqueArena<Type_>, ty: &TypeResolution) -> bool
+    ensures { result ≡ type_is_spelled marks.now types.now ty.now }
+{
+    match ty {
+        TypeResolution::Handle(handle) => is_marked(marks, *handle),
+        TypeResolution::Value(inner) => spelled_over(marks, types, ty, inner),
+    }
+}
+
 /// Whether a text can spell the type with this handle, by marks of those that name a struct which no
-/// text declares.
-fn is_spellable_by(naming: &[bool], module: &Module, ty: Handle<Type_>) -> bool
+/// text declares, and of those that WGSL spells.
+fn is_spellable_by(naming: &[bool], spelled: &[bool], module: &Module, ty: Handle<Type_>) -> bool
     requires naming { MarksNaming «module».now naming.now }
+    requires spelled { MarksSpelled «module».now spelled.now }
     ensures { result ≡ is_spellable «module».now (OfHandle ty) }
 {
-    is_spelled(&module.types, &TypeResolution::Handle(ty)) && !handle_names(naming, module, ty)
+    handle_is_spelled(spelled, module, ty) && !handle_names(naming, module, ty)
+}
+
+/// Whether WGSL spells the type with this handle, by such marks.
+fn handle_is_spelled(spelled: &[bool], module: &Module, ty: Handle<Type_>) -> bool
+    requires spelled { MarksSpelled «module».now spelled.now }
+    ensures { result ≡ is_spelled «module».now.types (OfHandle ty) }
+{
+    is_marked(spelled, ty)
 }
 
 /// Whether the type with this handle names a struct that no text declares, by such marks.
@@ -253,26 +327,33 @@ fn handle_names(naming: &[bool], module: &Module, ty: Handle<Type_>) -> bool
 }
 
 /// Marks the module's own expressions that are written.
-fn written_globals(alloc: Global, module: &Module, naming: &[bool]) -> Result<Vec<bool>, AllocError>
+fn written_globals(
+    alloc: Global,
+    module: &Module,
+    naming: &[bool],
+    spelled: &[bool],
+) -> Result<Vec<bool>, AllocError>
     requires ordered { ItemsStandInOrder «module».now }
     requires naming { MarksNaming «module».now naming.now }
+    requires spelled { MarksSpelled «module».now spelled.now }
     ensures { IfOk result (λ marks. MarksGlobals «module».now marks.items) }
 {
     let mut marks = no_marks(alloc, module.global_expressions.len())?;
-    mark_globals(&mut marks, naming, module);
+    mark_globals(&mut marks, naming, spelled, module);
     Ok(marks)
 }
 
 /// Marks them from the first to the last.
-fn mark_globals(marks: &mut [bool], naming: &[bool], module: &Module)
+fn mark_globals(marks: &mut [bool], naming: &[bool], spelled: &[bool], module: &Module)
     requires size { length marks.old ≡ length «module».now.global_expressions }
     requires ordered { ItemsStandInOrder «module».now }
     requires naming { MarksNaming «module».now naming.now }
+    requires spelled { MarksSpelled «module».now spelled.now }
     ensures { MarksGlobals «module».now marks.new }
 {
     for index in 0..module.global_expressions.len() {
         let expression = &module.global_expressions[Place::from_index(index)];
-        let is_written = is_written_over(marks, naming, module, expression);
+        let is_written = is_written_over(marks, naming, spelled, module, expression);
         marks[index] = is_written;
     }
 }
@@ -281,19 +362,22 @@ fn mark_globals(marks: &mut [bool], naming: &[bool], module: &Module)
 fn is_written_over(
     marks: &[bool],
     naming: &[bool],
+    spelled: &[bool],
     module: &Module,
     expression: &Expression,
 ) -> bool
     requires naming { MarksNaming «module».now naming.now }
+    requires spelled { MarksSpelled «module».now spelled.now }
     ensures { result ≡ global_is_written_over «module».now (is_marked marks.now) expression.now }
 {
     match expression {
         Expression::Literal(literal) => literal_has_form(*literal),
         Expression::Constant(constant) => constant_is_marked(marks, module, *constant),
         Expression::Override(_) => true,
-        Expression::ZeroValue(ty) => is_spellable_by(naming, module, *ty),
+        Expression::ZeroValue(ty) => is_spellable_by(naming, spelled, module, *ty),
         Expression::Compose { ty, components } => {
-            is_spellable_by(naming, module, *ty) && are_marked(marks, components.as_slice())
+            is_spellable_by(naming, spelled, module, *ty)
+                && are_marked(marks, components.as_slice())
         }
         Expression::Splat { value, .. } => is_marked(marks, *value),
         _ => false,
@@ -312,50 +396,51 @@ fn constant_is_marked(marks: &[bool], module: &Module, constant: Handle<Constant
 }
 
 /// By which of the module's own expressions each of them is written.
-fn targets_of(alloc: Global, module: &Module) -> Result<Vec<Handle<Expression>>, AllocError>
+fn representatives_of(alloc: Global, module: &Module) -> Result<Vec<Handle<Expression>>, AllocError>
     requires ordered { ItemsStandInOrder «module».now }
-    ensures { IfOk result (λ targets. AreTargets «module».now targets.items) }
+    ensures { IfOk result (λ known. AreRepresentatives «module».now known.items) }
 {
     let first: Handle<Expression> = Place::from_index(0);
-    let mut targets = vec![in alloc; first; module.global_expressions.len()]?;
-    set_targets(&mut targets, module);
-    Ok(targets)
+    let mut known = vec![in alloc; first; module.global_expressions.len()]?;
+    set_representatives(&mut known, module);
+    Ok(known)
 }
 
 /// Sets them from the first to the last.
-fn set_targets(targets: &mut [Handle<Expression>], module: &Module)
-    requires size { length targets.old ≡ length «module».now.global_expressions }
+fn set_representatives(known: &mut [Handle<Expression>], module: &Module)
+    requires size { length known.old ≡ length «module».now.global_expressions }
     requires ordered { ItemsStandInOrder «module».now }
-    ensures { AreTargets «module».now targets.new }
+    ensures { AreRepresentatives «module».now known.new }
 {
     for index in 0..module.global_expressions.len() {
         let handle = Place::from_index(index);
-        let target = target_by(targets, module, handle, &module.global_expressions[handle]);
-        targets[index] = target;
+        let found = representative_by(known, module, handle, &module.global_expressions[handle]);
+        known[index] = found;
     }
 }
 
 /// By which one is written, by what is known of those before it.
-fn target_by(
-    targets: &[Handle<Expression>],
+fn representative_by(
+    known: &[Handle<Expression>],
     module: &Module,
     handle: Handle<Expression>,
     expression: &Expression,
 ) -> Handle<Expression>
-    ensures { result ≡ target_over «module».now (target_at targets.now) handle expression.now }
+    ensures { result
+        ≡ representative_over «module».now (representative_at known.now) handle expression.now }
 {
     match unnamed_initialiser(module, expression) {
-        Some(initialiser) => target_in(targets, initialiser),
+        Some(initialiser) => representative_in(known, initialiser),
         None => handle,
     }
 }
 
 /// What is known of one: itself where nothing is.
-fn target_in(targets: &[Handle<Expression>], handle: Handle<Expression>) -> Handle<Expression>
-    ensures { result ≡ target_at targets.now handle }
+fn representative_in(known: &[Handle<Expression>], handle: Handle<Expression>) -> Handle<Expression>
+    ensures { result ≡ representative_at known.now handle }
 {
-    match targets.get(handle.index()) {
-        Some(target) => *target,
+    match known.get(handle.index()) {
+        Some(found) => *found,
         None => handle,
     }
 }

@@ -1,9 +1,9 @@
 -- What is told of a constant that has no form.
-use Rattle.std.proofs.Common.{◌≡◌, ℕ, zero, suc, ◌<◌, ◌&&◌, ◌||◌, Bool, true, false, List, [], ◌∷◌, Option, Some, None}
-use Rattle.std.proofs.Common.{refl, sym, ap, ap₂, ◌∙◌, map, slice_get, subst, true≢false}
-use Rattle.std.specs.Prelude.{IsSomeAnd, not}
+use Rattle.std.proofs.Common.{◌≡◌, ℕ, zero, suc, ◌<◌, ◌≤◌, ◌&&◌, ◌||◌, Bool, true, false, List, [], ◌∷◌, Option, Some, None}
+use Rattle.std.proofs.Common.{refl, sym, ap, ap₂, ◌∙◌, arith, length, map, slice_get, subst, true≢false}
+use Rattle.std.specs.Prelude.{IsSomeAnd, if◌then◌else◌, not}
 use Rattle.std.specs.List.{IsAmong, find, list_all}
-use Rattle.std.specs.Option.{is_none, is_some, option_map_or}
+use Rattle.std.specs.Option.{is_none, is_some, option_and_then, option_map_or}
 use Rattle.std.proofs.lemmas.Bool.{not-false, not-true, or_parts}
 use Rattle.module_meaning.proofs.Stepwise.{by_those_before}
 use Rattle.module_meaning.specs.Undeclared.{is_spellable}
@@ -15,12 +15,15 @@ use Rattle.naga_ir.specs.declared.expression.Expression.{Expression}
 use Rattle.naga_ir.specs.declared.expression.Expression.TheVariants as expression
 use Rattle.naga_ir.specs.declared.module.Constant.{Constant}
 use Rattle.naga_ir.specs.declared.module.Module.{Module}
+use Rattle.naga_names.proofs.Refusal.{element}
 use Rattle.naga_scope.proofs.SpelledTypes.{among_there, found_passes, none_passes, there_among}
 use Rattle.naga_scope.proofs.WrittenConstants.{global_same}
 use Rattle.naga_scope.specs.Marks.{GlobalsStandInOrder}
+use Rattle.naga_scope.specs.Tables.{AreRepresentatives, representative_at, representative_over}
 use Rattle.naga_wgsl_fns.specs.declared.error.Error.{Error}
 use Rattle.shader_runs.specs.Premises.{AllBelow}
 use Rattle.naga_wgsl_fns.specs.Refusals.{NamesConstant, NamesGlobal, is_operation}
+use Rattle.naga_wgsl_fns.specs.Refusals.NamesGlobal.{OfConstant}
 
 pub as_it_is : (xs : List ℕ) → map (λ (x : ℕ). x) xs ≡ xs
 as_it_is [] = refl
@@ -127,6 +130,75 @@ module _ (m : Module) (ordered : GlobalsStandInOrder m) (h : ℕ)
           inside (y ∷ ys) below zero at =
               let same : y ≡ x = cc in subst (λ z. z < h) same below.0
           inside (y ∷ ys) below (suc i) at = inside ys below.1 i at
+
+-- ---- representatives
+-- that of one without a form has none, does not stand behind it, and is named where it is named
+pub record IsFormless (m : Module) (h representative : ℕ) : Type 0 where
+  pub there : representative < length m.global_expressions
+  pub formless : global_is_written m representative ≡ false
+  pub before : representative ≤ h
+  pub names : (error : Error) → NamesGlobal m error representative → NamesGlobal m error h
+
+module _ (m : Module) (ordered : GlobalsStandInOrder m) (known : List ℕ)
+    (are : AreRepresentatives m known) where
+  itself : (h : ℕ) → h < length m.global_expressions → global_is_written m h ≡ false →
+      IsFormless m h h
+  itself h there formless = record {
+    there = there;
+    formless = formless;
+    before = omega arith;
+    names = λ error named. named;
+  }
+
+  -- it is so for one by those before it
+  over_those : (h : ℕ) → h < length m.global_expressions → global_is_written m h ≡ false →
+      (e : Expression) → slice_get m.global_expressions h ≡ Some e →
+      ((x : ℕ) → x < h → x < length m.global_expressions → global_is_written m x ≡ false →
+      IsFormless m x (representative_at known x)) →
+      IsFormless m h (representative_over m (representative_at known) h e)
+  over_those h within formless (expression.Constant c) at earlier = by (slice_get m.constants c) refl
+    where
+      of_initialiser : (k : Constant) → slice_get m.constants c ≡ Some k →
+          (representative : ℕ) → IsFormless m k.init representative → IsFormless m h representative
+      of_initialiser k there representative of =
+          let fails = constant_fails m ordered h formless (expression.Constant c) c k at refl there in
+          record {
+            there = of.there;
+            formless = of.formless;
+            before = let lt = fails.0 in let le = of.before in omega (arith, lt, le);
+            names = λ error named. OfConstant h c k at there fails.2 (of.names error named);
+          }
+
+      named : (k : Constant) → slice_get m.constants c ≡ Some k → (b : Bool) →
+          is_some k.name ≡ b →
+          IsFormless m h
+          (option_map_or (representative_at known) (if b then None else Some k.init) h)
+      named k there true is_named = itself h within formless
+      named k there false unnamed =
+          let fails = constant_fails m ordered h formless (expression.Constant c) c k at refl there in
+          of_initialiser k there (representative_at known k.init)
+          (earlier k.init fails.0 (ordered.initialised c k there) fails.1)
+
+      by : (o : Option Constant) → slice_get m.constants c ≡ o →
+          IsFormless m h
+          (option_map_or (representative_at known)
+          (option_and_then (λ k. if is_some k.name then None else Some k.init) o) h)
+      by None there = itself h within formless
+      by (Some k) there = named k there (is_some k.name) refl
+  over_those h within formless _ at earlier = itself h within formless
+
+  below : (bound h : ℕ) → h < bound → h < length m.global_expressions →
+      global_is_written m h ≡ false → IsFormless m h (representative_at known h)
+  below zero h lt within formless = absurd (omega (arith, lt))
+  below (suc bound) h lt within formless =
+      let found = element m.global_expressions h within in
+      subst (IsFormless m h) (sym (are h found.0 found.1))
+      (over_those h within formless found.0 found.1
+      (λ x lt_x. below bound x (omega (arith, lt, lt_x))))
+
+  pub formless_is : (h : ℕ) → h < length m.global_expressions → global_is_written m h ≡ false →
+      IsFormless m h (representative_at known h)
+  formless_is h within formless = below (suc h) h (omega arith) within formless
 
 -- what none of the other arms takes applies an operator
 pub applies_operator : (e : Expression) →

@@ -29,7 +29,7 @@ pub mod StageRows
 pub mod StatementParts
 pub mod StatementRows
 pub mod SwitchRows
-pub mod TargetRows
+pub mod RepresentativeRows
 pub mod TextHandles
 pub mod TypeRows
 pub mod VariableRows

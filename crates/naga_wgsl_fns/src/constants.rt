@@ -63,12 +63,12 @@ impl ModuleText<'_> {
         ensures { Writes W.text W.failures out.old out.new
             (global_text self.now.shader.now handle) }
     {
-        self.write_target(alloc, self.tables.target(handle), out);
+        self.write_representative(alloc, self.tables.representative(handle), out);
     }
 
     /// The same, by what it is.
     #[cycle(global)]
-    fn write_target<W: TextSink>(
+    fn write_representative<W: TextSink>(
         &self,
         alloc: Global,
         handle: Handle<Expression>,

@@ -32,8 +32,27 @@ pub(crate) fn constant_without_form(
 }
 
 /// The refusal that names one of the module's own expressions that has no form; want of memory where
-/// there is none for its text.
+/// there is none for its text. Through constants without names it takes one step, however many name
+/// one another.
+#[cycle(formless)]
 pub(crate) fn global_without_form(
+    alloc: Global,
+    module: &Module,
+    tables: &ModuleTables,
+    handle: Handle<Expression>,
+) -> Error
+    requires ordered { GlobalsStandInOrder «module».now }
+    requires tables { AreTablesOf «module».now tables.now }
+    requires there { handle < length «module».now.global_expressions }
+    requires formless { IsFalse (global_is_written «module».now handle) }
+    ensures { NamesGlobal «module».now result handle }
+{
+    representative_without_form(alloc, module, tables, tables.representative(handle))
+}
+
+/// The same, by what it is.
+#[cycle(formless)]
+fn representative_without_form(
     alloc: Global,
     module: &Module,
     tables: &ModuleTables,

@@ -11,18 +11,18 @@ use Rattle.naga_wgsl_fns.proofs.ConstantRows.{named_constant, no_other_global, o
 use Rattle.naga_wgsl_fns.proofs.ConstantRows.{override_there, unnamed_constant}
 use Rattle.naga_wgsl_fns.proofs.ConstantRows.{parts_are_written, parts_more, parts_none, parts_start}
 use Rattle.naga_wgsl_fns.proofs.ConstantRows.{splat_row, zero_passes, zero_row}
-use Rattle.naga_wgsl_fns.proofs.TargetRows.{target_is}
+use Rattle.naga_wgsl_fns.proofs.RepresentativeRows.{representative_is}
 use Rattle.naga_wgsl_fns.specs.Constants.{global_text, parts_left, parts_text}
 use Rattle.naga_wgsl_fns.proofs.module_text.ModuleText.+global.Goals as goal
 
 -- ---- through constants without names
-pub write_global-write_target-requires : goal.write_global-write_target-requires
-write_global-write_target-requires g t c κs within =
+pub write_global-write_representative-requires : goal.write_global-write_representative-requires
+write_global-write_representative-requires g t c κs within =
     let text = c.args.self.now in
-    let is = target_is text.shader.now c.requires.can.of_module text.tables.now.targets
-    c.requires.can.tables.targets c.args.handle c.requires.written in
-    let found = c.target.ensures in
-    let before : c.target.result ≤ c.args.handle = subst (λ h. h ≤ c.args.handle) (sym found) is.before in (
+    let is = representative_is text.shader.now c.requires.can.of_module text.tables.now.representatives
+    c.requires.can.tables.representatives c.args.handle c.requires.written in
+    let found = c.representative.ensures in
+    let before : c.representative.result ≤ c.args.handle = subst (λ h. h ≤ c.args.handle) (sym found) is.before in (
       omega (arith, before, c.decreases),
       (within, (c.requires.can, ap (global_is_written text.shader.now) found ∙ is.written)),
     )
@@ -30,24 +30,24 @@ write_global-write_target-requires g t c κs within =
 pub write_global-returns : goal.write_global-returns
 write_global-returns g t c =
     let text = c.args.self.now in
-    let is = target_is text.shader.now c.requires.can.of_module text.tables.now.targets
-    c.requires.can.tables.targets c.args.handle c.requires.written in
-    writes_as (ap (global_text text.shader.now) c.target.ensures ∙ is.text) c.write_target.ensures
+    let is = representative_is text.shader.now c.requires.can.of_module text.tables.now.representatives
+    c.requires.can.tables.representatives c.args.handle c.requires.written in
+    writes_as (ap (global_text text.shader.now) c.representative.ensures ∙ is.text) c.write_representative.ensures
 
 -- ---- one by what it is
-pub write_target-index-requires : goal.write_target-index-requires
-write_target-index-requires g t c =
+pub write_representative-index-requires : goal.write_representative-index-requires
+write_representative-index-requires g t c =
     let m = c.args.self.now.shader.now in
     global_there m (in_order m c.requires.can.of_module) c.args.handle c.requires.written
 
-pub write_target-write_literal-requires : goal.write_target-write_literal-requires
-write_target-write_literal-requires g t c =
+pub write_representative-write_literal-requires : goal.write_representative-write_literal-requires
+write_representative-write_literal-requires g t c =
     let m = c.args.self.now.shader.now in
     literal_passes m (in_order m c.requires.can.of_module) c.args.handle c.index.result.now
     c.in-Literal.literal c.index.ensures c.in-Literal.is c.requires.written
 
-pub write_target-write_constant-requires : goal.write_target-write_constant-requires
-write_target-write_constant-requires g t c κs within =
+pub write_representative-write_constant-requires : goal.write_representative-write_constant-requires
+write_representative-write_constant-requires g t c κs within =
     let m = c.args.self.now.shader.now in
     let order = in_order m c.requires.can.of_module in
     let before =
@@ -58,8 +58,8 @@ write_target-write_constant-requires g t c κs within =
     c.index.ensures c.in-Constant.is c.requires.written in
     (omega (arith, before, c.decreases), (within, (c.requires.can, written)))
 
-pub write_target-write_override_name-requires-clause-there : goal.write_target-write_override_name-requires-clause-there
-write_target-write_override_name-requires-clause-there g t c =
+pub write_representative-write_override_name-requires-clause-there : goal.write_representative-write_override_name-requires-clause-there
+write_representative-write_override_name-requires-clause-there g t c =
     override_there c.args.self.now.shader.now c.requires.can.of_module c.args.handle
     c.index.result.now _ c.index.ensures c.in-Override.is
 
@@ -97,45 +97,45 @@ write_constant-returns-else-is_some g t c =
     c.index-item.ensures (sym c.is_some.ensures ∙ c.if-is_some.false))
     c.write_global.ensures
 
-pub write_target-write_made_global-requires : goal.write_target-write_made_global-requires
-write_target-write_made_global-requires g t c κs within =
+pub write_representative-write_made_global-requires : goal.write_representative-write_made_global-requires
+write_representative-write_made_global-requires g t c κs within =
     let m = c.args.self.now.shader.now in
     let formed =
     zero_passes m (in_order m c.requires.can.of_module) c.args.handle c.index.result.now
     c.in-ZeroValue.ty c.index.ensures c.in-ZeroValue.is c.requires.written in
     (omega (arith, c.decreases), (within, (c.requires.can, (formed, c.requires.written))))
 
-pub write_target-write_made_global-requires-in-Compose : goal.write_target-write_made_global-requires-in-Compose
-write_target-write_made_global-requires-in-Compose g t c κs within =
+pub write_representative-write_made_global-requires-in-Compose : goal.write_representative-write_made_global-requires-in-Compose
+write_representative-write_made_global-requires-in-Compose g t c κs within =
     let m = c.args.self.now.shader.now in
     let formed =
     composed_passes m (in_order m c.requires.can.of_module) c.args.handle c.index.result.now
     c.in-Compose.ty _ c.index.ensures c.in-Compose.is c.requires.written in
     (omega (arith, c.decreases), (within, (c.requires.can, (formed, c.requires.written))))
 
-pub write_target-returns-in-Literal : goal.write_target-returns-in-Literal
-write_target-returns-in-Literal g t c =
+pub write_representative-returns-in-Literal : goal.write_representative-returns-in-Literal
+write_representative-returns-in-Literal g t c =
     writes_as
     (literal_row c.args.self.now.shader.now c.requires.can.of_module c.args.handle c.index.result.now _ c.index.ensures
     c.in-Literal.is)
     c.write_literal.ensures
 
-pub write_target-returns-in-Constant : goal.write_target-returns-in-Constant
-write_target-returns-in-Constant g t c =
+pub write_representative-returns-in-Constant : goal.write_representative-returns-in-Constant
+write_representative-returns-in-Constant g t c =
     writes_as
     (constant_row c.args.self.now.shader.now c.requires.can.of_module c.args.handle
     c.index.result.now _ c.index.ensures c.in-Constant.is)
     c.write_constant.ensures
 
-pub write_target-returns-in-Override : goal.write_target-returns-in-Override
-write_target-returns-in-Override g t c =
+pub write_representative-returns-in-Override : goal.write_representative-returns-in-Override
+write_representative-returns-in-Override g t c =
     writes_as
     (override_row c.args.self.now.shader.now c.requires.can.of_module c.args.handle
     c.index.result.now _ c.index.ensures c.in-Override.is)
     c.write_override_name.ensures
 
-pub write_target-returns-in-ZeroValue : goal.write_target-returns-in-ZeroValue
-write_target-returns-in-ZeroValue g t c =
+pub write_representative-returns-in-ZeroValue : goal.write_representative-returns-in-ZeroValue
+write_representative-returns-in-ZeroValue g t c =
     let m = c.args.self.now.shader.now in
     let formed =
     zero_passes m (in_order m c.requires.can.of_module) c.args.handle c.index.result.now
@@ -145,8 +145,8 @@ write_target-returns-in-ZeroValue g t c =
     c.in-ZeroValue.is formed)
     c.write_made_global.ensures
 
-pub write_target-returns-in-Compose : goal.write_target-returns-in-Compose
-write_target-returns-in-Compose g t c =
+pub write_representative-returns-in-Compose : goal.write_representative-returns-in-Compose
+write_representative-returns-in-Compose g t c =
     let m = c.args.self.now.shader.now in
     let formed =
     composed_passes m (in_order m c.requires.can.of_module) c.args.handle c.index.result.now
@@ -156,15 +156,15 @@ write_target-returns-in-Compose g t c =
     c.index.ensures c.in-Compose.is formed)
     c.write_made_global-in-Compose.ensures
 
-pub write_target-returns-in-Splat : goal.write_target-returns-in-Splat
-write_target-returns-in-Splat g t c =
+pub write_representative-returns-in-Splat : goal.write_representative-returns-in-Splat
+write_representative-returns-in-Splat g t c =
     writes_as
     (splat_row c.args.self.now.shader.now c.requires.can.of_module c.args.handle c.in-Splat.size _ c.index.result.now _
     c.index.ensures c.in-Splat.is c.vector_str.ensures)
     c.write_called_global.ensures
 
-pub write_target-unreachable-requires : goal.write_target-unreachable-requires
-write_target-unreachable-requires g t c =
+pub write_representative-unreachable-requires : goal.write_representative-unreachable-requires
+write_representative-unreachable-requires g t c =
     let m = c.args.self.now.shader.now in
     no_other_global m (in_order m c.requires.can.of_module) c.args.handle c.index.result.now
     c.index.ensures c.requires.written

@@ -16,8 +16,8 @@ decreases-write_made_global g l = 5 * l.handle + 1
 abbrev pub decreases-write_called_global : goal.decreases-write_called_global
 decreases-write_called_global g l = 5 * l.handle + 1
 
-abbrev pub decreases-write_target : goal.decreases-write_target
-decreases-write_target g l = 5 * l.handle + 2
+abbrev pub decreases-write_representative : goal.decreases-write_representative
+decreases-write_representative g l = 5 * l.handle + 2
 
 abbrev pub decreases-write_global : goal.decreases-write_global
 decreases-write_global g l = 5 * l.handle + 3

@@ -1,27 +1,60 @@
-use Rattle.std.proofs.Common.{arith, ap, sym, ◌∙◌, Some, refl}
+use Rattle.std.proofs.Common.{◌<◌, ◌≤◌, arith, ap, length, subst, sym, ◌∙◌, Some, refl}
 use Rattle.std.specs.List.{find}
 use Rattle.std.specs.Prelude.{Bool, ℕ, not}
 use Rattle.module_meaning.specs.ExpressionForms.{global_is_written}
 use Rattle.naga_ir.specs.declared.expression.Expression.TheVariants as expression
 use Rattle.naga_ir.specs.declared.module.Module.{Module}
 use Rattle.naga_wgsl_fns.proofs.FormlessConstants as formless
+use Rattle.naga_wgsl_fns.proofs.FormlessConstants.{formless_is}
+use Rattle.naga_wgsl_fns.specs.Refusals.{NamesGlobal}
 use Rattle.naga_wgsl_fns.specs.Refusals.NamesGlobal.{OfConstant, OfLiteral, OfOperand, OfOperation, OfType}
-use Rattle.naga_wgsl_fns.proofs.formless_constants.+global_without_form.Goals as goal
+use Rattle.naga_wgsl_fns.proofs.formless_constants.+formless.Goals as goal
 
 abbrev unwritten : Module → ℕ → Bool
 unwritten m h = not (global_is_written m h)
 
+-- ---- through constants without names
+pub global_without_form-representative_without_form-requires : goal.global_without_form-representative_without_form-requires
+global_without_form-representative_without_form-requires t c =
+    let m = c.args.«module».now in
+    let is = formless_is m c.requires.ordered c.args.tables.now.representatives
+    c.requires.tables.representatives c.args.handle c.requires.there c.requires.formless in
+    let found = c.representative.ensures in
+    let before : c.representative.result ≤ c.args.handle =
+    subst (λ h. h ≤ c.args.handle) (sym found) is.before in (
+      omega (arith, before, c.decreases),
+      (
+        c.requires.ordered,
+        (
+          c.requires.tables,
+          (
+            subst (λ h. h < length m.global_expressions) (sym found) is.there,
+            ap (global_is_written m) found ∙ is.formless,
+          ),
+        ),
+      ),
+    )
+
+pub global_without_form-returns : goal.global_without_form-returns
+global_without_form-returns t c =
+    let m = c.args.«module».now in
+    let is = formless_is m c.requires.ordered c.args.tables.now.representatives
+    c.requires.tables.representatives c.args.handle c.requires.there c.requires.formless in
+    is.names c.representative_without_form.result
+    (subst (NamesGlobal m c.representative_without_form.result) c.representative.ensures
+    c.representative_without_form.ensures)
+
 -- ---- a literal
-pub returns-in-Literal : goal.returns-in-Literal
-returns-in-Literal t c =
+pub representative_without_form-returns-in-Literal : goal.representative_without_form-returns-in-Literal
+representative_without_form-returns-in-Literal t c =
     OfLiteral c.args.handle c.in-Literal.literal (c.index.ensures ∙ ap Some c.in-Literal.is)
     (formless.literal_fails c.args.«module».now c.requires.ordered c.args.handle c.requires.formless
     c.index.result.now c.in-Literal.literal c.index.ensures c.in-Literal.is)
     c.literal_without_form.ensures
 
 -- ---- the initialiser of a constant
-pub global_without_form-requires : goal.global_without_form-requires
-global_without_form-requires t c =
+pub representative_without_form-global_without_form-requires : goal.representative_without_form-global_without_form-requires
+representative_without_form-global_without_form-requires t c =
     let before =
     formless.constant_fails c.args.«module».now c.requires.ordered c.args.handle
     c.requires.formless c.index.result.now c.in-Constant.constant c.index-in-Constant.result.now
@@ -31,8 +64,8 @@ global_without_form-requires t c =
       (c.requires.ordered, (c.requires.tables, (omega (arith, before.0, within), before.1))),
     )
 
-pub returns-in-Constant : goal.returns-in-Constant
-returns-in-Constant t c =
+pub representative_without_form-returns-in-Constant : goal.representative_without_form-returns-in-Constant
+representative_without_form-returns-in-Constant t c =
     let fails =
     formless.constant_fails c.args.«module».now c.requires.ordered c.args.handle
     c.requires.formless c.index.result.now c.in-Constant.constant c.index-in-Constant.result.now
@@ -42,22 +75,22 @@ returns-in-Constant t c =
     c.global_without_form.ensures
 
 -- ---- an override
-pub unreachable-requires : goal.unreachable-requires
-unreachable-requires t c =
+pub representative_without_form-unreachable-requires : goal.representative_without_form-unreachable-requires
+representative_without_form-unreachable-requires t c =
     formless.override_fails c.args.«module».now c.requires.ordered c.args.handle c.requires.formless
     c.index.result.now _ c.index.ensures c.in-Override.is
 
 -- ---- values of a type
-pub returns-in-ZeroValue : goal.returns-in-ZeroValue
-returns-in-ZeroValue t c =
+pub representative_without_form-returns-in-ZeroValue : goal.representative_without_form-returns-in-ZeroValue
+representative_without_form-returns-in-ZeroValue t c =
     OfType c.args.handle c.in-ZeroValue.ty (expression.ZeroValue c.in-ZeroValue.ty)
     (c.index.ensures ∙ ap Some c.in-ZeroValue.is) refl
     (formless.zero_fails c.args.«module».now c.requires.ordered c.args.handle c.requires.formless
     c.index.result.now c.in-ZeroValue.ty c.index.ensures c.in-ZeroValue.is)
     c.type_without_form.ensures
 
-pub returns-in-None : goal.returns-in-None
-returns-in-None t c =
+pub representative_without_form-returns-in-None : goal.representative_without_form-returns-in-None
+representative_without_form-returns-in-None t c =
     let parts = c.in-Compose.components in
     OfType c.args.handle c.in-Compose.ty (expression.Compose c.in-Compose.ty parts)
     (c.index.ensures ∙ ap Some c.in-Compose.is) refl
@@ -69,8 +102,8 @@ returns-in-None t c =
     c.type_without_form-in-None.ensures
 
 -- ---- operands
-pub global_without_form-requires-in-Some : goal.global_without_form-requires-in-Some
-global_without_form-requires-in-Some t c =
+pub representative_without_form-global_without_form-requires-in-Some : goal.representative_without_form-global_without_form-requires-in-Some
+representative_without_form-global_without_form-requires-in-Some t c =
     let parts = c.in-Compose.components in
     let found =
     formless.one_unwritten c.args.«module».now parts.items
@@ -85,8 +118,8 @@ global_without_form-requires-in-Some t c =
       (c.requires.ordered, (c.requires.tables, (omega (arith, before, within), found.1))),
     )
 
-pub returns-in-Some : goal.returns-in-Some
-returns-in-Some t c =
+pub representative_without_form-returns-in-Some : goal.representative_without_form-returns-in-Some
+representative_without_form-returns-in-Some t c =
     let parts = c.in-Compose.components in
     let found =
     formless.one_unwritten c.args.«module».now parts.items
@@ -95,8 +128,8 @@ returns-in-Some t c =
     OfOperand c.args.handle c.in-Some.component (expression.Compose c.in-Compose.ty parts)
     (c.index.ensures ∙ ap Some c.in-Compose.is) found.0 c.global_without_form-in-Some.ensures
 
-pub global_without_form-requires-in-Splat : goal.global_without_form-requires-in-Splat
-global_without_form-requires-in-Splat t c =
+pub representative_without_form-global_without_form-requires-in-Splat : goal.representative_without_form-global_without_form-requires-in-Splat
+representative_without_form-global_without_form-requires-in-Splat t c =
     let value = c.in-Splat.value in
     let before =
     formless.operand_before c.args.«module».now c.requires.ordered c.args.handle
@@ -117,16 +150,16 @@ global_without_form-requires-in-Splat t c =
       ),
     )
 
-pub returns-in-Splat : goal.returns-in-Splat
-returns-in-Splat t c =
+pub representative_without_form-returns-in-Splat : goal.representative_without_form-returns-in-Splat
+representative_without_form-returns-in-Splat t c =
     let value = c.in-Splat.value in
     OfOperand c.args.handle value (expression.Splat c.in-Splat.size value)
     (c.index.ensures ∙ ap Some c.in-Splat.is) (0, (omega arith, refl))
     c.global_without_form-in-Splat.ensures
 
 -- ---- an operator
-pub returns-in_default : goal.returns-in_default
-returns-in_default t c =
+pub representative_without_form-returns-in_default : goal.representative_without_form-returns-in_default
+representative_without_form-returns-in_default t c =
     OfOperation c.args.handle c.index.result.now c.index.ensures
     (formless.applies_operator c.index.result.now c.in_default.not-Literal c.in_default.not-Constant
     c.in_default.not-Override c.in_default.not-ZeroValue c.in_default.not-Compose c.in_default.not-Splat)

@@ -1,6 +1,6 @@
 -- A module's own expression is written by another where it names constants without names.
 --
--- Throughout, m is a module, targets tell by which each of its own expressions is written, h is one of
+-- Throughout, m is a module, representatives tell by which each of its own expressions is written, h is one of
 -- these, and e what stands there.
 use Rattle.std.proofs.Common.{◌≡◌, ◌≤◌, ◌<◌, ℕ, zero, suc, Bool, true, false, List, Option, Some}
 use Rattle.std.proofs.Common.{None, refl, sym, ◌∙◌, arith, slice_get, subst}
@@ -12,28 +12,28 @@ use Rattle.naga_ir.specs.declared.expression.Expression.{Expression}
 use Rattle.naga_ir.specs.declared.expression.Expression.TheVariants as expression
 use Rattle.naga_ir.specs.declared.module.Constant.{Constant}
 use Rattle.naga_ir.specs.declared.module.Module.{Module}
-use Rattle.naga_scope.specs.Tables.{AreTargets, target_at, target_over}
+use Rattle.naga_scope.specs.Tables.{AreRepresentatives, representative_at, representative_over}
 use Rattle.naga_wgsl_fns.proofs.ConstantRows.{constant_passes, constant_row, in_order}
 use Rattle.naga_wgsl_fns.proofs.ConstantRows.{initialiser_written, unnamed_constant}
 use Rattle.naga_wgsl_fns.specs.Constants.{global_text}
 use Rattle.naga_wgsl_fns.specs.ModuleText.{CanWriteOf}
 
 -- what one is written by has its text, is written as it is, and does not stand behind it
-pub record IsTarget (m : Module) (h target : ℕ) : Type 0 where
-  pub text : global_text m target ≡ global_text m h
-  pub written : global_is_written m target ≡ true
-  pub before : target ≤ h
+pub record IsRepresentative (m : Module) (h representative : ℕ) : Type 0 where
+  pub text : global_text m representative ≡ global_text m h
+  pub written : global_is_written m representative ≡ true
+  pub before : representative ≤ h
 
-module _ (m : Module) (can : CanWriteOf m) (targets : List ℕ) (are : AreTargets m targets) where
-  itself : (h : ℕ) → global_is_written m h ≡ true → IsTarget m h h
+module _ (m : Module) (can : CanWriteOf m) (representatives : List ℕ) (are : AreRepresentatives m representatives) where
+  itself : (h : ℕ) → global_is_written m h ≡ true → IsRepresentative m h h
   itself h is = record { text = refl; written = is; before = omega arith }
 
   -- by the initialiser of the constant that it names
   of_initialiser : (h c : ℕ) (k : Constant) →
       slice_get m.global_expressions h ≡ Some (expression.Constant c) →
       slice_get m.constants c ≡ Some k → is_some k.name ≡ false → global_is_written m h ≡ true →
-      (target : ℕ) → IsTarget m k.init target → IsTarget m h target
-  of_initialiser h c k at there unnamed is target of =
+      (representative : ℕ) → IsRepresentative m k.init representative → IsRepresentative m h representative
+  of_initialiser h c k at there unnamed is representative of =
       let before = (in_order m can).initialisers h c k at there in
       record {
         text =
@@ -57,41 +57,41 @@ module _ (m : Module) (can : CanWriteOf m) (targets : List ℕ) (are : AreTarget
   -- so it is for one by those before it
   over_those : (h : ℕ) (e : Expression) → slice_get m.global_expressions h ≡ Some e →
       global_is_written m h ≡ true →
-      ((x : ℕ) → x < h → global_is_written m x ≡ true → IsTarget m x (target_at targets x)) →
-      IsTarget m h (target_over m (target_at targets) h e)
+      ((x : ℕ) → x < h → global_is_written m x ≡ true → IsRepresentative m x (representative_at representatives x)) →
+      IsRepresentative m h (representative_over m (representative_at representatives) h e)
   over_those h (expression.Constant c) at is earlier = by (slice_get m.constants c) refl
     where
       named : (k : Constant) → slice_get m.constants c ≡ Some k → (b : Bool) →
           is_some k.name ≡ b →
-          IsTarget m h (option_map_or (target_at targets) (if b then None else Some k.init) h)
+          IsRepresentative m h (option_map_or (representative_at representatives) (if b then None else Some k.init) h)
       named k there true is_named = itself h is
       named k there false unnamed =
-          of_initialiser h c k at there unnamed is (target_at targets k.init)
+          of_initialiser h c k at there unnamed is (representative_at representatives k.init)
           (earlier k.init ((in_order m can).initialisers h c k at there)
           (written_initialiser h c k at there unnamed is))
 
       by : (o : Option Constant) → slice_get m.constants c ≡ o →
-          IsTarget m h
-          (option_map_or (target_at targets)
+          IsRepresentative m h
+          (option_map_or (representative_at representatives)
           (option_and_then (λ k. if is_some k.name then None else Some k.init) o) h)
       by None there = itself h is
       by (Some k) there = named k there (is_some k.name) refl
   over_those h _ at is earlier = itself h is
 
   below : (bound h : ℕ) → h < bound → global_is_written m h ≡ true →
-      IsTarget m h (target_at targets h)
+      IsRepresentative m h (representative_at representatives h)
   below zero h lt is = absurd (omega (arith, lt))
   below (suc bound) h lt is = by (slice_get m.global_expressions h) refl is (below bound)
     where
       by : (o : Option Expression) → slice_get m.global_expressions h ≡ o →
           option_map_or (global_is_written_over m (global_is_written_within h m)) o false ≡ true →
-          ((x : ℕ) → x < bound → global_is_written m x ≡ true → IsTarget m x (target_at targets x)) →
-          IsTarget m h (target_at targets h)
+          ((x : ℕ) → x < bound → global_is_written m x ≡ true → IsRepresentative m x (representative_at representatives x)) →
+          IsRepresentative m h (representative_at representatives h)
       by None at is_over earlier = absurd cc
       by (Some e) at is_over earlier =
-          subst (IsTarget m h) (sym (are h e at))
+          subst (IsRepresentative m h) (sym (are h e at))
           (over_those h e at is (λ x lt_x. earlier x (omega (arith, lt, lt_x))))
 
   -- what the table tells of one
-  pub target_is : (h : ℕ) → global_is_written m h ≡ true → IsTarget m h (target_at targets h)
-  target_is h is = below (suc h) h (omega arith) is
+  pub representative_is : (h : ℕ) → global_is_written m h ≡ true → IsRepresentative m h (representative_at representatives h)
+  representative_is h is = below (suc h) h (omega arith) is

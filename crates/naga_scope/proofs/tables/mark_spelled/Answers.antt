@@ -1,0 +1,44 @@
+use Rattle.std.proofs.Common.{◌≡◌, ◌<◌, ℕ, Bool, ap, arith, length, sym, subst, ◌∙◌}
+use Rattle.std.specs.Prelude.{slice_get}
+use Rattle.module_meaning.specs.AlikeTypes.{is_spelled}
+use Rattle.naga_info.specs.declared.info.TypeResolution.TheVariants.{Handle}
+use Rattle.naga_ir.specs.declared.module.Module.{Module}
+use Rattle.naga_scope.proofs.FilledTables.{no_spelled_beyond, spelled_by}
+use Rattle.naga_scope.proofs.WrittenConstants.{MarksBelow, all_below, none_below, one_below}
+use Rattle.naga_scope.specs.Tables.{spelled_over}
+use Rattle.naga_scope.proofs.tables.mark_spelled.Goals as goal
+
+abbrev spelled_in : Module → (h : ℕ) → Bool
+spelled_in m h = is_spelled m.types (Handle h)
+
+pub loop-index-init : goal.loop-index-init
+loop-index-init c =
+    let m = c.args.module.now in
+    none_below (spelled_in m) (length m.types) c.args.marks.now c.requires.size
+
+pub loop-index-preserved : goal.loop-index-preserved
+loop-index-preserved c =
+    let m = c.args.module.now in
+    let end = c.len-index-end.ensures in
+    let test = c.loop-index-test.true in
+    let within : c.loop-index.index < length m.types = omega (arith, end, test) in
+    let it = c.index.result.now.inner in
+    let at = ap (slice_get m.types) (sym c.from_index-handle.ensures) ∙ c.index.ensures in
+    one_below (spelled_in m) (length m.types) c.loop-index.marks c.loop-index.index
+    c.spelled_over-spelled.result within
+    (c.spelled_over-spelled.ensures
+    ∙ (ap (λ h. spelled_over c.loop-index.marks m.types (Handle h) it) c.from_index-handle.ensures
+    ∙ spelled_by m c.requires.ordered.types c.loop-index.index c.index.result.now at
+    c.loop-index.marks c.loop-index.invariant))
+    c.loop-index.invariant
+
+pub returns : goal.returns
+returns c =
+    let m = c.args.module.now in
+    let end = c.len-index-end.ensures in
+    let test = c.loop-index-test.false in
+    let last = c.loop-index.auto.index-end in
+    let all : c.loop-index.index ≡ length m.types = omega (arith, end, test, last) in
+    all_below (spelled_in m) (length m.types) (no_spelled_beyond m) c.loop-index.marks
+    (subst (MarksBelow (spelled_in m) (length m.types) c.loop-index.marks) all
+    c.loop-index.invariant)
