@@ -2,3 +2,5 @@
 //! spellings of what it declares; its program of shapes, its interface, and what its identifiers
 //! stand for.
 #![tactic(auto)]
+
+pub mod type_parts;

@@ -357,13 +357,6 @@ pub(crate) fn inferred_is_spelled(types: &UniqueArena<Type_>, ty: &InferredType)
     top_is_spelled(types, inferred_top(types, ty))
 }
 
-/// Whether WGSL spells an expression's type.
-pub fn is_spelled(types: &UniqueArena<Type_>, ty: &TypeResolution) -> bool
-    ensures { result ≡ is_spelled types.now ty.now }
-{
-    top_is_spelled(types, resolution_top(types, ty))
-}
-
 /// What `over` is, if it is something that has a level.
 pub(crate) fn next(types: &UniqueArena<Type_>, over: Over) -> Option<Top>
     ensures form { next_key over (top_key types.now result) ≡ over_key types.now over }

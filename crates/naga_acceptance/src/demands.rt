@@ -10,8 +10,9 @@ ghost use Rattle.module_meaning.specs.OperandDemands.{points_to_components};
 ghost use Rattle.module_meaning.specs.TypeParts.{has_computed_parts, is_part_number};
 
 use crate::parts::{
-    Known, has_computed_parts, inner_at, is_part_number, known_inner, pointee_type, vector_number,
+    Known, has_computed_parts, is_part_number, known_inner, pointee_type, vector_number,
 };
+use module_meaning::type_parts::inner_at;
 use naga_ir::{
     Expression, Handle, ScalarKind, SwizzleComponent, Type_, TypeInner, UniqueArena, VectorSize,
 };

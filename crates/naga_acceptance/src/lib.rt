@@ -24,6 +24,5 @@ mod uses;
 mod walk;
 
 pub use acceptance::{accepts, unaccepted};
-pub use alike::is_spelled;
 pub use counts::count;
 pub use faults::{Fault, FunctionPlace, Item, Unaccepted};

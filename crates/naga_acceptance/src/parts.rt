@@ -1,20 +1,18 @@
 //! What types are made of, and the types of parts, without memory.
 
-ghost use Rattle.std.specs.Prelude.{◌≡◌, false, slice_get};
-ghost use Rattle.std.specs.Option.{is_some, option_copied, option_map, option_map_or};
+ghost use Rattle.std.specs.Prelude.{◌≡◌, slice_get};
+ghost use Rattle.std.specs.Option.{is_some, option_copied, option_map};
 ghost use Rattle.naga_acceptance.specs.KnownTypes.{inferred, known_types};
-ghost use Rattle.module_meaning.specs.ExpressionOperators.{has_parts, is_composite};
-ghost use Rattle.module_meaning.specs.ExpressionForms.{known_passes};
 ghost use Rattle.module_meaning.specs.TypeIdentity.{vector_number};
 ghost use Rattle.module_meaning.specs.TypeParts.{component_pointer, component_scalar};
 ghost use Rattle.module_meaning.specs.TypeParts.{element_count};
-ghost use Rattle.module_meaning.specs.TypeParts.{has_computed_parts, inner_at, is_part_number};
+ghost use Rattle.module_meaning.specs.TypeParts.{has_computed_parts, is_part_number};
 ghost use Rattle.module_meaning.specs.TypeParts.{known_inner, member_type, part_count};
 ghost use Rattle.module_meaning.specs.TypeParts.{part_type, pointed_part, pointee_type};
 ghost use Rattle.module_meaning.specs.TypeParts.{stored_type, value_part, value_part_count};
 ghost use Rattle.module_meaning.specs.TypeParts.{vector_scalar};
-ghost use Rattle.naga_info.specs.Resolution.{inner_of};
 
+use module_meaning::type_parts::{inner_at, inner_of};
 use naga_info::{ExpressionInfo, TypeResolution};
 use naga_ir::{
     AddressSpace, ArraySize, Expression, Handle, Scalar, StructMember, Type_, TypeInner,
@@ -71,33 +69,6 @@ pub enum Known<'a> {
     Global(&'a [TypeResolution]),
 }
 
-/// The type of the module with this handle, if there is one.
-pub(crate) fn inner_at<'a>(
-    types: &'a UniqueArena<Type_>,
-    handle: Handle<Type_>,
-) -> Option<&'a TypeInner>
-    ensures { option_copied result ≡ inner_at types.now handle }
-{
-    if handle.index() < types.len() {
-        Some(&types[handle].inner)
-    } else {
-        None
-    }
-}
-
-/// What a type stands for, if its handle lies in the types.
-pub(crate) fn inner_of<'a>(
-    types: &'a UniqueArena<Type_>,
-    ty: &'a TypeResolution,
-) -> Option<&'a TypeInner>
-    ensures { option_copied result ≡ inner_of ty.now types.now }
-{
-    match ty {
-        TypeResolution::Handle(handle) => inner_at(types, *handle),
-        TypeResolution::Value(inner) => Some(inner),
-    }
-}
-
 /// What is known of the type of the expression with this handle, if something is.
 pub(crate) fn known_type<'a>(
     known: Known<'a>,
@@ -125,57 +96,6 @@ pub(crate) fn known_inner<'a>(
     match known_type(known, handle) {
         Some(ty) => inner_of(types, ty),
         None => None,
-    }
-}
-
-/// Whether the type that is known of the expression with this handle, or what it points to, is made
-/// of parts.
-pub fn known_has_parts(
-    types: &UniqueArena<Type_>,
-    known: &[ExpressionInfo],
-    handle: Handle<Expression>,
-) -> bool
-    ensures { result ≡ known_passes types.now known.now (has_parts types.now) handle }
-{
-    match known.get(handle.index()) {
-        Some(info) => resolution_has_parts(types, &info.ty),
-        None => false,
-    }
-}
-
-fn resolution_has_parts(types: &UniqueArena<Type_>, ty: &TypeResolution) -> bool
-    ensures { result ≡ option_map_or (has_parts types.now) (inner_of ty.now types.now) false }
-{
-    match inner_of(types, ty) {
-        Some(inner) => has_parts(types, inner),
-        None => false,
-    }
-}
-
-/// Whether a type, or what it points to, is made of parts.
-fn has_parts(types: &UniqueArena<Type_>, inner: &TypeInner) -> bool
-    ensures { result ≡ has_parts types.now inner.now }
-{
-    match inner {
-        TypeInner::Pointer { base, .. } => match inner_at(types, *base) {
-            Some(inner) => is_composite(inner),
-            None => false,
-        },
-        TypeInner::ValuePointer { size, .. } => size.is_some(),
-        _ => is_composite(inner),
-    }
-}
-
-fn is_composite(inner: &TypeInner) -> bool
-    ensures { result ≡ is_composite inner.now }
-{
-    match inner {
-        TypeInner::Vector { .. }
-        | TypeInner::Matrix { .. }
-        | TypeInner::Array { .. }
-        | TypeInner::BindingArray { .. }
-        | TypeInner::Struct { .. } => true,
-        _ => false,
     }
 }
 

@@ -26,8 +26,9 @@ use crate::alike::is_like;
 use crate::demands::points_to_components;
 use crate::expression_types::{is_bool, pointee_at};
 use crate::label_numbers::none_is_repeated;
-use crate::parts::{InferredType, Known, inner_at, known_inner, known_type};
+use crate::parts::{InferredType, Known, known_inner, known_type};
 use crate::walk::{first_unmet, sound_demand};
+use module_meaning::type_parts::inner_at;
 use naga_ir::{
     Expression, Function, FunctionArgument, FunctionResult, Handle, Module, Scalar, ScalarKind,
     Statement, SwitchCase, SwitchValue, Type_, TypeInner, UniqueArena,

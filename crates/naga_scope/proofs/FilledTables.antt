@@ -5,7 +5,7 @@ use Rattle.std.proofs.Common.{below_more, length, nat_eq, nat_lt, replicate, sli
 use Rattle.std.proofs.Common.{slice_set, subst}
 use Rattle.std.specs.Prelude.{IsTrue, if◌then◌else◌}
 use Rattle.std.specs.List.{list_all, list_any}
-use Rattle.std.specs.Option.{is_some, option_and_then, option_map, option_map_or}
+use Rattle.std.specs.Option.{is_none, is_some, option_and_then, option_map, option_map_or}
 use Rattle.std.specs.Option.{option_to_list}
 use Rattle.std.proofs.lemmas.Bool.{and_parts, eqb-true, ltb-true}
 use Rattle.std.proofs.lemmas.Grind.{get_or-set_at}
@@ -16,8 +16,8 @@ use Rattle.indexmap.specs.IndexMap.{values}
 use Rattle.module_meaning.proofs.Lists.{placed_at}
 use Rattle.module_meaning.specs.Accepted.{is_accepted}
 use Rattle.module_meaning.specs.AlikeTypes.{found_key_by, handle_key, inner_key_by, is_spelled}
-use Rattle.module_meaning.specs.AlikeTypes.{key_within}
-use Rattle.module_meaning.specs.LackingScalars.{over}
+use Rattle.module_meaning.specs.AlikeTypes.{key_within, value_key}
+use Rattle.module_meaning.specs.LackingScalars.{over, wordless}
 use Rattle.module_meaning.specs.Ranges.{is_below, parts_before, parts_stand_before}
 use Rattle.module_meaning.specs.Ranges.{special_types_fit, types_in_range}
 use Rattle.module_meaning.specs.TypeIdentity.{level}
@@ -31,20 +31,25 @@ use Rattle.naga_info.specs.declared.info.TypeResolution.{TypeResolution}
 use Rattle.naga_info.specs.declared.info.TypeResolution.TheVariants.{Handle, Value}
 use Rattle.naga_ir.specs.declared.expression.Expression.{Expression}
 use Rattle.naga_ir.specs.declared.expression.Expression.TheVariants as expression
+use Rattle.naga_ir.specs.declared.image.ImageClass.TheVariants as class
 use Rattle.naga_ir.specs.declared.module.Constant.{Constant}
 use Rattle.naga_ir.specs.declared.module.Module.{Module}
 use Rattle.naga_ir.specs.declared.module.SpecialTypes.{SpecialTypes}
+use Rattle.naga_ir.specs.declared.types.Scalar.{Scalar}
 use Rattle.naga_ir.specs.declared.types.Type_.{Type_}
 use Rattle.naga_ir.specs.declared.types.TypeInner.{TypeInner}
 use Rattle.naga_ir.specs.declared.types.TypeInner.TheVariants as inner
+use Rattle.naga_ir.specs.declared.types.VectorSize.{VectorSize}
 use Rattle.naga_words.specs.Spelling.{is_struct}
+use Rattle.wgsl_words.specs.Words.{scalar_word, space_word}
 use Rattle.naga_scope.proofs.Marking.{just_marked}
 use Rattle.naga_scope.proofs.WrittenConstants.{MarksBelow, globals_in_order}
 use Rattle.naga_scope.specs.Marks.{MarksAlso, is_marked, is_one_of}
 use Rattle.naga_scope.specs.Tables.{AreRepresentatives, ItemsStandInOrder, MarksNaming, MarksSpelled}
 use Rattle.naga_scope.specs.Tables.{MarksUndeclared, is_marked_over, is_marked_type}
-use Rattle.naga_scope.specs.Tables.{representative_at, representative_over, spelled_over}
-use Rattle.naga_scope.specs.Tables.{type_is_spelled, undeclared_handles}
+use Rattle.naga_scope.specs.Tables.{is_spelled_alone, item_is_spelled, representative_at}
+use Rattle.naga_scope.specs.Tables.{representative_over, spelled_over, type_is_spelled}
+use Rattle.naga_scope.specs.Tables.{undeclared_handles}
 
 -- ---- structs that no text declares
 one_present : (o : Option ℕ) (h : ℕ) →
@@ -124,7 +129,8 @@ pub undeclared_marked : (m : Module) →
     MarksAlso first (undeclared_handles m.special_types) marks → MarksUndeclared m marks
 undeclared_marked m fit first marks none are h =
     let handles = undeclared_handles m.special_types in
-    let count : length marks ≡ length m.types = are.size ∙ (ap length none ∙ length-replicate (length m.types) false) in
+    let count : length marks ≡ length m.types =
+    are.size ∙ (ap length none ∙ length-replicate (length m.types) false) in
     just_marked first marks handles (length m.types) none are.size are.marks h
     ∙ (ap₂ (λ b n. b && nat_lt h n) (are_undeclared m.special_types h) count
     ∙ by (is_undeclared m.special_types h) (undeclared_below (length m.types) h m.special_types fit))
@@ -240,39 +246,76 @@ spelled_as_base f (inner.BindingArray b n) base is =
     some_kept _ (f b) ∙ ap (λ x. is_some (f x)) (same_Some b base is)
 spelled_as_base f _ base is = absurd cc
 
--- and it is no struct
-not_over : (it : TypeInner) (base : ℕ) → over it ≡ Some base → is_struct it ≡ false
-not_over (inner.Pointer b at) base is = refl
-not_over (inner.Array b n stride) base is = refl
-not_over (inner.BindingArray b n) base is = refl
-not_over _ base is = absurd cc
+-- one that is over none is spelled where it is by itself
+decided : (b : Bool) (key : List ℕ) (s : Scalar) →
+    is_some (if b then Some key else None) ≡ is_none (if b then None else Some s)
+decided true key s = refl
+decided false key s = refl
+
+pointer_decided : {X : Type 0} (word : Option X) (f : List ℕ → List ℕ) (key : Option (List ℕ))
+    (b : Bool) → is_some key ≡ b →
+    is_some (if is_none word then None else option_map f key) ≡ (is_some word && b)
+pointer_decided None f key b same = refl
+pointer_decided (Some x) f key b same = some_kept f key ∙ same
+
+value_decided : (n : Option VectorSize) (s : Scalar) →
+    is_some (value_key n s) ≡ is_none (wordless s)
+value_decided None s = decided (is_some (scalar_word s)) _ s
+value_decided (Some n) s = decided (is_some (scalar_word s)) _ s
+
+spelled_alone : (f : ℕ → Option (List ℕ)) (it : TypeInner) → over it ≡ None →
+    is_some (inner_key_by f it) ≡ is_spelled_alone it
+spelled_alone f (inner.Scalar s) none = decided (is_some (scalar_word s)) _ s
+spelled_alone f (inner.Vector n s) none = decided (is_some (scalar_word s)) _ s
+spelled_alone f (inner.Matrix columns rows s) none = decided (is_some (scalar_word s)) _ s
+spelled_alone f (inner.CooperativeMatrix columns rows s role) none =
+    decided (is_some (scalar_word s)) _ s
+spelled_alone f (inner.Atomic s) none = decided (is_some (scalar_word s)) _ s
+spelled_alone f (inner.Pointer base at) none = absurd cc
+spelled_alone f (inner.ValuePointer n s at) none =
+    pointer_decided (space_word at) _ (value_key n s) (is_none (wordless s)) (value_decided n s)
+spelled_alone f (inner.Array base n stride) none = absurd cc
+spelled_alone f (inner.BindingArray base n) none = absurd cc
+spelled_alone f (inner.Struct members span) none = refl
+spelled_alone f (inner.Image dim arrayed (class.Sampled kind multi)) none =
+    let s : Scalar = record { kind = kind; width = 4 } in decided (is_some (scalar_word s)) _ s
+spelled_alone f (inner.Image dim arrayed (class.Depth multi)) none = refl
+spelled_alone f (inner.Image dim arrayed (class.Storage format access)) none = refl
+spelled_alone f (inner.Image dim arrayed class.External) none = refl
+spelled_alone f (inner.Sampler comparison) none = refl
+spelled_alone f (inner.AccelerationStructure vertex_return) none = refl
+spelled_alone f (inner.RayQuery vertex_return) none = refl
+
+-- a struct of the module is spelled
+named_decided : (b spelled : Bool) (name key : Option (List ℕ)) → is_some name ≡ true →
+    spelled ≡ is_some key → (if b then true else spelled) ≡ is_some (if b then name else key)
+named_decided true spelled name key named same = sym named
+named_decided false spelled name key named same = same
 
 module _ (m : Module) (stand : IsTrue (parts_stand_before m.types)) where
-  base_is_spelled : (h base : ℕ) (t : Type_) → slice_get m.types h ≡ Some t →
-      over t.inner ≡ Some base → is_spelled m.types (Handle base) ≡ is_spelled m.types (Handle h)
-  unfolding handle_key
-  base_is_spelled h base t at is =
-      let before = base_before m stand h base t at is in
-      sym
-      (ap (λ o. is_some (found_key_by (key_within h m.types) h o)) at
-      ∙ (ap
-      (λ b. is_some (if b then Some (level 8 h 0 0 0 0) else inner_key_by (key_within h m.types) t.inner))
-      (not_over t.inner base is)
-      ∙ (spelled_as_base (key_within h m.types) t.inner base is
-      ∙ ap is_some (at_depth m (parts_stand m stand) h base before))))
-
   -- so a type is spelled by which of those before it are
   pub spelled_by : (h : ℕ) (t : Type_) → slice_get m.types h ≡ Some t → (marks : List Bool) →
       MarksBelow (λ h. is_spelled m.types (Handle h)) (length m.types) marks h →
-      spelled_over marks m.types (Handle h) t.inner ≡ is_spelled m.types (Handle h)
-  spelled_by h t at marks below = by (over t.inner) refl
+      item_is_spelled marks t.inner ≡ is_spelled m.types (Handle h)
+  unfolding handle_key
+  spelled_by h t at marks below =
+      named_decided (is_struct t.inner) (spelled_over marks t.inner) (Some (level 8 h 0 0 0 0))
+      (inner_key_by within t.inner) refl (by (over t.inner) refl)
+      ∙ sym (ap (λ o. is_some (found_key_by within h o)) at)
     where
+      within : ℕ → Option (List ℕ)
+      within = key_within h m.types
+
       by : (o : Option ℕ) → over t.inner ≡ o →
-          option_map_or (is_marked marks) o (is_spelled m.types (Handle h)) ≡
-          is_spelled m.types (Handle h)
-      by None is = refl
+          option_map_or (is_marked marks) o (is_spelled_alone t.inner) ≡
+          is_some (inner_key_by within t.inner)
+      by None is = sym (spelled_alone within t.inner is)
       by (Some base) is =
-          below.cells base (base_before m stand h base t at is) ∙ base_is_spelled h base t at is
+          let before = base_before m stand h base t at is in
+          below.cells base before
+          ∙ sym
+          (spelled_as_base within t.inner base is
+          ∙ ap is_some (at_depth m (parts_stand m stand) h base before))
 
 pub no_spelled_beyond : (m : Module) (h : ℕ) → length m.types ≤ h →
     is_spelled m.types (Handle h) ≡ false
@@ -282,14 +325,13 @@ no_spelled_beyond m h le =
 
 -- the type of an expression is spelled, by the marks
 pub spelled_marked : (m : Module) (marks : List Bool) → MarksSpelled m marks → (r : TypeResolution) →
-    type_is_spelled marks m.types r ≡ is_spelled m.types r
+    type_is_spelled marks r ≡ is_spelled m.types r
 spelled_marked m marks are (Handle h) = are h
 spelled_marked m marks are (Value it) = by (over it) refl
   where
     by : (o : Option ℕ) → over it ≡ o →
-        option_map_or (is_marked marks) o (is_spelled m.types (Value it)) ≡
-        is_spelled m.types (Value it)
-    by None is = refl
+        option_map_or (is_marked marks) o (is_spelled_alone it) ≡ is_spelled m.types (Value it)
+    by None is = sym (spelled_alone (handle_key m.types) it is)
     by (Some base) is = are base ∙ sym (spelled_as_base (handle_key m.types) it base is)
 
 -- ---- own expressions
@@ -307,14 +349,16 @@ no_representatives m representatives size = record {
 }
 
 pub all_representatives : (m : Module) (representatives : List ℕ) →
-    RepresentativesBelow m representatives (length m.global_expressions) → AreRepresentatives m representatives
+    RepresentativesBelow m representatives (length m.global_expressions) →
+    AreRepresentatives m representatives
 all_representatives m representatives below h e at =
     below.cells h (slice_get_within m.global_expressions h e at) e at
 
 module _ (m : Module) (ordered : ItemsStandInOrder m) where
   -- by what one is written, by what those before it are
   representative_same : (h : ℕ) (e : Expression) → slice_get m.global_expressions h ≡ Some e →
-      (f g : ℕ → ℕ) → ((x : ℕ) → x < h → f x ≡ g x) → representative_over m f h e ≡ representative_over m g h e
+      (f g : ℕ → ℕ) → ((x : ℕ) → x < h → f x ≡ g x) →
+      representative_over m f h e ≡ representative_over m g h e
   representative_same h (expression.Constant c) at f g same = by (slice_get m.constants c) refl
     where
       named : (k : Constant) (b : Bool) → f k.init ≡ g k.init →
@@ -333,17 +377,19 @@ module _ (m : Module) (ordered : ItemsStandInOrder m) where
           named k (is_some k.name) (same k.init (ordered.globals.initialisers h c k at there))
   representative_same h _ at f g same = refl
 
-  pub one_representative : (representatives : List ℕ) (i representative : ℕ) (e : Expression) →
-      slice_get m.global_expressions i ≡ Some e → representative ≡ representative_over m (representative_at representatives) i e →
-      RepresentativesBelow m representatives i → RepresentativesBelow m (slice_set representatives i representative) (i + 1)
-  one_representative representatives i representative e at is below =
+  pub one_representative : (known : List ℕ) (i found : ℕ) (e : Expression) →
+      slice_get m.global_expressions i ≡ Some e →
+      found ≡ representative_over m (representative_at known) i e →
+      RepresentativesBelow m known i → RepresentativesBelow m (slice_set known i found) (i + 1)
+  one_representative known i found e at is below =
       let there = slice_get_within m.global_expressions i e at in
-      let within : i < length representatives = subst (λ n. i < n) (sym below.size) there in
-      let now = slice_set representatives i representative in
-      let kept : (x : ℕ) → x < i → representative_at now x ≡ representative_at representatives x =
-      λ x lt. get_or-set_other representatives i x representative x (λ same. absurd (omega (arith, lt, same))) in
+      let within : i < length known = subst (λ n. i < n) (sym below.size) there in
+      let now = slice_set known i found in
+      let kept : (x : ℕ) → x < i → representative_at now x ≡ representative_at known x =
+      λ x lt.
+      get_or-set_other known i x found x (λ same. absurd (omega (arith, lt, same))) in
       record {
-        size = length-set representatives i representative ∙ below.size;
+        size = length-set known i found ∙ below.size;
         cells = below_more
             (λ h. (e : Expression) → slice_get m.global_expressions h ≡ Some e →
             representative_at now h ≡ representative_over m (representative_at now) h e)
@@ -351,13 +397,15 @@ module _ (m : Module) (ordered : ItemsStandInOrder m) where
             (λ h lt e at.
             kept h lt
             ∙ (below.cells h lt e at
-            ∙ representative_same h e at (representative_at representatives) (representative_at now)
+            ∙ representative_same h e at (representative_at known) (representative_at now)
             (λ x lt_x. sym (kept x (omega (arith, lt, lt_x))))))
             (λ own here.
-            get_or-set_at representatives i i representative i refl within
+            get_or-set_at known i i found i refl within
             ∙ (is
-            ∙ (ap (representative_over m (representative_at representatives) i) (same_Some e own (sym at ∙ here))
-            ∙ representative_same i own here (representative_at representatives) (representative_at now) (λ x lt. sym (kept x lt)))));
+            ∙ (ap (representative_over m (representative_at known) i)
+            (same_Some e own (sym at ∙ here))
+            ∙ representative_same i own here (representative_at known) (representative_at now)
+            (λ x lt. sym (kept x lt)))));
       }
 
 -- ---- order

@@ -3,12 +3,12 @@
 -- Throughout, m is a module, t are its tables, h is the handle of one of its types or of one of its own
 -- expressions, c that of a constant, k a constant, e an expression, s are special types, it is a type by
 -- itself and r a type of an expression.
-use Rattle.std.specs.Prelude.{◌≡◌, ◌++◌, ℕ, Bool, false, List, Option, Some, None, IsTrue}
+use Rattle.std.specs.Prelude.{◌≡◌, ◌++◌, ◌&&◌, ℕ, Bool, true, false, List, Option, Some, None, IsTrue}
 use Rattle.std.specs.Prelude.{get_or, if◌then◌else◌, length, slice_get}
-use Rattle.std.specs.Option.{is_some, option_and_then, option_map_or, option_to_list}
+use Rattle.std.specs.Option.{is_none, is_some, option_and_then, option_map_or, option_to_list}
 use Rattle.indexmap.specs.IndexMap.{values}
 use Rattle.module_meaning.specs.AlikeTypes.{is_spelled}
-use Rattle.module_meaning.specs.LackingScalars.{over}
+use Rattle.module_meaning.specs.LackingScalars.{over, own_lacks}
 use Rattle.module_meaning.specs.Ranges.{parts_stand_before, special_types_fit}
 use Rattle.module_meaning.specs.Undeclared.{handle_names_undeclared, is_undeclared}
 use Rattle.naga_info.specs.declared.info.TypeResolution.{TypeResolution}
@@ -19,6 +19,9 @@ use Rattle.naga_ir.specs.declared.module.Module.{Module}
 use Rattle.naga_ir.specs.declared.module.SpecialTypes.{SpecialTypes}
 use Rattle.naga_ir.specs.declared.types.Type_.{Type_}
 use Rattle.naga_ir.specs.declared.types.TypeInner.{TypeInner}
+use Rattle.naga_ir.specs.declared.types.TypeInner.TheVariants as inner
+use Rattle.naga_words.specs.Spelling.{is_struct}
+use Rattle.wgsl_words.specs.Words.{space_word}
 use Rattle.naga_scope.specs.Marks.{GlobalsStandInOrder, MarksGlobals, is_marked}
 
 -- The tables, with a cell for each of the module's own expressions or for each type: which expressions
@@ -60,14 +63,32 @@ is_marked_type marks (Value it) = is_marked_over marks it
 abbrev pub MarksSpelled : Module → List Bool → Type 0
 MarksSpelled m marks = (h : ℕ) → is_marked marks h ≡ is_spelled m.types (Handle h)
 
--- what a type is over has a mark, or the type is over none and spelled
-abbrev pub spelled_over : List Bool → List Type_ → TypeResolution → TypeInner → Bool
-spelled_over marks types r it = option_map_or (is_marked marks) (over it) (is_spelled types r)
+-- a type by itself that is over none of the module's, and neither a struct nor a pointer into a space
+-- without a word
+abbrev pub stands_alone : TypeInner → Bool
+stands_alone (inner.Pointer base at) = false
+stands_alone (inner.ValuePointer n s at) = is_some (space_word at)
+stands_alone (inner.Array base n stride) = false
+stands_alone (inner.BindingArray base n) = false
+stands_alone (inner.Struct members span) = false
+stands_alone _ = true
 
--- the same of the type of an expression
-abbrev pub type_is_spelled : List Bool → List Type_ → TypeResolution → Bool
-type_is_spelled marks types (Handle h) = is_marked marks h
-type_is_spelled marks types (Value it) = spelled_over marks types (Value it) it
+-- such a type is spelled where WGSL has a word for its scalar
+abbrev pub is_spelled_alone : TypeInner → Bool
+is_spelled_alone it = stands_alone it && is_none (own_lacks it)
+
+-- what a type by itself is over has a mark, or it is over none and spelled
+abbrev pub spelled_over : List Bool → TypeInner → Bool
+spelled_over marks it = option_map_or (is_marked marks) (over it) (is_spelled_alone it)
+
+-- the same of a type of the module: a struct is spelled
+abbrev pub item_is_spelled : List Bool → TypeInner → Bool
+item_is_spelled marks it = if is_struct it then true else spelled_over marks it
+
+-- and of the type of an expression
+abbrev pub type_is_spelled : List Bool → TypeResolution → Bool
+type_is_spelled marks (Handle h) = is_marked marks h
+type_is_spelled marks (Value it) = spelled_over marks it
 
 -- ---- own expressions
 -- the initialiser of a constant that has no name

@@ -21,7 +21,7 @@ ghost use Rattle.wgsl_text.specs.Words.{stands_in};
 ghost use Rattle.wgsl_words.specs.Words.{scalar_word};
 
 use crate::tables::ModuleTables;
-use naga_acceptance::parts::known_has_parts;
+use module_meaning::type_parts::known_has_parts;
 use naga_info::{FunctionInfo, TypeResolution};
 use naga_ir::{
     CooperativeRole, CooperativeSize, Expression, Handle, Literal, Module, RelationalFunction,

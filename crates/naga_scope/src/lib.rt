@@ -14,6 +14,7 @@ mod known_function;
 mod named;
 pub mod plan;
 pub mod points;
+pub mod single_types;
 mod spelled;
 pub mod statements;
 pub mod tables;

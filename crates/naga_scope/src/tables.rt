@@ -5,7 +5,6 @@ ghost use Rattle.indexmap.specs.IndexMap.{values};
 ghost use Rattle.module_meaning.specs.AlikeTypes.{is_spelled};
 ghost use Rattle.module_meaning.specs.ExpressionForms.{constant_is_written, constant_is_written_over};
 ghost use Rattle.module_meaning.specs.ExpressionForms.{global_is_written, global_is_written_over};
-ghost use Rattle.module_meaning.specs.LackingScalars.{over};
 ghost use Rattle.module_meaning.specs.Undeclared.{handle_names_undeclared, is_spellable};
 ghost use Rattle.module_meaning.specs.Undeclared.{is_undeclared, names_undeclared};
 ghost use Rattle.naga_info.specs.declared.info.TypeResolution.TheVariants.{Handle as OfHandle};
@@ -13,17 +12,16 @@ ghost use Rattle.naga_scope.specs.Marks.{MarksAlso, MarksGlobals, is_marked};
 ghost use Rattle.naga_scope.specs.Tables.{AreRepresentatives, AreTablesOf, ItemsStandInOrder};
 ghost use Rattle.naga_scope.specs.Tables.{MarksNaming, MarksSpelled, MarksUndeclared};
 ghost use Rattle.naga_scope.specs.Tables.{is_marked_over, is_marked_type, representative_at};
-ghost use Rattle.naga_scope.specs.Tables.{representative_over, spelled_over, type_is_spelled};
+ghost use Rattle.naga_scope.specs.Tables.{item_is_spelled, representative_over, spelled_over};
+ghost use Rattle.naga_scope.specs.Tables.{type_is_spelled};
 ghost use Rattle.naga_scope.specs.Tables.{undeclared_handles, unnamed_initialiser, unnamed_value};
 ghost use Rattle.naga_words.specs.Spelling.{is_struct};
 
 use crate::forms::literal_has_form;
+use crate::single_types::{is_spelled_alone, over};
 use crate::written::{are_marked, is_marked, mark, mark_present, no_marks};
-use naga_acceptance::is_spelled;
 use naga_info::TypeResolution;
-use naga_ir::{
-    Constant, Expression, Handle, Module, Place, SpecialTypes, Type_, TypeInner, UniqueArena,
-};
+use naga_ir::{Constant, Expression, Handle, Module, Place, SpecialTypes, Type_, TypeInner};
 use std::alloc::{AllocError, Global};
 use std::marker::Model;
 
@@ -136,7 +134,7 @@ impl ModuleTables {
         requires tables { AreTablesOf «module».now self.now }
         ensures { result ≡ is_spelled «module».now.types ty.now }
     {
-        type_is_spelled(&self.spelled, &module.types, ty)
+        type_is_spelled(&self.spelled, ty)
     }
 }
 
@@ -219,18 +217,6 @@ fn names_by(marks: &[bool], undeclared: &[bool], handle: Handle<Type_>, inner: &
     }
 }
 
-/// The type that a pointer or an array is over.
-pub fn over(inner: &TypeInner) -> Option<Handle<Type_>>
-    ensures { result ≡ over inner.now }
-{
-    match inner {
-        TypeInner::Pointer { base, .. }
-        | TypeInner::Array { base, .. }
-        | TypeInner::BindingArray { base, .. } => Some(*base),
-        _ => None,
-    }
-}
-
 /// Whether the type that a pointer or an array is over has a mark.
 fn is_marked_over(marks: &[bool], inner: &TypeInner) -> bool
     ensures { result ≡ is_marked_over marks.now inner.now }
@@ -269,34 +255,38 @@ fn mark_spelled(marks: &mut [bool], module: &Module)
 {
     for index in 0..module.types.len() {
         let handle = Place::from_index(index);
-        let whole = TypeResolution::Handle(handle);
-        let spelled = spelled_over(marks, &module.types, &whole, &module.types[handle].inner);
+        let spelled = item_is_spelled(marks, &module.types[handle].inner);
         marks[index] = spelled;
     }
 }
 
-/// Whether WGSL spells a type, by marks of those before it: as what it is over, or by itself.
-fn spelled_over(
-    marks: &[bool],
-    types: &UniqueArena<Type_>,
-    ty: &TypeResolution,
-    inner: &TypeInner,
-) -> bool
-    ensures { result ≡ spelled_over marks.now types.now ty.now inner.now }
+/// Whether WGSL spells a type of the module, by marks of those before it. A struct it does.
+fn item_is_spelled(marks: &[bool], inner: &TypeInner) -> bool
+    ensures { result ≡ item_is_spelled marks.now inner.now }
+{
+    match inner {
+        TypeInner::Struct { .. } => true,
+        _ => spelled_over(marks, inner),
+    }
+}
+
+/// Whether WGSL spells a type by itself, by marks of the module's: as what it is over, or alone.
+fn spelled_over(marks: &[bool], inner: &TypeInner) -> bool
+    ensures { result ≡ spelled_over marks.now inner.now }
 {
     match over(inner) {
         Some(under) => is_marked(marks, under),
-        None => is_spelled(types, ty),
+        None => is_spelled_alone(inner),
     }
 }
 
 /// Whether WGSL spells an expression's type, by marks of the module's types.
-fn type_is_spelled(marks: &[bool], types: &UniqueArena<Type_>, ty: &TypeResolution) -> bool
-    ensures { result ≡ type_is_spelled marks.now types.now ty.now }
+fn type_is_spelled(marks: &[bool], ty: &TypeResolution) -> bool
+    ensures { result ≡ type_is_spelled marks.now ty.now }
 {
     match ty {
         TypeResolution::Handle(handle) => is_marked(marks, *handle),
-        TypeResolution::Value(inner) => spelled_over(marks, types, ty, inner),
+        TypeResolution::Value(inner) => spelled_over(marks, inner),
     }
 }
 

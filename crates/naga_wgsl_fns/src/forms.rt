@@ -19,7 +19,7 @@ ghost use Rattle.naga_wgsl_fns.specs.Refusals.{NamesItemsOf, pointed_scalar};
 use crate::error::{Error, custom, unimplemented};
 use crate::formless_constants::constant_without_form;
 use crate::lacking::lacking_scalar;
-use naga_acceptance::parts::known_has_parts;
+use module_meaning::type_parts::known_has_parts;
 use naga_info::{FunctionInfo, TypeResolution};
 use naga_ir::{
     Expression, Handle, Literal, MathFunction, Module, SampleLevel, Scalar, ScalarKind,

@@ -5,7 +5,6 @@ use Rattle.naga_info.specs.declared.info.TypeResolution.TheVariants.{Handle}
 use Rattle.naga_ir.specs.declared.module.Module.{Module}
 use Rattle.naga_scope.proofs.FilledTables.{no_spelled_beyond, spelled_by}
 use Rattle.naga_scope.proofs.WrittenConstants.{MarksBelow, all_below, none_below, one_below}
-use Rattle.naga_scope.specs.Tables.{spelled_over}
 use Rattle.naga_scope.proofs.tables.mark_spelled.Goals as goal
 
 abbrev spelled_in : Module → (h : ℕ) → Bool
@@ -22,14 +21,12 @@ loop-index-preserved c =
     let end = c.len-index-end.ensures in
     let test = c.loop-index-test.true in
     let within : c.loop-index.index < length m.types = omega (arith, end, test) in
-    let it = c.index.result.now.inner in
     let at = ap (slice_get m.types) (sym c.from_index-handle.ensures) ∙ c.index.ensures in
     one_below (spelled_in m) (length m.types) c.loop-index.marks c.loop-index.index
-    c.spelled_over-spelled.result within
-    (c.spelled_over-spelled.ensures
-    ∙ (ap (λ h. spelled_over c.loop-index.marks m.types (Handle h) it) c.from_index-handle.ensures
+    c.item_is_spelled-spelled.result within
+    (c.item_is_spelled-spelled.ensures
     ∙ spelled_by m c.requires.ordered.types c.loop-index.index c.index.result.now at
-    c.loop-index.marks c.loop-index.invariant))
+    c.loop-index.marks c.loop-index.invariant)
     c.loop-index.invariant
 
 pub returns : goal.returns

@@ -7,6 +7,6 @@ pub returns : goal.returns
 returns c =
     let m = c.args.module.now in
     c.type_is_spelled.ensures
-    ∙ (ap (λ marks. type_is_spelled marks m.types c.args.ty.now)
+    ∙ (ap (λ marks. type_is_spelled marks c.args.ty.now)
     (c.deref.ensures.value ∙ ap (λ (t : Tables). t.spelled) c.self.view_is)
     ∙ spelled_marked m c.args.self.now.spelled c.requires.tables.spelled c.args.ty.now)

@@ -1,0 +1,91 @@
+//! What is asked of one type by itself, without a look at those that it is over.
+
+ghost use Rattle.std.specs.Prelude.{◌≡◌};
+ghost use Rattle.std.specs.Option.{is_some};
+ghost use Rattle.module_meaning.specs.LackingScalars.{image_lacks, over, own_lacks, wordless};
+ghost use Rattle.naga_scope.specs.Tables.{is_spelled_alone, stands_alone};
+ghost use Rattle.wgsl_words.specs.Words.{space_word};
+
+use naga_ir::{AddressSpace, Handle, ImageClass, Scalar, Type_, TypeInner};
+use wgsl_words::TryToWgsl;
+
+/// The type that a pointer or an array is over.
+pub fn over(inner: &TypeInner) -> Option<Handle<Type_>>
+    ensures { result ≡ over inner.now }
+{
+    match inner {
+        TypeInner::Pointer { base, .. }
+        | TypeInner::Array { base, .. }
+        | TypeInner::BindingArray { base, .. } => Some(*base),
+        _ => None,
+    }
+}
+
+/// The scalar that it is over and that WGSL has no word for, if it is over such a one.
+pub fn own_lacks(inner: &TypeInner) -> Option<Scalar>
+    ensures { result ≡ own_lacks inner.now }
+{
+    match inner {
+        TypeInner::Scalar(scalar)
+        | TypeInner::Vector { scalar, .. }
+        | TypeInner::Matrix { scalar, .. }
+        | TypeInner::CooperativeMatrix { scalar, .. }
+        | TypeInner::Atomic(scalar)
+        | TypeInner::ValuePointer { scalar, .. } => wordless(*scalar),
+        TypeInner::Image { class, .. } => image_lacks(*class),
+        _ => None,
+    }
+}
+
+/// An image that is sampled has scalars of four bytes.
+fn image_lacks(class: ImageClass) -> Option<Scalar>
+    ensures { result ≡ image_lacks class }
+{
+    match class {
+        ImageClass::Sampled { kind, .. } => wordless(Scalar { kind, width: 4 }),
+        _ => None,
+    }
+}
+
+/// The scalar, where WGSL has no word for it.
+fn wordless(scalar: Scalar) -> Option<Scalar>
+    ensures { result ≡ wordless scalar }
+{
+    if scalar.try_to_wgsl().is_some() {
+        None
+    } else {
+        Some(scalar)
+    }
+}
+
+/// Whether it is over no type of the module, and neither a struct nor a pointer into a space without
+/// a word.
+fn stands_alone(inner: &TypeInner) -> bool
+    ensures { result ≡ stands_alone inner.now }
+{
+    match inner {
+        TypeInner::Pointer { .. }
+        | TypeInner::Array { .. }
+        | TypeInner::BindingArray { .. }
+        | TypeInner::Struct { .. } => false,
+        TypeInner::ValuePointer { space, .. } => has_space_word(*space),
+        _ => true,
+    }
+}
+
+fn has_space_word(space: AddressSpace) -> bool
+    ensures { result ≡ is_some (space_word space) }
+{
+    match space {
+        AddressSpace::Handle => false,
+        _ => true,
+    }
+}
+
+/// Whether WGSL spells it, where it is over no type of the module. A struct it spells by its handle
+/// alone.
+pub(crate) fn is_spelled_alone(inner: &TypeInner) -> bool
+    ensures { result ≡ is_spelled_alone inner.now }
+{
+    stands_alone(inner) && own_lacks(inner).is_none()
+}
