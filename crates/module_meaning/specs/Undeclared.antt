@@ -1,5 +1,5 @@
 -- Structs that no text declares: those that WGSL's own functions give, and those of external textures.
--- A text can't name them, so that no type over one is spelled.
+-- A text can't name them, so that no type over one is spellable, though each has a form by its handle.
 --
 -- Throughout, s are the special types of a module m, types are its types, h is the handle of one, it a
 -- type by itself, r a type of an expression, es is what is known of a function's expressions, base is

@@ -1,7 +1,7 @@
 -- Signatures of an accepted module that are called alike, over operands of equal types, have
 -- results of one type, wherever they stand in it.
 use Rattle.module_meaning.specs.Names.{ItemsAreDistinguished}
-use Rattle.std.proofs.Common.{◌≡◌, ℕ, true, false, List, [], ◌∷◌, refl, sym, ap, ◌∙◌, subst, length, arith, ◌+◌}
+use Rattle.std.proofs.Common.{◌≡◌, ℕ, true, false, List, [], ◌∷◌, refl, sym, ap, ◌∙◌, subst, length}
 use Rattle.std.proofs.Common.{Option, Some, None, slice_get, get_or, map}
 use Rattle.std.specs.Prelude.{IsTrue}
 use Rattle.std.specs.Option.{option_map_or, option_and_then}
@@ -13,7 +13,6 @@ use Rattle.naga_ir.specs.declared.expression.SwizzleComponent.{SwizzleComponent}
 use Rattle.naga_ir.specs.declared.module.Module.{Module}
 use Rattle.naga_ir.specs.declared.types.TypeInner.{TypeInner}
 use Rattle.naga_ir.specs.declared.types.TypeInner.TheVariants as inner
-use Rattle.naga_ir.specs.declared.types.Type_.{Type_}
 use Rattle.naga_ir.specs.declared.types.VectorSize.{VectorSize}
 use Rattle.naga_info.specs.Resolution.{inner_of, handle_of}
 use Rattle.naga_info.specs.declared.info.ModuleInfo.{ModuleInfo}
@@ -27,11 +26,10 @@ use Rattle.module_meaning.specs.AlikeTypes.{type_identity}
 use Rattle.module_meaning.specs.ExpressionShapes.{part_selector, selector, swizzle_letters}
 use Rattle.module_meaning.specs.InfoSizes.{resolution_is_fit}
 use Rattle.module_meaning.specs.OperandDemands.{operands_fit, is_swizzled}
-use Rattle.module_meaning.specs.Ranges.{parts_before}
 use Rattle.module_meaning.specs.TypeParts.{is_part_number}
-use Rattle.module_meaning.proofs.Lists.{placed_at}
 use Rattle.naga_form.proofs.AcceptedGroups.{types_range}
 use Rattle.naga_form.proofs.AgreeingExpressions.{operands_are, same_operands, by_key}
+use Rattle.naga_form.proofs.AlikeParts.{PartsStand, parts_stand}
 use Rattle.naga_form.proofs.AgreeingParts.{Named, part_named, one_number, no_part, vector_is_none, struct_distinguished, key_read, swizzle_distinguished, letters_are_several}
 use Rattle.naga_form.proofs.AgreeingWords.{Call, Composed, Zeroed, Applied, Indexed, Selected, Lettered, call, both_values, both_applied, composed_applied, zeroed_applied}
 use Rattle.naga_form.proofs.AgreeingUses.{AreKnown}
@@ -40,10 +38,8 @@ use Rattle.naga_form.proofs.Signatures.{IsOfExpression, declared_for}
 
 module _ (m : Module) (info : ModuleInfo) (accepted : IsTrue (is_accepted m info)) (distinguished : ItemsAreDistinguished m) where
   -- a type's parts stand before it
-  pub parts_stand : (h : ℕ) (t : Type_) → slice_get m.types h ≡ Some t → parts_before h t.inner ≡ true
-  parts_stand h t at =
-      let from : 0 + h ≡ h = omega arith in
-      sym (ap (λ k. parts_before k t.inner) from) ∙ placed_at (λ here t. parts_before here t.inner) 0 m.types h t (and_parts _ _ (types_range m info accepted)).0 at
+  pub types_stand : PartsStand m
+  types_stand = parts_stand m (and_parts _ _ (types_range m info accepted)).0
 
   fit : (r : TypeResolution) → IsFit m r → resolution_is_fit r ≡ true
   fit (Handle h) is = refl
@@ -70,7 +66,7 @@ module _ (m : Module) (info : ModuleInfo) (accepted : IsTrue (is_accepted m info
         part_selector (declared_for m info a.group) base index ≡ Some s → (b : IsBase a base) →
         Named m info b.r index s
     part_is base index s is selected b =
-        part_named m info a.group parts_stand b.r (fit b.r (a.sound.fits base b.r b.there)) index s
+        part_named m info a.group types_stand b.r (fit b.r (a.sound.fits base b.r b.there)) index s
         (sym (ap (λ o. option_and_then (λ r. option_and_then (λ it. selector (declared_for m info a.group) (handle_of r) it index) (inner_of r m.types)) o) b.there) ∙ selected)
         (sym (ap (λ o. option_map_or (λ it. is_part_number m.types it index) (option_and_then (λ r. inner_of r m.types) o) false) b.there) ∙ demanded (expression.AccessIndex base index) is)
 

@@ -9,9 +9,9 @@
 --
 -- Throughout, a and b are types that are told by the same numbers, and ia and ib are the types by
 -- themselves, at and to are spaces, and index names a part.
-use Rattle.std.proofs.Common.{◌≡◌, ◌<◌, ◌≤◌, ℕ, zero, suc, Bool, true, false, List, [], ◌∷◌, ◌++◌, drop, refl, sym, ap, ◌∙◌, subst}
+use Rattle.std.proofs.Common.{◌≡◌, ◌<◌, ◌≤◌, ◌+◌, ℕ, zero, suc, Bool, true, false, List, [], ◌∷◌, ◌++◌, drop, refl, sym, ap, ◌∙◌, subst}
 use Rattle.std.proofs.Common.{Option, Some, None, slice_get, get_or, if◌then◌else◌, nat_eq, arith}
-use Rattle.std.specs.Prelude.{not, unwrap_or}
+use Rattle.std.specs.Prelude.{IsTrue, not, unwrap_or}
 use Rattle.std.specs.Option.{option_map, option_and_then, is_some, is_none}
 use Rattle.std.proofs.lemmas.Bool.{and_parts, ltb-true, not-true, true≢false}
 use Rattle.std.proofs.lemmas.Option.{same_Some}
@@ -35,7 +35,8 @@ use Rattle.module_meaning.specs.AlikeTypes.{are_alike, type_key, type_identity, 
 use Rattle.module_meaning.specs.AlikeTypes.{over_scalar, value_key, pointer_key, value_pointer_key, array_key, image_key, access_number}
 use Rattle.module_meaning.specs.InfoSizes.{is_handle_space, is_handle_pointer, resolution_is_fit}
 use Rattle.naga_words.specs.Spelling.{is_struct}
-use Rattle.module_meaning.specs.Ranges.{parts_before}
+use Rattle.module_meaning.specs.Ranges.{parts_before, parts_stand_before}
+use Rattle.module_meaning.proofs.Lists.{placed_at}
 use Rattle.module_meaning.specs.TypeIdentity.{identity, identity_code, word_of_unspelled_type, level, kind_number, vector_number, space_number, truth_number, dimension_number}
 use Rattle.module_meaning.specs.TypeParts.{part_type, pointed_part, member_type, has_computed_parts, inner_at}
 use Rattle.module_meaning.proofs.TypeIdentity.{word_tells}
@@ -60,6 +61,12 @@ part_form number access y =
 -- each type's parts stand before it
 abbrev pub PartsStand : Module → Type 0
 PartsStand m = (h : ℕ) (t : Type_) → slice_get m.types h ≡ Some t → parts_before h t.inner ≡ true
+
+pub parts_stand : (m : Module) → IsTrue (parts_stand_before m.types) → PartsStand m
+parts_stand m stand h t at =
+    let from : 0 + h ≡ h = omega arith in
+    sym (ap (λ k. parts_before k t.inner) from)
+    ∙ placed_at (λ here t. parts_before here t.inner) 0 m.types h t stand at
 
 -- ---- forms at any depth that suffices
 same_found : (f g : ℕ → Option (List ℕ)) (h : ℕ) → ((b : ℕ) → b < h → f b ≡ g b) →

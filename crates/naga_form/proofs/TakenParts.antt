@@ -32,7 +32,7 @@ use Rattle.module_meaning.specs.Types.{type_of_values, word_of_values}
 use Rattle.module_meaning.specs.TypeParts.{part_type, has_computed_parts, is_part_number}
 use Rattle.module_meaning.proofs.SideBySide.{zip_at}
 use Rattle.naga_form.proofs.AcceptedGroups.{IsSoundGroup, types_are_counted}
-use Rattle.naga_form.proofs.AgreeingSignatures.{signatures_agree, parts_stand}
+use Rattle.naga_form.proofs.AgreeingSignatures.{signatures_agree, types_stand}
 use Rattle.naga_form.proofs.AgreeingUses.{IsIn, in_flat_map, value_at, value_is}
 use Rattle.naga_form.proofs.AlikeParts.{is_pointer, PartsStand, PartsAlike, FitPart, part_fits, is_free, alike_computed_parts}
 use Rattle.naga_form.proofs.ModulePlaces.{in_row}
@@ -74,7 +74,7 @@ module _ (m : ir_module.Module) (info : ModuleInfo) (accepted : IsTrue (is_accep
   are = types_are_counted m info accepted distinguished.types
 
   abbrev stand : PartsStand m
-  stand = parts_stand m info accepted distinguished
+  stand = types_stand m info accepted distinguished
 
   -- an expression of this type that takes a part of a pointer spelled so
   pub record IsTaking (whole : Bytes) (step : Step) (r : TypeResolution) : Type 0 where

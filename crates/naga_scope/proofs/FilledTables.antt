@@ -13,7 +13,6 @@ use Rattle.std.proofs.lemmas.List.{get_or-set_other, length-replicate, length-se
 use Rattle.std.proofs.lemmas.List.Folds.{list_any-append}
 use Rattle.std.proofs.lemmas.Option.{same_Some, slice_get_past, slice_get_within}
 use Rattle.indexmap.specs.IndexMap.{values}
-use Rattle.module_meaning.proofs.Lists.{placed_at}
 use Rattle.module_meaning.specs.Accepted.{is_accepted}
 use Rattle.module_meaning.specs.AlikeTypes.{found_key_by, handle_key, inner_key_by, is_spelled}
 use Rattle.module_meaning.specs.AlikeTypes.{key_within, value_key}
@@ -24,7 +23,7 @@ use Rattle.module_meaning.specs.TypeIdentity.{level}
 use Rattle.module_meaning.specs.Undeclared.{handle_names_undeclared, is_undeclared, names_undeclared}
 use Rattle.module_meaning.specs.Undeclared.{names_undeclared_by, names_undeclared_within}
 use Rattle.naga_form.proofs.AcceptedGroups.{types_range}
-use Rattle.naga_form.proofs.AlikeParts.{PartsStand, at_depth}
+use Rattle.naga_form.proofs.AlikeParts.{at_depth, parts_stand}
 use Rattle.naga_form.proofs.WrittenOut.{declared_in_range}
 use Rattle.naga_info.specs.declared.info.ModuleInfo.{ModuleInfo}
 use Rattle.naga_info.specs.declared.info.TypeResolution.{TypeResolution}
@@ -141,13 +140,6 @@ undeclared_marked m fit first marks none are h =
     by false below = refl
 
 -- ---- order of types
--- what a type is made of stands before it
-parts_stand : (m : Module) → IsTrue (parts_stand_before m.types) → PartsStand m
-parts_stand m stand h t at =
-    let from : 0 + h ≡ h = omega arith in
-    sym (ap (λ k. parts_before k t.inner) from)
-    ∙ placed_at (λ here t. parts_before here t.inner) 0 m.types h t stand at
-
 over_before : (it : TypeInner) (h base : ℕ) → parts_before h it ≡ true → over it ≡ Some base →
     base < h
 over_before (inner.Pointer b space) h base before is =
@@ -158,7 +150,7 @@ over_before (inner.BindingArray b size) h base before is =
     ltb-true base h (ap (λ n. nat_lt n h) (same_Some base b (sym is)) ∙ before)
 over_before _ h base before is = absurd cc
 
--- so does what it is over
+-- what a type is over stands before it
 base_before : (m : Module) → IsTrue (parts_stand_before m.types) → (h base : ℕ) (t : Type_) →
     slice_get m.types h ≡ Some t → over t.inner ≡ Some base → base < h
 base_before m stand h base t at is = over_before t.inner h base (parts_stand m stand h t at) is

@@ -59,7 +59,8 @@ abbrev pub is_marked_type : List Bool → TypeResolution → Bool
 is_marked_type marks (Handle h) = is_marked marks h
 is_marked_type marks (Value it) = is_marked_over marks it
 
--- just the types that WGSL spells have marks
+-- Just the types that WGSL spells have marks. A struct counts as spelled, by its handle, whether a text
+-- declares it or not.
 abbrev pub MarksSpelled : Module → List Bool → Type 0
 MarksSpelled m marks = (h : ℕ) → is_marked marks h ≡ is_spelled m.types (Handle h)
 
@@ -117,8 +118,8 @@ AreRepresentatives m representatives =
     representative_at representatives h ≡ representative_over m (representative_at representatives) h e
 
 -- ---- modules
--- What the module's own expressions are made of stands before them, and so does what a type is over;
--- the structs that no text declares are there.
+-- What the module's own expressions are made of stands before them, and so do the parts of types; the
+-- structs that no text declares are there.
 pub record ItemsStandInOrder (m : Module) : Type 0 where
   pub globals : GlobalsStandInOrder m
   pub types : IsTrue (parts_stand_before m.types)

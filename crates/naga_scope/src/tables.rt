@@ -96,7 +96,8 @@ impl ModuleTables {
     }
 
     /// The expression by which one of the module's own is written: itself, or, if it is a constant
-    /// without a name, the one by which that constant's initialiser is written.
+    /// without a name, the one by which that constant's initialiser is written. For one that is not
+    /// there it is itself.
     pub fn representative(&self, handle: Handle<Expression>) -> Handle<Expression>
         ensures { result ≡ representative_at self.now.representatives handle }
     {

@@ -132,7 +132,8 @@ module _ (m : Module) (ordered : GlobalsStandInOrder m) (h : ℕ)
           inside (y ∷ ys) below (suc i) at = inside ys below.1 i at
 
 -- ---- representatives
--- that of one without a form has none, does not stand behind it, and is named where it is named
+-- The representative of one without a form has none and does not stand behind it, and what names why it
+-- has none names why that one has none.
 pub record IsFormless (m : Module) (h representative : ℕ) : Type 0 where
   pub there : representative < length m.global_expressions
   pub formless : global_is_written m representative ≡ false

@@ -22,6 +22,7 @@ pub mod OwnNames
 pub mod PartForms
 pub mod PartRows
 pub mod PlanRefusals
+pub mod RepresentativeRows
 pub mod SingleBindings
 pub mod SingleExpressions
 pub mod SingleFunctions
@@ -29,7 +30,6 @@ pub mod StageRows
 pub mod StatementParts
 pub mod StatementRows
 pub mod SwitchRows
-pub mod RepresentativeRows
 pub mod TextHandles
 pub mod TypeRows
 pub mod VariableRows

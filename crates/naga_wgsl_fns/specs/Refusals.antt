@@ -3,8 +3,8 @@
 -- Throughout, m is the module, e an error of memory, and explicit says whether `let`s tell types.
 use Rattle.std.specs.Prelude.{◌≡◌, ⊤, ℕ, ◌<◌, List, ◌⊎◌, codes, string_bytes, IsTrue, IsFalse}
 use Rattle.std.specs.Prelude.{IsSomeAnd, Option, Some, None, length, slice_get, Bool, true, false}
-use Rattle.std.specs.Prelude.{nat_lt}
-use Rattle.std.specs.List.{IsAmong}
+use Rattle.std.specs.Prelude.{nat_lt, not}
+use Rattle.std.specs.List.{find, list_all}
 use Rattle.std.specs.Option.{is_none, is_some, option_and_then}
 use Rattle.naga_ir.specs.declared.expression.Expression.{Expression}
 use Rattle.naga_ir.specs.Operands.{expression_operands}
@@ -31,7 +31,8 @@ use Rattle.naga_ir.specs.declared.module.Constant as constant
 use Rattle.naga_ir.specs.declared.module.Function.{Function}
 use Rattle.naga_ir.specs.declared.module.Module.{Module}
 use Rattle.module_meaning.specs.FunctionNumbers.{all_functions, all_infos}
-use Rattle.module_meaning.specs.ExpressionForms.{expression_has_form, is_written_literal, known_passes}
+use Rattle.module_meaning.specs.ExpressionForms.{expression_has_form, global_is_written}
+use Rattle.module_meaning.specs.ExpressionForms.{is_written_literal, known_passes}
 use Rattle.module_meaning.specs.Sampling.{offset_is_written, sampling_is_written}
 use Rattle.module_meaning.specs.LackingScalars.{lacking_scalar}
 use Rattle.module_meaning.specs.Written.{IsSpelledIn, IsWrittenIn, WrittenHaveForms}
@@ -175,21 +176,23 @@ made_type (Compose ty components) = Some ty
 made_type e = None
 
 -- One of the module's own expressions has no form, and what is told names why: it is a literal without
--- a form, it makes a value of a type without one, it applies an operator, or so it is with one of its
--- operands or with the initialiser of the constant that it names, if that has no name. One that has a
--- name is written as that, whatever its initialiser is.
+-- a form, it applies an operator, so it is with the first of its operands that has no form, or it makes
+-- a value of a type without one, of operands that all have forms; or so it is with the initialiser of
+-- the constant that it names, if that has no name. One that has a name is written as that, whatever its
+-- initialiser is.
 pub data NamesGlobal (m : Module) (error : Error) : (handle : ℕ) → Type 0 where
   OfLiteral : (h : ℕ) (value : LiteralValue) →
       slice_get m.global_expressions h ≡ Some (Literal value) →
       IsFalse (is_written_literal value) → NamesLiteral value error → NamesGlobal m error h
   OfType : (h ty : ℕ) (e : Expression) → slice_get m.global_expressions h ≡ Some e →
-      made_type e ≡ Some ty → IsFalse (is_spellable m (Handle ty)) →
-      NamesType m (Handle ty) error → NamesGlobal m error h
+      made_type e ≡ Some ty → IsTrue (list_all (global_is_written m) (expression_operands e)) →
+      IsFalse (is_spellable m (Handle ty)) → NamesType m (Handle ty) error → NamesGlobal m error h
   OfOperation : (h : ℕ) (e : Expression) → slice_get m.global_expressions h ≡ Some e →
       IsTrue (is_operation e) → IsCustom (codes "operator in a constant") error →
       NamesGlobal m error h
   OfOperand : (h x : ℕ) (e : Expression) → slice_get m.global_expressions h ≡ Some e →
-      IsAmong (expression_operands e) x → NamesGlobal m error x → NamesGlobal m error h
+      find (λ x. not (global_is_written m x)) (expression_operands e) ≡ Some x →
+      NamesGlobal m error x → NamesGlobal m error h
   OfConstant : (h c : ℕ) (k : constant.Constant) →
       slice_get m.global_expressions h ≡ Some (Constant c) → slice_get m.constants c ≡ Some k →
       IsTrue (is_none k.name) → NamesGlobal m error k.init → NamesGlobal m error h

@@ -101,10 +101,11 @@ part_other false error named = custom_other (codes "cannot index") error named r
 global_other : (m : Module) (error : Error) (h : ℕ) → NamesGlobal m error h →
     is_of_names error ≡ false
 global_other m error h (OfLiteral _ value at formless named) = literal_other value error named
-global_other m error h (OfType _ ty e at is formless named) = type_other m (Handle ty) error named
+global_other m error h (OfType _ ty e at is all formless named) =
+    type_other m (Handle ty) error named
 global_other m error h (OfOperation _ e at is named) =
     custom_other (codes "operator in a constant") error named refl
-global_other m error h (OfOperand _ x e at among inside) = global_other m error x inside
+global_other m error h (OfOperand _ x e at first inside) = global_other m error x inside
 global_other m error h (OfConstant _ c k at there unnamed inside) = global_other m error k.init inside
 
 -- so does no refusal that names an expression

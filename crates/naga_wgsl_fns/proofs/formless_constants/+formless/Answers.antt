@@ -1,6 +1,6 @@
-use Rattle.std.proofs.Common.{◌<◌, ◌≤◌, arith, ap, length, subst, sym, ◌∙◌, Some, refl}
+use Rattle.std.proofs.Common.{◌<◌, ◌≤◌, arith, ap, length, subst, sym, ◌∙◌, Some, None, refl}
 use Rattle.std.specs.List.{find}
-use Rattle.std.specs.Prelude.{Bool, ℕ, not}
+use Rattle.std.specs.Prelude.{Bool, ℕ, cond, not}
 use Rattle.module_meaning.specs.ExpressionForms.{global_is_written}
 use Rattle.naga_ir.specs.declared.expression.Expression.TheVariants as expression
 use Rattle.naga_ir.specs.declared.module.Module.{Module}
@@ -84,7 +84,7 @@ representative_without_form-unreachable-requires t c =
 pub representative_without_form-returns-in-ZeroValue : goal.representative_without_form-returns-in-ZeroValue
 representative_without_form-returns-in-ZeroValue t c =
     OfType c.args.handle c.in-ZeroValue.ty (expression.ZeroValue c.in-ZeroValue.ty)
-    (c.index.ensures ∙ ap Some c.in-ZeroValue.is) refl
+    (c.index.ensures ∙ ap Some c.in-ZeroValue.is) refl refl
     (formless.zero_fails c.args.«module».now c.requires.ordered c.args.handle c.requires.formless
     c.index.result.now c.in-ZeroValue.ty c.index.ensures c.in-ZeroValue.is)
     c.type_without_form.ensures
@@ -92,13 +92,14 @@ representative_without_form-returns-in-ZeroValue t c =
 pub representative_without_form-returns-in-None : goal.representative_without_form-returns-in-None
 representative_without_form-returns-in-None t c =
     let parts = c.in-Compose.components in
-    OfType c.args.handle c.in-Compose.ty (expression.Compose c.in-Compose.ty parts)
-    (c.index.ensures ∙ ap Some c.in-Compose.is) refl
-    (formless.composed_fails c.args.«module».now c.requires.ordered c.args.handle
-    c.requires.formless c.index.result.now c.in-Compose.ty parts c.index.ensures c.in-Compose.is
-    (formless.none_unwritten c.args.«module».now parts.items
+    let all =
+    formless.none_unwritten c.args.«module».now parts.items
     (sym c.in-None.is ∙ c.first_unwritten.ensures
-    ∙ ap (find (unwritten c.args.«module».now)) c.as_slice.ensures.value)))
+    ∙ ap (find (unwritten c.args.«module».now)) c.as_slice.ensures.value) in
+    OfType c.args.handle c.in-Compose.ty (expression.Compose c.in-Compose.ty parts)
+    (c.index.ensures ∙ ap Some c.in-Compose.is) refl all
+    (formless.composed_fails c.args.«module».now c.requires.ordered c.args.handle
+    c.requires.formless c.index.result.now c.in-Compose.ty parts c.index.ensures c.in-Compose.is all)
     c.type_without_form-in-None.ensures
 
 -- ---- operands
@@ -121,12 +122,12 @@ representative_without_form-global_without_form-requires-in-Some t c =
 pub representative_without_form-returns-in-Some : goal.representative_without_form-returns-in-Some
 representative_without_form-returns-in-Some t c =
     let parts = c.in-Compose.components in
-    let found =
-    formless.one_unwritten c.args.«module».now parts.items
-    c.in-Some.component (sym c.in-Some.is ∙ c.first_unwritten.ensures
-    ∙ ap (find (unwritten c.args.«module».now)) c.as_slice.ensures.value) in
     OfOperand c.args.handle c.in-Some.component (expression.Compose c.in-Compose.ty parts)
-    (c.index.ensures ∙ ap Some c.in-Compose.is) found.0 c.global_without_form-in-Some.ensures
+    (c.index.ensures ∙ ap Some c.in-Compose.is)
+    (sym
+    (sym c.in-Some.is ∙ c.first_unwritten.ensures
+    ∙ ap (find (unwritten c.args.«module».now)) c.as_slice.ensures.value))
+    c.global_without_form-in-Some.ensures
 
 pub representative_without_form-global_without_form-requires-in-Splat : goal.representative_without_form-global_without_form-requires-in-Splat
 representative_without_form-global_without_form-requires-in-Splat t c =
@@ -154,7 +155,10 @@ pub representative_without_form-returns-in-Splat : goal.representative_without_f
 representative_without_form-returns-in-Splat t c =
     let value = c.in-Splat.value in
     OfOperand c.args.handle value (expression.Splat c.in-Splat.size value)
-    (c.index.ensures ∙ ap Some c.in-Splat.is) (0, (omega arith, refl))
+    (c.index.ensures ∙ ap Some c.in-Splat.is)
+    (ap (λ b. cond (not b) (Some value) None)
+    (formless.splat_fails c.args.«module».now c.requires.ordered c.args.handle c.requires.formless
+    c.index.result.now c.in-Splat.size value c.index.ensures c.in-Splat.is))
     c.global_without_form-in-Splat.ensures
 
 -- ---- an operator
