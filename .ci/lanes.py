@@ -1,0 +1,47 @@
+"""Prints how many proofs `rt ci` is to run side by side, or nothing where it is to reckon that by itself.
+
+It reckons the memory of a proof by its lines, at up to 12 GB, of which no more than 5 were seen to be taken, and
+leaves processors idle where so much isn't free. So it is told to use them all where 5 to 12 GB are free for each
+and no control group sets bounds. Told so, it proves each crate by one process.
+"""
+import os
+
+SEEN, RECKONED = 5_000_000_000, 12_000_000_000
+# What bounds memory and processors, and the word or number of no bound.
+BOUNDS = [
+    ("/sys/fs/cgroup/memory.max", "max"),
+    ("/sys/fs/cgroup/cpu.max", "max"),
+    ("/sys/fs/cgroup/memory/memory.limit_in_bytes", "9223372036854771712"),
+    ("/sys/fs/cgroup/cpu/cpu.cfs_quota_us", "-1"),
+]
+
+
+def first_word(file):
+    """The first word of a file, or None where there is no such file."""
+    try:
+        with open(file) as text:
+            return (text.read().split() or [None])[0]
+    except OSError:
+        return None
+
+
+def available():
+    """The bytes of memory that are free, or 0 where the system doesn't tell."""
+    try:
+        with open("/proc/meminfo") as lines:
+            told = dict(line.split(":", 1) for line in lines)
+        return 1024 * int(told["MemAvailable"].split()[0])
+    except (OSError, KeyError):
+        return 0
+
+
+def lanes():
+    """The number, or None."""
+    if any(first_word(file) not in (None, unbound) for file, unbound in BOUNDS):
+        return None
+    processors = len(os.sched_getaffinity(0))
+    return processors if SEEN * processors <= available() < RECKONED * processors else None
+
+
+if __name__ == "__main__":
+    print(lanes() or "")
