@@ -292,21 +292,18 @@ module _ (m : Module) (stand : IsTrue (parts_stand_before m.types)) where
   unfolding handle_key
   spelled_by h t at marks below =
       named_decided (is_struct t.inner) (spelled_over marks t.inner) (Some (level 8 h 0 0 0 0))
-      (inner_key_by within t.inner) refl (by (over t.inner) refl)
-      ∙ sym (ap (λ o. is_some (found_key_by within h o)) at)
+      (inner_key_by (key_within h m.types) t.inner) refl (by (over t.inner) refl)
+      ∙ sym (ap (λ o. is_some (found_key_by (key_within h m.types) h o)) at)
     where
-      within : ℕ → Option (List ℕ)
-      within = key_within h m.types
-
       by : (o : Option ℕ) → over t.inner ≡ o →
           option_map_or (is_marked marks) o (is_spelled_alone t.inner) ≡
-          is_some (inner_key_by within t.inner)
-      by None is = sym (spelled_alone within t.inner is)
+          is_some (inner_key_by (key_within h m.types) t.inner)
+      by None is = sym (spelled_alone (key_within h m.types) t.inner is)
       by (Some base) is =
           let before = base_before m stand h base t at is in
           below.cells base before
           ∙ sym
-          (spelled_as_base within t.inner base is
+          (spelled_as_base (key_within h m.types) t.inner base is
           ∙ ap is_some (at_depth m (parts_stand m stand) h base before))
 
 pub no_spelled_beyond : (m : Module) (h : ℕ) → length m.types ≤ h →
