@@ -31,7 +31,7 @@ def available():
         with open("/proc/meminfo") as lines:
             told = dict(line.split(":", 1) for line in lines)
         return 1024 * int(told["MemAvailable"].split()[0])
-    except (OSError, KeyError):
+    except (OSError, KeyError, ValueError, IndexError):
         return 0
 
 

@@ -1,6 +1,6 @@
 //! What a module means: which modules are accepted; what of them has a form; the names and
 //! spellings of what it declares; its program of shapes, its interface, and what its identifiers
-//! stand for.
+//! stand for. In code, which types are made of parts.
 #![tactic(auto)]
 
 pub mod type_parts;

@@ -17,7 +17,6 @@ use Rattle.naga_ir.specs.declared.expression.Expression.{Expression}
 use Rattle.naga_ir.specs.declared.expression.Expression.TheVariants as expression
 use Rattle.naga_ir.specs.declared.module.Module.{Module}
 use Rattle.naga_ir.specs.declared.module.SpecialTypes.{SpecialTypes}
-use Rattle.naga_ir.specs.declared.types.Type_.{Type_}
 use Rattle.naga_ir.specs.declared.types.TypeInner.{TypeInner}
 use Rattle.naga_ir.specs.declared.types.TypeInner.TheVariants as inner
 use Rattle.naga_words.specs.Spelling.{is_struct}
@@ -74,7 +73,7 @@ stands_alone (inner.BindingArray base n) = false
 stands_alone (inner.Struct members span) = false
 stands_alone _ = true
 
--- such a type is spelled where WGSL has a word for its scalar
+-- such a type is spelled where it lacks no scalar that has a word
 abbrev pub is_spelled_alone : TypeInner → Bool
 is_spelled_alone it = stands_alone it && is_none (own_lacks it)
 

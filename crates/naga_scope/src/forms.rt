@@ -333,7 +333,7 @@ fn scalar_in(inner: &TypeInner) -> Option<Scalar>
 }
 
 /// Whether WGSL has a word for the scalar.
-fn has_word(scalar: Scalar) -> bool
+pub(crate) fn has_word(scalar: Scalar) -> bool
     ensures { result ≡ is_some (scalar_word scalar) }
 {
     scalar.try_to_wgsl().is_some()

@@ -95,9 +95,9 @@ impl Model for Plan {
 }
 
 impl Plan {
-    /// The plan of this function of a module that is accepted with what is known of it; `tables` are
-    /// what is looked up of that module, `names` those of its items, and `explicit` says whether
-    /// `let`s tell types.
+    /// The plan of this function of a module that is accepted with what is known of it; `tables`
+    /// are what is looked up of that module, `names` those of its items, and `explicit` says
+    /// whether `let`s tell types.
     /// Where the rules of scope don't hold in the function, a statement, a written expression or a
     /// type that is spelled has no form, a label gets no name, or there is no memory, there is no
     /// plan.

@@ -6,8 +6,9 @@ ghost use Rattle.module_meaning.specs.LackingScalars.{image_lacks, over, own_lac
 ghost use Rattle.naga_scope.specs.Tables.{is_spelled_alone, stands_alone};
 ghost use Rattle.wgsl_words.specs.Words.{space_word};
 
+use crate::forms::has_word;
 use naga_ir::{AddressSpace, Handle, ImageClass, Scalar, Type_, TypeInner};
-use wgsl_words::TryToWgsl;
+use wgsl_words::space_str;
 
 /// The type that a pointer or an array is over.
 pub fn over(inner: &TypeInner) -> Option<Handle<Type_>>
@@ -21,7 +22,8 @@ pub fn over(inner: &TypeInner) -> Option<Handle<Type_>>
     }
 }
 
-/// The scalar that it is over and that WGSL has no word for, if it is over such a one.
+/// The scalar without a word in WGSL that it is made of, if it is made of such a one. A pointer and an
+/// array are made of a type, and lack none by themselves.
 pub fn own_lacks(inner: &TypeInner) -> Option<Scalar>
     ensures { result ≡ own_lacks inner.now }
 {
@@ -37,7 +39,7 @@ pub fn own_lacks(inner: &TypeInner) -> Option<Scalar>
     }
 }
 
-/// An image that is sampled has scalars of four bytes.
+/// The scalar that an image lacks: one that is sampled has scalars of four bytes.
 fn image_lacks(class: ImageClass) -> Option<Scalar>
     ensures { result ≡ image_lacks class }
 {
@@ -51,15 +53,11 @@ fn image_lacks(class: ImageClass) -> Option<Scalar>
 fn wordless(scalar: Scalar) -> Option<Scalar>
     ensures { result ≡ wordless scalar }
 {
-    if scalar.try_to_wgsl().is_some() {
-        None
-    } else {
-        Some(scalar)
-    }
+    if has_word(scalar) { None } else { Some(scalar) }
 }
 
-/// Whether it is over no type of the module, and neither a struct nor a pointer into a space without
-/// a word.
+/// Whether it is over no type of the module, and neither a struct nor a pointer into a space
+/// without a word.
 fn stands_alone(inner: &TypeInner) -> bool
     ensures { result ≡ stands_alone inner.now }
 {
@@ -73,17 +71,15 @@ fn stands_alone(inner: &TypeInner) -> bool
     }
 }
 
+/// Whether WGSL has a word for the space.
 fn has_space_word(space: AddressSpace) -> bool
     ensures { result ≡ is_some (space_word space) }
 {
-    match space {
-        AddressSpace::Handle => false,
-        _ => true,
-    }
+    space_str(space).is_some()
 }
 
-/// Whether WGSL spells it, where it is over no type of the module. A struct it spells by its handle
-/// alone.
+/// Whether WGSL spells it, where it is over no type of the module. A struct it spells by its handle,
+/// and so none by itself.
 pub(crate) fn is_spelled_alone(inner: &TypeInner) -> bool
     ensures { result ≡ is_spelled_alone inner.now }
 {

@@ -96,8 +96,8 @@ impl ModuleTables {
     }
 
     /// The expression by which one of the module's own is written: itself, or, if it is a constant
-    /// without a name, the one by which that constant's initialiser is written. For one that is not
-    /// there it is itself.
+    /// without a name, the one by which that constant's initialiser is written. It is itself, too,
+    /// where the table has no cell for it.
     pub fn representative(&self, handle: Handle<Expression>) -> Handle<Expression>
         ensures { result ≡ representative_at self.now.representatives handle }
     {
@@ -255,7 +255,7 @@ fn mark_spelled(marks: &mut [bool], module: &Module)
     ensures { MarksSpelled «module».now marks.new }
 {
     for index in 0..module.types.len() {
-        let handle = Place::from_index(index);
+        let handle: Handle<Type_> = Place::from_index(index);
         let spelled = item_is_spelled(marks, &module.types[handle].inner);
         marks[index] = spelled;
     }

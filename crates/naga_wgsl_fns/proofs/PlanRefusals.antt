@@ -181,7 +181,7 @@ no_global_sink m reason h (OfLiteral _ value at formless named) = no_literal_sin
 no_global_sink m reason h (OfType _ ty e at is all formless named) =
     no_type_sink m (Handle ty) reason named
 no_global_sink m reason h (OfOperation _ e at is named) = named
-no_global_sink m reason h (OfOperand _ x e at first inside) = no_global_sink m reason x inside
+no_global_sink m reason h (OfOperand _ x e at made first inside) = no_global_sink m reason x inside
 no_global_sink m reason h (OfConstant _ c k at there unnamed inside) = no_global_sink m reason k.init inside
 
 -- nor is one of those of what a function takes and gives, and of its stage,

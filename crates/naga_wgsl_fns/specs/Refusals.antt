@@ -176,10 +176,10 @@ made_type (Compose ty components) = Some ty
 made_type e = None
 
 -- One of the module's own expressions has no form, and what is told names why: it is a literal without
--- a form, it applies an operator, so it is with the first of its operands that has no form, or it makes
--- a value of a type without one, of operands that all have forms; or so it is with the initialiser of
--- the constant that it names, if that has no name. One that has a name is written as that, whatever its
--- initialiser is.
+-- a form; it applies an operator; it applies none, and so it is with the first of its operands that has
+-- no form; it makes a value of a type without one, of operands that all have forms; or so it is with the
+-- initialiser of the constant that it names, if that has no name. One that has a name is written as
+-- that, whatever its initialiser is.
 pub data NamesGlobal (m : Module) (error : Error) : (handle : ℕ) → Type 0 where
   OfLiteral : (h : ℕ) (value : LiteralValue) →
       slice_get m.global_expressions h ≡ Some (Literal value) →
@@ -191,6 +191,7 @@ pub data NamesGlobal (m : Module) (error : Error) : (handle : ℕ) → Type 0 wh
       IsTrue (is_operation e) → IsCustom (codes "operator in a constant") error →
       NamesGlobal m error h
   OfOperand : (h x : ℕ) (e : Expression) → slice_get m.global_expressions h ≡ Some e →
+      IsFalse (is_operation e) →
       find (λ x. not (global_is_written m x)) (expression_operands e) ≡ Some x →
       NamesGlobal m error x → NamesGlobal m error h
   OfConstant : (h c : ℕ) (k : constant.Constant) →

@@ -105,7 +105,7 @@ global_other m error h (OfType _ ty e at is all formless named) =
     type_other m (Handle ty) error named
 global_other m error h (OfOperation _ e at is named) =
     custom_other (codes "operator in a constant") error named refl
-global_other m error h (OfOperand _ x e at first inside) = global_other m error x inside
+global_other m error h (OfOperand _ x e at made first inside) = global_other m error x inside
 global_other m error h (OfConstant _ c k at there unnamed inside) = global_other m error k.init inside
 
 -- so does no refusal that names an expression

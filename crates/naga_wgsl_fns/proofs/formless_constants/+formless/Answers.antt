@@ -123,7 +123,7 @@ pub representative_without_form-returns-in-Some : goal.representative_without_fo
 representative_without_form-returns-in-Some t c =
     let parts = c.in-Compose.components in
     OfOperand c.args.handle c.in-Some.component (expression.Compose c.in-Compose.ty parts)
-    (c.index.ensures ∙ ap Some c.in-Compose.is)
+    (c.index.ensures ∙ ap Some c.in-Compose.is) refl
     (sym
     (sym c.in-Some.is ∙ c.first_unwritten.ensures
     ∙ ap (find (unwritten c.args.«module».now)) c.as_slice.ensures.value))
@@ -155,7 +155,7 @@ pub representative_without_form-returns-in-Splat : goal.representative_without_f
 representative_without_form-returns-in-Splat t c =
     let value = c.in-Splat.value in
     OfOperand c.args.handle value (expression.Splat c.in-Splat.size value)
-    (c.index.ensures ∙ ap Some c.in-Splat.is)
+    (c.index.ensures ∙ ap Some c.in-Splat.is) refl
     (ap (λ b. cond (not b) (Some value) None)
     (formless.splat_fails c.args.«module».now c.requires.ordered c.args.handle c.requires.formless
     c.index.result.now c.in-Splat.size value c.index.ensures c.in-Splat.is))
