@@ -66,10 +66,10 @@ MarksSpelled m marks = (h : ℕ) → is_marked marks h ≡ is_spelled m.types (H
 -- a type by itself that is over none of the module's, and neither a struct nor a pointer into a space
 -- without a word
 abbrev pub stands_alone : TypeInner → Bool
-stands_alone (inner.Pointer base at) = false
-stands_alone (inner.ValuePointer n s at) = is_some (space_word at)
-stands_alone (inner.Array base n stride) = false
-stands_alone (inner.BindingArray base n) = false
+stands_alone (inner.Pointer base space) = false
+stands_alone (inner.ValuePointer size scalar space) = is_some (space_word space)
+stands_alone (inner.Array base size stride) = false
+stands_alone (inner.BindingArray base size) = false
 stands_alone (inner.Struct members span) = false
 stands_alone _ = true
 
