@@ -73,7 +73,7 @@ stands_alone (inner.BindingArray base size) = false
 stands_alone (inner.Struct members span) = false
 stands_alone _ = true
 
--- such a type is spelled where it lacks no scalar that has a word
+-- such a type is spelled where it is made of no scalar without a word
 abbrev pub is_spelled_alone : TypeInner → Bool
 is_spelled_alone it = stands_alone it && is_none (own_lacks it)
 
