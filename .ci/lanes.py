@@ -1,12 +1,13 @@
 """Prints how many proofs `rt ci` is to run side by side, or nothing where it is to reckon that by itself.
 
-It reckons the memory of a proof by its lines, at up to 12 GB, of which no more than 5 were seen to be taken, and
-leaves processors idle where so much isn't free. So it is told to use them all where 5 to 12 GB are free for each
-and no control group sets bounds. Told so, it proves each crate by one process.
+It reckons the memory of a proof by its lines, at up to 12 GB, and leaves processors idle where so much isn't free.
+One proof was seen to take 6, and four side by side 12. So it is told to use all processors where 5 to 12 GB are free
+for each and no control group sets bounds. Told so, it takes no heed of memory, and proves each crate by one process.
 """
 import os
 
-SEEN, RECKONED = 5_000_000_000, 12_000_000_000
+# Bytes for each processor: from where on it is told, and from where on it needs no telling.
+ENOUGH, RECKONED = 5_000_000_000, 12_000_000_000
 # What bounds memory and processors, and the word or number of no bound.
 BOUNDS = [
     ("/sys/fs/cgroup/memory.max", "max"),
@@ -40,7 +41,7 @@ def lanes():
     if any(first_word(file) not in (None, unbound) for file, unbound in BOUNDS):
         return None
     processors = len(os.sched_getaffinity(0))
-    return processors if SEEN * processors <= available() < RECKONED * processors else None
+    return processors if ENOUGH * processors <= available() < RECKONED * processors else None
 
 
 if __name__ == "__main__":
