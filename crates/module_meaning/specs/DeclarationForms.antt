@@ -1,10 +1,11 @@
 -- What has to have a form of a module's declarations: each type that one tells, each initialiser, each
--- binding of what passes in or out, and each stage. What has none is refused by name, before any text.
+-- binding of what passes in or out, and each stage; and each struct is to keep the offsets of its
+-- members, if it is concerned. What has none is refused by name, before any text.
 --
 -- Throughout, m is a module, b a binding, f a function, p an entry point, h the handle of a type t, s
 -- a member, c a constant, o an override, v a variable, a an argument, r a result, i an index, and
 -- number is that of a function or an entry point.
-use Rattle.std.specs.Prelude.{◌≡◌, ℕ, ◌-◌, Bool, true, Option, None, Some, IsTrue, length, nat_lt}
+use Rattle.std.specs.Prelude.{◌≡◌, ⊥, ℕ, ◌-◌, Bool, true, Option, None, Some, IsTrue, length, nat_lt}
 use Rattle.std.specs.Prelude.{if◌then◌else◌, slice_get}
 use Rattle.std.specs.Option.{is_some}
 use Rattle.naga_info.specs.declared.info.TypeResolution.TheVariants.{Handle}
@@ -24,8 +25,10 @@ use Rattle.naga_ir.specs.declared.types.StructMember.{StructMember}
 use Rattle.naga_ir.specs.declared.types.Type_.{Type_}
 use Rattle.naga_names.specs.Reset.{members_of}
 use Rattle.module_meaning.specs.FunctionNumbers.{all_functions}
+use Rattle.module_meaning.specs.Layouts.{HasOtherStride, IsMisplaced}
 use Rattle.module_meaning.specs.Undeclared.{is_declared, is_spellable}
 use Rattle.module_meaning.specs.ExpressionForms.{global_is_written}
+use Rattle.wgsl_layout.specs.declared.members.Misplaced.{Misplaced}
 use Rattle.wgsl_words.specs.Words.{builtin_word}
 
 -- ---- what is declared
@@ -98,3 +101,5 @@ pub record DeclarationsHaveForms (m : Module) : Type 0 where
   pub initialisers : (handle : ℕ) → IsInitialiser m handle → IsTrue (global_is_written m handle)
   pub members : (b : Binding) → IsMemberBinding m b → IsTrue (binding_has_form b)
   pub heads : (number : ℕ) → HeadHasForm m number
+  pub offsets : (h : ℕ) (fault : Misplaced) → IsMisplaced m h fault → ⊥
+  pub strides : (h ty : ℕ) → HasOtherStride m h ty → ⊥

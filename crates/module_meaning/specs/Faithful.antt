@@ -17,17 +17,24 @@ use Rattle.text_meaning.specs.Abstraction.{program_read}
 use Rattle.wgsl_text.specs.Requests.{is_request}
 use Rattle.text_meaning.specs.Interface.{interface_read}
 use Rattle.module_meaning.specs.Interface.{module_interface}
+use Rattle.module_meaning.specs.Layouts.{KeepsLayouts}
 
--- The program declares what the module declares: under all values of overrides of their types,
--- under every typed meaning of operators and in every world both have one interface.
-abbrev pub HasInterfaceOf : Module → ModuleInfo → Program → Type 0
-HasInterfaceOf m info program =
+-- The program tells what the module declares: under all values of overrides of their types, under
+-- every typed meaning of operators and in every world both have one interface.
+abbrev pub TellsInterfaceOf : Module → ModuleInfo → Program → Type 0
+TellsInterfaceOf m info program =
     let shape = module_shape m info in
     (settings : Settings) → SettingsFit shape settings →
     (meaning : Meaning) → IsTyped shape meaning →
     (world : World) →
     interface_read settings meaning world program
     ≡ module_interface settings meaning (module_names m) m info
+
+-- The program declares what the module declares, and in memory each struct that is concerned stands as
+-- in the module: its members at the same offsets, and of the same size, if the module's span can be.
+pub record HasInterfaceOf (m : Module) (info : ModuleInfo) (program : Program) : Type 0 where
+  pub tells : TellsInterfaceOf m info program
+  pub layouts : KeepsLayouts m program
 
 -- What holds of each run of the module and the run of the program beside it: of each function and
 -- entry point, under all values of overrides and arguments of their types and every typed meaning

@@ -37,6 +37,7 @@ use Rattle.text_meaning.specs.Interface.{ConstantInterface, EntryPointInterface,
 use Rattle.text_meaning.specs.Interface.{GlobalInterface, Interface, MemberInterface}
 use Rattle.text_meaning.specs.Interface.{OverrideInterface, PassedValue, StructInterface}
 use Rattle.module_meaning.specs.ExpressionContexts.{global_tree}
+use Rattle.module_meaning.specs.Layouts.{written_size}
 use Rattle.module_meaning.specs.ModuleShapes.{module_shape}
 use Rattle.module_meaning.specs.Names.{constant_name, function_name, global_name, name_in}
 use Rattle.module_meaning.specs.Names.{override_name}
@@ -46,13 +47,15 @@ use Rattle.module_meaning.specs.Types.{spelled_type}
 use Rattle.module_meaning.specs.Undeclared.{is_declared}
 
 -- ---- structs
--- WGSL lays a member out by its rules: it is given no size and no alignment of its own.
-abbrev pub member_interface : NameMap → TypeNames → (h : ℕ) → ℕ × StructMember → MemberInterface
-member_interface names t h p =
+-- A member is given a size where its struct keeps the offsets of its members and WGSL's rules alone would
+-- have the next one begin elsewhere, or the struct end elsewhere; it is given no alignment.
+abbrev pub member_interface :
+    NameMap → TypeNames → ir_module.Module → (h : ℕ) → ℕ × StructMember → MemberInterface
+member_interface names t m h p =
     record {
       name = name_in names (key.StructMember h p.0);
       binding = stage_binding p.1.binding;
-      size = None;
+      size = written_size m h p.0;
       alignment = None;
       type = spelled_type t p.1.ty;
     }
@@ -64,7 +67,7 @@ struct_interface names t m p =
     if is_declared m.special_types p.0 p.1.inner then Some (record {
       name = name_in names (key.Type_ p.0);
       members =
-          map (member_interface names t p.0) (enumerate_from 0 (members_of p.1.inner));
+          map (member_interface names t m p.0) (enumerate_from 0 (members_of p.1.inner));
     }) else None
 
 -- ---- constants, overrides and variables

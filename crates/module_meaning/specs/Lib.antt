@@ -18,6 +18,7 @@ pub mod InfoSizes
 pub mod Initialisers
 pub mod Interface
 pub mod LackingScalars
+pub mod Layouts
 pub mod Literals
 pub mod Meanings
 pub mod ModuleShapes

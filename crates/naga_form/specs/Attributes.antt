@@ -25,7 +25,7 @@ use Rattle.wgsl_words.specs.Words.{builtin_word, interpolation_word, sampling_wo
 use Rattle.wgsl_text.specs.Attributes.{Attribute, Plain, Numbered, Worded, Interpolated}
 use Rattle.wgsl_text.specs.Attributes.{WorkgroupSize, Invariant, PerPrimitive, Coherent, Volatile}
 use Rattle.wgsl_text.specs.Attributes.{Vertex, Fragment, Compute, Task, RayGeneration, AnyHit}
-use Rattle.wgsl_text.specs.Attributes.{ClosestHit, Miss, BlendSource, Id, Group, Builtin}
+use Rattle.wgsl_text.specs.Attributes.{ClosestHit, Miss, BlendSource, Id, Group, Size, Builtin}
 use Rattle.wgsl_text.specs.Attributes.{Interpolate, Mesh, Payload, IncomingPayload}
 use Rattle.wgsl_text.specs.Attributes as attribute
 use Rattle.module_meaning.specs.Names.{global_name}
@@ -80,6 +80,10 @@ binding_attributes (Location location interpolation sampling blend_src per_primi
 -- of an argument, a result or a member
 abbrev pub passing_attributes : Option Binding → List Attribute
 passing_attributes b = option_map_or binding_attributes b []
+
+-- of a member: the size that it is given, if it is given one, and how it passes
+abbrev pub member_attributes : (size : Option ℕ) → Option Binding → List Attribute
+member_attributes size b = attribute_of (Numbered Size) size ++ passing_attributes b
 
 -- ---- overrides and variables
 abbrev pub id_attributes : Option ℕ → List Attribute

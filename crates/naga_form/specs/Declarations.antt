@@ -27,11 +27,12 @@ use Rattle.wgsl_text.specs.Declarations.{SpaceAlone, SpaceAndAccess}
 use Rattle.wgsl_text.specs.Functions.{EntryPoint}
 use Rattle.wgsl_words.specs.Words.{space_word, space_access_word}
 use Rattle.module_meaning.specs.Enables.{needed_enables}
+use Rattle.module_meaning.specs.Layouts.{written_size}
 use Rattle.module_meaning.specs.Names.{module_names, name_in, constant_name, expression_name}
 use Rattle.module_meaning.specs.Names.{global_name, LabelNames, override_name}
 use Rattle.module_meaning.specs.Types.{type_names}
 use Rattle.module_meaning.specs.Undeclared.{is_declared}
-use Rattle.naga_form.specs.Attributes.{global_attributes, id_attributes, passing_attributes}
+use Rattle.naga_form.specs.Attributes.{global_attributes, id_attributes, member_attributes}
 use Rattle.naga_form.specs.Attributes.{stage_attributes}
 use Rattle.naga_form.specs.ConstantForms.{global_form}
 use Rattle.naga_form.specs.Functions.{function_form, functions_under}
@@ -40,10 +41,11 @@ use Rattle.naga_form.specs.Types.{type_form}
 -- ---- structs
 -- a member of the struct at this handle
 abbrev pub member_form :
-    NameMap → TypeNames → (handle : ℕ) → ℕ × ir_member.StructMember → StructMember
-member_form names t handle p =
+    NameMap → TypeNames → Module → (handle : ℕ) → ℕ × ir_member.StructMember → StructMember
+member_form names t m handle p =
     record {
-      attributes = passing_attributes p.1.binding;
+      attributes =
+          member_attributes (written_size m handle p.0) p.1.binding;
       name = name_in names (key.StructMember handle p.0);
       type = type_form t p.1.ty;
     }
@@ -53,7 +55,7 @@ abbrev pub struct_form : NameMap → TypeNames → Module → ℕ × Type_ → O
 struct_form names t m p =
     if is_declared m.special_types p.0 p.1.inner then Some (record {
       name = name_in names (key.Type_ p.0);
-      members = map (member_form names t p.0) (enumerate_from 0 (members_of p.1.inner));
+      members = map (member_form names t m p.0) (enumerate_from 0 (members_of p.1.inner));
     }) else None
 
 -- ---- constants, overrides and variables

@@ -1,0 +1,75 @@
+-- How a type is laid out is one level over how its parts are.
+--
+-- Throughout, types are a module's types, h is the handle of one, t a type of the module, it a type by
+-- itself, k a member, f and g tell layouts of types, and l is a layout.
+use Rattle.std.proofs.Common.{◌≡◌, ◌<◌, ◌≤◌, ◌∙◌, ◌*◌, ℕ, zero, suc, Bool, true, false, List, [], ◌∷◌, Option, Some, None}
+use Rattle.std.proofs.Common.{ap, arith, refl, slice_get, subst, sym}
+use Rattle.std.specs.Prelude.{◌&&◌, IsTrue, if◌then◌else◌, nat_lt}
+use Rattle.std.specs.List.{list_all}
+use Rattle.std.specs.Option.{is_none, option_and_then, option_map}
+use Rattle.std.proofs.lemmas.Bool.{and_parts, false≢true, ltb-true}
+use Rattle.naga_ir.specs.declared.types.StructMember.{StructMember}
+use Rattle.naga_ir.specs.declared.types.Type_.{Type_}
+use Rattle.naga_ir.specs.declared.types.TypeInner.{TypeInner}
+use Rattle.naga_ir.specs.declared.types.TypeInner.TheVariants as inner
+use Rattle.wgsl_layout.specs.Rules.{kept_array}
+use Rattle.wgsl_layout.specs.declared.layouts.Layout.{Layout}
+use Rattle.wgsl_layout.specs.declared.layouts.Placed.{Placed}
+use Rattle.naga_layout.specs.Types.{Rule, StandInOrder, has_row, inner_layout_by, kept_members, laid_array, layout_at, layout_within, named_layout_by, parts_before, placed_member, placed_members, told_length, told_rule}
+
+-- layouts that agree on the types before h agree on what is over these alone
+module _ (f g : ℕ → Option Layout) (n : ℕ) (same : (h : ℕ) → h < n → f h ≡ g h) where
+  same_member : (k : StructMember) → nat_lt k.ty n ≡ true → placed_member f k ≡ placed_member g k
+  same_member k before =
+      ap (λ o. if is_none k.binding then option_map (λ l. record { layout = l; offset = k.offset }) o else None)
+      (same k.ty (ltb-true k.ty n before))
+
+  pub same_members : (ks : List StructMember) → list_all (λ k. nat_lt k.ty n) ks ≡ true →
+      placed_members f ks ≡ placed_members g ks
+  same_members [] before = refl
+  same_members (k ∷ more) before =
+      let parts = and_parts (nat_lt k.ty n) _ before in
+      ap (λ o. option_and_then (λ p. option_map (λ ps. p ∷ ps) (placed_members f more)) o) (same_member k parts.0)
+      ∙ ap (λ ms. option_and_then (λ p. option_map (λ ps. p ∷ ps) ms) (placed_member g k)) (same_members more parts.1)
+
+  pub same_inner : (strict : Bool) (it : TypeInner) → IsTrue (parts_before n it) → inner_layout_by strict f it ≡ inner_layout_by strict g it
+  same_inner strict (inner.Array base length stride) before =
+      ap (λ o. option_and_then (λ length. option_and_then (laid_array strict stride length) o) (told_length length))
+      (same base (ltb-true base n before))
+  same_inner strict (inner.Struct members span) before =
+      ap (option_and_then (kept_members span)) (same_members members.items before)
+  same_inner strict _ before = refl
+
+  pub same_named : (rule : Rule) (h : ℕ) (it : TypeInner) → IsTrue (parts_before n it) →
+      named_layout_by rule f h it ≡ named_layout_by rule g h it
+  same_named rule h it before =
+      ap (λ o. if has_row rule.declared h it then o else None) (same_inner rule.strict it before)
+
+module _ (rule : Rule) (types : List Type_) (order : StandInOrder types) where
+  found : (n m h : ℕ) (o : Option Type_) → slice_get types h ≡ o →
+      ((k : ℕ) → k < h → layout_within n rule types k ≡ layout_within m rule types k) →
+      option_and_then (λ t. named_layout_by rule (layout_within n rule types) h t.inner) o ≡
+      option_and_then (λ t. named_layout_by rule (layout_within m rule types) h t.inner) o
+  found n m h None is same = refl
+  found n m h (Some t) is same = same_named (layout_within n rule types) (layout_within m rule types) h same rule h t.inner (order h t is)
+
+  -- enough levels give the same
+  stable : (n m h : ℕ) → h < n → h < m → layout_within n rule types h ≡ layout_within m rule types h
+  stable zero m h p q = absurd (omega arith)
+  stable (suc n) zero h p q = absurd (omega arith)
+  stable (suc n) (suc m) h p q =
+      found n m h (slice_get types h) refl (λ k lt. stable n m k (omega arith) (omega arith))
+
+  pub layout_is : (h : ℕ) (t : Type_) → slice_get types h ≡ Some t →
+      layout_at rule types h ≡ named_layout_by rule (layout_at rule types) h t.inner
+  unfolding layout_at
+  layout_is h t is =
+      ap (option_and_then (λ t. named_layout_by rule (layout_within h rule types) h t.inner)) is
+      ∙ same_named (layout_within h rule types) (λ k. layout_within (suc k) rule types k) h
+      (λ k lt. stable h (suc k) k lt (omega arith)) rule h t.inner (order h t is)
+
+-- what is told to users counts each struct as declared
+pub told_is : (f : ℕ → Option Layout) (h : ℕ) (it : TypeInner) →
+    named_layout_by told_rule f h it ≡ inner_layout_by true f it
+told_is f h (inner.Struct members span) = refl
+told_is f h _ = refl

@@ -1,0 +1,38 @@
+-- Types as the code lays them out: member by member, and with sizes past each offset alike.
+--
+-- Throughout, l is a layout, a an alignment, f tells the layouts of types, k is a member and span how many
+-- bytes the module gives to a struct.
+use Rattle.std.specs.Prelude.{ℕ, ◌&&◌, List, [], ◌∷◌, max, nat_lt, Option, Some, None}
+use Rattle.std.specs.Prelude.{if◌then◌else◌}
+use Rattle.std.specs.Option.{option_and_then, option_map}
+use Rattle.naga_ir.specs.declared.types.StructMember.{StructMember}
+use Rattle.wgsl_layout.specs.Capped.{past}
+use Rattle.wgsl_layout.specs.Members.{ended, is_aligned, stands_after}
+use Rattle.wgsl_layout.specs.declared.layouts.Layout.{Layout}
+use Rattle.wgsl_layout.specs.declared.layouts.Placed.{Placed}
+use Rattle.naga_layout.specs.Types.{placed_member}
+use Rattle.naga_layout.specs.declared.types.TypeLayout.{TypeLayout}
+
+-- what a scalar with a size can be wide
+pub data IsWidth : ℕ → Type 0 where
+  Two : IsWidth 2
+  Four : IsWidth 4
+  Eight : IsWidth 8
+
+-- A struct from a member on: what the last one before these is, and the greatest alignment there.
+abbrev pub left_from :
+    (f : ℕ → Option Layout) → (span : ℕ) → (before : Option Placed) → (a : ℕ) → List StructMember →
+    Option Layout
+left_from f span before a [] = option_map (ended span a) before
+left_from f span before a (k ∷ more) =
+    option_and_then
+    (λ p. if is_aligned p && stands_after before p
+    then left_from f span (Some p) (max a p.layout.alignment) more else None)
+    (placed_member f k)
+
+-- a size that is told: one that 32 bits hold
+abbrev pub told_size : Option ℕ → Option ℕ
+told_size size = option_and_then (λ s. if nat_lt s past then Some s else None) size
+
+abbrev pub told : Layout → TypeLayout
+told l = record { align = l.alignment; size = told_size l.size }

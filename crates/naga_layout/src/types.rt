@@ -1,0 +1,385 @@
+//! Layouts of types.
+
+ghost use Rattle.std.specs.Prelude.{◌≡◌, ◌<◌, ◌≤◌, ℕ, IfSome, IsTrue, if◌then◌else◌, length, min};
+ghost use Rattle.std.specs.Prelude.{nat_lt, Some, None, Option, true};
+ghost use Rattle.std.specs.List.{list_all};
+ghost use Rattle.std.specs.Option.{option_and_then, option_map};
+ghost use Rattle.wgsl_layout.specs.Capped.{IsAlignment, capped, capped_member, past};
+ghost use Rattle.wgsl_layout.specs.Rules.{kept_array, matrix_layout, scalar_layout, vector_layout};
+ghost use Rattle.naga_layout.specs.Capped.{IsWidth, told, told_size};
+ghost use Rattle.naga_layout.specs.Seen.{TellSeen};
+ghost use Rattle.naga_layout.specs.Types.{StandInOrder, component_number, has_atomic_size};
+ghost use Rattle.naga_layout.specs.Types.{has_size, is_number, kept_struct, layout_at, told_rule};
+ghost use Rattle.naga_layout.specs.Types.{inner_layout_by, parts_before, placed_member, told_length};
+
+use naga_ir::{
+    ArraySize, Handle, Scalar, ScalarKind, StructMember, Type_, TypeInner, UniqueArena, VectorSize,
+};
+use wgsl_layout::{
+    Layout, Placed, array_layout, ended, matrix_layout, scalar_layout, stands_after, vector_layout,
+};
+
+/// How a type stands in memory, as WGSL lays it out.
+#[derive(Debug, Clone, Copy, PartialEq, Eq)]
+pub struct TypeLayout {
+    /// Of which number each place of such a value is a multiple, in bytes.
+    pub align: u32,
+    /// How many bytes it takes. An array that is as long as its buffer has no size, nor has a struct that
+    /// ends with one; none is told that 32 bits don't hold.
+    pub size: Option<u32>,
+}
+
+/// How the type at a handle is laid out, where each struct is written so that its members stay where they
+/// are; none where WGSL has no place in memory for it, where a member can't stay where it is, or where an
+/// array has another stride than WGSL gives it. It takes no memory.
+pub fn type_layout(types: &UniqueArena<Type_>, handle: Handle<Type_>) -> Option<TypeLayout>
+    requires ordered { StandInOrder types.now }
+    requires there { handle < length types.now }
+    ensures { result ≡ option_map told (layout_at told_rule types.now handle) }
+{
+    match kept_afresh(types, handle) {
+        Some(layout) => Some(TypeLayout {
+            align: layout.alignment,
+            size: told_size(layout.size),
+        }),
+        None => None,
+    }
+}
+
+/// A struct that was laid out, or has no layout.
+#[derive(Debug, Clone, Copy)]
+pub(crate) struct Known {
+    handle: usize,
+    layout: Option<Layout>,
+}
+
+fn is_struct(inner: &TypeInner) -> bool {
+    matches!(inner, TypeInner::Struct { .. })
+}
+
+/// How a struct is laid out, if its cell has it.
+fn look_up(
+    types: &UniqueArena<Type_>,
+    handle: Handle<Type_>,
+    seen: &[Option<Known>],
+) -> Option<Option<Layout>>
+    requires told { TellSeen types.now seen.now }
+    ensures { IfSome result (λ l. l ≡ option_map capped (layout_at told_rule types.now handle)) }
+{
+    if seen.is_empty() {
+        return None;
+    }
+    match seen[handle.index() % seen.len()] {
+        Some(known) => {
+            if known.handle == handle.index() {
+                Some(known.layout)
+            } else {
+                None
+            }
+        }
+        None => None,
+    }
+}
+
+/// Puts into its cell how a struct is laid out.
+fn remember(
+    types: &UniqueArena<Type_>,
+    handle: Handle<Type_>,
+    layout: Option<Layout>,
+    seen: &mut [Option<Known>],
+)
+    requires there { handle < length types.now }
+    requires told { TellSeen types.now seen.old }
+    requires layout { layout ≡ option_map capped (layout_at told_rule types.now handle) }
+    ensures { TellSeen types.now seen.new }
+{
+    if seen.is_empty() || !is_struct(&types[handle].inner) {
+        return;
+    }
+    let cell = handle.index() % seen.len();
+    seen[cell] = Some(Known {
+        handle: handle.index(),
+        layout,
+    });
+}
+
+/// How the type at a handle is laid out, with a table of cells on the stack.
+fn kept_afresh(types: &UniqueArena<Type_>, handle: Handle<Type_>) -> Option<Layout>
+    requires ordered { StandInOrder types.now }
+    requires there { handle < length types.now }
+    ensures { result ≡ option_map capped (layout_at told_rule types.now handle) }
+{
+    let mut seen: [Option<Known>; 256] = [None; 256];
+    kept_layout(types, handle, seen.as_mut_slice())
+}
+
+fn told_size(size: Option<u64>) -> Option<u32>
+    ensures { (s : Option ℕ) → size ≡ option_map (min past) s → result ≡ told_size s }
+{
+    match size {
+        Some(size) if size < 0x1_0000_0000 => Some(size as u32),
+        _ => None,
+    }
+}
+
+fn is_number(kind: ScalarKind) -> bool
+    ensures { result ≡ is_number kind }
+{
+    match kind {
+        ScalarKind::Sint | ScalarKind::Uint | ScalarKind::Float => true,
+        ScalarKind::Bool | ScalarKind::AbstractInt | ScalarKind::AbstractFloat => false,
+    }
+}
+
+/// How many bytes a scalar takes in memory.
+#[tactic(auto, using(crate::proofs::Widths::width_is))]
+pub(crate) fn width_of(scalar: Scalar) -> Option<u32>
+    ensures width { result ≡ (if has_size scalar then Some scalar.width else None) }
+    ensures is { IfSome result IsWidth }
+{
+    if is_number(scalar.kind) && (scalar.width == 2 || scalar.width == 4 || scalar.width == 8) {
+        Some(scalar.width as u32)
+    } else {
+        None
+    }
+}
+
+/// The same of one that is changed in one step.
+#[tactic(auto, using(crate::proofs::Widths::atomic_width_is))]
+pub(crate) fn atomic_width_of(scalar: Scalar) -> Option<u32>
+    ensures width { result ≡ (if has_atomic_size scalar then Some scalar.width else None) }
+    ensures is { IfSome result IsWidth }
+{
+    if is_number(scalar.kind) && (scalar.width == 4 || scalar.width == 8) {
+        Some(scalar.width as u32)
+    } else {
+        None
+    }
+}
+
+fn component_number(size: VectorSize) -> u32
+    ensures number { result ≡ component_number size }
+    ensures below { result ≤ 4 }
+{
+    match size {
+        VectorSize::Bi => 2,
+        VectorSize::Tri => 3,
+        VectorSize::Quad => 4,
+    }
+}
+
+/// How long an array is, if it is told how long, and by no override.
+pub(crate) fn told_length(size: ArraySize) -> Option<Option<u32>>
+    ensures { result ≡ told_length size }
+{
+    match size {
+        ArraySize::Constant(number) => Some(Some(number.get())),
+        ArraySize::Pending(_) => None,
+        ArraySize::Dynamic => Some(None),
+    }
+}
+
+#[tactic(auto, using(crate::proofs::Widths::width_aligns))]
+pub(crate) fn laid_scalar(width: Option<u32>) -> Option<Layout>
+    requires is { IfSome width IsWidth }
+    ensures layout { result ≡ option_map (λ w. capped (scalar_layout w)) width }
+    ensures aligned { IfSome result (λ l. IsAlignment l.alignment) }
+{
+    match width {
+        Some(width) => Some(scalar_layout(width)),
+        None => None,
+    }
+}
+
+#[tactic(auto, using(crate::proofs::Widths::vector_aligns, crate::proofs::Widths::width_below))]
+pub(crate) fn laid_vector(size: VectorSize, scalar: Scalar) -> Option<Layout>
+    ensures layout { result ≡ option_map capped (if has_size scalar
+        then Some (vector_layout (component_number size) scalar.width) else None) }
+    ensures aligned { IfSome result (λ l. IsAlignment l.alignment) }
+{
+    match width_of(scalar) {
+        Some(width) => Some(vector_layout(component_number(size), width)),
+        None => None,
+    }
+}
+
+#[tactic(auto, using(crate::proofs::Widths::vector_aligns, crate::proofs::Widths::width_below))]
+pub(crate) fn laid_matrix(columns: VectorSize, rows: VectorSize, scalar: Scalar) -> Option<Layout>
+    ensures layout { result ≡ option_map capped (if has_size scalar
+        then matrix_layout (component_number columns) (component_number rows) scalar.width
+        else None) }
+    ensures aligned { IfSome result (λ l. IsAlignment l.alignment) }
+{
+    match width_of(scalar) {
+        Some(width) => matrix_layout(component_number(columns), component_number(rows), width),
+        None => None,
+    }
+}
+
+/// How the type at a handle is laid out, as [`type_layout`] tells it.
+#[cycle(layouts)]
+#[tactic(auto, using(crate::proofs::Left::cell_aligned))]
+fn kept_layout(
+    types: &UniqueArena<Type_>,
+    handle: Handle<Type_>,
+    seen: &mut [Option<Known>],
+) -> Option<Layout>
+    requires ordered { StandInOrder types.now }
+    requires there { handle < length types.now }
+    requires told { TellSeen types.now seen.old }
+    ensures told { TellSeen types.now seen.new }
+    ensures layout { result ≡ option_map capped (layout_at told_rule types.now handle) }
+    ensures aligned { IfSome result (λ l. IsAlignment l.alignment) }
+{
+    if is_struct(&types[handle].inner) {
+        if let Some(layout) = look_up(types, handle, seen) {
+            return layout;
+        }
+    }
+    kept_new(types, handle, seen)
+}
+
+/// The same of one that no cell has; a struct is then remembered.
+#[cycle(layouts)]
+fn kept_new(
+    types: &UniqueArena<Type_>,
+    handle: Handle<Type_>,
+    seen: &mut [Option<Known>],
+) -> Option<Layout>
+    requires ordered { StandInOrder types.now }
+    requires there { handle < length types.now }
+    requires told { TellSeen types.now seen.old }
+    ensures told { TellSeen types.now seen.new }
+    ensures layout { result ≡ option_map capped (layout_at told_rule types.now handle) }
+    ensures aligned { IfSome result (λ l. IsAlignment l.alignment) }
+{
+    let layout = kept_inner(types, handle, &types[handle].inner, seen);
+    remember(types, handle, layout, seen);
+    layout
+}
+
+/// The same of a type by itself, whose parts stand before `here`.
+#[cycle(layouts)]
+fn kept_inner(
+    types: &UniqueArena<Type_>,
+    here: Handle<Type_>,
+    inner: &TypeInner,
+    seen: &mut [Option<Known>],
+) -> Option<Layout>
+    requires ordered { StandInOrder types.now }
+    requires there { here < length types.now }
+    requires told { TellSeen types.now seen.old }
+    requires before { IsTrue (parts_before here inner.now) }
+    ensures told { TellSeen types.now seen.new }
+    ensures layout { result ≡ option_map capped (inner_layout_by true (layout_at told_rule types.now) inner.now) }
+    ensures aligned { IfSome result (λ l. IsAlignment l.alignment) }
+{
+    match inner {
+        TypeInner::Scalar(scalar) => laid_scalar(width_of(*scalar)),
+        TypeInner::Atomic(scalar) => laid_scalar(atomic_width_of(*scalar)),
+        TypeInner::Vector { size, scalar } => laid_vector(*size, *scalar),
+        TypeInner::Matrix {
+            columns,
+            rows,
+            scalar,
+        } => laid_matrix(*columns, *rows, *scalar),
+        TypeInner::Array { base, size, stride } => {
+            kept_array(types, here, *base, *size, *stride, seen)
+        }
+        TypeInner::Struct { members, span } => kept_struct(types, here, members, *span, seen),
+        _ => None,
+    }
+}
+
+/// An array, if its stride is WGSL's.
+#[cycle(layouts)]
+fn kept_array(
+    types: &UniqueArena<Type_>,
+    here: Handle<Type_>,
+    base: Handle<Type_>,
+    size: ArraySize,
+    stride: u32,
+    seen: &mut [Option<Known>],
+) -> Option<Layout>
+    requires ordered { StandInOrder types.now }
+    requires there { here < length types.now }
+    requires told { TellSeen types.now seen.old }
+    requires before { base < here }
+    ensures told { TellSeen types.now seen.new }
+    ensures layout { result ≡ option_map capped (option_and_then
+        (λ length. option_and_then (kept_array stride length) (layout_at told_rule types.now base))
+        (told_length size)) }
+    ensures aligned { IfSome result (λ l. IsAlignment l.alignment) }
+{
+    match told_length(size) {
+        Some(length) => match kept_layout(types, base, seen) {
+            Some(element) => array_layout(stride, length, element),
+            None => None,
+        },
+        None => None,
+    }
+}
+
+/// A struct, if each member can stay where it is.
+#[cycle(layouts)]
+fn kept_struct(
+    types: &UniqueArena<Type_>,
+    here: Handle<Type_>,
+    members: &[StructMember],
+    span: u32,
+    seen: &mut [Option<Known>],
+) -> Option<Layout>
+    requires ordered { StandInOrder types.now }
+    requires there { here < length types.now }
+    requires told { TellSeen types.now seen.old }
+    requires before { IsTrue (list_all (λ k. nat_lt k.ty here) members.now) }
+    ensures told { TellSeen types.now seen.new }
+    ensures layout { result ≡ option_map capped (kept_struct (layout_at told_rule types.now) members.now span) }
+    ensures aligned { IfSome result (λ l. IsAlignment l.alignment) }
+{
+    let mut before: Option<Placed> = None;
+    let mut alignment: u32 = 0;
+    for member in members {
+        let placed = match kept_member(types, here, member, seen) {
+            Some(placed) => placed,
+            None => return None,
+        };
+        if !stands_after(before, placed) {
+            return None;
+        }
+        alignment = alignment.max(placed.layout.alignment);
+        before = Some(placed);
+    }
+    match before {
+        Some(last) => Some(ended(span, alignment, last)),
+        None => None,
+    }
+}
+
+/// A member, if it is bound to nothing and its type has a layout.
+#[cycle(layouts)]
+fn kept_member(
+    types: &UniqueArena<Type_>,
+    here: Handle<Type_>,
+    member: &StructMember,
+    seen: &mut [Option<Known>],
+) -> Option<Placed>
+    requires ordered { StandInOrder types.now }
+    requires there { here < length types.now }
+    requires told { TellSeen types.now seen.old }
+    requires before { member.now.ty < here }
+    ensures told { TellSeen types.now seen.new }
+    ensures placed { result ≡ option_map capped_member (placed_member (layout_at told_rule types.now) member.now) }
+    ensures aligned { IfSome result (λ k. IsAlignment k.layout.alignment) }
+{
+    if member.binding.is_some() {
+        return None;
+    }
+    match kept_layout(types, member.ty, seen) {
+        Some(layout) => Some(Placed {
+            layout,
+            offset: member.offset,
+        }),
+        None => None,
+    }
+}
