@@ -11,6 +11,7 @@ pub mod Fitting
 pub mod FunctionNumbers
 pub mod InterfaceExamples
 mod LayoutExamples
+pub mod Layouts
 pub mod Lists
 pub mod ModuleShapeExamples
 pub mod NumberExamples
