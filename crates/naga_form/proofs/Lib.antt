@@ -41,6 +41,9 @@ pub mod ItemKeys
 pub mod ItemTargets
 pub mod Layouts
 mod LeafExamples
+pub mod LayoutParts
+pub mod LayoutWords
+pub mod Layouts
 pub mod Leaves
 pub mod Letters
 pub mod LiteralTypes
