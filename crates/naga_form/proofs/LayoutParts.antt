@@ -179,12 +179,12 @@ module _ (m : Module) (structs : List Struct) (count : ℕ → ℕ) (order : Sta
       let parts = if_some (is_concerned xs) (Some xs) ks is in (parts.0, same_Some xs ks parts.1)
 
   -- what makes a struct one
-  record IsConcerned (h : ℕ) (it : TypeInner) (ks : List Placed) : Type 0 where
-    declared : is_declared m.special_types h it ≡ true
-    placed : placed_members (layout_in m) (members_of it) ≡ Some ks
-    concerned : is_concerned ks ≡ true
+  pub record IsConcerned (h : ℕ) (it : TypeInner) (ks : List Placed) : Type 0 where
+    pub declared : is_declared m.special_types h it ≡ true
+    pub placed : placed_members (layout_in m) (members_of it) ≡ Some ks
+    pub concerned : is_concerned ks ≡ true
 
-  concerned_parts : (h : ℕ) (it : TypeInner) (ks : List Placed) → concerned_of m h it ≡ Some ks → IsConcerned h it ks
+  pub concerned_parts : (h : ℕ) (it : TypeInner) (ks : List Placed) → concerned_of m h it ≡ Some ks → IsConcerned h it ks
   concerned_parts h it ks is =
       let parts = if_some (is_declared m.special_types h it) (option_and_then concerned_only (placed_members (layout_in m) (members_of it))) ks is in
       let own = then_some concerned_only (placed_members (layout_in m) (members_of it)) ks parts.1 in

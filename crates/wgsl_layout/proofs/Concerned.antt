@@ -4,7 +4,7 @@
 -- alignment and span how many bytes the module gives to a struct.
 use Rattle.std.proofs.Common.{◌≡◌, ◌+◌, ℕ, true, false, List, [], ◌∷◌}
 use Rattle.std.proofs.Common.{Option, Some, None, refl}
-use Rattle.std.specs.Prelude.{◌&&◌, ◌==◌, ⊤, ⊥, nat_le, not}
+use Rattle.std.specs.Prelude.{◌&&◌, ◌==◌, ⊤, nat_le, not}
 use Rattle.std.specs.List.{list_all}
 use Rattle.std.specs.Option.{is_some, option_map_or}
 use Rattle.std.proofs.lemmas.Bool.{and_from, and_parts, false≢true}
