@@ -39,11 +39,10 @@ pub mod InitialiserValues
 pub mod Interface
 pub mod ItemKeys
 pub mod ItemTargets
-pub mod Layouts
-mod LeafExamples
 pub mod LayoutParts
 pub mod LayoutWords
 pub mod Layouts
+mod LeafExamples
 pub mod Leaves
 pub mod Letters
 pub mod LiteralTypes
