@@ -1,10 +1,10 @@
 -- Each type of a module that has a layout is laid out so by the words of its tree, where each struct that a
 -- text declares is found by its name. So are the members of each struct that is concerned.
 --
--- Throughout, m is a module, structs are those of a text, h and b are handles of types, t is a type and
--- it a type by itself, l a layout, k a member, p one with its layout, w one as it is written, ks and ws
--- are lists of these, i is the number of a member, f tells how the struct of a name is laid out, levels
--- is how deep structs are in one another, and depth how deep types are.
+-- Throughout, m is a module, t the names that types are spelled with, structs are those of a text, h and b
+-- are handles of types, ty is a type and it a type by itself, l a layout, k a member, p one with its layout,
+-- w one as it is written, ks and ws are lists of these, i is the number of a member, f tells how the struct
+-- of a name is laid out, levels is how deep structs are in one another, and depth how deep types are.
 use Rattle.std.proofs.Common.{◌≡◌, ◌<◌, ◌≤◌, ◌+◌, ℕ, zero, suc, Bool, true, false, List, [], ◌∷◌}
 use Rattle.std.proofs.Common.{Option, Some, None, refl, sym, ap, subst, ◌∙◌, arith, codes, length, map, take}
 use Rattle.std.specs.Prelude.{◌&&◌, IsTrue, if◌then◌else◌, nat_lt, not, slice_get, unwrap_or}
@@ -208,7 +208,7 @@ module _ (m : Module) (structs : List Struct) (count : ℕ → ℕ) (order : Sta
       ∙ (ap (λ span. size_among span j ks) type.span ∙ ap (option_and_then (λ k. k.given)) at))
 
   -- its members are laid out as they are written, where types before it are read
-  pub struct_members_read : (h : ℕ) (it : TypeInner) (ks : List Placed) (f : List ℕ → Option Layout) → IsTypeAt h it → IsConcerned h it ks →
+  struct_members_read : (h : ℕ) (it : TypeInner) (ks : List Placed) (f : List ℕ → Option Layout) → IsTypeAt h it → IsConcerned h it ks →
       ((b : ℕ) (l : Layout) → b < h → layout_in m b ≡ Some l → type_layout_by f (type_form (type_names m) b) ≡ Some l) →
       members_named f structs ((type_names m).struct_name h) ≡ Some (written_members (span_of it) ks)
   struct_members_read h it ks f type is reads =
@@ -356,7 +356,7 @@ module _ (m : Module) (structs : List Struct) (count : ℕ → ℕ) (order : Sta
         members_named (struct_within levels structs) structs ((type_names m).struct_name h) ≡ Some (written_members (span_at m h) ks)
     members_are_read =
         struct_members_read h ty.inner ks (struct_within levels structs) (type_at h ty at) (concerned_is h ty ks at is)
-        (forms_read h (below_read h) levels (omega arith))
+        (forms_read h (below_read h) levels (omega (arith, enough)))
         ∙ ap (λ span. Some (written_members span ks)) (sym (type_at h ty at).span)
 
     -- and so is the struct, as its members are

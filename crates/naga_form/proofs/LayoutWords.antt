@@ -2,7 +2,7 @@
 --
 -- Throughout, s is a scalar, n a vector's number of components, w a word, and f tells how the struct of a
 -- name is laid out.
-use Rattle.std.proofs.Common.{◌≡◌, ℕ, Bool, true, false, List, [], ◌∷◌, Some, None}
+use Rattle.std.proofs.Common.{◌≡◌, ℕ, Bool, true, false, List, [], ◌∷◌, Option, Some, None}
 use Rattle.std.proofs.Common.{refl, sym, ap, ◌∙◌, codes}
 use Rattle.std.specs.Prelude.{◌&&◌, ◌||◌, ◌==◌, IsFalse, if◌then◌else◌}
 use Rattle.std.specs.List.{list_all}
@@ -59,7 +59,7 @@ atomic_is_read s has =
     by_width s.kind s.width (and_parts (is_number s.kind) _ has).0 (atomic_width_is s has)
 
 -- ---- over scalars
-vector_over : (f : List ℕ → Option Layout) (n : VectorSize) (s : Scalar) (w : List ℕ) →
+pub vector_over : (f : List ℕ → Option Layout) (n : VectorSize) (s : Scalar) (w : List ℕ) →
     scalar_size w ≡ Some s.width →
     type_layout_by f (of_one (vector_word n) (Named w)) ≡
     Some (vector_layout (component_number n) s.width)
@@ -70,7 +70,7 @@ vector_over f vector.Tri s w is =
 vector_over f vector.Quad s w is =
     ap (option_and_then (λ s. vector_or_other (codes "vec4") s (vector_size (codes "vec4")))) is
 
-matrix_over : (f : List ℕ → Option Layout) (columns rows : VectorSize) (s : Scalar) (w : List ℕ) →
+pub matrix_over : (f : List ℕ → Option Layout) (columns rows : VectorSize) (s : Scalar) (w : List ℕ) →
     scalar_size w ≡ Some s.width →
     type_layout_by f (of_one (matrix_word columns rows) (Named w)) ≡
     matrix_layout (component_number columns) (component_number rows) s.width
@@ -93,7 +93,7 @@ matrix_over f vector.Quad vector.Tri s w is =
 matrix_over f vector.Quad vector.Quad s w is =
     ap (option_and_then (λ s. vector_or_other (codes "mat4x4") s (vector_size (codes "mat4x4")))) is
 
-atomic_over : (f : List ℕ → Option Layout) (s : Scalar) (w : List ℕ) →
+pub atomic_over : (f : List ℕ → Option Layout) (s : Scalar) (w : List ℕ) →
     scalar_size w ≡ Some s.width → is_wide s.width ≡ true →
     type_layout_by f (of_one (codes "atomic") (Named w)) ≡ Some (scalar_layout s.width)
 atomic_over f s w is wide =

@@ -1,8 +1,9 @@
 -- The program that is written for a module keeps the layouts of its structs that are concerned.
 --
--- Throughout, m is a module, of which info is known, h is the handle of a type ty, k is a member, ks are the
--- members of a struct as the module places them, xs and ys are lists, w is a word, s is a struct that is
--- written, and labels tells the names of the labels that front ends gave.
+-- Throughout, m is a module, of which info is known, h is the handle of a type ty, ks are the members of
+-- a struct as the module places them, k is the first of them, xs are items or structs, n is how many are
+-- taken, i a place, w a word, s a struct that is written, and labels tells the names of the labels that
+-- front ends gave.
 use Rattle.std.proofs.Common.{◌≡◌, ◌≤◌, ℕ, zero, suc, Bool, true, false, List, [], ◌∷◌, Option, Some, None}
 use Rattle.std.proofs.Common.{refl, sym, ap, subst, ◌∙◌, arith, length, map, take}
 use Rattle.std.specs.Prelude.{IsTrue, if◌then◌else◌, slice_get}
