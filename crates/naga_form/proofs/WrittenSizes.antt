@@ -15,14 +15,14 @@ use Rattle.naga_ir.specs.declared.types.StructMember.{StructMember}
 use Rattle.naga_ir.specs.declared.types.Type_.{Type_}
 use Rattle.naga_ir.specs.declared.types.TypeInner.{TypeInner}
 use Rattle.naga_ir.specs.declared.types.TypeInner.TheVariants as inner
-use Rattle.naga_layout.specs.Types.{placed_member, placed_members}
+use Rattle.naga_layout.specs.Types.{placed_members}
 use Rattle.naga_names.specs.Reset.{members_of}
-use Rattle.wgsl_layout.specs.Members.{gap_size, is_concerned, sized_members, written_members}
+use Rattle.wgsl_layout.specs.Members.{gap_size, is_concerned, sized_members}
 use Rattle.wgsl_layout.specs.declared.layouts.Layout.{Layout}
 use Rattle.wgsl_layout.specs.declared.layouts.Placed.{Placed}
 use Rattle.module_meaning.specs.Layouts.{concerned_members, concerned_of, concerned_only, layout_in, size_among}
-use Rattle.module_meaning.specs.Layouts.{span_at, span_of, written_size}
-use Rattle.module_meaning.specs.Numbers.{fits_32_bits, member_fits_32_bits, type_fits_32_bits}
+use Rattle.module_meaning.specs.Layouts.{span_of, written_size}
+use Rattle.module_meaning.specs.Numbers.{binding_fits_32_bits, fits_32_bits, member_fits_32_bits, type_fits_32_bits}
 use Rattle.module_meaning.specs.Undeclared.{is_declared}
 
 -- ---- offsets
@@ -34,24 +34,22 @@ AllFit (k ∷ more) = (k.offset < 2 ^ 32) × AllFit more
 placed_fit : (f : ℕ → Option Layout) (ss : List StructMember) → list_all member_fits_32_bits ss ≡ true →
     (ks : List Placed) → placed_members f ss ≡ Some ks → AllFit ks
 placed_fit f [] fit ks is = subst AllFit (same_Some [] ks is) tt
-placed_fit f (s ∷ ss) fit ks is = by (is_none s.binding) (f s.ty) (placed_members f ss) refl is
+placed_fit f (s ∷ ss) fit ks is =
+    let parts = and_parts (member_fits_32_bits s) (list_all member_fits_32_bits ss) fit in
+    let offset = and_parts (fits_32_bits s.offset) (option_map_or binding_fits_32_bits s.binding true) parts.0 in
+    by (is_none s.binding) (f s.ty) (placed_members f ss)
+    (ltb-true s.offset (2 ^ 32) offset.0) (placed_fit f ss parts.1) is
   where
-    parts : (member_fits_32_bits s ≡ true) × (list_all member_fits_32_bits ss ≡ true)
-    parts = and_parts (member_fits_32_bits s) _ fit
-
-    below : s.offset < 2 ^ 32
-    below = ltb-true s.offset (2 ^ 32) (and_parts (fits_32_bits s.offset) _ parts.0).0
-
-    by : (unbound : Bool) (l : Option Layout) (more : Option (List Placed)) → placed_members f ss ≡ more →
+    by : (unbound : Bool) (l : Option Layout) (more : Option (List Placed)) → s.offset < 2 ^ 32 →
+        ((ps : List Placed) → more ≡ Some ps → AllFit ps) →
         option_and_then (λ p. option_map (λ ps. p ∷ ps) more)
         (if unbound then option_map (λ l. record { layout = l; offset = s.offset }) l else None)
         ≡ Some ks → AllFit ks
-    by true (Some l) (Some more) at is =
-        subst AllFit (same_Some (record { layout = l; offset = s.offset } ∷ more) ks is)
-        (below, placed_fit f ss parts.1 more at)
-    by true (Some l) None at is = absurd cc
-    by true None more at is = absurd cc
-    by false l more at is = absurd cc
+    by true (Some l) (Some more) below rest is =
+        subst AllFit (same_Some (record { layout = l; offset = s.offset } ∷ more) ks is) (below, rest more refl)
+    by true (Some l) None below rest is = absurd cc
+    by true None more below rest is = absurd cc
+    by false l more below rest is = absurd cc
 
 -- ---- sizes
 -- a size is no greater than where what is after begins

@@ -34,11 +34,11 @@ pub fn has_the_interface()
     ensures { HasTheInterface }
 {}
 
-/// WGSL's rules of layout, applied to its structs alone, leave the members of each struct that is
-/// concerned at the module's offsets, and give the struct its span, if the span has room for all its
-/// members and is a multiple of the struct's alignment. A struct is concerned that the text declares, if
-/// its members all have a layout and none has a binding, none but the first is at 0, and all but the
-/// last have a size.
+/// WGSL's rules of layout, applied to the structs of the program alone, leave the members of each
+/// struct that is concerned at the module's offsets. They give the struct its span, if that has room
+/// for all its members and is a multiple of the struct's alignment. It concerns each struct that a
+/// text declares, that has members, all of them with a layout and none with a binding, of which none
+/// but the first is at 0 and all but the last have a size.
 pub fn keeps_the_layouts()
     ensures { KeepsTheLayouts }
 {}
