@@ -95,7 +95,7 @@ const WORDS: &[(&[&str], Told)] = &[
         (
             FAILED,
             "",
-            "error: the argument '--check' cannot be used with '--layout'",
+            "error: the argument '--layout' cannot be used with",
         ),
     ),
     (
