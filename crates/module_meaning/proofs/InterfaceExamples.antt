@@ -28,6 +28,7 @@ use Rattle.naga_ir.specs.declared.types.Type_.{Type_}
 use Rattle.naga_ir.specs.declared.types.TypeInner.TheVariants as inner
 use Rattle.naga_ir.specs.declared.types.VectorSize.TheVariants as vector
 use Rattle.naga_info.specs.declared.info.ModuleInfo.{ModuleInfo}
+use Rattle.naga_layout.specs.Types.{layout_at}
 use Rattle.naga_names.specs.Keys.{NameMap}
 use Rattle.naga_names.specs.declared.key.NameKey.TheVariants as key
 use Rattle.naga_words.specs.Spelling.{type_segments}
@@ -345,13 +346,13 @@ module _ (other : ir_module.Module) (info : ModuleInfo) (label : String Global)
     read program = interface_read settings meaning world program
 
     declares_all : read text ≡ declared
-    unfolding type_segments
+    unfolding type_segments layout_at
     declares_all = refl
 
     -- ---- other texts of the same interface
     -- an initialiser counts by its value, however it is written
     named_initialiser : read (record text { globals = buf (bound 1 coherent) read_write ∷ count (Some (worked.name "N")) ∷ [] }) ≡ declared
-    unfolding type_segments
+    unfolding type_segments layout_at
     named_initialiser = refl
 
     -- ---- texts of another interface
@@ -367,15 +368,15 @@ module _ (other : ir_module.Module) (info : ModuleInfo) (label : String Global)
 
     -- a member under another name, with another type, or with more room than it needs
     other_member_name : another (record text { structs = with_first_member (worked.member [] "fract_" i32) })
-    unfolding type_segments
+    unfolding type_segments layout_at
     other_member_name = differ (first_member (λ st. bytes_eq st.name (codes "fract_"))) _ _ refl refl
 
     other_member_type : another (record text { structs = with_first_member (worked.member [] "fract" u32) })
-    unfolding type_segments
+    unfolding type_segments layout_at
     other_member_type = differ (first_member (λ st. bytes_eq st.type (codes "u32"))) _ _ refl refl
 
     sized_member : another (record text { structs = with_first_member (worked.member (Numbered attributes.Size 16 ∷ []) "fract" i32) })
-    unfolding type_segments
+    unfolding type_segments layout_at
     sized_member = differ (first_member (λ st. is_some st.size)) _ _ refl refl
 
     -- a member that is bound to nothing, a struct left out, and one that no text declares
@@ -384,15 +385,15 @@ module _ (other : ir_module.Module) (info : ModuleInfo) (label : String Global)
     is_builtin _ = false
 
     position_left_out : another (record text { structs = s two_numbers ∷ output [] ∷ [] })
-    unfolding type_segments
+    unfolding type_segments layout_at
     position_left_out e = differ (λ i. passes (λ st. passes (λ member. is_builtin member.binding) 0 st.members) 1 i.structs) _ _ refl refl (sym e)
 
     struct_left_out : another (record text { structs = output position ∷ [] })
-    unfolding type_segments
+    unfolding type_segments layout_at
     struct_left_out = differ (λ i. length i.structs == 1) _ _ refl refl
 
     external_struct_declared : another (record text { structs = s two_numbers ∷ output position ∷ worked.struct "Params" (worked.member [] "pos" u32 ∷ []) ∷ [] })
-    unfolding type_segments
+    unfolding type_segments layout_at
     external_struct_declared = differ (λ i. length i.structs == 3) _ _ refl refl
 
     -- a constant of another value, and one of a constant without a name
@@ -400,11 +401,11 @@ module _ (other : ir_module.Module) (info : ModuleInfo) (label : String Global)
     first_value test i = passes (λ c. option_map_or test c.value false) 0 i.constants
 
     other_value : another (record text { constants = worked.constant "N" i32 (worked.integer 8) ∷ [] })
-    unfolding type_segments
+    unfolding type_segments layout_at
     other_value = differ (first_value (λ v. same_integer_as 8 v)) _ _ refl refl
 
     constant_added : another (record text { constants = worked.constant "const_i32" i32 (worked.integer 7) ∷ worked.constant "N" i32 (worked.integer 7) ∷ [] })
-    unfolding type_segments
+    unfolding type_segments layout_at
     constant_added = differ (λ i. length i.constants == 2) _ _ refl refl
 
     -- an override under another number, and one with a value where the module has none
@@ -415,20 +416,20 @@ module _ (other : ir_module.Module) (info : ModuleInfo) (label : String Global)
     with_first_override o = record text { overrides = o ∷ worked.override [] "depth" i32 (Some (worked.name "N")) ∷ [] }
 
     other_id : another (with_first_override (worked.override (id 4 ∷ []) "override_type" u32 None))
-    unfolding type_segments
+    unfolding type_segments layout_at
     other_id = differ (first_override (λ o. option_map_or (λ n. n == 4) o.id false)) _ _ refl refl
 
     id_left_out : another (with_first_override (worked.override [] "override_type" u32 None))
-    unfolding type_segments
+    unfolding type_segments layout_at
     id_left_out = differ (first_override (λ o. is_none o.id)) _ _ refl refl
 
     initialiser_added : another (with_first_override (worked.override (id 3 ∷ []) "override_type" u32 (Some (worked.unsigned 0))))
-    unfolding type_segments
+    unfolding type_segments layout_at
     initialiser_added = differ (first_override (λ o. is_some o.initialiser)) _ _ refl refl
 
     -- its initialiser counts by its value under the values of overrides
     override_named : another (record text { overrides = worked.override (id 3 ∷ []) "override_type" u32 None ∷ worked.override [] "depth" i32 (Some (worked.name "override_type")) ∷ [] })
-    unfolding type_segments
+    unfolding type_segments layout_at
     override_named = differ (λ i. passes (λ o. option_map_or (λ value. option_map_or (same_integer_as 2) value false) o.initialiser false) 1 i.overrides) _ _ refl refl
 
     -- a variable that is bound elsewhere, in another space, with another access, without its
@@ -440,64 +441,64 @@ module _ (other : ir_module.Module) (info : ModuleInfo) (label : String Global)
     with_buf g = record text { globals = g ∷ count (Some (worked.integer 7)) ∷ [] }
 
     other_binding : another (with_buf (buf (bound 2 coherent) read_write))
-    unfolding type_segments
+    unfolding type_segments layout_at
     other_binding = differ (first_global (λ g. option_map_or (λ b. b.binding == 2) g.binding false)) _ _ refl refl
 
     binding_left_out : another (with_buf (buf coherent read_write))
-    unfolding type_segments
+    unfolding type_segments layout_at
     binding_left_out = differ (first_global (λ g. is_none g.binding)) _ _ refl refl
 
     other_space : another (with_buf (buf (bound 1 coherent) (worked.space "uniform")))
-    unfolding type_segments
+    unfolding type_segments layout_at
     other_space = differ (first_global (λ g. option_map_or (bytes_eq (codes "uniform")) g.space false)) _ _ refl refl
 
     access_left_out : another (with_buf (buf (bound 1 coherent) (worked.space "storage")))
-    unfolding type_segments
+    unfolding type_segments layout_at
     access_left_out = differ (first_global (λ g. is_none g.access)) _ _ refl refl
 
     decoration_left_out : another (with_buf (buf (bound 1 []) read_write))
-    unfolding type_segments
+    unfolding type_segments layout_at
     decoration_left_out e = differ (first_global (λ g. g.coherent)) _ _ refl refl (sym e)
 
     decoration_added : another (with_buf (buf (bound 1 (Plain attributes.Coherent ∷ Plain attributes.Volatile ∷ [])) read_write))
-    unfolding type_segments
+    unfolding type_segments layout_at
     decoration_added = differ (first_global (λ g. g.volatile)) _ _ refl refl
 
     abbrev with_count : Option Expression → Program
     with_count value = record text { globals = buf (bound 1 coherent) read_write ∷ count value ∷ [] }
 
     other_first_value : another (with_count (Some (worked.integer 8)))
-    unfolding type_segments
+    unfolding type_segments layout_at
     other_first_value = differ (λ i. passes (λ g. option_map_or (λ value. option_map_or (same_integer_as 8) value false) g.initialiser false) 1 i.globals) _ _ refl refl
 
     first_value_left_out : another (with_count None)
-    unfolding type_segments
+    unfolding type_segments layout_at
     first_value_left_out = differ (λ i. passes (λ g. is_none g.initialiser) 1 i.globals) _ _ refl refl
 
     -- a function with a local of another type
     other_local : another (record text { functions = worked.function "f" (worked.parameter "x" i32 ∷ []) (worked.gives "i32") (worked.local "a" i32 None ∷ []) [] ∷ [] })
-    unfolding type_segments
+    unfolding type_segments layout_at
     other_local = differ (λ i. passes (λ g. passes (bytes_eq (codes "i32")) 0 g.locals) 0 i.functions) _ _ refl refl
 
     -- an entry point whose argument is bound to nothing, one of another size, of another stage, and one
     -- left out
     argument_unbound : another (record text { entry_points = vertex ∷ compute (sized 64) [] ∷ [] })
-    unfolding type_segments
+    unfolding type_segments layout_at
     argument_unbound e = differ (λ i. passes (λ p. passes (λ a. is_builtin a.binding) 0 p.function.arguments) 1 i.entry_points) _ _ refl refl (sym e)
 
     other_size : another (record text { entry_points = vertex ∷ compute (sized 32) index ∷ [] })
-    unfolding type_segments
+    unfolding type_segments layout_at
     other_size = differ (λ i. passes (λ p. is_sized 32 p.stage) 1 i.entry_points) _ _ refl refl
 
     other_stage : another (record text { entry_points = vertex ∷ compute (Plain attributes.Vertex ∷ []) index ∷ [] })
-    unfolding type_segments
+    unfolding type_segments layout_at
     other_stage e = differ (λ i. passes (λ p. is_sized 64 p.stage) 1 i.entry_points) _ _ refl refl (sym e)
 
     entry_point_left_out : another (record text { entry_points = vertex ∷ [] })
-    unfolding type_segments
+    unfolding type_segments layout_at
     entry_point_left_out = differ (λ i. length i.entry_points == 1) _ _ refl refl
 
     -- and an enable that the module has no need of
     enable_added : another (record text { enables = codes "f16" ∷ [] })
-    unfolding type_segments
+    unfolding type_segments layout_at
     enable_added = differ (λ i. length i.enables == 1) _ _ refl refl

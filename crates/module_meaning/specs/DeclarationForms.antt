@@ -5,7 +5,7 @@
 -- Throughout, m is a module, b a binding, f a function, p an entry point, h the handle of a type t, s
 -- a member, c a constant, o an override, v a variable, a an argument, r a result, i an index, and
 -- number is that of a function or an entry point.
-use Rattle.std.specs.Prelude.{◌≡◌, ⊥, ℕ, ◌-◌, Bool, true, Option, None, Some, IsTrue, length, nat_lt}
+use Rattle.std.specs.Prelude.{◌≡◌, ℕ, ◌-◌, Bool, true, Option, None, Some, IsTrue, length, nat_lt}
 use Rattle.std.specs.Prelude.{if◌then◌else◌, slice_get}
 use Rattle.std.specs.Option.{is_some}
 use Rattle.naga_info.specs.declared.info.TypeResolution.TheVariants.{Handle}
