@@ -2,7 +2,7 @@
 
 from layouts import rounded
 
-# what a member without a layout takes, so that others stand behind it
+# what a member without a layout takes, so that others stand after it
 PLAIN = (4, 4)
 
 

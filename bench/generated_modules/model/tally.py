@@ -180,7 +180,7 @@ class Tally:
         self.add("structs that are concerned, whose spans are kept", sum(
             layouts.kept(ty)[1] is not None for ty in concerned))
         self.add("members with sizes", len(sizes) - sizes.count(None))
-        self.add("written, with a size behind a struct's last member", any(
+        self.add("written, with a size of a struct's last member", any(
             layouts.sizes(ty)[-1] is not None for ty in concerned))
         self.add("written, with a member of a struct with sizes", any(
             member in concerned and any(layouts.sizes(member)) for ty in concerned for _, member in ty[1]))
