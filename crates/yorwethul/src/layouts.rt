@@ -6,7 +6,9 @@ ghost use Rattle.module_meaning.specs.Accepted.{is_accepted};
 ghost use Rattle.module_meaning.specs.Ranges.{parts_stand_before};
 
 use naga_info::ModuleInfo;
-use naga_wgsl_out::ir::{Handle, Module, SpecialTypes, StructMember, Type_, TypeInner, UniqueArena};
+use naga_wgsl_out::ir::{
+    Handle, Module, SpecialTypes, StructMember, Type_, TypeInner, UniqueArena,
+};
 use naga_wgsl_out::namer::NameKey;
 use naga_wgsl_out::types::{TypeLayout, type_layout};
 use naga_wgsl_out::wgsl::{Error, names_of};

@@ -147,12 +147,7 @@ fn check<O: Write, E: Write>(known: &Known, out: &mut O, err: &mut E) -> u8 {
 }
 
 /// Prints where the members of the module's structs stand.
-fn tell_layouts<O: Write, E: Write>(
-    alloc: Global,
-    known: &Known,
-    out: &mut O,
-    err: &mut E,
-) -> u8 {
+fn tell_layouts<O: Write, E: Write>(alloc: Global, known: &Known, out: &mut O, err: &mut E) -> u8 {
     match unaccepted(&known.module, &known.info) {
         Some(fault) => refuse_unaccepted(fault, err),
         None => match layout_table(alloc, &known.module, &known.info) {

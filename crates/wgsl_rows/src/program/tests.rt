@@ -498,30 +498,15 @@ const LAYOUT_ROWS: &[(&[&str], &str, &str, u8)] = &[
         "",
         0,
     ),
-    (
-        &["misplaced"],
-        "",
-        "refused: member off its alignment\n",
-        1,
-    ),
+    (&["misplaced"], "", "refused: member off its alignment\n", 1),
     (
         &["misplaced", "explicit"],
         "",
         "refused: member off its alignment\n",
         1,
     ),
-    (
-        &["stretched"],
-        "",
-        "refused: array stride\n",
-        1,
-    ),
-    (
-        &["stretched", "explicit"],
-        "",
-        "refused: array stride\n",
-        1,
-    ),
+    (&["stretched"], "", "refused: array stride\n", 1),
+    (&["stretched", "explicit"], "", "refused: array stride\n", 1),
 ];
 
 /// The program's status on these words.
