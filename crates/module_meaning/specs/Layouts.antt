@@ -1,13 +1,14 @@
--- How the structs of a module stand in memory: which of them keep the offsets of their members, what is
--- written so that they do, why a struct can't, and when a text keeps them.
+-- How the structs of a module stand in memory: which of them keep the offsets of their members, what
+-- is written so that they do, why a struct can't, and when a text keeps them.
 --
--- It concerns each struct that a text declares, that has members, all of them with a layout and none with
--- a binding, of which none but the first is at 0 and all but the last have a size. All others are written
--- without sizes, and have no layout themselves.
+-- A struct is concerned if a text declares it, it has members, each of these has a layout and no
+-- binding, none but the first is at 0, and all but the last have a size. Any other struct is written
+-- without sizes and has no layout, so that a struct with such a member isn't concerned either. One
+-- that is concerned has a layout where its members can be left where they are; else it is refused.
 --
--- Throughout, m is a module, h the handle of one of its types, it that type by itself, i the number of a
--- member, ks are the members of a struct as the module places them, span is how many bytes the module
--- gives to a struct, and structs are those of a text.
+-- Throughout, m is a module, h the handle of one of its types, it that type by itself, i the number
+-- of a member, ks are the members of a struct as the module places them, span is how many bytes the
+-- module gives to a struct, and structs are those of a text.
 use Rattle.std.specs.Prelude.{◌≡◌, ℕ, List, map, not, false, Option, Some, None}
 use Rattle.std.specs.Prelude.{IsTrue, IsFalse, if◌then◌else◌, slice_get}
 use Rattle.std.specs.Option.{option_and_then, option_map_or}
