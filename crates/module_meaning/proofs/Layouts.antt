@@ -1,0 +1,52 @@
+-- What is known of a module's types, as layouts ask for it.
+--
+-- Throughout, m is a module, types are a module's types, h is the handle of one, it a type by itself,
+-- and marks say which structs no text declares.
+use Rattle.std.proofs.Common.{◌≡◌, ◌+◌, ◌∙◌, ℕ, Bool, true, false, List, ap, arith, refl, slice_get, sym}
+use Rattle.std.specs.Prelude.{IsTrue, get_or, not}
+use Rattle.naga_ir.specs.declared.module.Module.{Module}
+use Rattle.naga_ir.specs.declared.types.Type_.{Type_}
+use Rattle.naga_ir.specs.declared.types.TypeInner.{TypeInner}
+use Rattle.naga_ir.specs.declared.types.TypeInner.TheVariants as inner
+use Rattle.naga_layout.specs.Tables.{written_rule}
+use Rattle.naga_layout.specs.Types.{StandInOrder, arrays_are_kept, layout_at}
+use Rattle.naga_layout.specs.Types as laid
+use Rattle.module_meaning.specs.Layouts.{module_rule}
+use Rattle.module_meaning.specs.Ranges.{parts_before, parts_stand_before}
+use Rattle.module_meaning.specs.Undeclared.{is_undeclared}
+use Rattle.module_meaning.proofs.Lists.{placed_at}
+
+-- ---- order
+-- what a type is laid out over is a part of it
+laid_before : (h : ℕ) (it : TypeInner) → parts_before h it ≡ true → IsTrue (laid.parts_before h it)
+laid_before h (inner.Array base n stride) before = before
+laid_before h (inner.Struct members span) before = before
+laid_before h _ before = refl
+
+-- types whose parts stand before them are laid out in order
+pub stand_in_order : (types : List Type_) → IsTrue (parts_stand_before types) → StandInOrder types
+stand_in_order types stand h t at =
+    let from : 0 + h ≡ h = omega arith in
+    laid_before h t.inner
+    (sym (ap (λ k. parts_before k t.inner) from)
+    ∙ placed_at (λ here t. parts_before here t.inner) 0 types h t stand at)
+
+-- ---- rules
+-- marks that say what the module's special types say give its rule
+pub rules_alike : (m : Module) (marks : List Bool) →
+    ((h : ℕ) → get_or marks h false ≡ is_undeclared m.special_types h) →
+    written_rule marks ≡ module_rule m
+rules_alike m marks told = λ i. record { strict = false; declared = λ h. not (told h i) }
+
+-- so types are laid out alike
+pub rule_by_marks : (m : Module) (marks : List Bool) →
+    ((h : ℕ) → get_or marks h false ≡ is_undeclared m.special_types h) → (h : ℕ) →
+    layout_at (written_rule marks) m.types h ≡ layout_at (module_rule m) m.types h
+rule_by_marks m marks told h = ap (λ rule. layout_at rule m.types h) (rules_alike m marks told)
+
+-- and the same arrays have WGSL's stride
+pub strides_by_marks : (m : Module) (marks : List Bool) →
+    ((h : ℕ) → get_or marks h false ≡ is_undeclared m.special_types h) → (h : ℕ) →
+    arrays_are_kept (written_rule marks) m.types h ≡ arrays_are_kept (module_rule m) m.types h
+strides_by_marks m marks told h =
+    ap (λ rule. arrays_are_kept rule m.types h) (rules_alike m marks told)
