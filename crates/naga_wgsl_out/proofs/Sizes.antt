@@ -34,15 +34,6 @@ pub some_layout : (o : Option Layout) (held : Layout) → Some held ≡ option_m
 some_layout None held is = absurd (none-some held (sym is))
 some_layout (Some l) held is = (l, refl, ap (λ o. unwrap_or o held) is)
 
--- what stands after a member with a layout
-pub next_is : (s : StructMember) (o : Option Layout) (held : Layout) → Some held ≡ option_map capped o →
-    Some (record { offset = s.offset; alignment = held.alignment }) ≡
-    option_map (λ l. record { offset = s.offset; alignment = l.alignment }) o
-next_is s o held is =
-    let l = some_layout o held is in
-    ap (λ l. Some (record { offset = s.offset; alignment = l.alignment })) l.2
-    ∙ sym (ap (option_map (λ l. record { offset = s.offset; alignment = l.alignment })) l.1)
-
 -- ---- what is after a member, of members that all have places
 module _ (f : ℕ → Option Layout) (ms : List StructMember) (ks : List Placed)
     (placed_all : placed_members f ms ≡ Some ks) (span a : ℕ) (n : ℕ) where

@@ -6,6 +6,7 @@ ghost use Rattle.module_meaning.specs.Accepted.{is_accepted};
 ghost use Rattle.module_meaning.specs.DeclarationForms.{DeclarationsHaveForms};
 ghost use Rattle.module_meaning.specs.FunctionNumbers.{IsFunctionOf, function_number};
 ghost use Rattle.naga_names.specs.Keys.{names_in};
+ghost use Rattle.module_meaning.specs.Layouts.{KeepsLayouts};
 ghost use Rattle.naga_words.specs.Sink.{IsBehind};
 ghost use Rattle.naga_names.specs.Refusal.{IsResetRefusal};
 ghost use Rattle.module_meaning.specs.Names.{HasNamesOf, wgsl_names};
@@ -118,6 +119,9 @@ impl<W: TextSink> Writer<W> {
         // of these if the flags ask for it.
         ensures bindings { OnOk result (EachReading (W.text self.old.sink) (W.text self.new.sink)
             (BindsAs «module».now info.now (annotates_types self.old.flags))) }
+        // WGSL's rules, by the text's own structs, leave members at the module's offsets.
+        ensures layouts { OnOk result (EachReading (W.text self.old.sink) (W.text self.new.sink)
+            (KeepsLayouts «module».now)) }
         ensures text_ok { OnOk result (W.text self.new.sink
             ≡ W.text self.old.sink ++ written_text «module».now info.now self.old.flags) }
         ensures text_err { OnErr result (IsBehind (W.text self.old.sink)
@@ -364,6 +368,8 @@ pub fn write_string(
         (ResolvesAs «module».now info.now)) }
     ensures bindings { OnOk (answer_of result) (EachReading [] (text_of result)
         (BindsAs «module».now info.now (annotates_types flags))) }
+    ensures layouts { OnOk (answer_of result) (EachReading [] (text_of result)
+        (KeepsLayouts «module».now)) }
     ensures text { IfOk result (λ text.
         string_bytes text ≡ written_text «module».now info.now flags) }
 {
