@@ -10,6 +10,7 @@ mod DeclaredItemExamples
 pub mod Fitting
 pub mod FunctionNumbers
 pub mod InterfaceExamples
+mod LayoutExamples
 pub mod Layouts
 pub mod Lists
 pub mod ModuleShapeExamples

@@ -94,8 +94,8 @@ pub record HasOtherStride (m : Module) (h ty : ℕ) : Type 0 where
 -- and is a multiple of the struct's alignment.
 pub record KeepsLayout (structs : List Struct) (name : List ℕ) (span : ℕ) (ks : List Placed) : Type 0
   where
-  pub offsets : offsets_read structs name ≡ Some (map (λ k. k.offset) ks)
-  pub size : IsTrue (has_room_for_all span ks) → size_of_struct_read structs name ≡ Some span
+    pub offsets : offsets_read structs name ≡ Some (map (λ k. k.offset) ks)
+    pub size : IsTrue (has_room_for_all span ks) → size_of_struct_read structs name ≡ Some span
 
 -- so it is with each struct that is concerned
 abbrev pub KeepsLayouts : Module → Program → Type 0

@@ -28,9 +28,9 @@ use Rattle.naga_ir.specs.declared.module.ShaderStage.TheVariants as stage
 use Rattle.naga_names.specs.Keys.{NameMap}
 use Rattle.wgsl_words.specs.Words.{builtin_word, interpolation_word, sampling_word}
 use Rattle.wgsl_text.proofs.ValueWords.{value_words}
-use Rattle.wgsl_text.specs.Attributes.{Attribute, PlainAttribute, WordedAttribute, Invariant, IsAttributes, Numbered, Plain, PerPrimitive, BlendSource, Coherent, Volatile}
+use Rattle.wgsl_text.specs.Attributes.{Attribute, PlainAttribute, WordedAttribute, Invariant, IsAttributes, Numbered, Plain, PerPrimitive, BlendSource, Coherent, Align, Size, Volatile}
 use Rattle.wgsl_text.specs.Attributes.{Worded, Compute, Task, AnyHit, ClosestHit, Miss, Mesh, Payload, IncomingPayload}
-use Rattle.wgsl_text.specs.Attributes.{behind_location, is_global_binding, is_id, is_io_binding, is_member_binding, is_stage}
+use Rattle.wgsl_text.specs.Attributes.{behind_location, behind_size as may_follow_size, is_global_binding, is_id, is_io_binding, is_member_binding, is_stage}
 use Rattle.wgsl_text.specs.Words.{IsIdentifier}
 use Rattle.text_meaning.specs.Attributes.{AnyHitStage, BuiltinValue, ClosestHitStage, ComputeStage, MeshStage, MissStage, TaskStage}
 use Rattle.text_meaning.specs.Attributes.{ResourceBinding as Resource}
@@ -46,7 +46,7 @@ use Rattle.module_meaning.specs.Ranges.{is_below}
 use Rattle.module_meaning.specs.StageBindings.{binding_meant, is_coherent_memory, is_invariant, is_volatile_memory, stage_binding}
 use Rattle.naga_form.specs.Attributes.{attribute_if, attribute_of, binding_attributes, builtin_attributes, decoration_attributes}
 use Rattle.naga_form.specs.Attributes.{global_attributes, id_attributes, interpolation_attributes, interpolation_told, is_center}
-use Rattle.naga_form.specs.Attributes.{is_perspective, incoming_attributes, passing_attributes, payload_attributes, resource_attributes}
+use Rattle.naga_form.specs.Attributes.{is_perspective, incoming_attributes, member_attributes, passing_attributes, payload_attributes, resource_attributes}
 use Rattle.naga_form.specs.Attributes.{size_attributes, stage_attributes}
 
 -- ---- locations
@@ -228,20 +228,6 @@ module _ (names : NameMap) (e : EntryPoint) (x y z : ℕ) (sizes : e.workgroup_s
       by None is = absurd cc
       by (Some v) is = refl
 
--- ---- members
--- a member is given neither a size nor an alignment
-abbrev GivesNoRoom : List Attribute → Type 0
-GivesNoRoom list = (size_read list ≡ None) × (behind_size list ≡ list) × (alignment_read list ≡ None) × (behind_alignment list ≡ list)
-
-pub gives_no_room : (b : Option Binding) → GivesNoRoom (passing_attributes b)
-gives_no_room None = (refl, refl, refl, refl)
-gives_no_room (Some (BuiltIn value)) = by (builtin_word value) (is_invariant value)
-  where
-    by : (w : Option (List ℕ)) (invariant : Bool) → GivesNoRoom (builtin_attributes w invariant)
-    by None invariant = (refl, refl, refl, refl)
-    by (Some w) invariant = (refl, refl, refl, refl)
-gives_no_room (Some (Location location i s source per_primitive)) = (refl, refl, refl, refl)
-
 -- ---- the grammar
 both_attributes : (xs ys : List Attribute) → IsAttributes xs → IsAttributes ys → IsAttributes (xs ++ ys)
 both_attributes [] ys is_x is_y = is_y
@@ -284,6 +270,12 @@ passing_is (Some (Location location i s source per_primitive)) fits =
           (plain_if PerPrimitive per_primitive)),
     )
 
+-- a size of 32 bits is one of the grammar, and with it all that is written of a member
+pub member_attributes_are : (size : Option ℕ) → ((n : ℕ) → size ≡ Some n → n < 2 ^ 32) →
+    (b : Option Binding) → option_map_or binding_fits_32_bits b true ≡ true → IsAttributes (member_attributes size b)
+member_attributes_are None below b fits = passing_is b fits
+member_attributes_are (Some n) below b fits = (below n refl, passing_is b fits)
+
 -- only a position is invariant
 invariant_is : (value : builtins.BuiltIn) → is_invariant value ≡ true → builtin_word value ≡ Some (codes "position")
 invariant_is (builtin.Position invariant) is = refl
@@ -321,16 +313,42 @@ passing_io (Some (Location location i s source per_primitive)) =
     let own_s = unwrap_or s sampling.Center in
     location_io source (is_perspective own_i) (is_center own_s) (interpolation_word own_i) (sampling_word own_s) per_primitive
 
--- and of a member
-pub passing_member : (b : Option Binding) → is_member_binding (passing_attributes b) ≡ true
-passing_member None = refl
-passing_member (Some (BuiltIn value)) = by (builtin_word value) refl (is_invariant value) refl
-  where
-    by : (o : Option (List ℕ)) → builtin_word value ≡ o → (invariant : Bool) → is_invariant value ≡ invariant →
-        is_member_binding (builtin_attributes o invariant) ≡ true
-    by None at invariant is = refl
-    by (Some w) at invariant is = builtin_io value (Some w) at invariant is
-passing_member (Some (Location location i s source per_primitive)) = passing_io (Some (Location location i s source per_primitive))
+-- and of a member, with the size that it is given; a binding is neither a size nor an alignment
+bound_member : (list : List Attribute) → is_io_binding list ≡ true → (may_follow_size list ≡ true) × (is_member_binding list ≡ true)
+bound_member (Numbered Size n ∷ more) is = absurd cc
+bound_member (Numbered Align n ∷ more) is = absurd cc
+bound_member _ is = (is, is)
+
+pub member_is : (size : Option ℕ) (b : Option Binding) → is_member_binding (member_attributes size b) ≡ true
+member_is None b = (bound_member (passing_attributes b) (passing_io b)).1
+member_is (Some n) b = (bound_member (passing_attributes b) (passing_io b)).0
+
+-- so what is written of a member says its size, no alignment and how it passes
+abbrev GivesNoRoom : List Attribute → Type 0
+GivesNoRoom list = (size_read list ≡ None) × (behind_size list ≡ list) × (alignment_read list ≡ None) × (behind_alignment list ≡ list)
+
+gives_no_room : (list : List Attribute) → is_io_binding list ≡ true → GivesNoRoom list
+gives_no_room (Numbered Size n ∷ more) is = absurd cc
+gives_no_room (Numbered Align n ∷ more) is = absurd cc
+gives_no_room _ is = (refl, refl, refl, refl)
+
+abbrev pub SaysOfMember : (size : Option ℕ) → Option Binding → List Attribute → Type 0
+SaysOfMember size b list =
+    (size_read list ≡ size) × (alignment_read (behind_size list) ≡ None)
+    × (stage_binding_read (behind_alignment (behind_size list)) ≡ stage_binding b)
+
+pub member_read : (size : Option ℕ) (b : Option Binding) → option_map_or binding_has_form b true ≡ true →
+    SaysOfMember size b (member_attributes size b)
+member_read None b has =
+    let none = gives_no_room (passing_attributes b) (passing_io b) in (
+      none.0,
+      ap alignment_read none.1 ∙ none.2,
+      ap (λ l. stage_binding_read (behind_alignment l)) none.1
+          ∙ (ap stage_binding_read none.3 ∙ passing_read b has),
+    )
+member_read (Some n) b has =
+    let none = gives_no_room (passing_attributes b) (passing_io b) in
+    (refl, none.2, ap stage_binding_read none.3 ∙ passing_read b has)
 
 -- overrides and variables
 pub id_is : (id : Option ℕ) → is_id (id_attributes id) ≡ true

@@ -34,6 +34,7 @@ use Rattle.module_meaning.specs.Accepted.{is_accepted}
 use Rattle.module_meaning.specs.AlikeTypes.{is_spelled}
 use Rattle.module_meaning.specs.DeclarationForms.{stage_has_form, DeclarationsHaveForms, IsDeclaredType}
 use Rattle.module_meaning.specs.DeclarationForms.{IsInitialiser}
+use Rattle.module_meaning.specs.Layouts.{written_size}
 use Rattle.module_meaning.specs.Names.{module_names, name_in, wgsl_names}
 use Rattle.module_meaning.specs.Numbers.{binding_fits_32_bits, fits_32_bits, member_fits_32_bits}
 use Rattle.module_meaning.specs.Numbers.{type_fits_32_bits, workgroup_fits_32_bits}
@@ -58,8 +59,9 @@ use Rattle.wgsl_text.specs.Words.{IsIdentifier, stands_in}
 use Rattle.wgsl_words.specs.Words.{space_access_word, space_word}
 use Rattle.naga_form.proofs.AcceptedFunctions.{entry_point_is_in_range}
 use Rattle.naga_form.proofs.AcceptedGroups.{numbers_at, types_are_fit}
-use Rattle.naga_form.proofs.Attributes.{global_attributes_are, id_attributes_are, id_is, passing_is}
-use Rattle.naga_form.proofs.Attributes.{global_is as global_binding_is, passing_member, stage_attributes_are}
+use Rattle.naga_form.proofs.Attributes.{global_attributes_are, id_attributes_are, id_is}
+use Rattle.naga_form.proofs.Attributes.{global_is as global_binding_is, member_attributes_are}
+use Rattle.naga_form.proofs.Attributes.{member_is as member_is_bound, stage_attributes_are}
 use Rattle.naga_form.proofs.Attributes.{stage_is, three_sizes}
 use Rattle.naga_form.proofs.ConstantForms.{constant_is, global_is}
 use Rattle.naga_form.proofs.Literals.{literal_is}
@@ -71,6 +73,7 @@ use Rattle.naga_form.proofs.SameValues.{override_identifier, tree_is}
 use Rattle.naga_form.proofs.TypeTrees.{storage_is}
 use Rattle.naga_form.proofs.WrittenFunctions.{entry_point_at}
 use Rattle.naga_form.proofs.WrittenOut.{declared_in_range, global_names_in_range}
+use Rattle.naga_form.proofs.WrittenSizes.{written_size_fits}
 use Rattle.naga_form.proofs.WrittenTypes.{is_type_at, tree_there}
 use Rattle.naga_form.specs.Attributes.{stage_attributes}
 use Rattle.naga_form.specs.ConstantForms.{global_form, written_constant_form}
@@ -219,19 +222,21 @@ module _ (m : Module) (info : ModuleInfo) (accepted : IsTrue (is_accepted m info
     struct_is : (h : ℕ) (t : Type_) → slice_get m.types h ≡ Some t →
         is_declared m.special_types h t.inner ≡ true → IsStruct (record {
           name = name_in names (key.Type_ h);
-          members = map (member_form names spelled h) (enumerate_from 0 (members_of t.inner));
+          members = map (member_form names spelled m h) (enumerate_from 0 (members_of t.inner));
         })
     struct_is h t at declared = record {
       name = item_is_identifier m (key.Type_ h, _) (type_stands wgsl_names m h t at);
-      members = each_form IsMember (member_form names spelled h) (members_of t.inner) member_is;
+      members = each_form IsMember (member_form names spelled m h) (members_of t.inner) member_is;
     }
       where
         member_is : (i : ℕ) (s : ir_member.StructMember) → slice_get (members_of t.inner) i ≡ Some s →
-            IsMember (member_form names spelled h (i, s))
+            IsMember (member_form names spelled m h (i, s))
         member_is i s there = record {
-          attributes = passing_is s.binding
-              (member_fits t.inner (numbers_at m info accepted h t at).1 i s there);
-          binding = passing_member s.binding;
+          attributes =
+              let fits = (numbers_at m info accepted h t at).1 in
+              member_attributes_are (written_size m h i) (written_size_fits m h t at fits i) s.binding
+              (member_fits t.inner fits i s there);
+          binding = member_is_bound (written_size m h i) s.binding;
           name = member_is_word m h t at i s there;
           type = declared_type s.ty (IsDeclaredType.OfMember h i t s at declared there);
         }

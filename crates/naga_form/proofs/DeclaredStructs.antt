@@ -45,7 +45,7 @@ module _ (m : Module) (info : ModuleInfo) (explicit : Bool) (labels : LabelNames
   form p = record {
     name = struct_name p.0;
     members =
-        map (member_form (module_names m) (type_names m) p.0) (enumerate_from 0 (members_of p.1.inner));
+        map (member_form (module_names m) (type_names m) m p.0) (enumerate_from 0 (members_of p.1.inner));
   }
 
   -- ---- structs
@@ -130,7 +130,7 @@ module _ (m : Module) (info : ModuleInfo) (explicit : Bool) (labels : LabelNames
   members_found h t at is i member there =
       let word = name_in (module_names m) (key.StructMember h i) in
       let members = enumerate_from 0 (members_of t.inner) in
-      let make = member_form (module_names m) (type_names m) h in
+      let make = member_form (module_names m) (type_names m) m h in
       let made = map make members in
       ap (λ o. option_and_then (λ s. place_among word (map (λ l. l.name) s.members))
       (option_and_then (slice_get program.structs) o)) (struct_found h t at is)

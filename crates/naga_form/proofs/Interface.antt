@@ -49,8 +49,7 @@ use Rattle.shader_runs.specs.Value.{Value}
 use Rattle.shader_runs.specs.World.{Meaning, Settings, World}
 use Rattle.shader_runs.proofs.Calls.{initialisers_are_alike}
 use Rattle.text_meaning.specs.Abstraction.{expression_read, program_read}
-use Rattle.text_meaning.specs.Attributes.{alignment_read, behind_alignment}
-use Rattle.text_meaning.specs.Attributes.{stage_binding_read, stage_read}
+use Rattle.text_meaning.specs.Attributes.{stage_read}
 use Rattle.text_meaning.specs.Interface.{access_read, constant_interface_read}
 use Rattle.text_meaning.specs.Interface.{entry_point_interface_read, function_interface_read}
 use Rattle.text_meaning.specs.Interface.{global_interface_read, member_interface_read}
@@ -62,7 +61,7 @@ use Rattle.module_meaning.specs.DeclarationForms.{IsMemberBinding, IsPassed, bin
 use Rattle.module_meaning.specs.DeclarationForms.{stage_has_form}
 use Rattle.module_meaning.specs.Enables.{needed_enables}
 use Rattle.module_meaning.specs.ExpressionContexts.{global_tree}
-use Rattle.module_meaning.specs.Faithful.{HasInterfaceOf}
+use Rattle.module_meaning.specs.Faithful.{HasInterfaceOf, TellsInterfaceOf}
 use Rattle.module_meaning.specs.FunctionNumbers.{all_functions}
 use Rattle.module_meaning.specs.Interface.{argument_passed, body_interface, constant_interface}
 use Rattle.module_meaning.specs.Interface.{entry_point_interface}
@@ -70,6 +69,7 @@ use Rattle.module_meaning.specs.Interface.{function_interfaces, global_expressio
 use Rattle.module_meaning.specs.Interface.{global_interface, member_interface}
 use Rattle.module_meaning.specs.Interface.{override_interface, result_passed, stage_of}
 use Rattle.module_meaning.specs.Interface.{struct_interface}
+use Rattle.module_meaning.specs.Layouts.{written_size}
 use Rattle.module_meaning.specs.ModuleShapes.{module_shape}
 use Rattle.module_meaning.specs.Names.{AreLabelNames, constant_name, expression_name, function_name}
 use Rattle.module_meaning.specs.Names.{global_name, LabelNames, module_names, name_in}
@@ -98,10 +98,11 @@ use Rattle.naga_form.specs.Types.{type_form}
 use Rattle.naga_form.proofs.AcceptedFunctions.{entry_point_is_in_range, entry_points_counted}
 use Rattle.naga_form.proofs.AcceptedFunctions.{functions_counted}
 use Rattle.naga_form.proofs.AcceptedGroups.{declarations_are}
-use Rattle.naga_form.proofs.Attributes.{coherent_is_read, gives_no_room, id_is_read, passing_read}
+use Rattle.naga_form.proofs.Attributes.{coherent_is_read, id_is_read, member_read, passing_read}
 use Rattle.naga_form.proofs.Attributes.{resource_is_read, stage_is_read, volatile_is_read}
 use Rattle.naga_form.proofs.Facts.{from_start, further}
 use Rattle.naga_form.proofs.ExpressionNames.{expression_names_are}
+use Rattle.naga_form.proofs.Layouts.{keeps_layouts}
 use Rattle.naga_form.proofs.ModuleFits.{global_in_range, global_words, module_fits_under}
 use Rattle.naga_form.proofs.ReadDeclarations.{initialisers_read, written_is_read}
 use Rattle.naga_form.proofs.Runs.{reads_as_shapes_under}
@@ -173,25 +174,23 @@ module _ (m : Module) where
         is_declared m.special_types h u.inner ≡ true → (k : ℕ) (ss : List StructMember) →
         ((i : ℕ) (s : StructMember) → slice_get ss i ≡ Some s →
         slice_get (members_of u.inner) (k + i) ≡ Some s) →
-        map member_interface_read (map (member_form names t h) (enumerate_from k ss)) ≡
-        map (member_interface names t h) (enumerate_from k ss)
+        map member_interface_read (map (member_form names t m h) (enumerate_from k ss)) ≡
+        map (member_interface names t m h) (enumerate_from k ss)
     members_declared h u at is k [] there = refl
     members_declared h u at is k (s ∷ ss) there =
-        let room = gives_no_room s.binding in
         let has =
         bound_has_form s.binding
         (λ b bound.
         declarations.members b
         (IsMemberBinding.OfMember h (k + 0) u s b at is (there 0 s refl) bound)) in
+        let own = member_read (written_size m h k) s.binding has in
         let rest =
         members_declared h u at is (k + 1) ss (further (members_of u.inner) k s ss there) in
         λ i. record {
           name = name_in names (key.StructMember h k);
-          binding =
-              (ap (λ l. stage_binding_read (behind_alignment l)) room.1
-              ∙ (ap stage_binding_read room.3 ∙ passing_read s.binding has)) i;
-          size = room.0 i;
-          alignment = (ap alignment_read room.1 ∙ room.2) i;
+          binding = own.2 i;
+          size = own.0 i;
+          alignment = own.1 i;
           type = spelled_form t s.ty i;
         } ∷ rest i
 
@@ -215,13 +214,13 @@ module _ (m : Module) where
             (cons_option
             (if b then Some (record {
               name = name_in names (key.Type_ k);
-              members = map (member_form names t k) (enumerate_from 0 (members_of u.inner));
+              members = map (member_form names t m k) (enumerate_from 0 (members_of u.inner));
             }) else None)
             (filter_map (struct_form names t m) (enumerate_from (k + 1) us))) ≡
             cons_option
             (if b then Some (record {
               name = name_in names (key.Type_ k);
-              members = map (member_interface names t k) (enumerate_from 0 (members_of u.inner));
+              members = map (member_interface names t m k) (enumerate_from 0 (members_of u.inner));
             }) else None)
             (filter_map (struct_interface names t m) (enumerate_from (k + 1) us))
         by true is rest =
@@ -495,8 +494,8 @@ module _ (m : Module) (info : ModuleInfo) (explicit : Bool) (labels : LabelNames
       ∙ sym (ap (option_and_then (module_initialiser_value program_of_shapes settings meaning))
       read.1)))
 
-  pub has_interface_under : HasInterfaceOf m info (program_under labels m info explicit)
-  has_interface_under settings fit meaning typed world =
+  tells_interface : TellsInterfaceOf m info (program_under labels m info explicit)
+  tells_interface settings fit meaning typed world =
       let read : Expression → Option Value = λ e.
       text_initialiser_value (program_read (program_under labels m info explicit)) settings world
       meaning is_request (expression_read e) in
@@ -528,6 +527,12 @@ module _ (m : Module) (info : ModuleInfo) (explicit : Bool) (labels : LabelNames
             (functions_counted m info accepted) (from_start m.functions) i;
         entry_points = entry_points i;
       }
+
+  pub has_interface_under : HasInterfaceOf m info (program_under labels m info explicit)
+  has_interface_under = record {
+    tells = tells_interface;
+    layouts = keeps_layouts m info explicit labels accepted declarations;
+  }
 
 pub has_interface : (m : Module) (info : ModuleInfo) (explicit : Bool) →
     IsTrue (is_accepted m info) → DeclarationsHaveForms m → AllWrittenHaveForms explicit m info →

@@ -39,6 +39,9 @@ pub mod InitialiserValues
 pub mod Interface
 pub mod ItemKeys
 pub mod ItemTargets
+pub mod LayoutParts
+pub mod LayoutWords
+pub mod Layouts
 mod LeafExamples
 pub mod Leaves
 pub mod Letters
@@ -96,4 +99,5 @@ pub mod WritableModules
 pub mod WrittenFunctions
 pub mod WrittenHandles
 pub mod WrittenOut
+pub mod WrittenSizes
 pub mod WrittenTypes

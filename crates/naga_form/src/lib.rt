@@ -5,7 +5,8 @@
 pub mod types;
 
 ghost use Rattle.naga_form.specs.Laws.{NamesAreLabelNames, NamesBehindAreLabelNames};
-ghost use Rattle.naga_form.specs.Laws.{IsAProgram, HasTheInterface, InitialisersHaveValues, ResolvesAsMeant};
+ghost use Rattle.naga_form.specs.Laws.{IsAProgram, HasTheInterface, KeepsTheLayouts};
+ghost use Rattle.naga_form.specs.Laws.{InitialisersHaveValues, ResolvesAsMeant};
 ghost use Rattle.naga_form.specs.Laws.{BindsAsCounted, FunctionsAreRead, IsReadAsItsShapes};
 ghost use Rattle.naga_form.specs.Laws.{RunsAsTheModule, ScopesAreChecked, IsConsistent};
 ghost use Rattle.naga_form.specs.Laws.{HasAMeaning, HasAWorld, NamesTell};
@@ -31,6 +32,15 @@ pub fn is_a_program()
 /// It declares what the module declares, where the rules of scope hold in the module.
 pub fn has_the_interface()
     ensures { HasTheInterface }
+{}
+
+/// WGSL's rules of layout, applied to the structs of the program alone, leave the members of each
+/// struct that is concerned at the module's offsets. They give the struct its span, if that has room
+/// for all its members and is a multiple of the struct's alignment. It concerns each struct that a
+/// text declares, that has members, all of them with a layout and none with a binding, of which none
+/// but the first is at 0 and all but the last have a size.
+pub fn keeps_the_layouts()
+    ensures { KeepsTheLayouts }
 {}
 
 /// Each initialiser of an accepted module has a value, where all that the module declares has

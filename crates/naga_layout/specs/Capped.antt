@@ -1,7 +1,8 @@
--- Types as the code lays them out: member by member, and with sizes past each offset alike.
+-- Types as the code lays them out: member by member, and with sizes that no offset reaches alike.
 --
--- Throughout, l is a layout, a an alignment, f tells the layouts of types, k is a member and span how many
--- bytes the module gives to a struct.
+-- Throughout, l is a layout, a an alignment, f tells the layouts of types, k is a member, p a
+-- member with its type's layout, more are those that are left, and span is how many bytes the
+-- module gives to a struct.
 use Rattle.std.specs.Prelude.{ℕ, ◌&&◌, List, [], ◌∷◌, max, nat_lt, Option, Some, None}
 use Rattle.std.specs.Prelude.{if◌then◌else◌}
 use Rattle.std.specs.Option.{option_and_then, option_map}
@@ -13,13 +14,14 @@ use Rattle.wgsl_layout.specs.declared.layouts.Placed.{Placed}
 use Rattle.naga_layout.specs.Types.{placed_member}
 use Rattle.naga_layout.specs.declared.types.TypeLayout.{TypeLayout}
 
--- what a scalar with a size can be wide
+-- how many bytes a number has that is laid out
 pub data IsWidth : ℕ → Type 0 where
   Two : IsWidth 2
   Four : IsWidth 4
   Eight : IsWidth 8
 
--- A struct from a member on: what the last one before these is, and the greatest alignment there.
+-- The layout of a struct, where its members can be left where they are: over those that are left,
+-- by the one before these, if there is one, and the greatest alignment up to there.
 abbrev pub left_from :
     (f : ℕ → Option Layout) → (span : ℕ) → (before : Option Placed) → (a : ℕ) → List StructMember →
     Option Layout
@@ -30,9 +32,10 @@ left_from f span before a (k ∷ more) =
     then left_from f span (Some p) (max a p.layout.alignment) more else None)
     (placed_member f k)
 
--- a size that is told: one that 32 bits hold
+-- a size as users are told it: none, if it has more than 32 bits
 abbrev pub told_size : Option ℕ → Option ℕ
 told_size size = option_and_then (λ s. if nat_lt s past then Some s else None) size
 
+-- a layout as users are told it
 abbrev pub told : Layout → TypeLayout
 told l = record { align = l.alignment; size = told_size l.size }

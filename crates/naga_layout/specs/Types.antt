@@ -1,11 +1,15 @@
--- How the types of a module are laid out, where its structs are written with the sizes that leave their
--- members where they are.
+-- How the types of a module are laid out in memory, where its structs are written with the sizes
+-- that leave their members where the module has them. The rules are those of
+-- wgsl_layout/specs/Rules, and all numbers are in bytes.
 --
--- Throughout, types are a module's types, h is the handle of one, t a type of the module, it a type by
--- itself, s a scalar, k a member, f tells the layouts of types that stand before, and rule which types
--- are laid out.
-use Rattle.std.specs.Prelude.{◌≡◌, ℕ, zero, suc, ◌==◌, ◌&&◌, ◌||◌, Bool, true, false, not, List, [], ◌∷◌}
-use Rattle.std.specs.Prelude.{IsTrue, Option, Some, None, if◌then◌else◌, nat_lt, slice_get}
+-- Throughout, types are a module's types, h is the handle of one, t a type of the module, it a type
+-- by itself, s a scalar, k a member, p a member with its type's layout, ps are all of them, span is
+-- how many bytes the module gives to a struct, stride how far apart it has the elements of an array
+-- begin, f tells the layouts of types that stand before, g whether their arrays are kept, and rule
+-- which types are laid out.
+use Rattle.std.specs.Prelude.{◌≡◌, ℕ, zero, suc, ◌==◌, ◌&&◌, ◌||◌, Bool, true, false, not}
+use Rattle.std.specs.Prelude.{List, [], ◌∷◌, IsTrue, Option, Some, None, if◌then◌else◌, nat_lt}
+use Rattle.std.specs.Prelude.{slice_get}
 use Rattle.std.specs.Int.NonZero.{non_zero_u32_get}
 use Rattle.std.specs.List.{list_all}
 use Rattle.std.specs.Option.{is_none, option_and_then, option_map, option_map_or}
@@ -27,7 +31,8 @@ use Rattle.wgsl_layout.specs.declared.layouts.Layout.{Layout}
 use Rattle.wgsl_layout.specs.declared.layouts.Placed.{Placed}
 
 -- ---- scalars
--- numbers of 16, 32 and 64 bits have a size, and nothing else
+-- Integers and floats of 16, 32 and 64 bits are laid out. Truth values and abstract numbers stand
+-- in no memory that is shared.
 abbrev pub is_number : ScalarKind → Bool
 is_number kind.Sint = true
 is_number kind.Uint = true
@@ -42,59 +47,65 @@ is_wide width = width == 4 || width == 8
 abbrev pub has_size : Scalar → Bool
 has_size s = is_number s.kind && (s.width == 2 || is_wide s.width)
 
--- of these, those of 32 and 64 bits are changed in one step
+-- of these, those of 32 and 64 bits may be atomic
 abbrev pub has_atomic_size : Scalar → Bool
 has_atomic_size s = is_number s.kind && is_wide s.width
 
+-- how many components a vector has, or a column, or how many columns there are
 abbrev pub component_number : VectorSize → ℕ
 component_number vector.Bi = 2
 component_number vector.Tri = 3
 component_number vector.Quad = 4
 
 -- ---- arrays
--- how long an array is, if it is told how long, and by no override
+-- How many elements an array has, or none, where its buffer says how many. An array whose length an
+-- override gives is not laid out.
 abbrev pub told_length : ArraySize → Option (Option ℕ)
 told_length (size.Constant number) = Some (Some (non_zero_u32_get number))
 told_length (size.Pending override_handle) = None
 told_length size.Dynamic = Some None
 
 -- ---- structs
--- a member as its type is laid out, where it is bound to nothing and has a layout
+-- a member with its type's layout, where that is laid out and the member has no binding
 abbrev pub placed_member : (f : ℕ → Option Layout) → StructMember → Option Placed
 placed_member f k =
     if is_none k.binding then option_map (λ l. record { layout = l; offset = k.offset }) (f k.ty)
     else None
 
--- all of them, if each is such a one
+-- all members, if each is such a one
 abbrev pub placed_members : (f : ℕ → Option Layout) → List StructMember → Option (List Placed)
 placed_members f [] = Some []
 placed_members f (k ∷ more) =
     option_and_then (λ p. option_map (λ ps. p ∷ ps) (placed_members f more)) (placed_member f k)
 
--- members that can all be left where they are make a struct
+-- the layout of a struct, if all its members can be left where they are
 abbrev pub kept_members : (span : ℕ) → List Placed → Option Layout
 kept_members span ks =
     if are_kept None ks then struct_layout (written_members span ks) else None
 
+-- the same of a struct of the module
 abbrev pub kept_struct : (f : ℕ → Option Layout) → List StructMember → (span : ℕ) → Option Layout
 kept_struct f members span = option_and_then (kept_members span) (placed_members f members)
 
 -- ---- types
--- Which types are laid out: of arrays those with WGSL's stride alone, if the rule is strict, and of
--- structs those that a text declares.
+-- Which types are laid out: of structs those that are declared; of arrays, if the rule is strict,
+-- those alone whose elements begin as far apart in the module as WGSL has them begin.
 pub record Rule : Type 0 where
   pub strict : Bool
   pub declared : ℕ → Bool
 
--- what is told to users: strictly, each struct counting as declared
+-- the rule for what users are told: strict, and each struct counts as declared
 abbrev pub told_rule : Rule
 told_rule = record { strict = true; declared = λ h. true }
 
-abbrev pub laid_array : (strict : Bool) → (stride : ℕ) → (length : Option ℕ) → Layout → Option Layout
+-- an array of these elements
+abbrev pub laid_array :
+    (strict : Bool) → (stride : ℕ) → (length : Option ℕ) → Layout → Option Layout
 laid_array true stride length element = kept_array stride length element
 laid_array false stride length element = array_layout length element
 
--- a type by itself, over the layouts of its parts
+-- A type by itself, over the layouts of its parts. All types but these stand in no memory that is
+-- shared.
 abbrev pub inner_layout_by : (strict : Bool) → (f : ℕ → Option Layout) → TypeInner → Option Layout
 inner_layout_by strict f (inner.Scalar s) =
     if has_size s then Some (scalar_layout s.width) else None
@@ -111,61 +122,65 @@ inner_layout_by strict f (inner.Array base n stride) =
 inner_layout_by strict f (inner.Struct members span) = kept_struct f members.items span
 inner_layout_by strict f _ = None
 
--- a struct that no text declares has no layout
+-- a struct that is not declared is not laid out
 abbrev pub has_row : (declared : ℕ → Bool) → (h : ℕ) → TypeInner → Bool
 has_row declared h (inner.Struct members span) = declared h
 has_row declared h _ = true
 
+-- the type at a handle, over the layouts of its parts
 abbrev pub named_layout_by : Rule → (f : ℕ → Option Layout) → (h : ℕ) → TypeInner → Option Layout
 named_layout_by rule f h it =
     if has_row rule.declared h it then inner_layout_by rule.strict f it else None
 
--- the type at a handle, at most so many levels deep
+-- the same, where types are in one another at most so many levels deep
 abbrev pub layout_within : (levels : ℕ) → Rule → List Type_ → (h : ℕ) → Option Layout
 layout_within zero rule types h = None
 layout_within (suc levels) rule types h =
     option_and_then (λ t. named_layout_by rule (layout_within levels rule types) h t.inner)
     (slice_get types h)
 
--- How the type at a handle is laid out, whose parts stand before it: if it has a layout, and all
--- offsets in it can be kept.
+-- How the type at a handle is laid out, whose parts stand before it, as those of all types of an
+-- accepted module do; if it is laid out, and all offsets in it can be kept.
 unfoldable pub layout_at : Rule → List Type_ → (h : ℕ) → Option Layout
 layout_at rule types h = layout_within (suc h) rule types h
 
 -- ---- strides
--- An array has the stride that WGSL gives it, if its elements have a layout and a size. No other type
--- has a stride.
+-- The elements of an array begin as far apart in the module as WGSL has them begin, if they are
+-- laid out and have a size. Of all other types nothing is asked.
 abbrev pub stride_is_kept : (f : ℕ → Option Layout) → TypeInner → Bool
 stride_is_kept f (inner.Array base n stride) =
     option_map_or
     (λ l. option_map_or (λ s. stride == stride_of l.alignment s) l.size true) (f base) true
 stride_is_kept f _ = true
 
--- and so have the arrays that are its elements, as g tells of types that stand before
+-- the same of its elements too, if these are arrays
 abbrev pub arrays_are_kept_by : (f : ℕ → Option Layout) → (g : ℕ → Bool) → TypeInner → Bool
 arrays_are_kept_by f g (inner.Array base n stride) =
     stride_is_kept f (inner.Array base n stride) && g base
 arrays_are_kept_by f g _ = true
 
-abbrev pub arrays_are_kept_within :
-    (levels : ℕ) → Rule → List Type_ → (h : ℕ) → Bool
+-- the same of the type at a handle, where arrays are in one another at most so many levels deep
+abbrev pub arrays_are_kept_within : (levels : ℕ) → Rule → List Type_ → (h : ℕ) → Bool
 arrays_are_kept_within zero rule types h = true
 arrays_are_kept_within (suc levels) rule types h =
     option_map_or
-    (λ t. arrays_are_kept_by (layout_at rule types) (arrays_are_kept_within levels rule types) t.inner)
+    (λ t. arrays_are_kept_by (layout_at rule types)
+    (arrays_are_kept_within levels rule types) t.inner)
     (slice_get types h) true
 
--- the type at a handle, and each array that it is made of through arrays alone, has WGSL's stride
+-- the type at a handle, and each array that it is made of through arrays alone, has WGSL's stride,
+-- if it is an array
 unfoldable pub arrays_are_kept : Rule → List Type_ → (h : ℕ) → Bool
 arrays_are_kept rule types h = arrays_are_kept_within (suc h) rule types h
 
 -- ---- order
--- the types that a type is laid out over stand before it
+-- what a type is laid out over stands before it: elements and members
 abbrev pub parts_before : (h : ℕ) → TypeInner → Bool
 parts_before h (inner.Array base n stride) = nat_lt base h
 parts_before h (inner.Struct members span) = list_all (λ k. nat_lt k.ty h) members.items
 parts_before h _ = true
 
+-- so it is with each type
 abbrev pub StandInOrder : List Type_ → Type 0
 StandInOrder types =
     (h : ℕ) (t : Type_) → slice_get types h ≡ Some t → IsTrue (parts_before h t.inner)

@@ -1,4 +1,4 @@
-//! Layouts of types.
+//! How a type is laid out, by itself.
 
 ghost use Rattle.std.specs.Prelude.{◌≡◌, ◌<◌, ◌≤◌, ℕ, IfSome, IsTrue, if◌then◌else◌, length, min};
 ghost use Rattle.std.specs.Prelude.{nat_lt, Some, None, Option, true};
@@ -9,8 +9,9 @@ ghost use Rattle.wgsl_layout.specs.Rules.{kept_array, matrix_layout, scalar_layo
 ghost use Rattle.naga_layout.specs.Capped.{IsWidth, told, told_size};
 ghost use Rattle.naga_layout.specs.Seen.{TellSeen};
 ghost use Rattle.naga_layout.specs.Types.{StandInOrder, component_number, has_atomic_size};
-ghost use Rattle.naga_layout.specs.Types.{has_size, is_number, kept_struct, layout_at, told_rule};
-ghost use Rattle.naga_layout.specs.Types.{inner_layout_by, parts_before, placed_member, told_length};
+ghost use Rattle.naga_layout.specs.Types.{has_size, inner_layout_by, is_number, kept_struct};
+ghost use Rattle.naga_layout.specs.Types.{layout_at, parts_before, placed_member, told_length};
+ghost use Rattle.naga_layout.specs.Types.{told_rule};
 
 use naga_ir::{
     ArraySize, Handle, Scalar, ScalarKind, StructMember, Type_, TypeInner, UniqueArena, VectorSize,
@@ -19,19 +20,37 @@ use wgsl_layout::{
     Layout, Placed, array_layout, ended, matrix_layout, scalar_layout, stands_after, vector_layout,
 };
 
-/// How a type stands in memory, as WGSL lays it out.
+/// How values of a type stand in memory, as WGSL lays them out, in bytes.
 #[derive(Debug, Clone, Copy, PartialEq, Eq)]
 pub struct TypeLayout {
-    /// Of which number each place of such a value is a multiple, in bytes.
+    /// Each value's place is a multiple of it: 2, 4, 8, 16 or 32.
     pub align: u32,
-    /// How many bytes it takes. An array that is as long as its buffer has no size, nor has a struct that
-    /// ends with one; none is told that 32 bits don't hold.
+    /// How much room a value takes. `None` for an array that is as long as its buffer, for a struct
+    /// that ends with one, and for a size that has more than 32 bits.
     pub size: Option<u32>,
 }
 
-/// How the type at a handle is laid out, where each struct is written so that its members stay where they
-/// are; none where WGSL has no place in memory for it, where a member can't stay where it is, or where an
-/// array has another stride than WGSL gives it. It takes no memory.
+/// How values of the type at a handle stand in memory, by WGSL's rules, where each struct is
+/// written with the sizes that leave its members where they are. Each struct of the arena counts as
+/// one that the text declares.
+///
+/// It is `None` where
+///
+/// - WGSL gives values of the type no layout: truth values, abstract numbers, pointers, images,
+///   samplers and the like, and what has such a part;
+/// - an override gives the length of an array, or an array's elements have no size;
+/// - an array's elements begin at another distance in the module than WGSL has them begin;
+/// - a struct has no members, one with a binding, or one that can't stay where it is: the first not
+///   at 0, another at 0, one off its alignment, or before the end of the one before it.
+///
+/// It takes no memory. Structs are remembered while it runs, up to 256 of them, so that time grows
+/// with the types that it looks at; where a type is made of more structs, some may be looked at
+/// again.
+///
+/// ```text
+/// // struct Q { @size(16) a: u32, b: u32 }: a at 0, b at 16, span 20
+/// type_layout(&module.types, q) // Some(TypeLayout { align: 4, size: Some(20) })
+/// ```
 pub fn type_layout(types: &UniqueArena<Type_>, handle: Handle<Type_>) -> Option<TypeLayout>
     requires ordered { StandInOrder types.now }
     requires there { handle < length types.now }
@@ -46,18 +65,20 @@ pub fn type_layout(types: &UniqueArena<Type_>, handle: Handle<Type_>) -> Option<
     }
 }
 
-/// A struct that was laid out, or has no layout.
+/// A struct that was looked at, by its handle, and its layout, if it has one.
 #[derive(Debug, Clone, Copy)]
 pub(crate) struct Known {
     handle: usize,
     layout: Option<Layout>,
 }
 
+/// Whether it is a struct; others are not remembered.
 fn is_struct(inner: &TypeInner) -> bool {
     matches!(inner, TypeInner::Struct { .. })
 }
 
-/// How a struct is laid out, if its cell has it.
+/// How a struct is laid out, if its cell remembers it: the inner `None` is that of a struct without
+/// a layout.
 fn look_up(
     types: &UniqueArena<Type_>,
     handle: Handle<Type_>,
@@ -81,7 +102,7 @@ fn look_up(
     }
 }
 
-/// Puts into its cell how a struct is laid out.
+/// Remembers in its cell how a struct is laid out. Another type is not remembered.
 fn remember(
     types: &UniqueArena<Type_>,
     handle: Handle<Type_>,
@@ -103,7 +124,7 @@ fn remember(
     });
 }
 
-/// How the type at a handle is laid out, with a table of cells on the stack.
+/// How the type at a handle is laid out, with cells that remember nothing yet, on the stack.
 fn kept_afresh(types: &UniqueArena<Type_>, handle: Handle<Type_>) -> Option<Layout>
     requires ordered { StandInOrder types.now }
     requires there { handle < length types.now }
@@ -113,6 +134,7 @@ fn kept_afresh(types: &UniqueArena<Type_>, handle: Handle<Type_>) -> Option<Layo
     kept_layout(types, handle, seen.as_mut_slice())
 }
 
+/// The size as users are told it: none that has more than 32 bits.
 fn told_size(size: Option<u64>) -> Option<u32>
     ensures { (s : Option ℕ) → size ≡ option_map (min past) s → result ≡ told_size s }
 {
@@ -122,6 +144,7 @@ fn told_size(size: Option<u64>) -> Option<u32>
     }
 }
 
+/// Whether it is an integer or a float of a text, which stand in memory.
 fn is_number(kind: ScalarKind) -> bool
     ensures { result ≡ is_number kind }
 {
@@ -131,7 +154,7 @@ fn is_number(kind: ScalarKind) -> bool
     }
 }
 
-/// How many bytes a scalar takes in memory.
+/// How many bytes a scalar takes, if it is laid out.
 #[tactic(auto, using(crate::proofs::Widths::width_is))]
 pub(crate) fn width_of(scalar: Scalar) -> Option<u32>
     ensures width { result ≡ (if has_size scalar then Some scalar.width else None) }
@@ -144,7 +167,7 @@ pub(crate) fn width_of(scalar: Scalar) -> Option<u32>
     }
 }
 
-/// The same of one that is changed in one step.
+/// The same of one that is atomic.
 #[tactic(auto, using(crate::proofs::Widths::atomic_width_is))]
 pub(crate) fn atomic_width_of(scalar: Scalar) -> Option<u32>
     ensures width { result ≡ (if has_atomic_size scalar then Some scalar.width else None) }
@@ -157,6 +180,7 @@ pub(crate) fn atomic_width_of(scalar: Scalar) -> Option<u32>
     }
 }
 
+/// How many components, or columns, there are.
 fn component_number(size: VectorSize) -> u32
     ensures number { result ≡ component_number size }
     ensures below { result ≤ 4 }
@@ -168,7 +192,8 @@ fn component_number(size: VectorSize) -> u32
     }
 }
 
-/// How long an array is, if it is told how long, and by no override.
+/// How many elements an array has, or the inner `None`, where its buffer says how many. The outer
+/// one, where an override gives its length.
 pub(crate) fn told_length(size: ArraySize) -> Option<Option<u32>>
     ensures { result ≡ told_length size }
 {
@@ -179,6 +204,7 @@ pub(crate) fn told_length(size: ArraySize) -> Option<Option<u32>>
     }
 }
 
+/// The layout of a number of this width, or of an atomic one.
 #[tactic(auto, using(crate::proofs::Widths::width_aligns))]
 pub(crate) fn laid_scalar(width: Option<u32>) -> Option<Layout>
     requires is { IfSome width IsWidth }
@@ -191,6 +217,7 @@ pub(crate) fn laid_scalar(width: Option<u32>) -> Option<Layout>
     }
 }
 
+/// The layout of a vector, if its components are laid out.
 #[tactic(auto, using(crate::proofs::Widths::vector_aligns, crate::proofs::Widths::width_below))]
 pub(crate) fn laid_vector(size: VectorSize, scalar: Scalar) -> Option<Layout>
     ensures layout { result ≡ option_map capped (if has_size scalar
@@ -203,6 +230,7 @@ pub(crate) fn laid_vector(size: VectorSize, scalar: Scalar) -> Option<Layout>
     }
 }
 
+/// The layout of a matrix, if its components are laid out.
 #[tactic(auto, using(crate::proofs::Widths::vector_aligns, crate::proofs::Widths::width_below))]
 pub(crate) fn laid_matrix(columns: VectorSize, rows: VectorSize, scalar: Scalar) -> Option<Layout>
     ensures layout { result ≡ option_map capped (if has_size scalar
@@ -216,7 +244,7 @@ pub(crate) fn laid_matrix(columns: VectorSize, rows: VectorSize, scalar: Scalar)
     }
 }
 
-/// How the type at a handle is laid out, as [`type_layout`] tells it.
+/// How the type at a handle is laid out, as [`type_layout`] tells it, with what is remembered.
 #[cycle(layouts)]
 #[tactic(auto, using(crate::proofs::Left::cell_aligned))]
 fn kept_layout(
@@ -239,7 +267,7 @@ fn kept_layout(
     kept_new(types, handle, seen)
 }
 
-/// The same of one that no cell has; a struct is then remembered.
+/// The same of one that no cell remembers; a struct is remembered then.
 #[cycle(layouts)]
 fn kept_new(
     types: &UniqueArena<Type_>,
@@ -258,7 +286,7 @@ fn kept_new(
     layout
 }
 
-/// The same of a type by itself, whose parts stand before `here`.
+/// The same of a type by itself, whose elements and members are of types before `here`.
 #[cycle(layouts)]
 fn kept_inner(
     types: &UniqueArena<Type_>,
@@ -271,7 +299,8 @@ fn kept_inner(
     requires told { TellSeen types.now seen.old }
     requires before { IsTrue (parts_before here inner.now) }
     ensures told { TellSeen types.now seen.new }
-    ensures layout { result ≡ option_map capped (inner_layout_by true (layout_at told_rule types.now) inner.now) }
+    ensures layout { result ≡ option_map capped
+        (inner_layout_by true (layout_at told_rule types.now) inner.now) }
     ensures aligned { IfSome result (λ l. IsAlignment l.alignment) }
 {
     match inner {
@@ -291,7 +320,7 @@ fn kept_inner(
     }
 }
 
-/// An array, if its stride is WGSL's.
+/// The layout of an array, if its elements begin as far apart as WGSL has them begin.
 #[cycle(layouts)]
 fn kept_array(
     types: &UniqueArena<Type_>,
@@ -320,7 +349,7 @@ fn kept_array(
     }
 }
 
-/// A struct, if each member can stay where it is.
+/// The layout of a struct, if each member can stay where it is.
 #[cycle(layouts)]
 fn kept_struct(
     types: &UniqueArena<Type_>,
@@ -334,7 +363,8 @@ fn kept_struct(
     requires told { TellSeen types.now seen.old }
     requires before { IsTrue (list_all (λ k. nat_lt k.ty here) members.now) }
     ensures told { TellSeen types.now seen.new }
-    ensures layout { result ≡ option_map capped (kept_struct (layout_at told_rule types.now) members.now span) }
+    ensures layout { result ≡ option_map capped
+        (kept_struct (layout_at told_rule types.now) members.now span) }
     ensures aligned { IfSome result (λ l. IsAlignment l.alignment) }
 {
     let mut before: Option<Placed> = None;
@@ -356,7 +386,7 @@ fn kept_struct(
     }
 }
 
-/// A member, if it is bound to nothing and its type has a layout.
+/// A member with its type's layout, if that is laid out and the member has no binding.
 #[cycle(layouts)]
 fn kept_member(
     types: &UniqueArena<Type_>,
@@ -369,7 +399,8 @@ fn kept_member(
     requires told { TellSeen types.now seen.old }
     requires before { member.now.ty < here }
     ensures told { TellSeen types.now seen.new }
-    ensures placed { result ≡ option_map capped_member (placed_member (layout_at told_rule types.now) member.now) }
+    ensures placed { result ≡ option_map capped_member
+        (placed_member (layout_at told_rule types.now) member.now) }
     ensures aligned { IfSome result (λ k. IsAlignment k.layout.alignment) }
 {
     if member.binding.is_some() {

@@ -1,5 +1,8 @@
-//! How WGSL lays values out in memory, by what is known of their types' parts, and what is written of a
-//! struct so that its members stay where a module has them.
+//! How WGSL lays values out in memory, by what is known of their types' parts, and what is written
+//! of a struct so that its members stay where a module has them.
+//!
+//! Here are numbers alone. How the types of a module are laid out is in `naga_layout`, how the
+//! structs of a text are in `text_meaning/specs/Layout`; both go by the rules of `specs/Rules`.
 #![tactic(auto)]
 
 mod layouts;
