@@ -1,14 +1,13 @@
 -- The sizes that the members of a struct are given, one by one, by how the struct is laid out.
 --
 -- Throughout, m is a module, h the handle of a type t of it, it a type by itself, f tells layouts of
--- types, ms are the members of a struct, ks are these as the module places them, k is one, before the one
--- before it, i a number, a an alignment and span how many bytes the module gives to the struct.
-use Rattle.std.proofs.Common.{◌≡◌, ◌∙◌, ◌+◌, ℕ, zero, suc, Bool, true, false, List, [], ◌∷◌, Option, Some, None}
+-- types, ms are the members of a struct, ks are these as the module places them, k is one, i a number, a
+-- an alignment and span how many bytes the module gives to the struct.
+use Rattle.std.proofs.Common.{◌≡◌, ◌∙◌, ℕ, zero, suc, Bool, true, false, List, [], ◌∷◌, Option, Some, None}
 use Rattle.std.proofs.Common.{ap, refl, slice_get, sym}
-use Rattle.std.specs.Prelude.{◌&&◌, ◌==◌, IsTrue, if◌then◌else◌, nat_le, not, unwrap_or}
-use Rattle.std.specs.List.{list_all}
+use Rattle.std.specs.Prelude.{IsTrue, if◌then◌else◌, unwrap_or}
 use Rattle.std.specs.Option.{is_none, is_some, option_and_then, option_map, option_map_or}
-use Rattle.std.proofs.lemmas.Bool.{and_from, and_parts, false≢true}
+use Rattle.std.proofs.lemmas.Bool.{false≢true}
 use Rattle.naga_ir.specs.declared.module.Module.{Module}
 use Rattle.naga_ir.specs.declared.types.StructMember.{StructMember}
 use Rattle.naga_ir.specs.declared.types.Type_.{Type_}
@@ -18,10 +17,11 @@ use Rattle.naga_layout.proofs.Left.{all_aligned, members_aligned}
 use Rattle.naga_layout.proofs.Levels.{layout_is}
 use Rattle.naga_layout.specs.Types.{StandInOrder, kept_members, kept_struct, named_layout_by, placed_member, placed_members}
 use Rattle.naga_names.specs.Reset.{members_of}
+use Rattle.wgsl_layout.proofs.Concerned.{kept_concerned}
 use Rattle.wgsl_layout.proofs.Faults.{all_kept}
 use Rattle.wgsl_layout.proofs.Kept.{struct_kept}
-use Rattle.wgsl_layout.specs.Members.{are_apart, are_kept, ended, gap_size, greatest_placed, has_own_sizes, is_aligned, is_concerned}
-use Rattle.wgsl_layout.specs.Members.{is_off_alignment, last_of, overlaps, sized, sized_members, stands_after, written_members}
+use Rattle.wgsl_layout.specs.Members.{are_kept, ended, gap_size, greatest_placed, is_concerned, is_off_alignment, last_of}
+use Rattle.wgsl_layout.specs.Members.{overlaps, sized, sized_members, written_members}
 use Rattle.wgsl_layout.specs.Rules.{struct_layout}
 use Rattle.wgsl_layout.specs.declared.layouts.Layout.{Layout}
 use Rattle.wgsl_layout.specs.declared.layouts.Placed.{Placed}
@@ -29,7 +29,7 @@ use Rattle.wgsl_layout.specs.declared.members.Misplaced.TheVariants.{OffAlignmen
 use Rattle.module_meaning.specs.DeclarationForms.{DeclarationsHaveForms}
 use Rattle.module_meaning.specs.Layouts.{concerned_members, concerned_of, concerned_only, layout_in, module_rule}
 use Rattle.module_meaning.specs.Layouts.{size_among, span_at, span_of, written_size}
-use Rattle.module_meaning.specs.Undeclared.{is_declared, is_undeclared}
+use Rattle.module_meaning.specs.Undeclared.{is_declared}
 
 -- ---- members
 -- where the member with this number begins or, past the last, the struct ends, and the alignment of that
@@ -112,33 +112,6 @@ module _ (f : ℕ → Option Layout) where
       let s = split first more ks is in
       let l = placed_some more s.others s.have i k there in
       (l.0, l.1, ap (λ ks. slice_get ks (suc i)) s.is ∙ l.2)
-
--- ---- which structs are concerned
-sized_before : (before k : Placed) (o : Option ℕ) →
-    option_map_or (λ s. nat_le (before.offset + s) k.offset) o false ≡ true → is_some o ≡ true
-sized_before before k None is = absurd (false≢true is)
-sized_before before k (Some s) is = refl
-
-kept_apart : (before : Placed) (ks : List Placed) → are_kept (Some before) ks ≡ true →
-    (list_all (λ k. not (k.offset == 0)) ks ≡ true) × (has_own_sizes (before ∷ ks) ≡ true)
-kept_apart before [] kept = (refl, refl)
-kept_apart before (k ∷ more) kept =
-    let one = and_parts (is_aligned k) _ kept in
-    let two = and_parts (stands_after (Some before) k) _ one.1 in
-    let after = and_parts (not (k.offset == 0)) _ two.0 in
-    let left = kept_apart k more two.1 in (
-      and_from (not (k.offset == 0)) _ after.0 left.0,
-      and_from (is_some before.layout.size) _ (sized_before before k before.layout.size after.1) left.1,
-    )
-
--- members that are kept are to be kept
-pub kept_concerned : (k : Placed) (more : List Placed) → are_kept None (k ∷ more) ≡ true →
-    is_concerned (k ∷ more) ≡ true
-kept_concerned k more kept =
-    let one = and_parts (is_aligned k) _ kept in
-    let two = and_parts (stands_after None k) _ one.1 in
-    let left = kept_apart k more two.1 in
-    and_from (are_apart (k ∷ more)) _ left.0 left.1
 
 -- ---- structs
 -- a struct that a text declares is laid out by its members
