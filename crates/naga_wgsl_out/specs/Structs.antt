@@ -1,7 +1,7 @@
 -- The texts of the structs that a module declares.
 --
--- Throughout, m is a module, h the handle of a type t of it, s a member of a struct, i its number, span
--- how many bytes a struct has, a its alignment, and f tells layouts of types.
+-- Throughout, m is a module, h the handle of a type t of it, s a member of a struct, i its number,
+-- span how many bytes a struct has, a its alignment, and f tells layouts of types.
 use Rattle.std.specs.Prelude.{◌≡◌, ℕ, ◌∷◌, [], List, IsTrue, Option, None, Some, map, slice_get}
 use Rattle.std.specs.List.{enumerate_from, filter_map}
 use Rattle.std.specs.Option.{option_map, option_to_list}

@@ -138,9 +138,9 @@ fn write_size<W: TextSink>(size: Option<u32>, out: &mut Output<'_, W>)
     }
 }
 
-/// The size that this member of a struct is given: the bytes up to what stands after it in the module,
-/// where WGSL's rules alone would have that begin before. A struct that has no layout is written without
-/// sizes.
+/// The size that this member of a struct is given: the bytes up to what stands after it in the
+/// module, where WGSL's rules alone would have that begin before. A struct that has no layout is
+/// written without sizes.
 fn given_size(
     text: &ModuleText<'_>,
     handle: Handle<Type_>,
@@ -167,8 +167,8 @@ struct After {
     alignment: u32,
 }
 
-/// What stands after the member with this number, in a struct of so many bytes and this alignment. A
-/// next member that has no layout is told as none.
+/// What stands after the member with this number, in a struct of so many bytes and of this
+/// alignment, if a next member has a layout.
 fn after_member(
     text: &ModuleText<'_>,
     members: &[StructMember],

@@ -94,11 +94,15 @@ impl<W: TextSink> Writer<W> {
     /// derivative or the load of a cooperative matrix that is used; any other operator, but no part
     /// at an index, that is used twice or more. `EXPLICIT_TYPES` has each `let` tell its type.
     ///
-    /// A module is refused for a construct in it without a form, an operand out of scope or a name
-    /// that can't be told, by the errors that `docs/REFUSALS.md` lists. Where a function or an entry
-    /// point is refused, what the text enables, the other declarations, and the functions and entry
-    /// points in front of it stand in the sink, whole. Behind want of memory or a failure of the sink a
-    /// beginning of the text stands there, and behind any other refusal what stood there before.
+    /// A member of a struct is given a size, as `@size(16) `, where by WGSL's rules alone the next
+    /// one would begin before its offset, or the struct would end before its span.
+    ///
+    /// A module is refused for a construct in it without a form, members that WGSL's rules can't
+    /// leave where they are, an operand out of scope or a name that can't be told, by the errors
+    /// that `docs/REFUSALS.md` lists. Where a function or an entry point is refused, what the text
+    /// enables, the other declarations, and the functions and entry points in front of it stand in
+    /// the sink, whole. Behind want of memory or a failure of the sink a beginning of the text
+    /// stands there, and behind any other refusal what stood there before.
     ///
     /// ```text
     /// match writer.write(&shader.module, &shader.info) {
