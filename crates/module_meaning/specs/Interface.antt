@@ -43,6 +43,7 @@ use Rattle.module_meaning.specs.Names.{constant_name, function_name, global_name
 use Rattle.module_meaning.specs.Names.{override_name}
 use Rattle.module_meaning.specs.StageBindings.{stage_binding, is_coherent_memory}
 use Rattle.module_meaning.specs.StageBindings.{is_volatile_memory}
+use Rattle.module_meaning.specs.Switches.{block_switches}
 use Rattle.module_meaning.specs.Types.{spelled_type}
 use Rattle.module_meaning.specs.Undeclared.{is_declared}
 
@@ -130,6 +131,7 @@ body_interface t name f =
       arguments = map (argument_passed t) f.arguments.items;
       result = option_map (result_passed t) f.result;
       locals = map (λ l. spelled_type t l.ty) f.local_variables;
+      switches = block_switches f.body;
     }
 
 -- the interface of the module's function with this number
