@@ -11,6 +11,7 @@ pub mod Fitting
 pub mod FunctionNumbers
 pub mod InterfaceExamples
 mod LayoutExamples
+mod RangeExamples
 pub mod Layouts
 pub mod Lists
 pub mod ModuleShapeExamples
