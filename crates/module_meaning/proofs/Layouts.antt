@@ -1,9 +1,12 @@
 -- What is known of a module's types, as layouts ask for it.
 --
--- Throughout, m is a module, types are a module's types, h is the handle of one, it a type by itself,
--- and marks say which structs no text declares.
+-- Throughout, m is a module, info what is known of it, types are a module's types, h is the handle of
+-- one, it a type by itself, and marks say which structs no text declares.
 use Rattle.std.proofs.Common.{◌≡◌, ◌+◌, ◌∙◌, ℕ, Bool, true, false, List, ap, arith, refl, slice_get, sym}
-use Rattle.std.specs.Prelude.{IsTrue, get_or, not}
+use Rattle.std.specs.Prelude.{IsTrue, get_or, length, not}
+use Rattle.std.specs.List.{list_all}
+use Rattle.std.proofs.lemmas.Bool.{and_parts}
+use Rattle.naga_info.specs.declared.info.ModuleInfo.{ModuleInfo}
 use Rattle.naga_ir.specs.declared.module.Module.{Module}
 use Rattle.naga_ir.specs.declared.types.Type_.{Type_}
 use Rattle.naga_ir.specs.declared.types.TypeInner.{TypeInner}
@@ -11,8 +14,11 @@ use Rattle.naga_ir.specs.declared.types.TypeInner.TheVariants as inner
 use Rattle.naga_layout.specs.Tables.{written_rule}
 use Rattle.naga_layout.specs.Types.{StandInOrder, arrays_are_kept, layout_at}
 use Rattle.naga_layout.specs.Types as laid
+use Rattle.module_meaning.specs.Accepted.{is_accepted}
+use Rattle.module_meaning.specs.InfoSizes.{sizes_fit, type_is_fit}
 use Rattle.module_meaning.specs.Layouts.{module_rule}
-use Rattle.module_meaning.specs.Ranges.{parts_before, parts_stand_before}
+use Rattle.module_meaning.specs.Ranges.{declarations_in_range, module_in_range, module_ranges_fit}
+use Rattle.module_meaning.specs.Ranges.{parts_before, parts_stand_before, types_in_range}
 use Rattle.module_meaning.specs.Undeclared.{is_undeclared}
 use Rattle.module_meaning.proofs.Lists.{placed_at}
 
@@ -50,3 +56,17 @@ pub strides_by_marks : (m : Module) (marks : List Bool) →
     arrays_are_kept (written_rule marks) m.types h ≡ arrays_are_kept (module_rule m) m.types h
 strides_by_marks m marks told h =
     ap (λ rule. arrays_are_kept rule m.types h) (rules_alike m marks told)
+
+-- ---- accepted modules
+-- the parts of an accepted module's types stand before them
+pub accepted_in_order : (m : Module) (info : ModuleInfo) → IsTrue (is_accepted m info) →
+    IsTrue (parts_stand_before m.types)
+unfolding is_accepted module_ranges_fit
+accepted_in_order m info accepted =
+    let ranges = and_parts (module_ranges_fit m info) _ accepted in
+    let known = and_parts (sizes_fit m info) _ ranges.0 in
+    let fit = and_parts (list_all type_is_fit m.types) _ known.1 in
+    let module_ = and_parts (module_in_range m) _ fit.1 in
+    let declared = and_parts (declarations_in_range m) _ module_.0 in
+    let types = and_parts (types_in_range (length m.overrides) m.types) _ declared.0 in
+    (and_parts (parts_stand_before m.types) _ types.0).0

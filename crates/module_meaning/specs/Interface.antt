@@ -47,8 +47,9 @@ use Rattle.module_meaning.specs.Types.{spelled_type}
 use Rattle.module_meaning.specs.Undeclared.{is_declared}
 
 -- ---- structs
--- A member is given a size where its struct keeps the offsets of its members and WGSL's rules alone would
--- have the next one begin elsewhere, or the struct end elsewhere; it is given no alignment.
+-- A member of a struct that is concerned is given a size where WGSL's rules alone would have what
+-- is after it begin earlier than in the module: the next member, or the end of the struct. It is
+-- given no alignment.
 abbrev pub member_interface :
     NameMap → TypeNames → ir_module.Module → (h : ℕ) → ℕ × StructMember → MemberInterface
 member_interface names t m h p =

@@ -1,9 +1,10 @@
 //! Which modules are accepted, and where one is not.
 
-ghost use Rattle.std.specs.Prelude.{◌≡◌};
+ghost use Rattle.std.specs.Prelude.{◌≡◌, IsTrue};
 ghost use Rattle.std.specs.Option.{IfSome, is_none};
 ghost use Rattle.naga_acceptance.specs.Faults.{Fails};
 ghost use Rattle.module_meaning.specs.Accepted.{is_accepted};
+ghost use Rattle.module_meaning.specs.Ranges.{parts_stand_before};
 
 use crate::agreeing::operators_fault;
 use crate::faults::Unaccepted;
@@ -62,12 +63,13 @@ pub fn unaccepted(module: &Module, info: &ModuleInfo) -> Option<Unaccepted>
 /// Types are alike where WGSL spells them alike, each struct and each override standing for its
 /// handle; a type without a form is alike only to itself. The counts are not looked at.
 ///
-/// It takes no memory and answers whatever numbers a module holds. Time grows with the module; labels
-/// of a switch that don't ascend, the default behind all, are sorted, 4,096 at a time, and those
-/// behind are looked for among each 4,096; where there are more than 509 operators, all expressions
-/// are gone through once for some 270 of these.
+/// It takes no memory and answers whatever numbers a module holds. Time grows with the module;
+/// labels of a switch that don't ascend, the default behind all, are sorted, 4,096 at a time, and
+/// those behind are looked for among each 4,096; where there are more than 509 operators, all
+/// expressions are gone through once for some 270 of these.
 ///
-/// A module that is accepted may be counted and written:
+/// Each of its types is made of earlier ones, which is what `type_layout` asks of them. A module
+/// that is accepted may be counted and written:
 ///
 /// ```text
 /// if accepts(&shader.module, &shader.info) {
@@ -77,7 +79,8 @@ pub fn unaccepted(module: &Module, info: &ModuleInfo) -> Option<Unaccepted>
 /// ```
 #[tactic(none)]
 pub fn accepts(module: &Module, info: &ModuleInfo) -> bool
-    ensures { result ≡ is_accepted «module».now info.now }
+    ensures accepted { result ≡ is_accepted «module».now info.now }
+    ensures ordered { IsTrue result → IsTrue (parts_stand_before «module».now.types) }
 {
     unaccepted(module, info).is_none()
 }

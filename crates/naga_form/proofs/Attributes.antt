@@ -28,9 +28,9 @@ use Rattle.naga_ir.specs.declared.module.ShaderStage.TheVariants as stage
 use Rattle.naga_names.specs.Keys.{NameMap}
 use Rattle.wgsl_words.specs.Words.{builtin_word, interpolation_word, sampling_word}
 use Rattle.wgsl_text.proofs.ValueWords.{value_words}
-use Rattle.wgsl_text.specs.Attributes.{Attribute, PlainAttribute, WordedAttribute, Invariant, IsAttributes, Numbered, Plain, PerPrimitive, BlendSource, Coherent, Size, Volatile}
+use Rattle.wgsl_text.specs.Attributes.{Attribute, PlainAttribute, WordedAttribute, Invariant, IsAttributes, Numbered, Plain, PerPrimitive, BlendSource, Coherent, Align, Size, Volatile}
 use Rattle.wgsl_text.specs.Attributes.{Worded, Compute, Task, AnyHit, ClosestHit, Miss, Mesh, Payload, IncomingPayload}
-use Rattle.wgsl_text.specs.Attributes.{behind_location, is_global_binding, is_id, is_io_binding, is_member_binding, is_stage}
+use Rattle.wgsl_text.specs.Attributes.{behind_location, behind_size as may_follow_size, is_global_binding, is_id, is_io_binding, is_member_binding, is_stage}
 use Rattle.wgsl_text.specs.Words.{IsIdentifier}
 use Rattle.text_meaning.specs.Attributes.{AnyHitStage, BuiltinValue, ClosestHitStage, ComputeStage, MeshStage, MissStage, TaskStage}
 use Rattle.text_meaning.specs.Attributes.{ResourceBinding as Resource}
@@ -228,26 +228,6 @@ module _ (names : NameMap) (e : EntryPoint) (x y z : ℕ) (sizes : e.workgroup_s
       by None is = absurd cc
       by (Some v) is = refl
 
--- ---- members
--- how a member passes tells neither a size nor an alignment
-abbrev GivesNoRoom : List Attribute → Type 0
-GivesNoRoom list = (size_read list ≡ None) × (behind_size list ≡ list) × (alignment_read list ≡ None) × (behind_alignment list ≡ list)
-
-pub gives_no_room : (b : Option Binding) → GivesNoRoom (passing_attributes b)
-gives_no_room None = (refl, refl, refl, refl)
-gives_no_room (Some (BuiltIn value)) = by (builtin_word value) (is_invariant value)
-  where
-    by : (w : Option (List ℕ)) (invariant : Bool) → GivesNoRoom (builtin_attributes w invariant)
-    by None invariant = (refl, refl, refl, refl)
-    by (Some w) invariant = (refl, refl, refl, refl)
-gives_no_room (Some (Location location i s source per_primitive)) = (refl, refl, refl, refl)
-
--- before that stands the size that it is given, if it is given one
-pub member_size_read : (size : Option ℕ) (b : Option Binding) →
-    (size_read (member_attributes size b) ≡ size) × (behind_size (member_attributes size b) ≡ passing_attributes b)
-member_size_read None b = let none = gives_no_room b in (none.0, none.1)
-member_size_read (Some n) b = (refl, refl)
-
 -- ---- the grammar
 both_attributes : (xs ys : List Attribute) → IsAttributes xs → IsAttributes ys → IsAttributes (xs ++ ys)
 both_attributes [] ys is_x is_y = is_y
@@ -333,20 +313,42 @@ passing_io (Some (Location location i s source per_primitive)) =
     let own_s = unwrap_or s sampling.Center in
     location_io source (is_perspective own_i) (is_center own_s) (interpolation_word own_i) (sampling_word own_s) per_primitive
 
--- and of a member, with the size that it is given
+-- and of a member, with the size that it is given; a binding is neither a size nor an alignment
+bound_member : (list : List Attribute) → is_io_binding list ≡ true → (may_follow_size list ≡ true) × (is_member_binding list ≡ true)
+bound_member (Numbered Size n ∷ more) is = absurd cc
+bound_member (Numbered Align n ∷ more) is = absurd cc
+bound_member _ is = (is, is)
+
 pub member_is : (size : Option ℕ) (b : Option Binding) → is_member_binding (member_attributes size b) ≡ true
-member_is None None = refl
-member_is (Some n) None = refl
-member_is size (Some (BuiltIn value)) = by size (builtin_word value) refl (is_invariant value) refl
-  where
-    by : (size : Option ℕ) (o : Option (List ℕ)) → builtin_word value ≡ o → (invariant : Bool) → is_invariant value ≡ invariant →
-        is_member_binding (attribute_of (Numbered Size) size ++ builtin_attributes o invariant) ≡ true
-    by None None at invariant is = refl
-    by (Some n) None at invariant is = refl
-    by None (Some w) at invariant is = builtin_io value (Some w) at invariant is
-    by (Some n) (Some w) at invariant is = builtin_io value (Some w) at invariant is
-member_is None (Some (Location location i s source per_primitive)) = passing_io (Some (Location location i s source per_primitive))
-member_is (Some n) (Some (Location location i s source per_primitive)) = passing_io (Some (Location location i s source per_primitive))
+member_is None b = (bound_member (passing_attributes b) (passing_io b)).1
+member_is (Some n) b = (bound_member (passing_attributes b) (passing_io b)).0
+
+-- so what is written of a member says its size, no alignment and how it passes
+abbrev GivesNoRoom : List Attribute → Type 0
+GivesNoRoom list = (size_read list ≡ None) × (behind_size list ≡ list) × (alignment_read list ≡ None) × (behind_alignment list ≡ list)
+
+gives_no_room : (list : List Attribute) → is_io_binding list ≡ true → GivesNoRoom list
+gives_no_room (Numbered Size n ∷ more) is = absurd cc
+gives_no_room (Numbered Align n ∷ more) is = absurd cc
+gives_no_room _ is = (refl, refl, refl, refl)
+
+abbrev pub SaysOfMember : (size : Option ℕ) → Option Binding → List Attribute → Type 0
+SaysOfMember size b list =
+    (size_read list ≡ size) × (alignment_read (behind_size list) ≡ None)
+    × (stage_binding_read (behind_alignment (behind_size list)) ≡ stage_binding b)
+
+pub member_read : (size : Option ℕ) (b : Option Binding) → option_map_or binding_has_form b true ≡ true →
+    SaysOfMember size b (member_attributes size b)
+member_read None b has =
+    let none = gives_no_room (passing_attributes b) (passing_io b) in (
+      none.0,
+      ap alignment_read none.1 ∙ none.2,
+      ap (λ l. stage_binding_read (behind_alignment l)) none.1
+          ∙ (ap stage_binding_read none.3 ∙ passing_read b has),
+    )
+member_read (Some n) b has =
+    let none = gives_no_room (passing_attributes b) (passing_io b) in
+    (refl, none.2, ap stage_binding_read none.3 ∙ passing_read b has)
 
 -- overrides and variables
 pub id_is : (id : Option ℕ) → is_id (id_attributes id) ≡ true

@@ -49,8 +49,7 @@ use Rattle.shader_runs.specs.Value.{Value}
 use Rattle.shader_runs.specs.World.{Meaning, Settings, World}
 use Rattle.shader_runs.proofs.Calls.{initialisers_are_alike}
 use Rattle.text_meaning.specs.Abstraction.{expression_read, program_read}
-use Rattle.text_meaning.specs.Attributes.{alignment_read, behind_alignment}
-use Rattle.text_meaning.specs.Attributes.{stage_binding_read, stage_read}
+use Rattle.text_meaning.specs.Attributes.{stage_read}
 use Rattle.text_meaning.specs.Interface.{access_read, constant_interface_read}
 use Rattle.text_meaning.specs.Interface.{entry_point_interface_read, function_interface_read}
 use Rattle.text_meaning.specs.Interface.{global_interface_read, member_interface_read}
@@ -99,9 +98,8 @@ use Rattle.naga_form.specs.Types.{type_form}
 use Rattle.naga_form.proofs.AcceptedFunctions.{entry_point_is_in_range, entry_points_counted}
 use Rattle.naga_form.proofs.AcceptedFunctions.{functions_counted}
 use Rattle.naga_form.proofs.AcceptedGroups.{declarations_are}
-use Rattle.naga_form.proofs.Attributes.{coherent_is_read, gives_no_room, id_is_read}
-use Rattle.naga_form.proofs.Attributes.{member_size_read, passing_read, resource_is_read, stage_is_read}
-use Rattle.naga_form.proofs.Attributes.{volatile_is_read}
+use Rattle.naga_form.proofs.Attributes.{coherent_is_read, id_is_read, member_read, passing_read}
+use Rattle.naga_form.proofs.Attributes.{resource_is_read, stage_is_read, volatile_is_read}
 use Rattle.naga_form.proofs.Facts.{from_start, further}
 use Rattle.naga_form.proofs.ExpressionNames.{expression_names_are}
 use Rattle.naga_form.proofs.Layouts.{keeps_layouts}
@@ -180,22 +178,19 @@ module _ (m : Module) where
         map (member_interface names t m h) (enumerate_from k ss)
     members_declared h u at is k [] there = refl
     members_declared h u at is k (s ∷ ss) there =
-        let room = gives_no_room s.binding in
-        let sized = member_size_read (written_size m h k) s.binding in
         let has =
         bound_has_form s.binding
         (λ b bound.
         declarations.members b
         (IsMemberBinding.OfMember h (k + 0) u s b at is (there 0 s refl) bound)) in
+        let own = member_read (written_size m h k) s.binding has in
         let rest =
         members_declared h u at is (k + 1) ss (further (members_of u.inner) k s ss there) in
         λ i. record {
           name = name_in names (key.StructMember h k);
-          binding =
-              (ap (λ l. stage_binding_read (behind_alignment l)) sized.1
-              ∙ (ap stage_binding_read room.3 ∙ passing_read s.binding has)) i;
-          size = sized.0 i;
-          alignment = (ap alignment_read sized.1 ∙ room.2) i;
+          binding = own.2 i;
+          size = own.0 i;
+          alignment = own.1 i;
           type = spelled_form t s.ty i;
         } ∷ rest i
 

@@ -20,7 +20,7 @@ use Rattle.naga_names.specs.Reset.{members_of}
 use Rattle.wgsl_layout.specs.Members.{gap_size, is_concerned, sized_members}
 use Rattle.wgsl_layout.specs.declared.layouts.Layout.{Layout}
 use Rattle.wgsl_layout.specs.declared.layouts.Placed.{Placed}
-use Rattle.module_meaning.specs.Layouts.{concerned_members, concerned_of, concerned_only, layout_in, size_among}
+use Rattle.module_meaning.specs.Layouts.{concerned_of, concerned_only, layout_in, size_among}
 use Rattle.module_meaning.specs.Layouts.{span_of, written_size}
 use Rattle.module_meaning.specs.Numbers.{binding_fits_32_bits, fits_32_bits, member_fits_32_bits, type_fits_32_bits}
 use Rattle.module_meaning.specs.Undeclared.{is_declared}

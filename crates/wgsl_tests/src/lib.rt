@@ -25,6 +25,8 @@ mod keywords;
 #[cfg(test)]
 mod labels;
 #[cfg(test)]
+mod layouts;
+#[cfg(test)]
 mod namer;
 #[cfg(test)]
 mod names;
