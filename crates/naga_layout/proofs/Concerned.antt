@@ -4,7 +4,6 @@
 -- b is the one before the others, and span how many bytes the module gives to the struct.
 use Rattle.std.proofs.Common.{◌≡◌, ◌∙◌, ◌+◌, ℕ, Bool, true, false, List, [], ◌∷◌, Option, Some, None, ap, ap₂, refl, sym}
 use Rattle.std.specs.Prelude.{◌&&◌, ◌||◌, ◌==◌, if◌then◌else◌, nat_le, nat_lt, not}
-<<<<<<< HEAD
 use Rattle.std.specs.List.{list_any}
 use Rattle.std.specs.Option.{is_some, option_and_then, option_map_or}
 use Rattle.std.proofs.lemmas.Bool.{and_parts, false≢true, le-ltb, leb-true}
@@ -14,16 +13,6 @@ use Rattle.wgsl_layout.proofs.FirstFaults.{none_kept}
 use Rattle.wgsl_layout.proofs.Kept.{struct_kept}
 use Rattle.wgsl_layout.specs.Faults.{StandsAmong, first_fault}
 use Rattle.wgsl_layout.specs.Members.{are_kept, is_aligned, is_concerned, is_off_alignment, overlaps, stands_after, written_members}
-=======
-use Rattle.std.specs.List.{list_all, list_any}
-use Rattle.std.specs.Option.{is_some, option_and_then, option_map_or}
-use Rattle.std.proofs.lemmas.Bool.{and_from, and_parts, false≢true, le-ltb, leb-true}
-use Rattle.naga_ir.specs.declared.types.StructMember.{StructMember}
-use Rattle.wgsl_layout.proofs.FirstFaults.{none_kept}
-use Rattle.wgsl_layout.proofs.Kept.{struct_kept}
-use Rattle.wgsl_layout.specs.Faults.{StandsAmong, first_fault}
-use Rattle.wgsl_layout.specs.Members.{are_apart, are_kept, has_own_sizes, is_aligned, is_concerned, is_off_alignment, overlaps, stands_after, written_members}
->>>>>>> c6cebf2d3881350309ad56f4ef2b5411c111f830
 use Rattle.wgsl_layout.specs.Rules.{struct_layout}
 use Rattle.wgsl_layout.specs.declared.layouts.Layout.{Layout}
 use Rattle.wgsl_layout.specs.declared.layouts.Placed.{Placed}
@@ -32,37 +21,6 @@ use Rattle.wgsl_layout.specs.declared.members.Misplaced.TheVariants.{OffAlignmen
 use Rattle.naga_layout.proofs.Left.{AlignsAll, members_aligned}
 use Rattle.naga_layout.specs.Types.{kept_members, kept_struct, placed_members}
 
-<<<<<<< HEAD
-=======
--- members that are kept stand apart, and all but the last have a size
-sized : (b : Placed) (o : ℕ) → option_map_or (λ s. nat_le (b.offset + s) o) b.layout.size false ≡ true →
-    is_some b.layout.size ≡ true
-sized b o is = by b.layout.size is
-  where
-    by : (size : Option ℕ) → option_map_or (λ s. nat_le (b.offset + s) o) size false ≡ true → is_some size ≡ true
-    by None is = absurd (false≢true is)
-    by (Some s) is = refl
-
-kept_after : (b : Placed) (ks : List Placed) → are_kept (Some b) ks ≡ true →
-    (list_all (λ k. not (k.offset == 0)) ks ≡ true) × (has_own_sizes (b ∷ ks) ≡ true)
-kept_after b [] kept = (refl, refl)
-kept_after b (k ∷ more) kept =
-    let one = and_parts (is_aligned k) _ kept in
-    let two = and_parts (stands_after (Some b) k) _ one.1 in
-    let here = and_parts (not (k.offset == 0)) _ two.0 in
-    let left = kept_after k more two.1 in
-    (and_from (not (k.offset == 0)) _ here.0 left.0, and_from (is_some b.layout.size) _ (sized b k.offset here.1) left.1)
-
--- so they are concerned, if there are any
-pub kept_concerned : (k : Placed) (more : List Placed) → are_kept None (k ∷ more) ≡ true →
-    is_concerned (k ∷ more) ≡ true
-kept_concerned k more kept =
-    let one = and_parts (is_aligned k) _ kept in
-    let two = and_parts (stands_after None k) _ one.1 in
-    let left = kept_after k more two.1 in
-    and_from (are_apart (k ∷ more)) _ left.0 left.1
-
->>>>>>> c6cebf2d3881350309ad56f4ef2b5411c111f830
 -- a struct with a layout has such members
 pub record Concerned (f : ℕ → Option Layout) (ms : List StructMember) : Type 0 where
   pub placed : List Placed

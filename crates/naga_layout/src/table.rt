@@ -41,13 +41,8 @@ pub fn layouts_of(
     Ok(cells)
 }
 
-<<<<<<< HEAD
 /// Which types have the stride that WGSL gives them, and so have the arrays that they are made of
 /// through arrays alone: a mark for each, in one pass over them and by how each is laid out.
-=======
-/// Which types have the stride that WGSL gives them, and so have the arrays that they are made of through
-/// arrays alone: a mark for each, in one pass over them and by how each is laid out.
->>>>>>> c6cebf2d3881350309ad56f4ef2b5411c111f830
 pub fn strides_of(
     alloc: Global,
     types: &UniqueArena<Type_>,
@@ -68,12 +63,8 @@ pub fn strides_of(
     Ok(marks)
 }
 
-<<<<<<< HEAD
 /// Whether a type and the arrays that it is made of have WGSL's stride, by the marks of those
 /// before it.
-=======
-/// Whether a type and the arrays that it is made of have WGSL's stride, by the marks of those before it.
->>>>>>> c6cebf2d3881350309ad56f4ef2b5411c111f830
 fn arrays_are_kept(
     types: &UniqueArena<Type_>,
     undeclared: &[bool],
@@ -231,13 +222,8 @@ fn array_of(
     }
 }
 
-<<<<<<< HEAD
 /// How a struct of these members is laid out, to which the module gives so many bytes: if each has
 /// a layout, is bound to nothing and can stay where it is.
-=======
-/// How a struct of these members is laid out, to which the module gives so many bytes: if each has a
-/// layout, is bound to nothing and can stay where it is.
->>>>>>> c6cebf2d3881350309ad56f4ef2b5411c111f830
 pub fn kept_struct(
     types: &UniqueArena<Type_>,
     undeclared: &[bool],
@@ -291,13 +277,8 @@ fn member_of(
     }
 }
 
-<<<<<<< HEAD
 /// Why a member of a struct can't stay where it is: the first fault of these members, if their
 /// offsets are to be kept and one can't be.
-=======
-/// Why a member of a struct can't stay where it is: the first fault of these members, if their offsets
-/// are to be kept and one can't be.
->>>>>>> c6cebf2d3881350309ad56f4ef2b5411c111f830
 pub fn misplaced(
     types: &UniqueArena<Type_>,
     undeclared: &[bool],

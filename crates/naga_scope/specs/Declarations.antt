@@ -2,15 +2,9 @@
 --
 -- Throughout, m is a module, number is that of a function or an entry point, f is a function, p an
 -- entry point, b a binding, v a value of the hardware, ty is the handle of a type, h that of an
-<<<<<<< HEAD
 -- expression, s a member, c a constant, o an override, g a variable, a an argument, i is the place
 -- of an item in its list, fault is why members can't stay where they are, ks are the members of a
 -- struct as the module places them, and it is what is found.
-=======
--- expression, s a member, c a constant, o an override, g a variable, a an argument, i is the place of
--- an item in its list, fault is why members can't stay where they are, ks are the members of a struct as
--- the module places them, and it is what is found.
->>>>>>> c6cebf2d3881350309ad56f4ef2b5411c111f830
 use Rattle.std.specs.Prelude.{◌≡◌, ℕ, Option, Some, None, IsFalse, IsTrue, List, slice_get}
 use Rattle.std.specs.Option.{is_some, option_and_then}
 use Rattle.module_meaning.specs.DeclarationForms.{IsDeclaredType, IsInitialiser, IsMemberBinding}
@@ -119,7 +113,6 @@ abbrev pub FindsMember : Module → List StructMember → Option FormlessDeclara
 FindsMember m members =
     Finds members (λ i s. MemberHasForm m s) (λ i s it. IsFormlessMember m s it)
 
-<<<<<<< HEAD
 -- the type of a member is an array of another stride than WGSL gives it, or has such an array in
 -- it, through arrays alone
 abbrev pub IsOtherStride : Module → StructMember → (ty : ℕ) → Type 0
@@ -132,20 +125,6 @@ concerned_among m members = option_and_then concerned_only (placed_members (layo
 
 -- the members of a struct have forms, and where their offsets are to be kept, each can stay where
 -- it is and has arrays of WGSL's stride
-=======
--- the type of a member is an array of another stride than WGSL gives it, or has such an array in it,
--- through arrays alone
-abbrev pub IsOtherStride : Module → StructMember → (ty : ℕ) → Type 0
-IsOtherStride m s ty = (ty ≡ s.ty) × IsFalse (arrays_are_kept (module_rule m) m.types ty)
-
--- these members as the module places them, if their offsets are to be kept wherever a text declares a
--- struct of them
-abbrev pub concerned_among : Module → List StructMember → Option (List Placed)
-concerned_among m members = option_and_then concerned_only (placed_members (layout_in m) members)
-
--- the members of a struct have forms, and where their offsets are to be kept, each can stay where it is and
--- has arrays of WGSL's stride
->>>>>>> c6cebf2d3881350309ad56f4ef2b5411c111f830
 pub record StructHasForm (m : Module) (members : List StructMember) : Type 0 where
   pub each : FindsMember m members None
   pub offsets : (ks : List Placed) → concerned_among m members ≡ Some ks →

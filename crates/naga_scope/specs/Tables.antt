@@ -29,16 +29,10 @@ use Rattle.wgsl_layout.specs.declared.layouts.Layout.{Layout}
 use Rattle.wgsl_words.specs.Words.{space_word}
 use Rattle.naga_scope.specs.Marks.{GlobalsStandInOrder, MarksGlobals, is_marked}
 
-<<<<<<< HEAD
 -- The tables, with a cell for each of the module's own expressions or for each type: which
 -- expressions are written, and by which; which structs no text declares, which types name one,
 -- which are spelled, how each is laid out, and whether the arrays that each is made of have the
 -- stride that WGSL gives them.
-=======
--- The tables, with a cell for each of the module's own expressions or for each type: which expressions
--- are written, and by which; which structs no text declares, which types name one, which are spelled,
--- how each is laid out, and whether the arrays that each is made of have the stride that WGSL gives them.
->>>>>>> c6cebf2d3881350309ad56f4ef2b5411c111f830
 pub record Tables : Type 0 where
   pub written : List Bool
   pub representatives : List ℕ
@@ -106,7 +100,6 @@ type_is_spelled marks (Handle h) = is_marked marks h
 type_is_spelled marks (Value it) = spelled_over marks it
 
 -- ---- layouts
-<<<<<<< HEAD
 -- Each cell tells how its type is laid out, if it has a layout: as the text is to be written, where
 -- a size past each offset counts as the first such one.
 abbrev pub TellsLayouts : Module → List (Option Layout) → Type 0
@@ -114,15 +107,6 @@ TellsLayouts m cells = (h : ℕ) → cell_at cells h ≡ option_map capped (layo
 
 -- just the types have no mark that are arrays of another stride than WGSL gives them, or are made
 -- of such arrays through arrays alone
-=======
--- Each cell tells how its type is laid out, if it has a layout: as the text is to be written, where a
--- size past each offset counts as the first such one.
-abbrev pub TellsLayouts : Module → List (Option Layout) → Type 0
-TellsLayouts m cells = (h : ℕ) → cell_at cells h ≡ option_map capped (layout_in m h)
-
--- just the types have no mark that are arrays of another stride than WGSL gives them, or are made of
--- such arrays through arrays alone
->>>>>>> c6cebf2d3881350309ad56f4ef2b5411c111f830
 abbrev pub TellsStrides : Module → List Bool → Type 0
 TellsStrides m kept = (h : ℕ) → mark_at kept h ≡ arrays_are_kept (module_rule m) m.types h
 

@@ -48,13 +48,8 @@ pub enum FormlessDeclaration {
     Head(FormlessHead),
     /// A struct, whose members' offsets are to be kept, has a member that can't stay where it is.
     Misplaced(Misplaced),
-<<<<<<< HEAD
     /// Such a struct has a member of this type, which is an array of another stride than WGSL gives
     /// it, or is made of such arrays through arrays alone.
-=======
-    /// Such a struct has a member of this type, which is an array of another stride than WGSL gives it,
-    /// or is made of such arrays through arrays alone.
->>>>>>> c6cebf2d3881350309ad56f4ef2b5411c111f830
     Stride(Handle<Type_>),
 }
 
@@ -142,13 +137,8 @@ fn formless_in_type(
     }
 }
 
-<<<<<<< HEAD
 /// Of a struct with these members: the first type or binding without a form, or why one can't stay
 /// where it is, or the first type with arrays of another stride than WGSL's.
-=======
-/// Of a struct with these members: the first type or binding without a form, or why one can't stay where
-/// it is, or the first type with arrays of another stride than WGSL's.
->>>>>>> c6cebf2d3881350309ad56f4ef2b5411c111f830
 fn formless_in_struct(
     module: &Module,
     tables: &ModuleTables,
@@ -177,13 +167,8 @@ fn formless_in_struct(
     }
 }
 
-<<<<<<< HEAD
 /// The first type of these members that is an array of another stride than WGSL's, or is made of
 /// such arrays through arrays alone.
-=======
-/// The first type of these members that is an array of another stride than WGSL's, or is made of such
-/// arrays through arrays alone.
->>>>>>> c6cebf2d3881350309ad56f4ef2b5411c111f830
 fn other_stride(
     module: &Module,
     tables: &ModuleTables,

@@ -1,11 +1,7 @@
 //! What is looked up of a module again and again while its text is decided and written, found once.
 
-<<<<<<< HEAD
 ghost use Rattle.std.specs.Prelude.{◌≡◌, IfOk, IfSome, None, false, if◌then◌else◌};
 ghost use Rattle.std.specs.Prelude.{length, replicate};
-=======
-ghost use Rattle.std.specs.Prelude.{◌≡◌, IfOk, IfSome, None, false, if◌then◌else◌, length, replicate};
->>>>>>> c6cebf2d3881350309ad56f4ef2b5411c111f830
 ghost use Rattle.std.specs.Option.{is_some, option_and_then, option_map};
 ghost use Rattle.indexmap.specs.IndexMap.{values};
 ghost use Rattle.module_meaning.specs.AlikeTypes.{is_spelled};
@@ -41,18 +37,11 @@ use std::alloc::{AllocError, Global};
 use std::marker::Model;
 use wgsl_layout::{Layout, Misplaced};
 
-<<<<<<< HEAD
 /// What is asked of a module again and again while its text is decided and written: which of its
 /// own expressions are written, and by which others; which structs no text declares, which types
 /// name one, and which types have a form; how types are laid out, and whether arrays have the
 /// stride that WGSL gives them. Each is looked up in one step, where the module itself would be
 /// searched.
-=======
-/// What is asked of a module again and again while its text is decided and written: which of its own
-/// expressions are written, and by which others; which structs no text declares, which types name one,
-/// and which types have a form; how types are laid out, and whether arrays have the stride that WGSL
-/// gives them. Each is looked up in one step, where the module itself would be searched.
->>>>>>> c6cebf2d3881350309ad56f4ef2b5411c111f830
 #[derive(Debug, Drop)]
 pub struct ModuleTables {
     written: Vec<bool>,
@@ -82,19 +71,11 @@ impl Model for ModuleTables {
 }
 
 impl ModuleTables {
-<<<<<<< HEAD
     /// Those of a module, in one pass over the structs that WGSL's own functions give, four over
     /// its types, of which one goes through the members of structs too, and two over its own
     /// expressions. It takes memory for five tables of a cell for each type and two of one for each
     /// expression, and none where there is none. What items are made of stands before them, and the
     /// structs that no text declares are there, as it is in a module that is accepted.
-=======
-    /// Those of a module, in one pass over the structs that WGSL's own functions give, four over its
-    /// types, of which one goes through the members of structs too, and two over its own expressions. It
-    /// takes memory for five tables of a cell for each type and two of one for each expression, and none
-    /// where there is none. What items are made of stands before them, and the structs that no text
-    /// declares are there, as it is in a module that is accepted.
->>>>>>> c6cebf2d3881350309ad56f4ef2b5411c111f830
     pub fn of(alloc: Global, module: &Module) -> Result<ModuleTables, AllocError>
         requires ordered { ItemsStandInOrder «module».now }
         ensures { IfOk result (AreTablesOf «module».now) }
@@ -178,17 +159,10 @@ impl ModuleTables {
         type_is_spelled(&self.spelled, ty)
     }
 
-<<<<<<< HEAD
     /// How the type with this handle is laid out, as the module's text is to be written: none where
     /// WGSL has no place in memory for it, or where it has a struct in it that no text declares or
     /// of which a member can't stay where it is. An array is laid out by WGSL's stride, whatever
     /// the module's is. One that is not there has no layout.
-=======
-    /// How the type with this handle is laid out, as the module's text is to be written: none where WGSL
-    /// has no place in memory for it, or where it has a struct in it that no text declares or of which
-    /// a member can't stay where it is. An array is laid out by WGSL's stride, whatever the module's
-    /// is. One that is not there has no layout.
->>>>>>> c6cebf2d3881350309ad56f4ef2b5411c111f830
     pub fn layout(&self, module: &Module, handle: Handle<Type_>) -> Option<Layout>
         requires tables { AreTablesOf «module».now self.now }
         ensures layout { result ≡ option_map capped (layout_in «module».now handle) }
@@ -197,15 +171,9 @@ impl ModuleTables {
         layout_cell(&self.layouts, handle)
     }
 
-<<<<<<< HEAD
     /// Whether the type with this handle and each array that it is made of through arrays alone
     /// have the stride that WGSL gives them, if they are arrays whose elements have a layout and a
     /// size. One that is not there does.
-=======
-    /// Whether the type with this handle and each array that it is made of through arrays alone have
-    /// the stride that WGSL gives them, if they are arrays whose elements have a layout and a size. One
-    /// that is not there does.
->>>>>>> c6cebf2d3881350309ad56f4ef2b5411c111f830
     pub fn keeps_arrays(&self, module: &Module, handle: Handle<Type_>) -> bool
         requires tables { AreTablesOf «module».now self.now }
         ensures { result ≡ arrays_are_kept (module_rule «module».now) «module».now.types handle }
@@ -213,13 +181,8 @@ impl ModuleTables {
         stride_mark(&self.strides, handle)
     }
 
-<<<<<<< HEAD
     /// Why a member of a struct of these can't stay where it is, if their offsets are to be kept,
     /// wherever a text declares the struct, and one can't be.
-=======
-    /// Why a member of a struct of these can't stay where it is, if their offsets are to be kept, wherever
-    /// a text declares the struct, and one can't be.
->>>>>>> c6cebf2d3881350309ad56f4ef2b5411c111f830
     pub(crate) fn misplaced(&self, module: &Module, members: &[StructMember]) -> Option<Misplaced>
         requires tables { AreTablesOf «module».now self.now }
         ensures { result ≡ option_and_then (first_fault None None)
@@ -228,13 +191,8 @@ impl ModuleTables {
         naga_layout::misplaced(&module.types, &self.undeclared, &self.layouts, members)
     }
 
-<<<<<<< HEAD
     /// Whether a struct of these members, that a text declares, has a layout: whether their offsets
     /// are to be kept, and can be.
-=======
-    /// Whether a struct of these members, that a text declares, has a layout: whether their offsets are
-    /// to be kept, and can be.
->>>>>>> c6cebf2d3881350309ad56f4ef2b5411c111f830
     pub(crate) fn keeps_offsets(
         &self,
         module: &Module,

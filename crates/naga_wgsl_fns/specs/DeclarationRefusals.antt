@@ -1,13 +1,8 @@
 -- Why a declaration of a module is refused, each reason with what it says.
 --
 -- Throughout, m is a module, number is that of a function or an entry point, f is a function, p an
-<<<<<<< HEAD
 -- entry point, b a binding, ty is the handle of a type, h that of an expression or of a struct, and
 -- fault is why members of a struct can't stay where they are.
-=======
--- entry point, b a binding, ty is the handle of a type, h that of an expression or of a struct, and fault
--- is why members of a struct can't stay where they are.
->>>>>>> c6cebf2d3881350309ad56f4ef2b5411c111f830
 use Rattle.std.specs.Prelude.{◌≡◌, ℕ, Some, IsFalse, codes, slice_get}
 use Rattle.module_meaning.specs.DeclarationForms.{IsDeclaredType, IsInitialiser, IsMemberBinding}
 use Rattle.module_meaning.specs.DeclarationForms.{IsPassed, binding_has_form, entry_point_numbered}
