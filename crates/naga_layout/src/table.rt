@@ -4,7 +4,6 @@ ghost use Rattle.std.specs.Prelude.{◌≡◌, ◌&&◌, ◌==◌, ℕ, IfOk, If
 ghost use Rattle.std.specs.Prelude.{None, Option, true};
 ghost use Rattle.std.specs.Option.{option_and_then, option_map, option_map_or, option_or};
 ghost use Rattle.wgsl_layout.specs.Faults.{first_fault};
-ghost use Rattle.wgsl_layout.specs.Members.{gap_size};
 ghost use Rattle.wgsl_layout.specs.declared.layouts.Placed as placed;
 ghost use Rattle.wgsl_layout.specs.Capped.{IsAlignment, capped, capped_member, past};
 ghost use Rattle.wgsl_layout.specs.Rules.{array_layout, stride_of};
@@ -19,7 +18,7 @@ use crate::types::{atomic_width_of, laid_matrix, laid_scalar, laid_vector, told_
 use naga_ir::{ArraySize, Handle, Place, StructMember, Type_, TypeInner, UniqueArena};
 use std::alloc::{AllocError, Global};
 use wgsl_layout::{
-    Layout, Misplaced, Placed, ended, free_array_layout, gap_size, goes_on, own_fault, stands_after,
+    Layout, Misplaced, Placed, ended, free_array_layout, goes_on, own_fault, stands_after,
 };
 
 /// How the types of a module are laid out, in one pass over them. `undeclared` marks the structs that no
@@ -315,14 +314,4 @@ fn first_of(found: Option<Misplaced>, own: Option<Misplaced>) -> Option<Misplace
         Some(fault) => Some(fault),
         None => own,
     }
-}
-
-/// The size that a member of a struct is given, whose members can all stay where they are: what is
-/// after it begins at `next`, at a multiple of this alignment.
-pub fn given_size(member: Placed, next: u32, alignment: u32) -> Option<u32>
-    requires { IsAlignment alignment }
-    ensures { (k : placed.Placed) → member ≡ capped_member k →
-        result ≡ gap_size k.offset k.layout.size next alignment }
-{
-    gap_size(member.offset, member.layout.size, next, alignment)
 }

@@ -1,4 +1,5 @@
--- What a search for a declaration without a form finds.
+-- What a search for a declaration without a form finds, or for a struct that can't keep the offsets
+-- of its members.
 --
 -- Throughout, m is a module, number is that of a function or an entry point, f is a function, p an
 -- entry point, b a binding, v a value of the hardware, ty is the handle of a type, h that of an
@@ -118,13 +119,12 @@ FindsMember m members =
 abbrev pub IsOtherStride : Module → StructMember → (ty : ℕ) → Type 0
 IsOtherStride m s ty = (ty ≡ s.ty) × IsFalse (arrays_are_kept (module_rule m) m.types ty)
 
--- these members as the module places them, if their offsets are to be kept wherever a text declares
--- a struct of them
+-- these members as the module places them, if a struct of them is concerned where a text declares it
 abbrev pub concerned_among : Module → List StructMember → Option (List Placed)
 concerned_among m members = option_and_then concerned_only (placed_members (layout_in m) members)
 
--- the members of a struct have forms, and where their offsets are to be kept, each can stay where
--- it is and has arrays of WGSL's stride
+-- the members of a struct have forms, and if the struct is concerned, each can stay where it is and
+-- has arrays of WGSL's stride
 pub record StructHasForm (m : Module) (members : List StructMember) : Type 0 where
   pub each : FindsMember m members None
   pub offsets : (ks : List Placed) → concerned_among m members ≡ Some ks →
@@ -133,7 +133,7 @@ pub record StructHasForm (m : Module) (members : List StructMember) : Type 0 whe
       (i : ℕ) (s : StructMember) → slice_get members i ≡ Some s →
       IsTrue (arrays_are_kept (module_rule m) m.types s.ty)
 
--- the one or the other isn't so
+-- a member can't stay where it is, or has an array of another stride, or has no form
 abbrev pub IsFormlessStruct : Module → List StructMember → FormlessDeclaration → Type 0
 IsFormlessStruct m members (declaration.Misplaced fault) =
     (ks : List Placed) × (concerned_among m members ≡ Some ks) × StandsAmong fault ks

@@ -105,7 +105,7 @@ type_is_spelled marks (Value it) = spelled_over marks it
 abbrev pub TellsLayouts : Module → List (Option Layout) → Type 0
 TellsLayouts m cells = (h : ℕ) → cell_at cells h ≡ option_map capped (layout_in m h)
 
--- just the types have no mark that are arrays of another stride than WGSL gives them, or are made
+-- a type has no mark exactly where it is an array of another stride than WGSL gives it, or is made
 -- of such arrays through arrays alone
 abbrev pub TellsStrides : Module → List Bool → Type 0
 TellsStrides m kept = (h : ℕ) → mark_at kept h ≡ arrays_are_kept (module_rule m) m.types h

@@ -34,7 +34,8 @@ pub enum FormlessHead {
     Stage,
 }
 
-/// What no text has a form for of a module's declarations.
+/// What no text has a form for of a module's declarations, or why a struct can't keep the offsets of
+/// its members.
 #[derive(Clone, Copy, Debug)]
 pub enum FormlessDeclaration {
     /// A member of a struct, a constant, an override or a variable is of this type, which no text

@@ -160,9 +160,9 @@ impl ModuleTables {
     }
 
     /// How the type with this handle is laid out, as the module's text is to be written: none where
-    /// WGSL has no place in memory for it, or where it has a struct in it that no text declares or
-    /// of which a member can't stay where it is. An array is laid out by WGSL's stride, whatever
-    /// the module's is. One that is not there has no layout.
+    /// no buffer holds it, or where it has a struct in it that isn't concerned or of which a member
+    /// can't stay where it is. An array is laid out by WGSL's stride, whatever the module's is. One
+    /// that is not there has no layout.
     pub fn layout(&self, module: &Module, handle: Handle<Type_>) -> Option<Layout>
         requires tables { AreTablesOf «module».now self.now }
         ensures layout { result ≡ option_map capped (layout_in «module».now handle) }
@@ -193,16 +193,18 @@ impl ModuleTables {
 
     /// Whether a struct of these members, that a text declares, has a layout: whether their offsets
     /// are to be kept, and can be.
-    pub(crate) fn keeps_offsets(
-        &self,
-        module: &Module,
-        members: &[StructMember],
-        span: u32,
-    ) -> bool
+    pub(crate) fn keeps_offsets(&self, module: &Module, members: &[StructMember], span: u32) -> bool
         requires tables { AreTablesOf «module».now self.now }
         ensures { result ≡ is_some (kept_struct (layout_in «module».now) members.now span) }
     {
-        kept_struct(&module.types, &self.undeclared, &self.layouts, members, span).is_some()
+        kept_struct(
+            &module.types,
+            &self.undeclared,
+            &self.layouts,
+            members,
+            span,
+        )
+        .is_some()
     }
 }
 

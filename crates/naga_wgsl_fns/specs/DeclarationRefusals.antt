@@ -46,7 +46,8 @@ pub data NamesHead (m : Module) (number : ℕ) (error : Error) : Type 0 where
   OfStage : (p : EntryPoint) → entry_point_numbered m number ≡ Some p →
       IsFalse (stage_has_form p p.stage) → NamesStage error → NamesHead m number error
 
--- A declaration of the module has no form, and is named.
+-- A declaration of the module has no form, or a struct can't keep the offsets of its members, and
+-- that is named.
 pub data NamesDeclaration (m : Module) (error : Error) : Type 0 where
   OfType : (ty : ℕ) → IsDeclaredType m ty → IsFalse (is_spellable m (Handle ty)) →
       NamesType m (Handle ty) error → NamesDeclaration m error

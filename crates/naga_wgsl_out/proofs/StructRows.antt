@@ -52,7 +52,7 @@ use Rattle.naga_wgsl_out.proofs.ItemRows.{typed_then}
 use Rattle.naga_wgsl_out.specs.Items.{CanDeclare, IsNamedIn, typed_text}
 use Rattle.naga_wgsl_out.specs.ModuleRefusals.{KeyIsOutOfRange}
 use Rattle.naga_wgsl_out.specs.Structs.{IsDeclaredMember, IsDeclaredStruct, declared_text}
-use Rattle.naga_wgsl_out.specs.Structs.{member_text, members_from, members_text, size_attributes}
+use Rattle.naga_wgsl_out.specs.Structs.{member_text, members_from, members_text, given_size_attributes}
 use Rattle.naga_wgsl_out.specs.Structs.{struct_at, struct_text, struct_with, structs_text}
 
 -- ---- all of them
@@ -155,21 +155,21 @@ member_declared m h members span d i s there = record {
   there = ap (λ ms. slice_get ms i) d.has ∙ there;
 }
 
-pub size_row : (n : ℕ) → numbered_text (codes "@size(") n ≡ attributes_text (size_attributes (Some n))
+pub size_row : (n : ℕ) → numbered_text (codes "@size(") n ≡ attributes_text (given_size_attributes (Some n))
 size_row n = sym (numbered_alone Size n)
 
-pub no_size_row : [] ≡ attributes_text (size_attributes None)
+pub no_size_row : [] ≡ attributes_text (given_size_attributes None)
 no_size_row = sym no_attributes
 
 pub member_row : (m : Module) (h i : ℕ) (s : ir_member.StructMember) →
     member_text m h i s ≡
     joined_texts (codes "    ")
-    (joined_texts (attributes_text (size_attributes (written_size m h i)))
+    (joined_texts (attributes_text (given_size_attributes (written_size m h i)))
     (joined_texts (attributes_text (passing_attributes s.binding))
     (joined_texts (typed_text m (key.StructMember h i) s.ty) (codes ",\n"))))
 unfolding member_text attributes_text spelled_text joined_texts
 member_row m h i s =
-    let sized = size_attributes (written_size m h i) in
+    let sized = given_size_attributes (written_size m h i) in
     let passing = passing_attributes s.binding in
     let rest = typed_text m (key.StructMember h i) s.ty ++ codes ",\n" in
     members_row_text (member_form (module_names m) (type_names m) m h (i, s)) []

@@ -92,5 +92,5 @@ member_text m h i s =
     text (members_pieces (member_form (module_names m) (type_names m) m h (i, s) ∷ []))
 
 -- of the size that one is given
-abbrev pub size_attributes : (size : Option ℕ) → List Attribute
-size_attributes size = attribute_of (Numbered Size) size
+abbrev pub given_size_attributes : (size : Option ℕ) → List Attribute
+given_size_attributes size = attribute_of (Numbered Size) size

@@ -10,7 +10,7 @@ ghost use Rattle.naga_wgsl_fns.specs.Attributes.{attributes_text};
 ghost use Rattle.naga_wgsl_out.specs.Items.{CanDeclare, IsNamedIn};
 ghost use Rattle.naga_wgsl_out.specs.Structs.{IsDeclaredMember, IsDeclaredStruct, after_member};
 ghost use Rattle.naga_wgsl_out.specs.Structs.{after_with, declared_text, member_text};
-ghost use Rattle.naga_wgsl_out.specs.Structs.{members_text, size_attributes, struct_text};
+ghost use Rattle.naga_wgsl_out.specs.Structs.{members_text, given_size_attributes, struct_text};
 ghost use Rattle.naga_wgsl_out.specs.Structs.{structs_text};
 
 use crate::declarations::write_typed;
@@ -130,7 +130,7 @@ fn write_member<W: TextSink>(
 
 /// The size that a member is given, if it is given one.
 fn write_size<W: TextSink>(size: Option<u32>, out: &mut Output<'_, W>)
-    ensures { Writes W.text W.failures out.old out.new (attributes_text (size_attributes size)) }
+    ensures { Writes W.text W.failures out.old out.new (attributes_text (given_size_attributes size)) }
 {
     match size {
         Some(size) => write_numbered("@size(", size, out),
@@ -139,7 +139,7 @@ fn write_size<W: TextSink>(size: Option<u32>, out: &mut Output<'_, W>)
 }
 
 /// The size that this member of a struct is given: the bytes up to what stands after it in the
-/// module, where WGSL's rules alone would have that begin before. A struct that has no layout is
+/// module, where WGSL's rules alone would have that begin earlier. A struct that has no layout is
 /// written without sizes.
 fn given_size(
     text: &ModuleText<'_>,

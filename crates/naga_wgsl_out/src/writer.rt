@@ -94,8 +94,9 @@ impl<W: TextSink> Writer<W> {
     /// derivative or the load of a cooperative matrix that is used; any other operator, but no part
     /// at an index, that is used twice or more. `EXPLICIT_TYPES` has each `let` tell its type.
     ///
-    /// A member of a struct is given a size, as `@size(16) `, where by WGSL's rules alone the next
-    /// one would begin before its offset, or the struct would end before its span.
+    /// Where a struct's members are to keep their offsets, as `docs/REFUSALS.md` says, a member is
+    /// given a size, as `@size(16) `, if by WGSL's rules alone the next one would begin before its
+    /// offset, or the struct would end before a span that it can have.
     ///
     /// A module is refused for a construct in it without a form, members that WGSL's rules can't
     /// leave where they are, an operand out of scope or a name that can't be told, by the errors
@@ -123,7 +124,8 @@ impl<W: TextSink> Writer<W> {
         // of these if the flags ask for it.
         ensures bindings { OnOk result (EachReading (W.text self.old.sink) (W.text self.new.sink)
             (BindsAs «module».now info.now (annotates_types self.old.flags))) }
-        // WGSL's rules, by the text's own structs, leave members at the module's offsets.
+        // WGSL's rules, by the text's own structs, leave the members of each struct that is
+        // concerned at the module's offsets, and give it the module's span, where that can be.
         ensures layouts { OnOk result (EachReading (W.text self.old.sink) (W.text self.new.sink)
             (KeepsLayouts «module».now)) }
         ensures text_ok { OnOk result (W.text self.new.sink
