@@ -94,8 +94,8 @@ def callable_by(f):
 
 def statement_range_fits(f, s, count):
     if s.kind == "emit":
-        # a range may be empty, and begins no further than behind its end
-        return s.what[0] <= s.what[1] + 1 <= count
+        # a range may be empty or turned: both its ends are at most the number of expressions
+        return s.what[0] <= count and s.what[1] + 1 <= count
     handles = s.operands + [s.result] * (s.result is not None)
     return all(h < count for h in handles) and (s.kind != "call" or s.what[0] < callable_by(f))
 

@@ -233,7 +233,8 @@ class BodyMaker:
         while last + 1 < len(self.f.expressions) and self.may_emit(last + 1) and self.chance(0.75):
             last += 1
             self.give(last)
-        more = [emit(first, first - 1)] if first and self.chance(0.01) else []
+        # one of nothing, whose range is empty or turned
+        more = [emit(first, self.r.randrange(-1, first))] if first and self.chance(0.01) else []
         return [emit(first, last)] + more
 
     def may_emit(self, h):

@@ -521,8 +521,8 @@ class FunctionMaker:
             if self.chance(0.95):
                 f.body.append(emit(emitted[at], emitted[end - 1]))
             if self.chance(0.01) and emitted[at] > 0:
-                # an `Emit` of nothing
-                f.body.append(emit(emitted[at], emitted[at] - 1))
+                # an `Emit` of nothing, whose range is empty or turned
+                f.body.append(emit(emitted[at], r.randrange(-1, emitted[at])))
             at = end
             if self.chance(0.5):
                 self.make_store(emitted[end - 1])

@@ -1,6 +1,6 @@
 -- Examples of interfaces, computed: what a text declares beside what a module does, for each kind of
 -- declaration, and texts that declare something else, so that the interface tells them apart.
-use Rattle.std.proofs.Common.{◌≡◌, ◌≢◌, ℕ, pos, Bool, true, false, List, [], ◌∷◌, ◌==◌, Option, Some, None, refl, arith, sym}
+use Rattle.std.proofs.Common.{◌≡◌, ◌≢◌, ℕ, ℤ, pos, negsuc, Bool, true, false, List, [], ◌∷◌, ◌==◌, Option, Some, None, refl, arith, sym}
 use Rattle.std.proofs.Common.{map, slice_get, String, Vec, Global, length}
 use Rattle.std.specs.Prelude.{codes, if◌then◌else◌}
 use Rattle.std.specs.Option.{is_none, is_some, option_map_or}
@@ -20,6 +20,9 @@ use Rattle.naga_ir.specs.declared.module.Module as ir_module
 use Rattle.naga_ir.specs.declared.module.Override as ir_override
 use Rattle.naga_ir.specs.declared.module.ShaderStage.{ShaderStage}
 use Rattle.naga_ir.specs.declared.module.ShaderStage.TheVariants as stages
+use Rattle.naga_ir.specs.StatementTree.{CaseTrees, break, case, no_cases, no_statements, simple}
+use Rattle.naga_ir.specs.StatementTree.{statement, switch}
+use Rattle.naga_ir.specs.declared.statement.SwitchValue.TheVariants as selected_value
 use Rattle.naga_ir.specs.declared.types.AddressSpace.TheVariants as spaces
 use Rattle.naga_ir.specs.declared.types.ArraySize.TheVariants as size
 use Rattle.naga_ir.specs.declared.types.ScalarKind.TheVariants as kind
@@ -39,12 +42,16 @@ use Rattle.wgsl_text.specs.Attributes.{Attribute, Plain, Numbered, WorkgroupSize
 use Rattle.wgsl_text.specs.Declarations as tree
 use Rattle.wgsl_text.specs.Declarations.{Program, no_declarations}
 use Rattle.wgsl_text.specs.Expressions.{Expression}
-use Rattle.wgsl_text.specs.Functions.{EntryPoint, NoResult}
+use Rattle.wgsl_text.specs.Functions.{EntryPoint, Function, NoResult}
+use Rattle.wgsl_text.specs.Statements.{Break, Case, Cases, DefaultLabel, LastLabel, MoreLabels}
+use Rattle.wgsl_text.specs.Statements.{NoCases, NoStatements, SignedLabel, Statements, Switch, Then}
+use Rattle.wgsl_text.specs.Statements.{UnsignedLabel}
 use Rattle.wgsl_text.specs.Types.{TypeSpecifier}
 use Rattle.wgsl_text.specs.WorkedTrees as worked
 use Rattle.text_meaning.specs.Attributes.{stage_read, Stage, ComputeStage, MeshStage, BuiltinValue, StageBinding}
 use Rattle.text_meaning.specs.Interface.{Interface, GlobalInterface, MemberInterface, OverrideInterface}
 use Rattle.text_meaning.specs.Interface.{interface_read}
+use Rattle.text_meaning.specs.Switches.{LabelInterface, Signed}
 use Rattle.module_meaning.specs.Interface.{module_interface, stage_of}
 use Rattle.module_meaning.proofs.ModuleShapeExamples.{one}
 use Rattle.module_meaning.proofs.StageBindingExamples.{differ}
@@ -60,6 +67,11 @@ number n = Whole (codes "i32") (pos n)
 -- it is this number
 abbrev same_integer_as : ℕ → Value → Bool
 same_integer_as n v = option_map_or (same_integer (pos n)) (integer_in v) false
+
+-- a label is this number, without a `u`
+abbrev is_signed : ℤ → LabelInterface → Bool
+is_signed z (Signed x) = same_integer z x
+is_signed z _ = false
 
 -- ---- stages
 -- its workgroups have this size along the first axis
@@ -194,12 +206,25 @@ module _ (other : ir_module.Module) (info : ModuleInfo) (label : String Global)
     abbrev argument_of : ℕ → Option ir_binding.Binding → FunctionArgument
     argument_of ty b = record { name = None; ty = ty; binding = b }
 
+    -- cases of 1 and -2 with one block, in which is a switch of its own, and an empty default
+    abbrev inner_selected : CaseTrees
+    inner_selected =
+        case (selected_value.U32 3) (statement (simple break) no_statements) false
+        (case selected_value.Default no_statements false no_cases)
+
+    abbrev selected : CaseTrees
+    selected =
+        case (selected_value.I32 (pos 1)) no_statements true
+        (case (selected_value.I32 (negsuc 1)) (statement (switch 1 inner_selected) no_statements) false
+        (case selected_value.Default no_statements false no_cases))
+
     abbrev taking_a_number : ir_function.Function
     taking_a_number =
         record f {
           arguments = one f.arguments (argument_of 0 None);
           result = Some (record { ty = 0; binding = None });
           local_variables = record { name = None; ty = 1; init = None } ∷ [];
+          body = statement (switch 0 selected) no_statements;
         }
 
     abbrev giving_a_position : ir_entry_point.EntryPoint
@@ -211,6 +236,7 @@ module _ (other : ir_module.Module) (info : ModuleInfo) (label : String Global)
             arguments = one f.arguments (argument_of 1 (Some (binding.BuiltIn builtin.VertexIndex)));
             result = Some (record { ty = 5; binding = None });
             local_variables = [];
+            body = no_statements;
           };
         }
 
@@ -223,6 +249,7 @@ module _ (other : ir_module.Module) (info : ModuleInfo) (label : String Global)
             arguments = one f.arguments (argument_of 1 (Some (binding.BuiltIn builtin.LocalInvocationIndex)));
             result = None;
             local_variables = [];
+            body = no_statements;
           };
         }
 
@@ -327,6 +354,27 @@ module _ (other : ir_module.Module) (info : ModuleInfo) (label : String Global)
     abbrev with_first_member : tree.StructMember → List tree.Struct
     with_first_member first = s (with_number first) ∷ output position ∷ []
 
+    -- the function, with these cases
+    abbrev selecting : Cases → Function
+    selecting cases =
+        worked.function "f" (worked.parameter "x" i32 ∷ []) (worked.gives "i32")
+        (worked.local "a" u32 None ∷ []) (Switch (worked.name "x") cases ∷ [])
+
+    -- the inner switch, and the cases of the outer one: of 1 and of minus this number, then these
+    abbrev within : Statements
+    within =
+        Then
+        (Switch (worked.name "a")
+        (Case (LastLabel (UnsignedLabel 3)) (Then Break NoStatements)
+        (Case (LastLabel DefaultLabel) NoStatements NoCases))) NoStatements
+
+    abbrev after : Cases
+    after = Case (LastLabel DefaultLabel) NoStatements NoCases
+
+    abbrev all_cases : ℕ → Cases → Cases
+    all_cases n more =
+        Case (MoreLabels (SignedLabel false 1) (LastLabel (SignedLabel true n))) within more
+
     abbrev text : Program
     text =
         record no_declarations {
@@ -336,9 +384,7 @@ module _ (other : ir_module.Module) (info : ModuleInfo) (label : String Global)
               worked.override (id 3 ∷ []) "override_type" u32 None ∷
               worked.override [] "depth" i32 (Some (worked.name "N")) ∷ [];
           globals = buf (bound 1 coherent) read_write ∷ count (Some (worked.integer 7)) ∷ [];
-          functions =
-              worked.function "f" (worked.parameter "x" i32 ∷ []) (worked.gives "i32")
-              (worked.local "a" u32 None ∷ []) [] ∷ [];
+          functions = selecting (all_cases 2 after) ∷ [];
           entry_points = vertex ∷ compute (sized 64) index ∷ [];
         }
 
@@ -476,9 +522,31 @@ module _ (other : ir_module.Module) (info : ModuleInfo) (label : String Global)
     first_value_left_out = differ (λ i. passes (λ g. is_none g.initialiser) 1 i.globals) _ _ refl refl
 
     -- a function with a local of another type
-    other_local : another (record text { functions = worked.function "f" (worked.parameter "x" i32 ∷ []) (worked.gives "i32") (worked.local "a" i32 None ∷ []) [] ∷ [] })
+    other_local : another (record text { functions = worked.function "f" (worked.parameter "x" i32 ∷ []) (worked.gives "i32") (worked.local "a" i32 None ∷ []) (Switch (worked.name "x") (all_cases 2 after) ∷ []) ∷ [] })
     unfolding type_segments layout_at
     other_local = differ (λ i. passes (λ g. passes (bytes_eq (codes "i32")) 0 g.locals) 0 i.functions) _ _ refl refl
+
+    -- the switch whose labels have this number passes the test
+    abbrev labels_pass : (List LabelInterface → Bool) → ℕ → Interface → Bool
+    labels_pass test n i = passes (λ g. passes test n g.switches) 0 i.functions
+
+    -- a function with a switch that has lost its empty default, one with a label of another number, one
+    -- with a label of another type, and one without the inner switch
+    default_left_out : another (record text { functions = selecting (all_cases 2 NoCases) ∷ [] })
+    unfolding type_segments layout_at
+    default_left_out = differ (labels_pass (λ labels. length labels == 2) 0) _ _ refl refl
+
+    other_label : another (record text { functions = selecting (all_cases 3 after) ∷ [] })
+    unfolding type_segments layout_at
+    other_label = differ (labels_pass (passes (is_signed (negsuc 2)) 1) 0) _ _ refl refl
+
+    other_label_type : another (record text { functions = selecting (Case (MoreLabels (UnsignedLabel 1) (LastLabel (SignedLabel true 2))) within after) ∷ [] })
+    unfolding type_segments layout_at
+    other_label_type e = differ (labels_pass (passes (is_signed (pos 1)) 0) 0) _ _ refl refl (sym e)
+
+    inner_left_out : another (record text { functions = selecting (Case (MoreLabels (SignedLabel false 1) (LastLabel (SignedLabel true 2))) NoStatements after) ∷ [] })
+    unfolding type_segments layout_at
+    inner_left_out = differ (λ i. passes (λ g. length g.switches == 1) 0 i.functions) _ _ refl refl
 
     -- an entry point whose argument is bound to nothing, one of another size, of another stage, and one
     -- left out

@@ -46,7 +46,7 @@ module _ (other : Module) (members : Vec StructMember Global) where
   abbrev array : (base stride : ℕ) → TypeInner
   array base stride = inner.Array base (size.Constant (record { value = 2; ok = omega arith })) stride
 
-  -- the last struct is one of external textures, which no text declares
+  -- the struct with the number 19 is one of external textures, which no text declares
   abbrev types : List Type_
   types = map (λ it. record { name = None; inner = it }) (
       inner.Scalar (record { kind = kind.Uint; width = 4 }) ∷
@@ -60,7 +60,7 @@ module _ (other : Module) (members : Vec StructMember Global) where
       array 4 32 ∷
       alone (at 5 0) 32 ∷
       alone (at 6 0) 64 ∷
-      -- 9: at an odd offset; 10: not from the start; 11: inside one another
+      -- 9: off its alignment; 10: not from the start; 11: inside one another
       pair (at 0 0) (at 0 6) 12 ∷
       alone (at 0 4) 8 ∷
       pair (at 1 0) (at 0 8) 16 ∷

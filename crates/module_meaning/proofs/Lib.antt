@@ -11,12 +11,14 @@ pub mod Fitting
 pub mod FunctionNumbers
 pub mod InterfaceExamples
 mod LayoutExamples
+mod RangeExamples
 pub mod Layouts
 pub mod Lists
 pub mod ModuleShapeExamples
 pub mod NumberExamples
 pub mod Operations
 mod WordExamples
+pub mod WrittenSizes
 pub mod ExpressionForms
 pub mod ShapeExamples
 pub mod ShapeKinds

@@ -1,10 +1,11 @@
--- What has to have a form of a module's declarations: each type that one tells, each initialiser, each
--- binding of what passes in or out, and each stage; and each struct is to keep the offsets of its
--- members, if it is concerned. What has none is refused by name, before any text.
+-- What has to have a form of a module's declarations: each type that one tells, each initialiser,
+-- each binding of what passes in or out, and each stage. A struct has none, too, if it is concerned
+-- and can't keep the offsets of its members. What has no form is refused by name, before any text.
 --
--- Throughout, m is a module, b a binding, f a function, p an entry point, h the handle of a type t, s
--- a member, c a constant, o an override, v a variable, a an argument, r a result, i an index, and
--- number is that of a function or an entry point.
+-- Throughout, m is a module, b a binding, f a function, p an entry point, h the handle of a type t,
+-- ty that of another, s a member, c a constant, o an override, v a variable, a an argument, r a
+-- result, i an index, fault is why members can't be left where they are, and number is that of a
+-- function or an entry point.
 use Rattle.std.specs.Prelude.{◌≡◌, ℕ, ◌-◌, Bool, true, Option, None, Some, IsTrue, length, nat_lt}
 use Rattle.std.specs.Prelude.{if◌then◌else◌, slice_get}
 use Rattle.std.specs.Option.{is_some}
@@ -95,7 +96,8 @@ pub record HeadHasForm (m : Module) (number : ℕ) : Type 0 where
   pub stage : (p : EntryPoint) → entry_point_numbered m number ≡ Some p →
       IsTrue (stage_has_form p p.stage)
 
--- All that the module declares has a form.
+-- All that the module declares has a form, and no fault stands against a struct that is concerned: a
+-- member that can't be left where it is, or an array of another stride than WGSL gives it.
 pub record DeclarationsHaveForms (m : Module) : Type 0 where
   pub types : (ty : ℕ) → IsDeclaredType m ty → IsTrue (is_spellable m (Handle ty))
   pub initialisers : (handle : ℕ) → IsInitialiser m handle → IsTrue (global_is_written m handle)

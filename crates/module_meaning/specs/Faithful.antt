@@ -30,8 +30,9 @@ TellsInterfaceOf m info program =
     interface_read settings meaning world program
     ≡ module_interface settings meaning (module_names m) m info
 
--- The program declares what the module declares, and in memory each struct that is concerned stands as
--- in the module: its members at the same offsets, and of the same size, if the module's span can be.
+-- The program declares what the module declares, and each struct that is concerned stands in memory
+-- as in the module: its members are at the same offsets, and it takes the module's span, where that
+-- has room for all members and is a multiple of the struct's alignment.
 pub record HasInterfaceOf (m : Module) (info : ModuleInfo) (program : Program) : Type 0 where
   pub tells : TellsInterfaceOf m info program
   pub layouts : KeepsLayouts m program

@@ -43,12 +43,14 @@ use Rattle.module_meaning.specs.Names.{constant_name, function_name, global_name
 use Rattle.module_meaning.specs.Names.{override_name}
 use Rattle.module_meaning.specs.StageBindings.{stage_binding, is_coherent_memory}
 use Rattle.module_meaning.specs.StageBindings.{is_volatile_memory}
+use Rattle.module_meaning.specs.Switches.{block_switches}
 use Rattle.module_meaning.specs.Types.{spelled_type}
 use Rattle.module_meaning.specs.Undeclared.{is_declared}
 
 -- ---- structs
--- A member is given a size where its struct keeps the offsets of its members and WGSL's rules alone would
--- have the next one begin elsewhere, or the struct end elsewhere; it is given no alignment.
+-- A member of a struct that is concerned is given a size where WGSL's rules alone would have what
+-- is after it begin earlier than in the module: the next member, or the end of the struct. It is
+-- given no alignment.
 abbrev pub member_interface :
     NameMap → TypeNames → ir_module.Module → (h : ℕ) → ℕ × StructMember → MemberInterface
 member_interface names t m h p =
@@ -129,6 +131,7 @@ body_interface t name f =
       arguments = map (argument_passed t) f.arguments.items;
       result = option_map (result_passed t) f.result;
       locals = map (λ l. spelled_type t l.ty) f.local_variables;
+      switches = block_switches f.body;
     }
 
 -- the interface of the module's function with this number

@@ -1,13 +1,15 @@
--- How the structs of a module stand in memory: which of them keep the offsets of their members, what is
--- written so that they do, why a struct can't, and when a text keeps them.
+-- How the structs of a module stand in memory: which of them keep the offsets of their members,
+-- what is written so that they do, why a struct can't, and when a text keeps them.
 --
--- It concerns each struct that a text declares, that has members, all of them with a layout and none with
--- a binding, of which none but the first is at 0 and all but the last have a size. All others are written
--- without sizes, and have no layout themselves.
+-- A struct is concerned if a text declares it, it has members, each of these has a layout and no
+-- binding, none but the first is at 0, and all but the last have a size. Any other struct is
+-- written without sizes and has no layout, so that a struct with such a member isn't concerned
+-- either. One that is concerned has a layout where its members can be left where they are; else
+-- it is refused.
 --
--- Throughout, m is a module, h the handle of one of its types, it that type by itself, i the number of a
--- member, ks are the members of a struct as the module places them, span is how many bytes the module
--- gives to a struct, and structs are those of a text.
+-- Throughout, m is a module, h the handle of one of its types, it that type by itself, i the number
+-- of a member, ks are the members of a struct as the module places them, span is how many bytes the
+-- module gives to a struct, and structs are those of a text.
 use Rattle.std.specs.Prelude.{◌≡◌, ℕ, List, map, not, false, Option, Some, None}
 use Rattle.std.specs.Prelude.{IsTrue, IsFalse, if◌then◌else◌, slice_get}
 use Rattle.std.specs.Option.{option_and_then, option_map_or}
@@ -68,15 +70,15 @@ abbrev pub written_size : Module → (h i : ℕ) → Option ℕ
 written_size m h i = option_and_then (size_among (span_at m h) i) (concerned_members m h)
 
 -- ---- why a struct is refused
--- the struct at this handle is concerned, and this stands among its members, so that they can't be left
--- where they are
+-- the struct at this handle is concerned, and this stands among its members, so that they can't be
+-- left where they are
 pub record IsMisplaced (m : Module) (h : ℕ) (fault : Misplaced) : Type 0 where
   pub members : List Placed
   pub concerned : concerned_members m h ≡ Some members
   pub stands : StandsAmong fault members
 
--- it is concerned, and has a member of this type, which is an array of another stride than WGSL gives
--- it, or has such an array in it, through arrays alone
+-- it is concerned, and has a member of this type, which is an array of another stride than WGSL
+-- gives it, or has such an array in it, through arrays alone
 pub record HasOtherStride (m : Module) (h ty : ℕ) : Type 0 where
   pub members : List Placed
   pub concerned : concerned_members m h ≡ Some members
@@ -89,9 +91,9 @@ pub record HasOtherStride (m : Module) (h ty : ℕ) : Type 0 where
   pub other : IsFalse (arrays_are_kept (module_rule m) m.types ty)
 
 -- ---- what is promised of a text
--- WGSL's rules, applied to the structs of a text alone, leave the members of the struct of this name at
--- these offsets, and give it the span that it has in the module, where that has room for all members
--- and is a multiple of the struct's alignment.
+-- WGSL's rules, applied to the structs of a text alone, leave the members of the struct of this
+-- name at these offsets, and give it the span that it has in the module, where that has room for
+-- all members and is a multiple of the struct's alignment.
 pub record KeepsLayout (structs : List Struct) (name : List ℕ) (span : ℕ) (ks : List Placed) : Type 0
   where
     pub offsets : offsets_read structs name ≡ Some (map (λ k. k.offset) ks)

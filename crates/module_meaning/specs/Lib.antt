@@ -40,6 +40,7 @@ pub mod StageBindings
 pub mod StatementForms
 pub mod StatementShapes
 pub mod StatementsFit
+pub mod Switches
 pub mod ExpressionContexts
 pub mod TypeIdentity
 pub mod TypeParts

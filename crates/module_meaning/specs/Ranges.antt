@@ -237,10 +237,13 @@ abbrev pub ray_in_range : (expressions : ℕ) → RayPipelineFunction → Bool
 ray_in_range expressions (TraceRay structure descriptor payload) =
     nat_lt structure expressions && (nat_lt descriptor expressions && nat_lt payload expressions)
 
--- operands and the result lie in the expressions, so does an `Emit`'s range, and a callee is one of
--- those that may be called
+-- operands and the result lie in the expressions, and a callee is one of those that may be called.
+-- An `Emit`'s range lies in its arena where both its ends are at most the number of expressions,
+-- whichever of them is the greater: it has the handles from first to before end, and one whose end
+-- is not after its first has none
 abbrev pub simple_in_range : (callees expressions : ℕ) → SimpleStatement → Bool
-simple_in_range callees expressions (emit first end) = nat_le first end && nat_le end expressions
+simple_in_range callees expressions (emit first end) =
+    nat_le first expressions && nat_le end expressions
 simple_in_range callees expressions break = true
 simple_in_range callees expressions continue = true
 simple_in_range callees expressions (return value) = is_below expressions value

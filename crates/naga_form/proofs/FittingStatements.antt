@@ -1,5 +1,5 @@
 -- What makes a statement one of the grammar, beside its operands: its words may be called, its result is
--- bound to an identifier, and its cases have labels and lines. So it is with the accepted ones that have
+-- bound to an identifier, and its cases have labels and one default. So it is with the accepted ones that have
 -- a form.
 use Rattle.std.proofs.Common.{◌≡◌, ℕ, ◌<◌, Bool, true, false, not, ◌&&◌, ◌||◌, List, nat_lt}
 use Rattle.std.proofs.Common.{Option, Some, None}
@@ -37,7 +37,7 @@ use Rattle.naga_form.proofs.ActWords.{ballot_called, change_called, collective_c
 use Rattle.naga_form.proofs.ActWords.{cooperative_store_called, source_called, texel_change_called}
 use Rattle.naga_form.proofs.ActWords.{texel_store_called, trace_called, uniform_load_called}
 use Rattle.naga_form.proofs.Operators.{atomic_store_called}
-use Rattle.naga_form.proofs.Switches.{one_case_stays, some_case_stays}
+use Rattle.naga_form.proofs.Switches.{HasOneDefault, has_one_default}
 
 -- ---- statements without blocks
 -- the name to which a result is bound is an identifier
@@ -50,13 +50,13 @@ abbrev pub ShapeFits : Naming → shapes.Statement → Type 0
 ShapeFits n (Act action xs outcome) = IsCallee (Named (word_of n.names action)) × ResultIs n outcome
 ShapeFits n s = Unit {0}
 
--- so it is with each statement, labels are integers of their types, and a switch has a case with lines
+-- so it is with each statement, labels are integers of their types, and a switch has one default
 abbrev mutual
   pub StatementFits : Naming → ExpressionContext → StatementTree → Type 0
   StatementFits n a (simple s) = ShapeFits n (simple_shape a s)
   StatementFits n a (block b) = AllFit n a b
   StatementFits n a (branch condition accept reject) = AllFit n a accept × AllFit n a reject
-  StatementFits n a (switch selector cs) = IsTrue (some_case_stays cs) × CasesFit n a cs
+  StatementFits n a (switch selector cs) = HasOneDefault cs × CasesFit n a cs
   StatementFits n a (loop body continuing break_if) = AllFit n a body × AllFit n a continuing
 
   pub AllFit : Naming → ExpressionContext → BlockTree → Type 0
@@ -132,7 +132,7 @@ module _ (n : Naming) (a : ExpressionContext) (callees expressions : ℕ)
       statement_fits breaks continues (switch selector cs) within sound has =
           let ranges = and_parts (nat_lt selector expressions) (cases_in_range callees expressions cs) within in
           let one = and_parts (is_selection m.types known selector cs) (cases_are_sound m f known true continues cs) sound in
-          (one_case_stays m.types known selector cs one.0, cases_fit continues cs ranges.1 one.1 has)
+          (has_one_default m.types known selector cs one.0, cases_fit continues cs ranges.1 one.1 has)
       statement_fits breaks continues (loop body continuing break_if) within sound has =
           let ranges = and_parts (block_in_range callees expressions body) _ within in
           let both = and_parts (block_in_range callees expressions continuing) (is_below expressions break_if) ranges.1 in

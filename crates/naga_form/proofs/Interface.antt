@@ -43,7 +43,7 @@ use Rattle.shader_runs.specs.Form.{form_module}
 use Rattle.shader_runs.specs.Premises.{IsTyped, SettingsFit}
 use Rattle.shader_runs.specs.Program as shapes
 use Rattle.shader_runs.specs.Program.{ConstantTree}
-use Rattle.shader_runs.specs.Scope.{ModuleNames, Naming}
+use Rattle.shader_runs.specs.Scope.{ModuleNames, Naming, at_start}
 use Rattle.shader_runs.specs.Text.{TextModule}
 use Rattle.shader_runs.specs.Value.{Value}
 use Rattle.shader_runs.specs.World.{Meaning, Settings, World}
@@ -94,9 +94,10 @@ use Rattle.naga_form.specs.Expressions.{Source, function_source}
 use Rattle.naga_form.specs.Functions.{function_form, functions_under, locals_form}
 use Rattle.naga_form.specs.Functions.{parameters_form, result_form}
 use Rattle.naga_form.specs.TypeTrees.{type_tree}
-use Rattle.naga_form.specs.Types.{type_form}
+use Rattle.naga_form.specs.Types.{annotated_type, type_form}
 use Rattle.naga_form.proofs.AcceptedFunctions.{entry_point_is_in_range, entry_points_counted}
-use Rattle.naga_form.proofs.AcceptedFunctions.{functions_counted}
+use Rattle.naga_form.proofs.AcceptedFunctions.{functions_counted, known_there, of_number}
+use Rattle.naga_form.proofs.AcceptedFunctions.{soundness_is}
 use Rattle.naga_form.proofs.AcceptedGroups.{declarations_are}
 use Rattle.naga_form.proofs.Attributes.{coherent_is_read, id_is_read, member_read, passing_read}
 use Rattle.naga_form.proofs.Attributes.{resource_is_read, stage_is_read, volatile_is_read}
@@ -107,6 +108,7 @@ use Rattle.naga_form.proofs.ModuleFits.{global_in_range, global_words, module_fi
 use Rattle.naga_form.proofs.ReadDeclarations.{initialisers_read, written_is_read}
 use Rattle.naga_form.proofs.Runs.{reads_as_shapes_under}
 use Rattle.naga_form.proofs.ScopeRules.{scopes_are_checked_under}
+use Rattle.naga_form.proofs.SwitchLabels.{AllEnd, block_ends, lines_tell}
 use Rattle.naga_form.proofs.TypeTrees.{type_row}
 use Rattle.naga_form.proofs.WrittenFunctions.{entry_point_at}
 
@@ -336,7 +338,9 @@ module _ (m : Module) where
 
   -- ---- functions
   module _ (explicit : Bool) (labels : LabelNames) (info : ModuleInfo)
-      (declarations : DeclarationsHaveForms m) where
+      (declarations : DeclarationsHaveForms m)
+      (ends : (g : ℕ) (f : ir_function.Function) → slice_get (all_functions m) g ≡ Some f →
+      AllEnd f.body) where
     body_declared : (named : ℕ → List ℕ) (g : ℕ) (f : ir_function.Function)
         (es : List ExpressionInfo) → slice_get (all_functions m) g ≡ Some f →
         function_interface_read (function_form explicit names named m info g f es) ≡
@@ -358,6 +362,10 @@ module _ (m : Module) where
           locals =
               locals_declared (function_naming names named m info g f es) t
               (function_source m info f es) 0 f.local_variables i;
+          switches =
+              lines_tell (function_naming names named m info g f es)
+              (annotated_type explicit m t es) (function_source m info f es) 0 f.body
+              (ends g f at) (at_start (function_naming names named m info g f es).function) i;
         }
 
     functions_declared : (g : ℕ) (fs : List ir_function.Function) (ess : List (List ExpressionInfo)) →
@@ -494,6 +502,15 @@ module _ (m : Module) (info : ModuleInfo) (explicit : Bool) (labels : LabelNames
       ∙ sym (ap (option_and_then (module_initialiser_value program_of_shapes settings meaning))
       read.1)))
 
+  -- the cases of its switches end, so that no label is lost
+  ends : (g : ℕ) (f : ir_function.Function) → slice_get (all_functions m) g ≡ Some f → AllEnd f.body
+  ends g f at =
+      let known = known_there m info accepted g f at in
+      let sound =
+      soundness_is m f known.0 (of_number m info accepted g f known.0 at known.1).sound in
+      block_ends m f (map (λ e. e.ty) known.0) false false f.body sound.1
+      (have g f known.0 at known.1).statements
+
   tells_interface : TellsInterfaceOf m info (program_under labels m info explicit)
   tells_interface settings fit meaning typed world =
       let read : Expression → Option Value = λ e.
@@ -510,7 +527,7 @@ module _ (m : Module) (info : ModuleInfo) (explicit : Bool) (labels : LabelNames
       (entry_points_under labels explicit names m info n m.entry_points.items
       info.entry_points.items))
       (sym first)
-      ∙ entry_points_declared m explicit labels info declarations accepted 0 m.entry_points.items
+      ∙ entry_points_declared m explicit labels info declarations ends accepted 0 m.entry_points.items
       info.entry_points.items (entry_points_counted m info accepted)
       (from_start m.entry_points.items) in
       λ i. record {
@@ -523,7 +540,7 @@ module _ (m : Module) (info : ModuleInfo) (explicit : Bool) (labels : LabelNames
         globals =
             globals_from m read value same 0 m.global_variables (from_start m.global_variables) i;
         functions =
-            functions_declared m explicit labels info declarations 0 m.functions info.functions.items
+            functions_declared m explicit labels info declarations ends 0 m.functions info.functions.items
             (functions_counted m info accepted) (from_start m.functions) i;
         entry_points = entry_points i;
       }

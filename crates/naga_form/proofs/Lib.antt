@@ -85,6 +85,7 @@ pub mod SpelledSignatures
 pub mod SpelledWords
 pub mod StageTargets
 pub mod StatementPrograms
+pub mod SwitchLabels
 pub mod Switches
 pub mod TakenParts
 pub mod DistinguishedItems

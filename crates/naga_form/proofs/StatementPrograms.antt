@@ -42,7 +42,6 @@ use Rattle.wgsl_text.specs.Expressions.{Call, IsCallee, IsExpression, operands}
 use Rattle.wgsl_text.specs.Functions.{Each}
 use Rattle.wgsl_text.specs.Statements as tree
 use Rattle.wgsl_text.specs.Statements.{IsCases, IsLabel, IsOptionalBlock, IsStatement, IsStatements}
-use Rattle.wgsl_text.specs.Statements.{has_case}
 use Rattle.wgsl_text.specs.Types.{IsType, Named, TypeSpecifier}
 use Rattle.wgsl_text.specs.Words.{IsIdentifier}
 use Rattle.wgsl_text.proofs.Building.{called_words}
@@ -59,7 +58,7 @@ use Rattle.naga_form.proofs.NumberedNames.{numbered_is}
 use Rattle.naga_form.proofs.PlainForms.{IsPlainForm, NamesAre, reference_is_one, value_is_one}
 use Rattle.naga_form.proofs.PlainForms.{values_are}
 use Rattle.naga_form.proofs.SimpleShapes.{roots_are, shape_roots}
-use Rattle.naga_form.proofs.Switches.{labels_are, labels_more, some_case_stays}
+use Rattle.naga_form.proofs.Switches.{labels_are, labels_more, one_is_written}
 use Rattle.naga_form.proofs.WrittenHandles.{all_front, all_map, all_rest}
 
 -- ---- lines
@@ -302,13 +301,6 @@ module _ (m : Module) (info : ModuleInfo) (g : ℕ) (f : ir_function.Function) (
     loop_is body b continuing s well None w is next = (is, optional_is b continuing next)
     loop_is body b continuing s well (Some h) w is next = (is, next, value_at_is s well h w.0)
 
-    cases_stay : (k : ℕ) (labels : List tree.Label) (cs : CaseTrees) → IsTrue (some_case_stays cs) →
-        (s : Handles) → IsTrue (has_case (cases_form own annotated source k labels cs s))
-    cases_stay k labels no_cases stays s = stays
-    cases_stay k labels (case value body true cs) stays s =
-        cases_stay (named_by_all own.function (statements_shape d.context body) k) (labels ++ label_form value ∷ []) cs stays s
-    cases_stay k labels (case value body false cs) stays s = refl
-
     mutual
       line_is : (k : ℕ) (st : StatementTree) → StatementFits own d.context st → (s : Handles) → NamesAre s →
           HasRoom k (labels_in f st) → (rest : tree.Statements) → IsStatements rest →
@@ -329,7 +321,7 @@ module _ (m : Module) (info : ModuleInfo) (g : ℕ) (f : ir_function.Function) (
             is,
           )
       line_is k (switch selector cs) fit s well room rest is w =
-          ((value_at_is s well selector w.0, cases_are k [] tt cs fit.1 s well room w.1, cases_stay k [] cs fit.0 s), is)
+          ((value_at_is s well selector w.0, cases_are k [] tt cs fit.1 s well room w.1, one_is_written own annotated source k cs fit.0 s), is)
       line_is k (loop body continuing break_if) fit s well room rest is w =
           let front = room_front k (block_labels f body) (block_labels f continuing) room in
           let beyond = room_beyond k body (block_labels f continuing) room in

@@ -15,7 +15,7 @@ use Rattle.naga_ir.specs.declared.types.TypeInner.{TypeInner}
 use Rattle.naga_ir.specs.declared.types.TypeInner.TheVariants as inner
 use Rattle.naga_ir.specs.declared.types.VectorSize.TheVariants as vector
 use Rattle.wgsl_layout.specs.declared.layouts.Layout.{Layout}
-use Rattle.naga_layout.specs.Capped.{told}
+use Rattle.naga_layout.specs.Types.{told}
 use Rattle.naga_layout.specs.Types.{Rule, arrays_are_kept, inner_layout_by, layout_at, told_rule}
 
 abbrev bytes : (a s : ℕ) → Option Layout

@@ -1,18 +1,16 @@
 -- Types as the code lays them out: member by member, and with sizes that no offset reaches alike.
 --
--- Throughout, l is a layout, a an alignment, f tells the layouts of types, k is a member, p a
--- member with its type's layout, more are those that are left, and span is how many bytes the
+-- Throughout, a is an alignment, f tells the layouts of types, k is a member, p a member with its
+-- type's layout, more are those that are left, and span is how many bytes the
 -- module gives to a struct.
-use Rattle.std.specs.Prelude.{ℕ, ◌&&◌, List, [], ◌∷◌, max, nat_lt, Option, Some, None}
+use Rattle.std.specs.Prelude.{ℕ, ◌&&◌, List, [], ◌∷◌, max, Option, Some, None}
 use Rattle.std.specs.Prelude.{if◌then◌else◌}
 use Rattle.std.specs.Option.{option_and_then, option_map}
 use Rattle.naga_ir.specs.declared.types.StructMember.{StructMember}
-use Rattle.wgsl_layout.specs.Capped.{past}
 use Rattle.wgsl_layout.specs.Members.{ended, is_aligned, stands_after}
 use Rattle.wgsl_layout.specs.declared.layouts.Layout.{Layout}
 use Rattle.wgsl_layout.specs.declared.layouts.Placed.{Placed}
 use Rattle.naga_layout.specs.Types.{placed_member}
-use Rattle.naga_layout.specs.declared.types.TypeLayout.{TypeLayout}
 
 -- how many bytes a number has that is laid out
 pub data IsWidth : ℕ → Type 0 where
@@ -31,11 +29,3 @@ left_from f span before a (k ∷ more) =
     (λ p. if is_aligned p && stands_after before p
     then left_from f span (Some p) (max a p.layout.alignment) more else None)
     (placed_member f k)
-
--- a size as users are told it: none, if it has more than 32 bits
-abbrev pub told_size : Option ℕ → Option ℕ
-told_size size = option_and_then (λ s. if nat_lt s past then Some s else None) size
-
--- a layout as users are told it
-abbrev pub told : Layout → TypeLayout
-told l = record { align = l.alignment; size = told_size l.size }

@@ -24,11 +24,13 @@ use Rattle.naga_ir.specs.declared.types.TypeInner.{TypeInner}
 use Rattle.naga_ir.specs.declared.types.TypeInner.TheVariants as inner
 use Rattle.naga_ir.specs.declared.types.VectorSize.{VectorSize}
 use Rattle.naga_ir.specs.declared.types.VectorSize.TheVariants as vector
+use Rattle.wgsl_layout.specs.Capped.{past}
 use Rattle.wgsl_layout.specs.Rules.{array_layout, kept_array, matrix_layout, scalar_layout}
 use Rattle.wgsl_layout.specs.Rules.{stride_of, struct_layout, vector_layout}
 use Rattle.wgsl_layout.specs.Members.{are_kept, written_members}
 use Rattle.wgsl_layout.specs.declared.layouts.Layout.{Layout}
 use Rattle.wgsl_layout.specs.declared.layouts.Placed.{Placed}
+use Rattle.naga_layout.specs.declared.types.TypeLayout.{TypeLayout}
 
 -- ---- scalars
 -- Integers and floats of 16, 32 and 64 bits are laid out. Truth values and abstract numbers stand
@@ -143,6 +145,15 @@ layout_within (suc levels) rule types h =
 -- accepted module do; if it is laid out, and all offsets in it can be kept.
 unfoldable pub layout_at : Rule → List Type_ → (h : ℕ) → Option Layout
 layout_at rule types h = layout_within (suc h) rule types h
+
+-- ---- what is told to users
+-- a size as users are told it: none, if it has more than 32 bits
+abbrev pub told_size : Option ℕ → Option ℕ
+told_size size = option_and_then (λ s. if nat_lt s past then Some s else None) size
+
+-- a layout as users are told it
+abbrev pub told : Layout → TypeLayout
+told l = record { align = l.alignment; size = told_size l.size }
 
 -- ---- strides
 -- The elements of an array begin as far apart in the module as WGSL has them begin, if they are

@@ -6,9 +6,10 @@ ghost use Rattle.std.specs.List.{list_all};
 ghost use Rattle.std.specs.Option.{option_and_then, option_map};
 ghost use Rattle.wgsl_layout.specs.Capped.{IsAlignment, capped, capped_member, past};
 ghost use Rattle.wgsl_layout.specs.Rules.{kept_array, matrix_layout, scalar_layout, vector_layout};
-ghost use Rattle.naga_layout.specs.Capped.{IsWidth, told, told_size};
+ghost use Rattle.naga_layout.specs.Capped.{IsWidth};
 ghost use Rattle.naga_layout.specs.Seen.{TellSeen};
 ghost use Rattle.naga_layout.specs.Types.{StandInOrder, component_number, has_atomic_size};
+ghost use Rattle.naga_layout.specs.Types.{told, told_size};
 ghost use Rattle.naga_layout.specs.Types.{has_size, inner_layout_by, is_number, kept_struct};
 ghost use Rattle.naga_layout.specs.Types.{layout_at, parts_before, placed_member, told_length};
 ghost use Rattle.naga_layout.specs.Types.{told_rule};
@@ -36,16 +37,21 @@ pub struct TypeLayout {
 ///
 /// It is `None` where
 ///
-/// - WGSL gives values of the type no layout: truth values, abstract numbers, pointers, images,
-///   samplers and the like, and what has such a part;
+/// - no buffer holds values of the type: truth values, abstract numbers, pointers, images, samplers
+///   and the like, and what has such a part;
 /// - an override gives the length of an array, or an array's elements have no size;
 /// - an array's elements begin at another distance in the module than WGSL has them begin;
 /// - a struct has no members, one with a binding, or one that can't stay where it is: the first not
-///   at 0, another at 0, one off its alignment, or before the end of the one before it.
+///   at 0, another at 0, one off its alignment, before the end of the one before it, or after one
+///   that has no size.
 ///
-/// It takes no memory. Structs are remembered while it runs, up to 256 of them, so that time grows
-/// with the types that it looks at; where a type is made of more structs, some may be looked at
-/// again.
+/// The size of a struct is its span in the module, where that is a multiple of the alignment and
+/// has room for the last member, and the one that WGSL's rules give it otherwise.
+///
+/// It takes no memory; how deep the stack goes grows with how deep types are made of one another.
+/// Structs are remembered while it runs, in 256 cells, so that time grows with the types that it
+/// looks at. Structs whose handles differ by a multiple of 256 share a cell: the one that is looked
+/// at later drives the other out, which may have to be looked at again, and so may its members.
 ///
 /// ```text
 /// // struct Q { @size(16) a: u32, b: u32 }: a at 0, b at 16, span 20
@@ -144,7 +150,7 @@ fn told_size(size: Option<u64>) -> Option<u32>
     }
 }
 
-/// Whether it is an integer or a float of a text, which stand in memory.
+/// Whether it is an integer or a float that a text can hold.
 fn is_number(kind: ScalarKind) -> bool
     ensures { result ≡ is_number kind }
 {

@@ -389,7 +389,7 @@ lines_none f k s i items n past = ap (λ (ss : List Statement). block_text f k s
 -- ---- what is in range
 pub emit_within : (callees expressions first last : ℕ) → IsTrue (statement_in_range callees expressions (simple (emit first last))) → last ≤ expressions
 emit_within callees expressions first last range =
-    leb-true last expressions (and_parts (nat_le first last) (nat_le last expressions) range).1
+    leb-true last expressions (and_parts (nat_le first expressions) (nat_le last expressions) range).1
 
 pub ruleset lines = (lines_more, lines_none, first_of)
 

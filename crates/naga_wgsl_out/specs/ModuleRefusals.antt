@@ -50,8 +50,8 @@ IsNamesRefusal m (Custom message) = IsReportedOfItems m (string_bytes message)
 IsNamesRefusal m (Memory e) = ⊤
 IsNamesRefusal m _ = ⊥
 
--- a declaration without a form stands in the module, and is named, or an expression, a type or a
--- statement without one in some function
+-- a declaration without a form stands in the module, or a struct that can't keep the offsets of its
+-- members, and is named, or an expression, a type or a statement without a form in some function
 abbrev pub HasFormless : (explicit : Bool) → Module → ModuleInfo → Error → Type 0
 HasFormless explicit m info error =
     NamesDeclaration m error ⊎ ((number : ℕ) × HasFormlessIn explicit m info number error)
@@ -64,8 +64,9 @@ IsOutOfScope m info message = (message ≡ codes "operand out of scope") × (Sco
 
 -- Why a module is refused, of which this is known, where the sink had failed so often before and
 -- has failed so often now: the sink failed, memory ran out, the names can't be told, an operand is
--- out of scope, or a declaration without a form stands there, an expression without one is written, a
--- type without one spelled or a statement without one stands there.
+-- out of scope, or a declaration without a form or a struct that can't keep the offsets of its
+-- members stands there, an expression without a form is written, a type without one spelled or a
+-- statement without one stands there.
 abbrev pub IsRefusal : (explicit : Bool) → Module → ModuleInfo → (before now : ℕ) → Error → Type 0
 IsRefusal explicit m info before now (FmtError e) = IsSinkWant before now e
 IsRefusal explicit m info before now (Memory e) = ⊤

@@ -3,11 +3,9 @@
 ghost use Rattle.std.specs.Prelude.{◌≡◌, ◌<◌, IsTrue, length};
 ghost use Rattle.std.specs.Option.{option_map};
 ghost use Rattle.module_meaning.specs.Ranges.{parts_stand_before};
-ghost use Rattle.naga_layout.specs.Capped.{told};
-ghost use Rattle.naga_layout.specs.Types.{layout_at, told_rule};
+ghost use Rattle.naga_layout.specs.Types.{layout_at, told, told_rule};
 
 use naga_ir::{Handle, Type_, UniqueArena};
-
 pub use naga_layout::TypeLayout;
 pub use naga_words::types::{type_fits, types_in_order};
 pub use naga_words::{SinkError, TextSink, TypeContext, TypeTextError, WriterTypeContext};
@@ -18,15 +16,20 @@ pub use naga_words::{SinkError, TextSink, TypeContext, TypeTextError, WriterType
 ///
 /// It is `None` where
 ///
-/// - WGSL gives values of the type no layout: truth values, abstract numbers, pointers, images,
-///   samplers and the like, and what has such a part;
+/// - no buffer holds values of the type: truth values, abstract numbers, pointers, images, samplers
+///   and the like, and what has such a part;
 /// - an override gives the length of an array, or an array's elements have no size;
 /// - an array's elements begin at another distance in the module than WGSL has them begin;
 /// - a struct has no members, one with a binding, or one that can't stay where it is: the first not
-///   at 0, another at 0, one off its alignment, or before the end of the one before it.
+///   at 0, another at 0, one off its alignment, before the end of the one before it, or after one
+///   that has no size.
 ///
-/// It takes no memory. Time grows with the types that it looks at; a struct is looked at again
-/// where more than 256 of them are in one type.
+/// The size of a struct is its span in the module, where that is a multiple of the alignment and
+/// has room for the last member, and the one that WGSL's rules give it otherwise.
+///
+/// It takes no memory; how deep the stack goes grows with how deep types are made of one another.
+/// Time grows with the types that it looks at, but structs whose handles differ by a multiple of 256
+/// may be looked at again and again: `naga_layout::type_layout` says why.
 ///
 /// ```text
 /// // struct Q { @size(16) a: u32, b: u32 }: a at 0, b at 16, span 20

@@ -22,6 +22,7 @@ use Rattle.text_meaning.specs.Attributes.{StageBinding, stage_binding_read, size
 use Rattle.text_meaning.specs.Attributes.{alignment_read, behind_alignment, id_read}
 use Rattle.text_meaning.specs.Attributes.{ResourceBinding, resource_binding_read, is_coherent}
 use Rattle.text_meaning.specs.Attributes.{is_volatile, Stage, stage_read}
+use Rattle.text_meaning.specs.Switches.{LabelInterface, statements_switches}
 
 -- a member of a struct: how it passes in or out of a stage, the size and the alignment that it is
 -- given, if it is given any, and its type
@@ -68,12 +69,14 @@ pub record PassedValue : Type 0 where
 
 -- A function by its name, the types of its arguments and that of its result. The types of its
 -- locals, in their order, are told too, since no run looks at the type that a local is declared
--- with.
+-- with; and so are the labels of each switch of its body, case by case, since a run sees a label
+-- only where it is taken.
 pub record FunctionInterface : Type 0 where
   pub name : List ℕ
   pub arguments : List PassedValue
   pub result : Option PassedValue
   pub locals : List (List ℕ)
+  pub switches : List (List LabelInterface)
 
 pub record EntryPointInterface : Type 0 where
   pub stage : Stage
@@ -159,6 +162,7 @@ function_interface_read f =
       arguments = map parameter_read f.parameters;
       result = result_read f.result;
       locals = map (λ l. type_layout l.type) f.locals;
+      switches = statements_switches f.body;
     }
 
 abbrev pub entry_point_interface_read : EntryPoint → EntryPointInterface

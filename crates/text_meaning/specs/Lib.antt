@@ -5,3 +5,4 @@ pub mod Interface
 pub mod Layout
 pub mod Literals
 pub mod Resolution
+pub mod Switches

@@ -25,8 +25,8 @@ fault_after (Some b) k = if begins_inside b k then Some Overlapping else None
 abbrev pub own_fault : (before : Option Placed) → Placed → Option Misplaced
 own_fault before k = if is_aligned k then fault_after before k else Some OffAlignment
 
--- the first fault of these members, where the struct is to keep their offsets; of no others one is
--- told
+-- the first fault of these members, where the struct is to keep their offsets; none is told of any
+-- other struct
 abbrev pub first_fault :
     (before : Option Placed) → (found : Option Misplaced) → List Placed → Option Misplaced
 first_fault None found [] = None
@@ -35,7 +35,7 @@ first_fault before found (k ∷ more) =
     if goes_on before k
     then first_fault (Some k) (option_or found (own_fault before k)) more else None
 
--- a member is off its alignment, or one begins before the end of the one before it
+-- this fault stands among these members
 abbrev pub StandsAmong : Misplaced → List Placed → Type 0
 StandsAmong OffAlignment ks = IsTrue (is_off_alignment ks)
 StandsAmong Overlapping ks = IsTrue (overlaps ks)

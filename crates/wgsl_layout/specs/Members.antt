@@ -119,8 +119,8 @@ end_after_last o s span a =
 abbrev pub ended : (span a : ℕ) → (last : Placed) → Layout
 ended span a last = closed a (end_of_last span a last)
 
--- It then has the module's span: this is a multiple of its alignment, and the last member has a
--- size and ends no later.
+-- The struct then has the module's span: this is a multiple of its alignment, and the last member
+-- has a size and ends no later.
 abbrev pub has_room : (span a : ℕ) → (last : Placed) → Bool
 has_room span a last =
     (span % a == 0) &&

@@ -3,8 +3,10 @@
 -- They ask for numbers alone, so that a text and a module are laid out by the same rules.
 --
 -- The rules are those of the WGSL specification, sections "Alignment and Size" and "Structure
--- Member Layout". Integers of 16 bits and scalars of 64 bits have no row there; that they are laid
--- out as all other numbers is this project's own rule.
+-- Member Layout". Integers of 16 bits, scalars of 64 bits, atomics of these and of floats, and
+-- matrices of integers and of floats of 64 bits have no row there; that they are laid out as all
+-- other numbers is this project's own rule. So is that truth values, which no buffer holds, have no
+-- layout.
 --
 -- Throughout, s is the size of a scalar or of a type, n how many parts there are, a an alignment, k
 -- a member, next the one after it, more those that are left, and end the first byte after the

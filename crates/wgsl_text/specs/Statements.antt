@@ -3,7 +3,8 @@
 --
 -- Throughout, n is the level of indentation or a number, w a word, t a type, e an expression, a and
 -- b are two, l is a label, s a statement, and i an index.
-use Rattle.std.specs.Prelude.{ℕ, Bool, List, [], ◌∷◌, true, false, ◌++◌, suc, ◌<◌, ◌^◌, ⊤, IsTrue}
+use Rattle.std.specs.Prelude.{ℕ, Bool, List, [], ◌∷◌, true, false, ◌++◌, suc, ◌+◌, ◌<◌, ◌^◌}
+use Rattle.std.specs.Prelude.{◌==◌, ⊤, IsTrue}
 use Rattle.wgsl_text.specs.Expressions.{Expression, Name, Member, Index, IndexAt, Dereference}
 use Rattle.wgsl_text.specs.Expressions.{Arguments, expression_pieces, arguments_pieces, IsCallee}
 use Rattle.wgsl_text.specs.Expressions.{may_take, IsExpression, IsArguments}
@@ -181,11 +182,21 @@ abbrev pub IsLabels : Labels → Type 0
 IsLabels (LastLabel l) = IsLabel l
 IsLabels (MoreLabels l more) = IsLabel l × IsLabels more
 
--- a switch has a case
-abbrev pub has_case : Cases → Bool
-has_case NoCases = false
-has_case (Case labels body more) = true
+-- how many of the labels are `default`
+abbrev pub defaults_at : Label → ℕ
+defaults_at DefaultLabel = 1
+defaults_at (SignedLabel negative n) = 0
+defaults_at (UnsignedLabel n) = 0
 
+abbrev pub defaults_among : Labels → ℕ
+defaults_among (LastLabel l) = defaults_at l
+defaults_among (MoreLabels l more) = defaults_at l + defaults_among more
+
+abbrev pub default_count : Cases → ℕ
+default_count NoCases = 0
+default_count (Case labels body more) = defaults_among labels + default_count more
+
+-- A switch has exactly one default among the labels of its cases.
 abbrev mutual
   pub IsStatement : Statement → Type 0
   IsStatement (Let w e) = IsIdentifier w × IsExpression e
@@ -196,7 +207,7 @@ abbrev mutual
   IsStatement (If e accept reject) = IsExpression e × IsStatements accept × IsOptionalBlock reject
   IsStatement (Loop body rest) = IsStatements body × IsOptionalBlock rest
   IsStatement (LoopBreakIf body rest e) = IsStatements body × IsStatements rest × IsExpression e
-  IsStatement (Switch e cases) = IsExpression e × IsCases cases × IsTrue (has_case cases)
+  IsStatement (Switch e cases) = IsExpression e × IsCases cases × IsTrue (default_count cases == 1)
   IsStatement (Block body) = IsStatements body
   IsStatement _ = ⊤
 

@@ -73,16 +73,19 @@ fn push_struct(
     };
     push_line(alloc, head, text)?;
     let mut before = Before::Nothing;
-    for (number, member) in members.iter().enumerate() {
+    // a module with more members than that has no names
+    let mut number: u32 = 0;
+    for member in members {
         let found = found_of(types, member);
         let line = MemberLine {
-            name: name_in(names, &NameKey::StructMember(handle, number as u32)),
+            name: name_in(names, &NameKey::StructMember(handle, number)),
             offset: member.offset,
             found,
             fault: fault_of(before, member.offset, found),
         };
         push_line(alloc, line, text)?;
         before = ended(member.offset, found);
+        number = number.saturating_add(1);
     }
     Ok(())
 }

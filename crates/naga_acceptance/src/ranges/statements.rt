@@ -74,12 +74,13 @@ fn ray_in_range(expressions: usize, fun: RayPipelineFunction) -> bool
 
 /// Whether the operands and the result of a statement, and the range of an `Emit`, lie in the first
 /// `expressions`, and its callee in the first `callees` functions, and a switch's labels have 32
-/// bits. Its blocks are left out.
+/// bits. Its blocks are left out. A range may be empty or turned: then it has no handles, and both
+/// its ends still lie there.
 pub(crate) fn own_in_range(callees: usize, expressions: usize, statement: &Statement) -> bool
     ensures { result ≡ own_in_range callees expressions (tree_of statement.now) }
 {
     match statement {
-        Statement::Emit(range) => range.first <= range.end && range.end <= expressions,
+        Statement::Emit(range) => range.first <= expressions && range.end <= expressions,
         Statement::Break
         | Statement::Continue
         | Statement::Kill
