@@ -18,7 +18,7 @@ use Rattle.naga_ir.specs.declared.types.StructMember.{StructMember}
 use Rattle.naga_ir.specs.declared.types.Type_.{Type_}
 use Rattle.naga_ir.specs.declared.types.TypeInner.{TypeInner}
 use Rattle.naga_ir.specs.declared.types.TypeInner.TheVariants as inner
-use Rattle.naga_layout.specs.Types.{Rule, arrays_are_kept, layout_at, placed_members}
+use Rattle.naga_layout.specs.Types.{Rule, arrays_are_kept, layout_at, placed_members, told_rule}
 use Rattle.naga_names.specs.Reset.{members_of}
 use Rattle.naga_names.specs.declared.key.NameKey.TheVariants as key
 use Rattle.wgsl_layout.specs.Faults.{StandsAmong}
@@ -27,7 +27,7 @@ use Rattle.wgsl_layout.specs.declared.layouts.Layout.{Layout}
 use Rattle.wgsl_layout.specs.declared.layouts.Placed.{Placed}
 use Rattle.wgsl_layout.specs.declared.members.Misplaced.{Misplaced}
 use Rattle.wgsl_text.specs.Declarations.{Program, Struct}
-use Rattle.text_meaning.specs.Layout.{offsets_read, size_of_struct_read}
+use Rattle.text_meaning.specs.Layout.{offsets_read, size_of_struct_read, struct_layout_read}
 use Rattle.module_meaning.specs.Names.{module_names, name_in}
 use Rattle.module_meaning.specs.Undeclared.{is_declared, is_undeclared}
 
@@ -104,3 +104,11 @@ abbrev pub KeepsLayouts : Module → Program → Type 0
 KeepsLayouts m program =
     (h : ℕ) (ks : List Placed) → concerned_members m h ≡ Some ks →
     KeepsLayout program.structs (name_in (module_names m) (key.Type_ h)) (span_at m h) ks
+
+-- What users are told of such a struct is how WGSL's rules lay it out, applied to the structs of
+-- the text alone.
+abbrev pub TellsLayouts : Module → Program → Type 0
+TellsLayouts m program =
+    (h : ℕ) (ks : List Placed) (l : Layout) → concerned_members m h ≡ Some ks →
+    layout_at told_rule m.types h ≡ Some l →
+    struct_layout_read program.structs (name_in (module_names m) (key.Type_ h)) ≡ Some l

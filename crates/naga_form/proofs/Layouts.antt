@@ -1,4 +1,5 @@
--- The program that is written for a module keeps the layouts of its structs that are concerned.
+-- The program that is written for a module keeps the layouts of its structs that are concerned, and they
+-- are those that users are told.
 --
 -- Throughout, m is a module, of which info is known, h is the handle of a type ty, ks are the members of
 -- a struct as the module places them, k is the first of them, xs are items or structs, n is how many are
@@ -6,9 +7,9 @@
 -- front ends gave.
 use Rattle.std.proofs.Common.{◌≡◌, ◌≤◌, ℕ, zero, suc, Bool, true, false, List, [], ◌∷◌, Option, Some, None}
 use Rattle.std.proofs.Common.{refl, sym, ap, subst, ◌∙◌, arith, length, map, take}
-use Rattle.std.specs.Prelude.{IsTrue, if◌then◌else◌, slice_get}
+use Rattle.std.specs.Prelude.{IsTrue, if◌then◌else◌, not, slice_get}
 use Rattle.std.specs.List.{cons_option, enumerate_from, filter, filter_map, find}
-use Rattle.std.specs.Option.{option_and_then, option_map}
+use Rattle.std.specs.Option.{option_and_then, option_map, option_map_or}
 use Rattle.std.specs.Str.{bytes_eq}
 use Rattle.std.proofs.lemmas.Bool.{and_parts, false_from_ne_true, false≢true}
 use Rattle.std.proofs.lemmas.Option.{same_Some}
@@ -17,25 +18,30 @@ use Rattle.naga_info.proofs.Options.{map_some, then_some}
 use Rattle.naga_info.specs.declared.info.ModuleInfo.{ModuleInfo}
 use Rattle.naga_ir.specs.declared.module.Module.{Module}
 use Rattle.naga_ir.specs.declared.types.Type_.{Type_}
+use Rattle.naga_ir.specs.declared.types.TypeInner.{TypeInner}
+use Rattle.naga_ir.specs.declared.types.TypeInner.TheVariants as inner
 use Rattle.naga_layout.proofs.Left.{all_aligned, members_aligned}
-use Rattle.naga_layout.specs.Types.{StandInOrder}
+use Rattle.naga_layout.proofs.Levels.{layout_is}
+use Rattle.naga_layout.proofs.Told.{told_alike}
+use Rattle.naga_layout.specs.Types.{StandInOrder, kept_members, kept_struct, layout_at, named_layout_by, placed_members, told_rule}
 use Rattle.naga_names.specs.Reset.{members_of}
 use Rattle.naga_names.specs.declared.key.NameKey.TheVariants as key
 use Rattle.module_meaning.proofs.Layouts.{stand_in_order}
 use Rattle.module_meaning.specs.Accepted.{is_accepted}
 use Rattle.module_meaning.specs.DeclarationForms.{DeclarationsHaveForms}
 use Rattle.module_meaning.specs.DeclaredItems.{struct_number}
-use Rattle.module_meaning.specs.Layouts.{KeepsLayout, KeepsLayouts, concerned_members, concerned_of, layout_in, module_rule, span_at}
+use Rattle.module_meaning.specs.Layouts.{KeepsLayout, KeepsLayouts, TellsLayouts, concerned_members, concerned_of, layout_in, module_rule, span_at, span_of}
 use Rattle.module_meaning.specs.Names.{LabelNames, module_names, name_in}
 use Rattle.module_meaning.specs.Ranges.{parts_stand_before}
 use Rattle.module_meaning.specs.Types.{type_names}
-use Rattle.module_meaning.specs.Undeclared.{is_declared}
+use Rattle.module_meaning.specs.Undeclared.{is_declared, is_undeclared}
 use Rattle.text_meaning.specs.Layout.{offsets_read, size_of_struct_read, struct_layout_read, struct_named, struct_within}
 use Rattle.text_meaning.specs.Resolution.{place_among}
 use Rattle.wgsl_layout.proofs.Faults.{all_kept}
 use Rattle.wgsl_layout.proofs.Kept.{AllAligned, offsets_kept, span_kept, struct_kept}
-use Rattle.wgsl_layout.specs.Members.{are_kept, ended, greatest_placed, is_concerned, is_off_alignment, last_of, overlaps}
-use Rattle.wgsl_layout.specs.Rules.{offsets_of}
+use Rattle.wgsl_layout.specs.Members.{are_kept, ended, greatest_placed, is_concerned, is_off_alignment, last_of, overlaps, written_members}
+use Rattle.wgsl_layout.specs.Rules.{offsets_of, struct_layout}
+use Rattle.wgsl_layout.specs.declared.layouts.Layout.{Layout}
 use Rattle.wgsl_layout.specs.declared.layouts.Placed.{Placed}
 use Rattle.wgsl_layout.specs.declared.members.Misplaced.TheVariants.{OffAlignment, Overlapping}
 use Rattle.wgsl_text.specs.Declarations.{Program, Struct}
@@ -183,6 +189,44 @@ module _ (m : Module) (info : ModuleInfo) (explicit : Bool) (labels : LabelNames
               ∙ span_kept (span_at m h) k left aligned kept room;
         }
 
+    -- how a struct is laid out whose members can be left where they are
+    own_layout : (h : ℕ) (it : TypeInner) (ks : List Placed) (l : Layout) → is_declared m.special_types h it ≡ true →
+        placed_members (layout_in m) (members_of it) ≡ Some ks → are_kept None ks ≡ true →
+        struct_layout (written_members (span_of it) ks) ≡ Some l →
+        named_layout_by (module_rule m) (layout_in m) h it ≡ Some l
+    own_layout h (inner.Struct members span) ks l declared placed kept laid =
+        ap (λ b. if b then kept_struct (layout_in m) members.items span else None) (and_parts true (not (is_undeclared m.special_types h)) declared).1
+        ∙ (ap (option_and_then (kept_members span)) placed
+        ∙ (ap (λ b. if b then struct_layout (written_members span ks) else None) kept ∙ laid))
+    own_layout h _ ks l declared placed kept laid = absurd cc
+
+    -- what users are told of it is how the text's structs are laid out
+    tells_one : (h : ℕ) (ty : Type_) (ks : List Placed) (l : Layout) → slice_get m.types h ≡ Some ty → concerned_members m h ≡ Some ks →
+        AllAligned ks → is_concerned ks ≡ true → is_declared m.special_types h ty.inner ≡ true →
+        placed_members (layout_in m) (members_of ty.inner) ≡ Some ks → layout_at told_rule m.types h ≡ Some l →
+        struct_layout_read program.structs ((type_names m).struct_name h) ≡ Some l
+    unfolding struct_layout_read
+    tells_one h ty [] l at is aligned concerned declared placed told = absurd cc
+    tells_one h ty (k ∷ left) l at is aligned concerned declared placed told =
+        let span = ap (λ o. option_map_or (λ ty. span_of ty.inner) o 0) at in
+        let kept = are_kept_here h (k ∷ left) is concerned in
+        let whole = ended (span_at m h) (greatest_placed 0 (k ∷ left)) (last_of k left) in
+        let laid = struct_kept (span_at m h) k left aligned kept in
+        struct_is_laid m program.structs count order are_found more h ty (k ∷ left) at is (length program.structs) (are_counted (suc h)) whole laid
+        ∙ ap (λ l. Some l)
+        (sym (told_alike (module_rule m) m.types h l whole told
+        (layout_is (module_rule m) m.types order h ty at
+        ∙ own_layout h ty.inner (k ∷ left) whole declared placed kept
+        (ap (λ span. struct_layout (written_members span (k ∷ left))) (sym span) ∙ laid))))
+
+    tells : TellsLayouts m program
+    tells h ks l is told =
+        let own = then_some (λ ty. concerned_of m h ty.inner) (slice_get m.types h) ks is in
+        let parts = concerned_parts m program.structs count order are_found more h own.0.inner ks own.2 in
+        subst (λ w. struct_layout_read program.structs w ≡ Some l) (or_nothing (module_names m (key.Type_ h)))
+        (tells_one h own.0 ks l own.1 is (members_aligned (layout_in m) (all_aligned (module_rule m) m.types) (members_of own.0.inner) ks parts.placed)
+        parts.concerned parts.declared parts.placed told)
+
     keeps : KeepsLayouts m program
     keeps h ks is =
         let own = then_some (λ ty. concerned_of m h ty.inner) (slice_get m.types h) ks is in
@@ -194,3 +238,8 @@ module _ (m : Module) (info : ModuleInfo) (explicit : Bool) (labels : LabelNames
 pub keeps_layouts : (m : Module) (info : ModuleInfo) (explicit : Bool) (labels : LabelNames) → IsTrue (is_accepted m info) →
     DeclarationsHaveForms m → KeepsLayouts m (program_under labels m info explicit)
 keeps_layouts m info explicit labels accepted forms = keeps m info explicit labels accepted forms
+
+-- and users are told them
+pub tells_layouts : (m : Module) (info : ModuleInfo) (explicit : Bool) (labels : LabelNames) → IsTrue (is_accepted m info) →
+    DeclarationsHaveForms m → TellsLayouts m (program_under labels m info explicit)
+tells_layouts m info explicit labels accepted forms = tells m info explicit labels accepted forms

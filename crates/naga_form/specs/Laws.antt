@@ -38,7 +38,7 @@ use Rattle.module_meaning.specs.Faithful.{HasInterfaceOf, RunsAs}
 use Rattle.module_meaning.specs.Written.{AllWrittenHaveForms, WrittenHaveForms}
 use Rattle.module_meaning.specs.InfoSizes.{type_is_fit, resolution_is_fit}
 use Rattle.module_meaning.specs.Interface.{global_expression_value}
-use Rattle.module_meaning.specs.Layouts.{KeepsLayouts}
+use Rattle.module_meaning.specs.Layouts.{KeepsLayouts, TellsLayouts}
 use Rattle.module_meaning.specs.Literals.{literal_value}
 use Rattle.module_meaning.specs.Meanings.{OperatorsAreConsistent, HasTypedMeaning, HasTypedWorld}
 use Rattle.module_meaning.specs.Meanings.{IsNeverStuck, NoRunIsStuck}
@@ -107,6 +107,10 @@ HasTheInterface = OfAcceptedInScope (λ named. HasInterfaceOf)
 -- in memory each of its structs stands as in the module, if its members' offsets are to be kept
 abbrev pub KeepsTheLayouts : Type 0
 KeepsTheLayouts = OfAccepted (λ named m info explicit. KeepsLayouts m)
+
+-- and what users are told of it is how it stands there
+abbrev pub TellsTheLayouts : Type 0
+TellsTheLayouts = OfAccepted (λ named m info explicit. TellsLayouts m)
 
 -- Each initialiser of the module has a value, under all values of overrides of their types and every
 -- typed meaning of operators, so that the interface tells one.

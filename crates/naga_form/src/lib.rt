@@ -6,6 +6,7 @@ pub mod types;
 
 ghost use Rattle.naga_form.specs.Laws.{NamesAreLabelNames, NamesBehindAreLabelNames};
 ghost use Rattle.naga_form.specs.Laws.{IsAProgram, HasTheInterface, KeepsTheLayouts};
+ghost use Rattle.naga_form.specs.Laws.{TellsTheLayouts};
 ghost use Rattle.naga_form.specs.Laws.{InitialisersHaveValues, ResolvesAsMeant};
 ghost use Rattle.naga_form.specs.Laws.{BindsAsCounted, FunctionsAreRead, IsReadAsItsShapes};
 ghost use Rattle.naga_form.specs.Laws.{RunsAsTheModule, ScopesAreChecked, IsConsistent};
@@ -41,6 +42,12 @@ pub fn has_the_interface()
 /// but the first is at 0 and all but the last have a size.
 pub fn keeps_the_layouts()
     ensures { KeepsTheLayouts }
+{}
+
+/// The layout that `type_layout` tells of such a struct, if it tells one, is the one that WGSL's
+/// rules give it in the program.
+pub fn tells_the_layouts()
+    ensures { TellsTheLayouts }
 {}
 
 /// Each initialiser of an accepted module has a value, where all that the module declares has

@@ -1,0 +1,6 @@
+use Rattle.naga_form.proofs.Layouts.{tells_layouts}
+use Rattle.naga_form.proofs.tells_the_layouts.Goals as goal
+
+pub returns : goal.returns
+returns c = λ m info explicit named accepted declarations have.
+    tells_layouts m info explicit named accepted declarations
