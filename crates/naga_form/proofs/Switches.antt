@@ -1,7 +1,7 @@
 -- The cases of a switch that is accepted: their labels are of the grammar, and what is written has
 -- exactly one default, since one label is the default and the last case does not fall through.
 use Rattle.std.proofs.Common.{◌≡◌, ℕ, Bool, true, false, not, ◌&&◌, List, [], ◌∷◌, ◌++◌, ◌^◌, refl}
-use Rattle.std.proofs.Common.{pos, negsuc, suc, ◌+◌, ◌==◌, sym, ap, ◌∙◌, true≢false, add-zero}
+use Rattle.std.proofs.Common.{pos, negsuc, ◌+◌, ◌==◌, sym, ap, ◌∙◌, true≢false, add-zero, zero-add}
 use Rattle.std.proofs.Common.{Option}
 use Rattle.std.specs.Prelude.{IsTrue}
 use Rattle.std.proofs.Math.Nat.{add_assoc}
@@ -52,9 +52,9 @@ defaults_in (case value body falls cs) = defaults_at (label_form value) + defaul
 
 no_default : (cs : CaseTrees) → has_label label.Default cs ≡ false → defaults_in cs ≡ 0
 no_default no_cases has = refl
-no_default (case (label.I32 (pos n)) body falls cs) has = no_default cs has
-no_default (case (label.I32 (negsuc n)) body falls cs) has = no_default cs has
-no_default (case (label.U32 n) body falls cs) has = no_default cs has
+no_default (case (label.I32 (pos n)) body falls cs) has = zero-add (defaults_in cs) ∙ no_default cs has
+no_default (case (label.I32 (negsuc n)) body falls cs) has = zero-add (defaults_in cs) ∙ no_default cs has
+no_default (case (label.U32 n) body falls cs) has = zero-add (defaults_in cs) ∙ no_default cs has
 no_default (case label.Default body falls cs) has = absurd cc
 
 -- labels that differ have one at most
@@ -62,14 +62,17 @@ one_default : (cs : CaseTrees) → labels_differ cs ≡ true → has_label label
     defaults_in cs ≡ 1
 one_default no_cases differ has = absurd cc
 one_default (case (label.I32 (pos n)) body falls cs) differ has =
-    one_default cs (and_parts (not (has_label (label.I32 (pos n)) cs)) (labels_differ cs) differ).1 has
+    let rest = and_parts (not (has_label (label.I32 (pos n)) cs)) (labels_differ cs) differ in
+    zero-add (defaults_in cs) ∙ one_default cs rest.1 has
 one_default (case (label.I32 (negsuc n)) body falls cs) differ has =
-    one_default cs (and_parts (not (has_label (label.I32 (negsuc n)) cs)) (labels_differ cs) differ).1 has
+    let rest = and_parts (not (has_label (label.I32 (negsuc n)) cs)) (labels_differ cs) differ in
+    zero-add (defaults_in cs) ∙ one_default cs rest.1 has
 one_default (case (label.U32 n) body falls cs) differ has =
-    one_default cs (and_parts (not (has_label (label.U32 n) cs)) (labels_differ cs) differ).1 has
+    let rest = and_parts (not (has_label (label.U32 n) cs)) (labels_differ cs) differ in
+    zero-add (defaults_in cs) ∙ one_default cs rest.1 has
 one_default (case label.Default body falls cs) differ has =
     let only = and_parts (not (has_label label.Default cs)) (labels_differ cs) differ in
-    ap suc (no_default cs (not-true (has_label label.Default cs) only.0))
+    ap (λ count. 1 + count) (no_default cs (not-true (has_label label.Default cs) only.0))
 
 -- the last case does not fall through, and one label is the default
 abbrev pub HasOneDefault : CaseTrees → Type 0
@@ -105,14 +108,14 @@ waiting_defaults (l ∷ ls) = defaults_at l + waiting_defaults ls
 -- a label behind those that wait
 waiting_more : (labels : List tree.Label) (l : tree.Label) →
     waiting_defaults (labels ++ l ∷ []) ≡ waiting_defaults labels + defaults_at l
-waiting_more [] l = add-zero (defaults_at l)
+waiting_more [] l = add-zero (defaults_at l) ∙ sym (zero-add (defaults_at l))
 waiting_more (one ∷ labels) l =
     ap (λ count. defaults_at one + count) (waiting_more labels l)
     ∙ sym (add_assoc (defaults_at one) (waiting_defaults labels) (defaults_at l))
 
 group_defaults : (labels : List tree.Label) (l : tree.Label) →
     defaults_among (labels_form labels l) ≡ waiting_defaults labels + defaults_at l
-group_defaults [] l = refl
+group_defaults [] l = sym (zero-add (defaults_at l))
 group_defaults (one ∷ labels) l =
     ap (λ count. defaults_at one + count) (group_defaults labels l)
     ∙ sym (add_assoc (defaults_at one) (waiting_defaults labels) (defaults_at l))
@@ -132,7 +135,7 @@ module _ (n : Naming) (annotated : ℕ → Option TypeSpecifier) (source : Sourc
       ∙ add_assoc (waiting_defaults labels) (defaults_at (label_form value)) (defaults_in cs)
   defaults_kept k labels before none (case value body false cs) last s =
       let behind = named_by_all n.function (statements_shape source.declared.context body) k in
-      let more = defaults_kept behind [] false (λ e. refl) cs last s in
+      let more = defaults_kept behind [] false (λ e. refl) cs last s ∙ zero-add (defaults_in cs) in
       (λ i. group_defaults labels (label_form value) i + more i)
       ∙ add_assoc (waiting_defaults labels) (defaults_at (label_form value)) (defaults_in cs)
 
@@ -140,4 +143,5 @@ module _ (n : Naming) (annotated : ℕ → Option TypeSpecifier) (source : Sourc
   pub one_is_written : (k : ℕ) (cs : CaseTrees) → HasOneDefault cs → (s : Handles) →
       IsTrue (default_count (cases_form n annotated source k [] cs s) == 1)
   one_is_written k cs has s =
-      ap (λ count. count == 1) (defaults_kept k [] false (λ e. refl) cs has.0 s ∙ has.1)
+      let all = defaults_kept k [] false (λ e. refl) cs has.0 s in
+      ap (λ count. count == 1) (all ∙ zero-add (defaults_in cs) ∙ has.1)
