@@ -20,8 +20,8 @@ abbrev pub case_labels : CaseTrees → List LabelInterface
 case_labels no_cases = []
 case_labels (case v b falls cs) = label_interface v ∷ case_labels cs
 
--- the labels of each switch, in the order of the statements: those of a switch stand in front of
--- those of the switches in its cases
+-- the labels of each switch, in the order of the statements: those of a switch stand before those of
+-- the switches in its cases
 abbrev mutual
   pub switches_in : StatementTree → List (List LabelInterface)
   switches_in (simple s) = []
