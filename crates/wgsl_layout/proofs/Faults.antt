@@ -1,6 +1,7 @@
--- Members whose offsets are to be kept are kept, or one of the faults stands.
+-- Members whose offsets are to be kept can be left where they are, or one of the faults stands.
 --
--- Throughout, k is a member, next the one after it, more those after.
+-- Throughout, k is a member, next the one after it, more are those that are left, and ks all of a
+-- struct.
 use Rattle.std.proofs.Common.{◌≡◌, ◌+◌, ℕ, true, false, List, [], ◌∷◌}
 use Rattle.std.proofs.Common.{Option, Some, None, refl}
 use Rattle.std.specs.Prelude.{◌&&◌, ◌==◌, nat_le, nat_lt, not}
@@ -10,6 +11,7 @@ use Rattle.std.proofs.lemmas.Bool.{and_from, and_parts, false≢true, le-leb, lt
 use Rattle.wgsl_layout.specs.Members.{are_apart, are_kept, begins_inside, has_own_sizes, is_aligned, is_concerned, is_off_alignment, overlaps, stands_after, starts_late}
 use Rattle.wgsl_layout.specs.declared.layouts.Placed.{Placed}
 
+-- a member that doesn't begin before the end of the one before it begins no earlier than there
 pub sized_after : (k next : Placed) → is_some k.layout.size ≡ true → begins_inside k next ≡ false →
     option_map_or (λ s. nat_le (k.offset + s) next.offset) k.layout.size false ≡ true
 sized_after k next sized inside = by k.layout.size sized inside
@@ -20,6 +22,7 @@ sized_after k next sized inside = by k.layout.size sized inside
     by None there out = absurd (false≢true there)
     by (Some s) there out = le-leb (k.offset + s) next.offset (ltb-false next.offset (k.offset + s) out)
 
+-- where no fault stands from a member on, those can be left where they are
 left_kept : (k : Placed) (more : List Placed) → list_all (λ k. not (k.offset == 0)) more ≡ true →
     has_own_sizes (k ∷ more) ≡ true → list_any (λ k. not (is_aligned k)) more ≡ false →
     overlaps (k ∷ more) ≡ false → are_kept (Some k) more ≡ true
@@ -35,7 +38,7 @@ left_kept k (next ∷ more) apart sized aligned out =
     (and_from (not (next.offset == 0)) _ a.0 (sized_after k next s.0 o.0))
     (left_kept next more a.1 s.1 l.1 o.1))
 
--- where no fault stands, all are kept
+-- where no fault stands, all can be left where they are
 pub all_kept : (ks : List Placed) → is_concerned ks ≡ true → is_off_alignment ks ≡ false →
     overlaps ks ≡ false → are_kept None ks ≡ true
 all_kept [] concerned off out = refl

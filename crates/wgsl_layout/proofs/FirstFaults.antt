@@ -1,7 +1,8 @@
--- What the first fault tells.
+-- What the first fault tells: it stands, and the struct is concerned; where there is none, all
+-- members can be left where they are.
 --
--- Throughout, k is a member, b the one before it, before the one before it, if there is one, and found the
--- fault that was found so far.
+-- Throughout, k is a member, b the one before it, more are those that are left, it is a fault, and
+-- found the one that was found so far.
 use Rattle.std.proofs.Common.{◌≡◌, Bool, true, false, List, [], ◌∷◌}
 use Rattle.std.proofs.Common.{Option, Some, None, ap, arith, inl, inr, refl, sym, ◌∙◌}
 use Rattle.std.specs.Prelude.{◌==◌, ◌⊎◌, IsTrue, if◌then◌else◌, not}
@@ -16,51 +17,53 @@ use Rattle.wgsl_layout.specs.declared.members.Misplaced.TheVariants.{OffAlignmen
 use Rattle.wgsl_layout.proofs.Faults.{sized_after}
 
 -- a fault of the members from k on, after b
-abbrev pub StandsBehind : Misplaced → (b : Placed) → List Placed → Type 0
-StandsBehind OffAlignment b ks = IsTrue (list_any (λ k. not (is_aligned k)) ks)
-StandsBehind Overlapping b ks = IsTrue (overlaps (b ∷ ks))
+abbrev pub StandsFrom : Misplaced → (b : Placed) → List Placed → Type 0
+StandsFrom OffAlignment b ks = IsTrue (list_any (λ k. not (is_aligned k)) ks)
+StandsFrom Overlapping b ks = IsTrue (overlaps (b ∷ ks))
 
+-- a member's own fault stands
 own_stands : (b k : Placed) (more : List Placed) (it : Misplaced) → own_fault (Some b) k ≡ Some it →
-    StandsBehind it b (k ∷ more)
+    StandsFrom it b (k ∷ more)
 own_stands b k more it is = by (is_aligned k) refl (begins_inside b k) refl it is
   where
     by : (x : Bool) → is_aligned k ≡ x → (y : Bool) → begins_inside b k ≡ y → (it : Misplaced) →
         (if x then (if y then Some Overlapping else None) else Some OffAlignment) ≡ Some it →
-        StandsBehind it b (k ∷ more)
+        StandsFrom it b (k ∷ more)
     by false a y i OffAlignment is = or_left (not (is_aligned k)) _ (ap not a)
     by false a y i Overlapping is = absurd (grind (arith, is))
     by true a true i Overlapping is = or_left (begins_inside b k) _ i
     by true a true i OffAlignment is = absurd (grind (arith, is))
     by true a false i it is = absurd (grind (arith, is))
 
-later_stands : (b k : Placed) (more : List Placed) (it : Misplaced) → StandsBehind it k more →
-    StandsBehind it b (k ∷ more)
+-- and so does a fault of those after it
+later_stands : (b k : Placed) (more : List Placed) (it : Misplaced) → StandsFrom it k more →
+    StandsFrom it b (k ∷ more)
 later_stands b k more OffAlignment stands = or_right (not (is_aligned k)) _ stands
 later_stands b k more Overlapping stands = or_right (begins_inside b k) _ stands
 
 -- what is found was found before, or stands
 found_stands : (b : Placed) (found : Option Misplaced) (ks : List Placed) (it : Misplaced) →
-    first_fault (Some b) found ks ≡ Some it → (found ≡ Some it) ⊎ StandsBehind it b ks
+    first_fault (Some b) found ks ≡ Some it → (found ≡ Some it) ⊎ StandsFrom it b ks
 found_stands b found [] it is = inl is
 found_stands b found (k ∷ more) it is =
     by (goes_on (Some b) k) (λ is. found_stands k (option_or found (own_fault (Some b) k)) more it is) is
   where
     by : (x : Bool) →
         (first_fault (Some k) (option_or found (own_fault (Some b) k)) more ≡ Some it →
-        (option_or found (own_fault (Some b) k) ≡ Some it) ⊎ StandsBehind it k more) →
+        (option_or found (own_fault (Some b) k) ≡ Some it) ⊎ StandsFrom it k more) →
         (if x then first_fault (Some k) (option_or found (own_fault (Some b) k)) more else None) ≡ Some it →
-        (found ≡ Some it) ⊎ StandsBehind it b (k ∷ more)
+        (found ≡ Some it) ⊎ StandsFrom it b (k ∷ more)
     by false each is = absurd (grind (arith, is))
     by true each is = at found (own_fault (Some b) k) refl (each is)
       where
         at : (found own : Option Misplaced) → own_fault (Some b) k ≡ own →
-            (option_or found own ≡ Some it) ⊎ StandsBehind it k more →
-            (found ≡ Some it) ⊎ StandsBehind it b (k ∷ more)
+            (option_or found own ≡ Some it) ⊎ StandsFrom it k more →
+            (found ≡ Some it) ⊎ StandsFrom it b (k ∷ more)
         at found own is (inr stands) = inr (later_stands b k more it stands)
         at (Some f) own is (inl same) = inl same
         at None own is (inl same) = inr (own_stands b k more it (is ∙ same))
 
--- where one is found, the offsets are to be kept
+-- where one is found, the struct is to keep its offsets
 found_concerns : (b : Placed) (found : Option Misplaced) (ks : List Placed) (it : Misplaced) →
     first_fault (Some b) found ks ≡ Some it →
     (list_all (λ k. not (k.offset == 0)) ks ≡ true) × (has_own_sizes (b ∷ ks) ≡ true)
@@ -79,6 +82,7 @@ found_concerns b found (k ∷ more) it is =
         let left = each is in
         (and_from (not (k.offset == 0)) _ here.0 left.0, and_from (is_some b.layout.size) _ here.1 left.1)
 
+-- the first fault stands, in a struct that is concerned
 pub fault_stands : (ks : List Placed) (it : Misplaced) → first_fault None None ks ≡ Some it →
     (is_concerned ks ≡ true) × StandsAmong it ks
 fault_stands [] it is = absurd (grind (arith, is))
@@ -96,15 +100,15 @@ fault_stands (k ∷ more) it is =
     first false y a z OffAlignment is = or_right (not (k.offset == 0)) _ (or_left (not (is_aligned k)) _ (ap not a))
     first false y a z Overlapping is = absurd (grind (arith, is))
 
-    later : (it : Misplaced) → StandsBehind it k more → StandsAmong it (k ∷ more)
+    later : (it : Misplaced) → StandsFrom it k more → StandsAmong it (k ∷ more)
     later OffAlignment stands = or_right (not (k.offset == 0)) _ (or_right (not (is_aligned k)) _ stands)
     later Overlapping stands = stands
 
-    by : (o : Option Misplaced) → own_fault None k ≡ o → (o ≡ Some it) ⊎ StandsBehind it k more → StandsAmong it (k ∷ more)
+    by : (o : Option Misplaced) → own_fault None k ≡ o → (o ≡ Some it) ⊎ StandsFrom it k more → StandsAmong it (k ∷ more)
     by o is (inl same) = first (is_aligned k) (k.offset == 0) refl refl it (is ∙ same)
     by o is (inr stands) = later it stands
 
--- where none is found, all are kept
+-- where none is found from a member on, those can be left where they are
 none_left : (b : Placed) (found : Option Misplaced) (ks : List Placed) →
     list_all (λ k. not (k.offset == 0)) ks ≡ true → has_own_sizes (b ∷ ks) ≡ true →
     first_fault (Some b) found ks ≡ None → (found ≡ None) × (are_kept (Some b) ks ≡ true)
@@ -134,6 +138,7 @@ none_left b found (k ∷ more) apart sized none =
     by None own is apart sized kept none =
         (refl, aligned (is_aligned k) (begins_inside b k) refl refl apart sized kept (is ∙ none))
 
+-- where none is found in a struct that is concerned, all can be left where they are
 pub none_kept : (ks : List Placed) → is_concerned ks ≡ true → first_fault None None ks ≡ None →
     are_kept None ks ≡ true
 none_kept [] concerned none = refl

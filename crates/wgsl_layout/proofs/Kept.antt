@@ -1,8 +1,9 @@
--- Members that can be left where a module has them are left there by WGSL's rules, with the sizes that
--- are written.
+-- Members that can be left where a module has them are left there by WGSL's rules, with the sizes
+-- that are written.
 --
--- Throughout, a is an alignment, k a member, next the one after it, more those after, end the first byte
--- after those before, whole the alignment of a struct and span its bytes in the module.
+-- Throughout, a is an alignment, s a size, k a member, next the one after it, p where that begins,
+-- more are those that are left, end is the first byte after those before, whole the alignment of a
+-- struct and span how many bytes the module gives to it.
 use Rattle.std.proofs.Common.{◌≡◌, ◌≤◌, ◌+◌, ◌%◌, ℕ, true, false, List, [], ◌∷◌, map}
 use Rattle.std.proofs.Common.{Option, Some, None, ap, arith, refl, sym, ◌∙◌, max}
 use Rattle.std.specs.Prelude.{◌&&◌, ◌==◌, ⊤, nat_le, not, unwrap_or, if◌then◌else◌}
@@ -30,21 +31,21 @@ taken_is k s p a has =
     by None = refl
     by (Some n) = refl
 
--- what is known of one after another
-pub record Behind (k next : Placed) : Type 0 where
+-- what is known of a member and the one after it, where both can be left where they are
+pub record Follows (k next : Placed) : Type 0 where
   pub size : ℕ
   pub has : k.layout.size ≡ Some size
   pub within : k.offset + size ≤ next.offset
   pub multiple : next.offset % next.layout.alignment ≡ 0
 
 after : (k next : Placed) → stands_after (Some k) next ≡ true → is_aligned next ≡ true →
-    Behind k next
+    Follows k next
 after k next stands aligned = by k.layout.size refl
   where
     parts : (not (next.offset == 0) ≡ true) × (option_map_or (λ s. nat_le (k.offset + s) next.offset) k.layout.size false ≡ true)
     parts = and_parts (not (next.offset == 0)) _ stands
 
-    by : (o : Option ℕ) → k.layout.size ≡ o → Behind k next
+    by : (o : Option ℕ) → k.layout.size ≡ o → Follows k next
     by None is = absurd (false≢true (sym (ap (λ o. option_map_or (λ s. nat_le (k.offset + s) next.offset) o false) is) ∙ parts.1))
     by (Some s) is = record {
       size = s;
@@ -53,7 +54,7 @@ after k next stands aligned = by k.layout.size refl
       multiple = eqb-true (next.offset % next.layout.alignment) 0 aligned;
     }
 
--- the end of a member after so many bytes, if it begins where the module has it
+-- the end of a member, if it begins where the module has it
 end_is : (end : ℕ) (k : Placed) (s p a : ℕ) → k.layout.size ≡ Some s →
     next_multiple_of end k.layout.alignment ≡ k.offset →
     end_after (Some end) (sized k p a) ≡ Some (k.offset + unwrap_or (gap_size k.offset (Some s) p a) s)
@@ -62,19 +63,20 @@ end_is end k s p a has at =
     ∙ ap (λ b. Some (b + unwrap_or (gap_size k.offset (Some s) p a) s)) at
 
 -- so the next one begins where the module has it
-next_begins : (k next : Placed) (is : Behind k next) → IsAlignment next.layout.alignment →
+next_begins : (k next : Placed) (is : Follows k next) → IsAlignment next.layout.alignment →
     next_multiple_of (k.offset + unwrap_or (gap_size k.offset (Some is.size) next.offset next.layout.alignment) is.size) next.layout.alignment ≡ next.offset
 next_begins k next is aligned =
     begins_at next.layout.alignment k.offset is.size next.offset aligned is.within is.multiple
 
 -- what is known of the members from the second on
 step : (k next : Placed) (more : List Placed) → are_kept (Some k) (next ∷ more) ≡ true →
-    Behind k next × (are_kept (Some next) more ≡ true)
+    Follows k next × (are_kept (Some next) more ≡ true)
 step k next more kept =
     let one = and_parts (is_aligned next) _ kept in
     let two = and_parts (stands_after (Some k) next) _ one.1 in
     (after k next two.0 one.0, two.1)
 
+-- the offsets of the members that are left, if the first of them begins where the module has it
 pub offsets_left : (whole span end : ℕ) (k : Placed) (more : List Placed) → AllAligned (k ∷ more) →
     are_kept (Some k) more ≡ true → next_multiple_of end k.layout.alignment ≡ k.offset →
     offsets_from (Some end) (sized_members whole span (k ∷ more)) ≡ map (λ k. k.offset) (k ∷ more)
@@ -90,7 +92,7 @@ offsets_left whole span end k (next ∷ more) aligned kept at =
     (offsets_left whole span (k.offset + unwrap_or (gap_size k.offset (Some is.size) next.offset next.layout.alignment) is.size)
     next more aligned.1 here.1 (next_begins k next is aligned.1.0)))
 
--- the end of the last, which is given a size where the struct has room after it
+-- the end of the last of them, which is given a size where the struct has room after it
 pub end_left : (whole span end : ℕ) (k : Placed) (more : List Placed) → AllAligned (k ∷ more) →
     are_kept (Some k) more ≡ true → next_multiple_of end k.layout.alignment ≡ k.offset →
     let last = last_of k more in
@@ -115,6 +117,7 @@ end_left whole span end k (next ∷ more) aligned kept at =
     ∙ end_left whole span (k.offset + unwrap_or (gap_size k.offset (Some is.size) next.offset next.layout.alignment) is.size)
     next more aligned.1 here.1 (next_begins k next is aligned.1.0)
 
+-- each of them but the last has a size
 sizes_left : (whole span : ℕ) (k : Placed) (more : List Placed) → are_kept (Some k) more ≡ true →
     has_sizes (sized_members whole span (k ∷ more)) ≡ true
 sizes_left whole span k [] kept = refl
@@ -134,12 +137,13 @@ same_greatest whole span a [] = refl
 same_greatest whole span a (k ∷ []) = refl
 same_greatest whole span a (k ∷ next ∷ more) = same_greatest whole span (max a k.layout.alignment) (next ∷ more)
 
+-- the greatest of alignments is one
 pub greatest_is : (a : ℕ) (ks : List Placed) → IsAlignment a → AllAligned ks → IsAlignment (greatest_placed a ks)
 greatest_is a [] is all = is
 greatest_is a (k ∷ more) is all = greatest_is (max a k.layout.alignment) more (greater a k.layout.alignment is all.0) all.1
 
 -- ---- structs
--- where the first stands
+-- the first is at 0, and so begins where the module has it
 first_kept : (k : Placed) (more : List Placed) → are_kept None (k ∷ more) ≡ true →
     (k.offset ≡ 0) × (are_kept (Some k) more ≡ true)
 first_kept k more kept =
@@ -158,7 +162,7 @@ first_begins k is zero_ = rounds_to k.layout.alignment is 0 k.offset (sym zero_)
     multiple a Sixteen = omega (arith, zero_)
     multiple a ThirtyTwo = omega (arith, zero_)
 
--- a struct by what is known of its members
+-- the layout of a struct, of which each member but the last has a size
 struct_of : (ms : List Member) (m : Member) (more : List Member) → ms ≡ m ∷ more →
     has_sizes ms ≡ true →
     struct_layout ms ≡ Some (closed (greatest_alignment ms) (end_of (Some 0) ms))
@@ -168,7 +172,7 @@ struct_of ms m more is sizes =
     (sym (ap has_sizes is) ∙ sizes)
     ∙ sym (ap (λ ms. Some (closed (greatest_alignment ms) (end_of (Some 0) ms))) is))
 
--- the sized members are some
+-- of members there are as many with sizes
 some_sized : (whole span : ℕ) (k : Placed) (more : List Placed) →
     (m : Member) × (rest : List Member) × (sized_members whole span (k ∷ more) ≡ m ∷ rest)
 some_sized whole span k [] = (sized k span whole, [], refl)

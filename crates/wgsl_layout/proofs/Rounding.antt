@@ -1,6 +1,8 @@
--- The next multiple of an alignment.
+-- The next multiple of an alignment. The alignments are told one by one, so that `omega` sees
+-- numerals.
 --
--- Throughout, a is an alignment, o an offset, s a size, and p where what stands after begins.
+-- Throughout, a and b are alignments, o is an offset, s a size, x any number, and p where what is
+-- after begins.
 use Rattle.std.proofs.Common.{◌≡◌, ◌<◌, ◌≤◌, ◌+◌, ◌-◌, ◌%◌, ℕ, Bool, true, false, Some, None}
 use Rattle.std.proofs.Common.{arith, inl, inr, refl, max}
 use Rattle.std.specs.Prelude.{◌&&◌, ◌==◌, ◌⊎◌, nat_lt, unwrap_or, if◌then◌else◌}
@@ -9,6 +11,7 @@ use Rattle.std.proofs.lemmas.Bool.{and_cases, ltb-false, eqb-false}
 use Rattle.wgsl_layout.specs.Capped.{IsAlignment, Two, Four, Eight, Sixteen, ThirtyTwo, past}
 use Rattle.wgsl_layout.specs.Members.{gap_size}
 
+-- it is no less
 pub rounds_up : (a : ℕ) → IsAlignment a → (x : ℕ) → x ≤ next_multiple_of x a
 rounds_up a Two x = omega arith
 rounds_up a Four x = omega arith
@@ -16,6 +19,7 @@ rounds_up a Eight x = omega arith
 rounds_up a Sixteen x = omega arith
 rounds_up a ThirtyTwo x = omega arith
 
+-- and less than 32 greater
 pub rounds_below : (a : ℕ) → IsAlignment a → (x : ℕ) → next_multiple_of x a < x + 32
 rounds_below a Two x = omega arith
 rounds_below a Four x = omega arith
@@ -31,7 +35,7 @@ rounds_within a Eight x p le is = omega arith
 rounds_within a Sixteen x p le is = omega arith
 rounds_within a ThirtyTwo x p le is = omega arith
 
--- a multiple is its own
+-- a multiple is its own next one
 pub rounds_to : (a : ℕ) → IsAlignment a → (x p : ℕ) → x ≡ p → p % a ≡ 0 → next_multiple_of x a ≡ p
 rounds_to a Two x p e is = omega arith
 rounds_to a Four x p e is = omega arith
@@ -39,7 +43,7 @@ rounds_to a Eight x p e is = omega arith
 rounds_to a Sixteen x p e is = omega arith
 rounds_to a ThirtyTwo x p e is = omega arith
 
--- after a member that ends before p, the next one begins there
+-- after a member that ends no later than at p, the next one begins there
 pub begins_at : (a o s p : ℕ) → IsAlignment a → o + s ≤ p → p % a ≡ 0 →
     next_multiple_of (o + unwrap_or (gap_size o (Some s) p a) s) a ≡ p
 begins_at a o s p is le multiple = by (nat_lt (next_multiple_of (o + s) a) p && (p % a == 0)) refl
