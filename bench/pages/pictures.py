@@ -33,6 +33,10 @@ LAYERS = [
         ("naga_words", "sinks, spellings"),
         ("naga_back", "naga's helpers"),
     ]),
+    ("layouts", CODE, [
+        ("wgsl_layout", "WGSL's rules, by numbers"),
+        ("naga_layout", "layouts of a module's types"),
+    ]),
     ("languages", LAWS, [
         ("wgsl_text", "the grammar of texts"),
         ("shader_runs", "both runs, and why they agree"),

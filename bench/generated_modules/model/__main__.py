@@ -1,8 +1,9 @@
 """Generates whole modules, asks a program for their texts, and compares these with a model.
 
 The model was written from the rules, apart from the writer: which modules are accepted, the names of labels, the
-count of uses, what a `let` binds, what is in scope, the text, and for which constructs a module is refused. It reads
-each text and compares what it declares with what the module does. It runs each module and each text, from each function
+count of uses, what a `let` binds, what is in scope, which members of structs get sizes, the text, and for which
+constructs a module is refused. It reads each text and compares what it declares, and where the members of its structs
+stand by the words of their types, with what the module has. It runs each module and each text, from each function
 and entry point, over terms in which each operator stands for any function, in worlds that tell of each condition
 whether it holds, and compares the events, the endings and the results. It does so too under one meaning of whole
 numbers, with the runs of `crates/wgsl_cases/runs`, which know nothing of the model.

@@ -14,10 +14,11 @@ def is_read(module):
     indexes = [e.what[0] for f in module.groups() for e in f.expressions if e.kind == "access index"]
     resources = [number for v in module.variables if v.binding is not None for number in v.binding]
     sizes = [size for p in module.entry_points for size in p.size]
+    placed = [number for offsets, span in module.placements.values() for number in (*offsets, span)]
     bound = [*module.bindings.values(), *(b for f in module.bodies() for b in f.bindings.values())]
     locations = [number for b in bound if b[0] == "location" for number in (b[1], b[4]) if number is not None]
     return (
-        all(number < 2**32 for number in [*lengths, *strides, *indexes, *resources, *sizes, *locations])
+        all(number < 2**32 for number in [*lengths, *strides, *indexes, *resources, *sizes, *locations, *placed])
         and all(o.number is None or o.number < 2**16 for o in module.overrides))
 
 

@@ -1,5 +1,6 @@
 """Types and labels by chance."""
 
+from layouts import Layouts
 from spelling import (
     ATOMIC, BOOL, F16, F32, F64, FUNCTION, HALVES, HANDLE, I32, I64, LOAD, SPACES, STORE, U32, U64, pointer_to)
 from words import FORMATS
@@ -57,7 +58,10 @@ def some_number(r):
 
 def some_array(r):
     base = some_array(r) if r.random() < 0.2 else some_number(r)
-    return ("array", base, r.choice([0, 1, 2, 3, 4, 4000000000]), r.choice([4, 16]))
+    stride = Layouts(None).stride(base)
+    if stride is None or stride >= 2**32 or r.random() < 0.15:
+        stride = r.choice([4, 16])
+    return ("array", base, r.choice([0, 1, 2, 3, 4, 4000000000]), stride)
 
 
 def some_space(r):

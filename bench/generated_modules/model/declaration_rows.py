@@ -4,7 +4,8 @@ import re
 
 from acceptance import is_accepted
 from bindings import attributes, builtin, location
-from interface import module_interface, text_interface
+from interface import kept_layouts, module_interface, text_interface, text_layouts
+from layouts import OFF_ALIGNMENT, OVERLAP, STRIDE
 from modules import Constant, EntryPoint, Expression, Module, Override, Statement, Variable, emit, returns, store
 from naming import Names
 from reading_programs import Program
@@ -18,7 +19,7 @@ from texts import answers_of
 
 # the type that a `let` tells, where it is told
 TOLD = r"\[: ([^\]]+)\]"
-WHOLE, COLOUR = ("scalar", U32), ("vector", 4, F32)
+WHOLE, COLOUR, SPATIAL = ("scalar", U32), ("vector", 4, F32), ("vector", 3, F32)
 EXTERNAL = ("image", 1, False, ("external",))
 PRIVATE, WORKGROUP, UNIFORM = ("private", 0), ("workgroup", 0), ("uniform", 0)
 
@@ -49,6 +50,29 @@ def whole(types=(), own=(), constants=(), overrides=(), variables=(), functions=
 
 def struct(number, *members):
     return ("struct", tuple(members), number)
+
+
+def laid(*structs):
+    """Structs, each by its label, its span and its members, with their offsets. A type that is a text is that of the struct
+    of this label."""
+    types, placements = {}, {}
+    for number, (label, span, *members) in enumerate(structs):
+        ty = struct(16 * number, *((name, in_structs(types, member)) for name, member, _ in members))
+        types[label], placements[ty] = ty, ([offset for _, _, offset in members], span)
+    module = whole([[label, ty] for label, ty in types.items()])
+    module.placements = placements
+    return module
+
+
+def in_structs(types, ty):
+    if ty[0] == "array" and isinstance(ty[1], str):
+        return (ty[0], types[ty[1]], *ty[2:])
+    return types[ty] if isinstance(ty, str) else ty
+
+
+def elements(stride, span):
+    """Two structs of 16 bytes that begin so far apart."""
+    return laid(("I", 16, ("a", WHOLE, 0)), ("O", span, ("v", ("array", "I", 2, stride), 0)))
 
 
 def zero(ty):
@@ -338,7 +362,21 @@ TEXTS = [
     (whole([("cooperative", 8, 16, F32, "B")]), "enable wgpu_cooperative_matrix;\n\n"),
     (whole([("acceleration", True)]), "enable wgpu_ray_tracing_pipeline;\n\n"),
     (whole([["S", struct(16, ("a", struct(0, ("b", INT))))]]),
-     "struct type_1 {\n    b: i32,\n}\n\nstruct S {\n    a: type_1,\n}\n\n")]
+     "struct type_1 {\n    b: i32,\n}\n\nstruct S {\n    @size(16) a: type_1,\n}\n\n"),
+    (laid(("P", 32, ("a", FLOAT, 0), ("b", SPATIAL, 16), ("c", FLOAT, 28))),
+     "struct P {\n    a: f32,\n    b: vec3<f32>,\n    c: f32,\n}\n\n"),
+    (laid(("Q", 20, ("a", WHOLE, 0), ("b", WHOLE, 16))), "struct Q {\n    @size(16) a: u32,\n    b: u32,\n}\n\n"),
+    (elements(16, 32), "struct I {\n    @size(16) a: u32,\n}\n\nstruct O {\n    v: array<I, 2>,\n}\n\n"),
+    # two members at 0, and one that has no layout
+    (laid(("S", 9, ("a", WHOLE, 0), ("b", WHOLE, 6), ("c", WHOLE, 0))),
+     "struct S {\n    a: u32,\n    b: u32,\n    c: u32,\n}\n\n"),
+    (laid(("S", 9, ("a", WHOLE, 3), ("b", TRUTH, 6))), "struct S {\n    a: u32,\n    b: bool,\n}\n\n"),
+    (laid(("S", 8, ("a", WHOLE, 0), ("b", ("array", COLOUR, 0, 16), 32))),
+     "struct S {\n    @size(32) a: u32,\n    b: array<vec4<f32>>,\n}\n\n"),
+    (laid(("S", 0, ("a", WHOLE, 0), ("b", ("array", WHOLE, 2**30, 4), 16))),
+     "struct S {\n    @size(16) a: u32,\n    b: array<u32, 1073741824>,\n}\n\n"),
+    (laid(("S", 128, ("a", ("matrix", 2, 3, F32), 0), ("b", FLOAT, 48), ("c", SPATIAL, 64))),
+     "struct S {\n    @size(48) a: mat2x3<f32>,\n    b: f32,\n    @size(64) c: vec3<f32>,\n}\n\n")]
 
 
 def check_texts():
@@ -468,6 +506,14 @@ REFUSED = [
     *((whole(functions=[point(stage)]), NO_STAGE) for stage in ("Task", "Mesh", "Miss", "AnyHit", "ClosestHit")),
     (whole(functions=[point("Mesh", task=0)], variables=[variable("v", INT, PRIVATE)]), NO_STAGE),
     (later_unnamed(), OPERATOR),
+    (laid(("Q", 12, ("a", WHOLE, 0), ("b", WHOLE, 6))), OFF_ALIGNMENT),
+    (laid(("Q", 12, ("a", WHOLE, 4))), OFF_ALIGNMENT), (laid(("Q", 32, ("a", FLOAT, 0), ("b", SPATIAL, 8))), OFF_ALIGNMENT),
+    (laid(("Q", 32, ("a", SPATIAL, 0), ("b", FLOAT, 8))), OVERLAP),
+    (laid(("Q", 32, ("a", FLOAT, 0), ("b", FLOAT, 8), ("c", FLOAT, 4))), OVERLAP),
+    (laid(("Q", 0, ("a", ("array", WHOLE, 2**30, 4), 0), ("b", FLOAT, 2**32 - 4))), OVERLAP),
+    (laid(("I", 16, ("a", WHOLE, 0)), ("Q", 64, ("a", "I", 0), ("b", WHOLE, 12))), OVERLAP),
+    (elements(32, 64), STRIDE), (laid(("Q", 64, ("a", ("array", FLOAT, 4, 16), 0))), STRIDE),
+    (laid(("Q", 64, ("a", ("array", ("array", FLOAT, 2, 16), 2, 8), 0))), STRIDE),
     (whole(functions=[found("intersection", True)]), "ray query"),
     (whole(functions=[found("vertex positions", False)]), "ray query")]
 
@@ -628,7 +674,11 @@ OTHERS = [
     (stages(), "@any_hit @incoming_payload(m) ", "@any_hit @incoming_payload(p_10) ", False),
     (bound_struct(), "@location(2) ", "@location(2) @interpolate(perspective, center) ", True),
     (bound_struct(), "@location(3) @interpolate(flat) ", "@location(3) ", False),
-    (same_labels(), "const x_9: i32 = 1i;\n\n", "", False)]
+    (same_labels(), "const x_9: i32 = 1i;\n\n", "", False),
+    (laid(("Q", 20, ("a", WHOLE, 0), ("b", WHOLE, 16))), "@size(16) ", "", False),
+    (laid(("Q", 20, ("a", WHOLE, 0), ("b", WHOLE, 16))), "@size(16) ", "@size(12) ", False),
+    (laid(("Q", 24, ("a", WHOLE, 0), ("b", WHOLE, 16))), "@size(8) ", "", False),
+    (elements(16, 32), "@size(16) ", "", False)]
 
 
 def says(text):
@@ -646,6 +696,8 @@ def check_others():
         assert text.count(old) == 1, (text, old)
         meant = module_interface(module), [module_runs(module, f) for f in module.bodies()]
         assert says(text) == meant, text
+        kept = kept_layouts(module)
+        assert text_layouts(Program(text), kept) == kept, text
         assert (says(text.replace(old, new)) == meant) == is_same, (text, old, new)
 
 

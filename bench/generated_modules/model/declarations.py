@@ -398,8 +398,10 @@ class FaultMaker:
             return
         items = [("constant", module.constants), ("override", module.overrides)]
         kind, items = r.choice([each for each in items if each[1]] or [(None, [])])
-        if items:
-            number = r.randrange(len(items))
+        # one whose type an earlier fault has taken away is let be
+        numbers = [number for number, item in enumerate(items) if item.place < len(module.types)]
+        if numbers:
+            number = r.choice(numbers)
             ty = module.type_at(items[number])
             self.own.put_named(kind, number)
             items[number].init = self.own.zero(ty)

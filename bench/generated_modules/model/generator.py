@@ -52,7 +52,7 @@ def declare(r, module, types, own):
         if r.random() < 0.5:
             elements = [ty for ty in types if ty[0] in ("scalar", "vector", "struct")] or [some_number(r)]
             types.append(("array", r.choice(elements), ("override", number), r.choice([4, 16])))
-    for _ in range(r.choice([0, 0, 1, 1, 2, 3])):
+    for _ in range(r.choice([0, 0, 1, 1, 2, 3]) if r.random() < 0.9 else r.randint(4, 8)):
         plain = [ty for ty in types if not module.names_undeclared(ty)]
         types.append(StructMaker(r, module).make_declared(plain or [("scalar", I32)]))
     for ty in types:

@@ -3,17 +3,19 @@ what functions and entry points take and give. Absent words are told, and an ini
 
 from bindings import meant
 from enables import EXTENSIONS, needed_for
+from layouts import Layouts
 from naming import Names, member_names
+from reading_layouts import TextLayouts
 from runs import OwnValues, TextConstants
 from spelling import ATOMIC, STORE, spelled
 
 
 # ---- of a module
 def module_interface(module):
-    names = Names(module)
+    names, layouts = Names(module), Layouts(module)
     return {
         "enables": [word for word in EXTENSIONS if word in needed_for(module)],
-        "structs": [struct(module, names, h) for h in module.declared_structs()],
+        "structs": [struct(module, layouts, names, h) for h in module.declared_structs()],
         **items(module, names),
         "functions": [function(f, names, number) for number, f in enumerate(module.bodies())],
         "stages": [stage(p, names) for p in module.entry_points]}
@@ -23,12 +25,19 @@ def told(names, ty):
     return names.in_text(spelled(ty))
 
 
-def struct(module, names, h):
+def struct(module, layouts, names, h):
     ty = module.types[h]
-    members = zip(member_names([label for label, _ in ty[1]]), ty[1])
+    members = zip(layouts.sizes(ty), member_names([label for label, _ in ty[1]]), ty[1])
     return names.types[h], [
-        (meant(module.bindings.get((ty, number))), name, told(names, member))
-        for number, (name, (_, member)) in enumerate(members)]
+        (size, meant(module.bindings.get((ty, number))), name, told(names, member))
+        for number, (size, name, (_, member)) in enumerate(members)]
+
+
+def kept_layouts(module):
+    """The offsets of structs that are to be kept, and their spans where these are, by their names."""
+    names, layouts = Names(module), Layouts(module)
+    kept = {names.types[h]: layouts.kept(module.types[h]) for h in module.declared_structs()}
+    return {name: each for name, each in kept.items() if each is not None}
 
 
 def items(module, names):
@@ -80,13 +89,28 @@ def text_interface(program):
     return {
         "enables": program.enables,
         "structs": [
-            (name, [(bound(attributes), member, ty) for attributes, member, ty in members])
+            (name, [(*sized(attributes), member, ty) for attributes, member, ty in members])
             for name, members in program.structs],
         "constants": [(name, ty, value(e)) for name, ty, e in program.constants],
         "overrides": [(number, name, ty, value(e)) for number, name, ty, e in program.overrides],
         "variables": [variable(*each[:-1], value(each[-1])) for each in program.variables],
         "functions": list(map(text_function, program.bodies())),
         "stages": [text_stage(attributes) for attributes, _ in program.entry_points]}
+
+
+def sized(attributes):
+    """The size that a member is given, if one, and what it is bound to."""
+    if attributes and attributes[0][0] == "size":
+        return int(attributes[0][1]), bound(attributes[1:])
+    return None, bound(attributes)
+
+
+def text_layouts(program, kept):
+    """The same of a text's structs as of those that are kept."""
+    layouts = TextLayouts(program)
+    found = {name: layouts.of_struct(name) for name in kept}
+    return {
+        name: (offsets, size if kept[name][1] is not None else None) for name, (offsets, (_, size)) in found.items()}
 
 
 def bound(attributes):

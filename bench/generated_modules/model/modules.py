@@ -155,14 +155,15 @@ class Variable(Constant):
 
 class Module:
     """Types with their labels; the special ones, each with what gives it, its size and its scalar, or none where its
-    handle is nowhere; what members are bound to, by their struct and number; constants, overrides and variables;
-    functions and entry points; and the module's own expressions, which stand together as those of a function do.
+    handle is nowhere; what members are bound to, by their struct and number; where members stand, and how long their
+    struct is, by their struct; constants, overrides and variables; functions and entry points; and the module's own
+    expressions, which stand together as those of a function do.
 
     A type may stand there again, under another label: most of a module names the first one."""
 
     def __init__(self):
         self.types, self.labels = [], []
-        self.special, self.bindings = [], {}
+        self.special, self.bindings, self.placements = [], {}, {}
         self.own, self.constants, self.overrides, self.variables = Function(None, self), [], [], []
         self.functions, self.entry_points = [], []
 
@@ -200,6 +201,11 @@ class Module:
     def special_types(self):
         """Of the types that are given for the same, the last is special."""
         return list(dict(self.special).values())
+
+    def placement(self, ty):
+        """The offsets of a struct's members, and its span. Where nothing is told all stand at 0, and structs whose numbers
+        differ in the last two bits alone have one span."""
+        return self.placements.get(ty, ([0] * len(ty[1]), ty[2] & ~3))
 
     def declared_structs(self):
         """The handles of the structs that a text declares."""

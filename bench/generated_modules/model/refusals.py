@@ -1,6 +1,7 @@
 """The constructs for which a module is refused, each by what is told of it. Of several that stand, any one is told."""
 
 from bindings import formless_binding
+from layouts import standing_in_structs
 from modules import QUERIES, statements_in
 from operators import (
     LITERALS, act_word, conversion_word, loaded_matrix, offset_of, wanted_scalar, word_of)
@@ -30,6 +31,7 @@ def standing_in_declarations(module):
             standing |= formless_own(module, item.init)
     for binding in declared_bindings(module):
         standing |= formless_binding(binding)
+    standing |= standing_in_structs(module)
     if not all(map(stage_has_form, module.entry_points)):
         standing.add(NO_STAGE)
     return standing

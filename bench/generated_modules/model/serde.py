@@ -137,8 +137,10 @@ class Serde:
             dimension, arrayed, image_class = rest
             return {"Image": {"dim": DIMENSIONS[dimension], "arrayed": arrayed, "class": class_form(*image_class)}}
         if kind == "struct":
-            members = [self.struct_member(ty, number, *each) for number, each in enumerate(rest[0])]
-            return {"Struct": {"members": members, "span": span_of(ty)}}
+            offsets, span = self.module.placement(ty)
+            members = [
+                self.struct_member(ty, number, offset, *each) for number, (offset, each) in enumerate(zip(offsets, rest[0]))]
+            return {"Struct": {"members": members, "span": span}}
         if kind == "atomic":
             return {"Atomic": scalar_form(rest[0])}
         if kind == "sampler":
@@ -146,10 +148,9 @@ class Serde:
         name = {"ray query": "RayQuery", "acceleration": "AccelerationStructure"}[kind]
         return {name: {"vertex_return": rest[0]}}
 
-    def struct_member(self, struct_type, number, label, ty):
-        """A member; all stand at offset 0."""
+    def struct_member(self, struct_type, number, offset, label, ty):
         binding = binding_form(self.module.bindings.get((struct_type, number)))
-        return {"name": label, "ty": self.place_of(ty), "binding": binding, "offset": 0}
+        return {"name": label, "ty": self.place_of(ty), "binding": binding, "offset": offset}
 
     # ---- functions
     def function(self, f, label):
@@ -218,11 +219,6 @@ def size_form(length):
     if is_override(length):
         return {"Pending": length[1]}
     return {"Constant": length} if length else "Dynamic"
-
-
-def span_of(struct_type):
-    """Structs whose numbers differ in the last two bits alone have one span."""
-    return struct_type[2] & ~3
 
 
 # ---- what is declared

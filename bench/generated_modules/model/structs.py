@@ -2,7 +2,9 @@
 
 from bindings import some_binding
 from chance import some_label, some_member_label, some_number, some_type
-from spelling import BOOL, F32, F64, FUNCTION, I32, U32, pointer_to, with_scalar
+from layouts import Layouts
+from placements import some_placement
+from spelling import BOOL, F32, F64, FUNCTION, I32, I64, U32, U64, pointer_to, with_scalar
 from words import MEMBERS
 
 
@@ -64,7 +66,17 @@ class StructMaker:
         for number in range(len(members)):
             if self.r.random() < bound:
                 self.module.bindings[ty, number] = some_binding(self.r, self.r.random() < worded)
+        self.place(ty)
         return ty
+
+    def place(self, ty):
+        """Most structs get offsets and a span, unless a struct of such members has them."""
+        if self.r.random() < 0.15:
+            return
+        found = some_placement(self.r, Layouts(self.module), ty)
+        others = (self.module.placement(each) for each in self.module.types if each[0] == "struct" and each[1] == ty[1])
+        if found not in others:
+            self.module.placements[ty] = found
 
     # ---- those that a text declares
     def make_declared(self, types):
@@ -86,8 +98,18 @@ class StructMaker:
         r = self.r
         known = [ty for ty in types if ty[0] in ("struct", "array", "atomic")]
         if known and r.random() < 0.4:
-            return r.choice(known)
+            ty = r.choice(known)
+            return self.some_elements(ty) if r.random() < 0.3 else ty
+        if r.random() < 0.04:
+            return ("atomic", r.choice([I32, U32, I64, U64, F32]))
         return some_number(r) if r.random() < 0.6 else r.choice(types)
+
+    def some_elements(self, ty):
+        """An array of elements of this type, most often of WGSL's stride."""
+        stride = Layouts(self.module).stride(ty)
+        if stride is None or stride >= 2**32 or self.r.random() < 0.1:
+            stride = self.r.choice([4, 12, 16, 32])
+        return ("array", ty, self.r.choice([0, 1, 2, 3, 4]), stride)
 
     def make_twin(self, ty):
         """A struct that differs by its label alone."""
@@ -99,6 +121,7 @@ class StructMaker:
         for number in range(len(ty[1])):
             if (ty, number) in self.module.bindings:
                 self.module.bindings[twin, number] = self.module.bindings[ty, number]
+        self.module.placements[twin] = self.module.placement(ty)
         return twin
 
 

@@ -3,7 +3,8 @@
 import json
 
 from enables import enables_text
-from interface import module_interface, text_interface
+from interface import kept_layouts, module_interface, text_interface, text_layouts
+from layouts import Layouts
 from modules import PARTS, statements_in
 from reading_programs import Program
 from refusals import declared_items, standing_in_declarations
@@ -57,12 +58,16 @@ class Tally:
         try:
             program = Program(text)
             offered = text_interface(program)
+            kept = kept_layouts(module)
+            stand = text_layouts(program, kept)
         except UNREADABLE as error:
             self.tell(number, module, "has no reading", text, repr(error))
             return
         wanted = module_interface(module)
         if offered != wanted:
             self.tell(number, module, "offers otherwise than its text", text, f"{offered}\n", f"{wanted}\n")
+        if stand != kept:
+            self.tell(number, module, "lays members out otherwise than its text", text, f"{stand}\n", f"{kept}\n")
         for at, f in enumerate(module.bodies()):
             meant = module_runs(module, f)
             try:
@@ -168,6 +173,19 @@ class Tally:
         self.add("written, with declared structs without a label", any(module.labels[h] is None for h in structs))
         self.add("written, with types under two labels", len(set(module.types)) < len(module.types) or any(
             (*ty[:2], ty[2] + 1) in module.types for ty in module.types if ty[0] == "struct"))
+        layouts = Layouts(module)
+        concerned = [module.types[h] for h in structs if layouts.is_concerned(module.types[h])]
+        sizes = [size for ty in concerned for size in layouts.sizes(ty)]
+        self.add("structs that are concerned", len(concerned))
+        self.add("structs that are concerned, whose spans are kept", sum(
+            layouts.kept(ty)[1] is not None for ty in concerned))
+        self.add("members with sizes", len(sizes) - sizes.count(None))
+        self.add("written, with a size of a struct's last member", any(
+            layouts.sizes(ty)[-1] is not None for ty in concerned))
+        self.add("written, with a member of a struct with sizes", any(
+            member in concerned and any(layouts.sizes(member)) for ty in concerned for _, member in ty[1]))
+        self.add("written, with arrays in structs that are concerned", any(
+            member[0] == "array" for ty in concerned for _, member in ty[1]))
         bound = {ty for ty, _ in module.bindings}
         self.add("written, with members that are bound", any(module.types[h] in bound for h in structs))
         every = {"constants": module.constants, "overrides": module.overrides, "variables": module.variables}

@@ -2,6 +2,7 @@
 
 from bindings import attributes
 from enables import enables_text
+from layouts import Layouts
 from naming import Names, member_names
 from refusals import refusal, standing_in, standing_in_declarations
 from spelling import ATOMIC, STORE, spelled
@@ -34,7 +35,8 @@ def answers_of(module, explicit):
 
 def declarations_text(module, names):
     """The structs, constants, overrides and variables."""
-    structs = [struct_text(module, names, h) for h in module.declared_structs()]
+    layouts = Layouts(module)
+    structs = [struct_text(module, layouts, names, h) for h in module.declared_structs()]
     constants = [
         f"const {names.constants[number]}: {item_text(module, names, constant)}"
         for number, constant in enumerate(module.constants) if constant.label is not None]
@@ -44,13 +46,17 @@ def declarations_text(module, names):
     return "".join(structs + [line for group in groups for line in group])
 
 
-def struct_text(module, names, h):
+def struct_text(module, layouts, names, h):
     ty = module.types[h]
-    members = zip(member_names([label for label, _ in ty[1]]), ty[1])
+    members = zip(layouts.sizes(ty), member_names([label for label, _ in ty[1]]), ty[1])
     lines = [
-        f"    {attributes(module.bindings.get((ty, number)))}{name}: {spelled(member)},\n"
-        for number, (name, (_, member)) in enumerate(members)]
+        f"    {size_text(size)}{attributes(module.bindings.get((ty, number)))}{name}: {spelled(member)},\n"
+        for number, (size, name, (_, member)) in enumerate(members)]
     return f"struct {names.types[h]} {{\n{''.join(lines)}}}\n\n"
+
+
+def size_text(size):
+    return "" if size is None else f"@size({size}) "
 
 
 def item_text(module, names, item):

@@ -1,5 +1,6 @@
 //! The rows of declarations and of entry points.
 
+use crate::structs::add_placed_struct;
 use bitflags::Flags;
 use naga_builder::{FunctionBuilder, ModuleBuilder};
 use naga_ir::{
@@ -90,26 +91,8 @@ pub fn build_atomic(alloc: Global, shader: &mut ModuleBuilder) -> Result<(), All
 /// A struct with two members, of which one has the label of a keyword.
 pub fn build_struct(alloc: Global, shader: &mut ModuleBuilder) -> Result<(), AllocError> {
     let i32_type = shader.scalar(Scalar::I32)?;
-    let mut members = Vec::new(alloc);
-    push_member(alloc, &mut members, "fract", i32_type, 0)?;
-    push_member(alloc, &mut members, "fn", i32_type, 4)?;
-    shader.structure("S", members, 8)?;
-    Ok(())
-}
-
-fn push_member(
-    alloc: Global,
-    members: &mut Vec<StructMember>,
-    label: &str,
-    ty: Handle<Type_>,
-    offset: u32,
-) -> Result<(), AllocError> {
-    members.push(StructMember {
-        name: Some(String::from_str(alloc, label)?),
-        ty,
-        binding: None,
-        offset,
-    })?;
+    let members = [("fract", i32_type, 0), ("fn", i32_type, 4)];
+    add_placed_struct(alloc, shader, "S", &members, 8)?;
     Ok(())
 }
 

@@ -4,6 +4,7 @@
 
 mod declaration_rows;
 mod expression_rows;
+mod layout_rows;
 pub mod rows;
 pub mod sample;
 mod statement_rows;
@@ -12,4 +13,4 @@ pub mod structs;
 pub use rows::{Row, build_argument};
 pub use sample::Sample;
 pub use statement_rows::nest;
-pub use structs::add_struct;
+pub use structs::{add_placed_struct, add_struct};

@@ -8,6 +8,9 @@ use crate::expression_rows::{
     build_double, build_float, build_idle, build_modf, build_negate, build_pointer, build_sample,
     build_select,
 };
+use crate::layout_rows::{
+    build_gap, build_misplaced, build_natural, build_stretched, build_stride,
+};
 use crate::statement_rows::{
     build_barriers, build_call, build_continue, build_deep, build_default, build_folded,
     build_loop, build_sibling, build_switch, build_tail, build_through, build_twice,
@@ -105,6 +108,16 @@ pub enum Row {
     Atomic,
     /// An override whose value is a sum, which is refused.
     Operator,
+    /// A struct whose members stand where they do by themselves.
+    Natural,
+    /// A struct with a gap after its first member.
+    Gap,
+    /// A struct of 16 bytes with one integer, and an array of two of it.
+    Stride,
+    /// A struct with a member at no multiple of its alignment, which is refused.
+    Misplaced,
+    /// An array whose elements begin further apart than they do by themselves, which is refused.
+    Stretched,
 }
 
 impl Row {
@@ -153,6 +166,11 @@ impl Row {
             "flat" => Some(Row::Flat),
             "atomic" => Some(Row::Atomic),
             "operator" => Some(Row::Operator),
+            "natural" => Some(Row::Natural),
+            "gap" => Some(Row::Gap),
+            "stride" => Some(Row::Stride),
+            "misplaced" => Some(Row::Misplaced),
+            "stretched" => Some(Row::Stretched),
             _ => None,
         }
     }
@@ -202,6 +220,11 @@ impl Row {
             Row::Flat => build_flat(alloc, shader),
             Row::Atomic => build_atomic(alloc, shader),
             Row::Operator => build_operator(alloc, shader),
+            Row::Natural => build_natural(alloc, shader),
+            Row::Gap => build_gap(alloc, shader),
+            Row::Stride => build_stride(alloc, shader),
+            Row::Misplaced => build_misplaced(alloc, shader),
+            Row::Stretched => build_stretched(alloc, shader),
         }
     }
 }

@@ -1,11 +1,12 @@
 //! Reads modules from JSON, and prints their WGSL texts.
 //!
-//! `yorwethul MODULE.json` prints the text of one module, and `yorwethul --lines` answers many, one
-//! a line.
+//! `yorwethul MODULE.json` prints the text of one module, `yorwethul --layout MODULE.json` tells where
+//! the members of its structs stand, and `yorwethul --lines` answers many, one a line.
 #![tactic(auto)]
 
 mod failure;
 mod inputs;
+mod layouts;
 mod lines;
 mod places;
 mod program;

@@ -2,6 +2,7 @@
 
 use crate::failure::Failure;
 use crate::inputs::known_of;
+use crate::layouts::layout_table;
 use crate::lines::answer_lines;
 use crate::places::JsonPlace;
 use crate::words::{Request, Task, request_of};
@@ -57,7 +58,7 @@ fn serve<R: Files + Input + AllocGlobal, O: Write, E: Write>(
 ) -> u8 {
     match request.task {
         Task::Lines => serve_lines(rt, request, out, err),
-        Task::Write | Task::Check => serve_module(rt, request, out, err),
+        Task::Write | Task::Check | Task::Layout => serve_module(rt, request, out, err),
     }
 }
 
@@ -116,9 +117,21 @@ fn answer<O: Write, E: Write>(
     out: &mut O,
     err: &mut E,
 ) -> u8 {
-    if request.task == Task::Check {
-        return check(known, out, err);
+    match request.task {
+        Task::Check => check(known, out, err),
+        Task::Layout => tell_layouts(alloc, known, out, err),
+        Task::Write | Task::Lines => print_text(alloc, request, known, out, err),
     }
+}
+
+/// Prints the module's text.
+fn print_text<O: Write, E: Write>(
+    alloc: Global,
+    request: Request<'_>,
+    known: &mut Known,
+    out: &mut O,
+    err: &mut E,
+) -> u8 {
     let flags = flags_for(request.explicit_types);
     match write(alloc, &known.module, &mut known.info, flags) {
         Ok(written) => print_written(written, out, err),
@@ -133,12 +146,30 @@ fn check<O: Write, E: Write>(known: &Known, out: &mut O, err: &mut E) -> u8 {
     }
 }
 
+/// Prints where the members of the module's structs stand.
+fn tell_layouts<O: Write, E: Write>(alloc: Global, known: &Known, out: &mut O, err: &mut E) -> u8 {
+    match unaccepted(&known.module, &known.info) {
+        Some(fault) => refuse_unaccepted(fault, err),
+        None => match layout_table(alloc, &known.module, &known.info) {
+            Ok(table) => print(table, out, err),
+            Err(error) => tell_error(error, err),
+        },
+    }
+}
+
 fn print_written<O: Write, E: Write>(written: Written, out: &mut O, err: &mut E) -> u8 {
     let Written { answer, text } = written;
     match answer {
         Ok(()) => print(text, out, err),
-        Err(Error::Memory(_)) => fail(Failure::Memory, err),
-        Err(reason) => refuse(reason, err),
+        Err(error) => tell_error(error, err),
+    }
+}
+
+/// Tells why the module is refused, or that memory was.
+fn tell_error<E: Write>(error: Error, err: &mut E) -> u8 {
+    match error {
+        Error::Memory(_) => fail(Failure::Memory, err),
+        reason => refuse(reason, err),
     }
 }
 

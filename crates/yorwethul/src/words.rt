@@ -10,6 +10,8 @@ pub enum Task {
     Write,
     /// One module is only asked whether it is accepted.
     Check,
+    /// It is told where the members of one module's structs stand.
+    Layout,
     /// Many modules are answered, one a line.
     Lines,
 }
@@ -46,6 +48,8 @@ fn request_in<'a>(matches: &ArgMatches<'a>) -> Request<'a> {
 fn task_in(matches: &ArgMatches<'_>) -> Task {
     if matches.get_flag("lines") {
         Task::Lines
+    } else if matches.get_flag("layout") {
+        Task::Layout
     } else if matches.get_flag("check") {
         Task::Check
     } else {
@@ -63,6 +67,9 @@ and id beside; explicit_types, true or false, holds in place of --explicit-types
 before the next line is read, by one line, an object with the same id and with one of the members
 text, refused, not_accepted and error.
 
+With --layout each struct that the text declares has a line, and so has each of its members, with
+its offset and what WGSL gives to its type, in bytes, or why the member can't stay where it is.
+
 The status is 0; 1 where the module is refused or not accepted; 2 where the words are wrong, the
 input is no module, something cannot be read or written, or memory is refused. With --lines it is
 0 or 2, since each line of the output tells what becomes of its module.";
@@ -74,6 +81,7 @@ fn command<'a>(alloc: Global) -> Result<Command<'a>, AllocError> {
         .after_help(AFTER_HELP)
         .arg(flag(alloc, "explicit-types", "Has each let tell its type"))?
         .arg(check(alloc)?)?
+        .arg(layout(alloc)?)?
         .arg(lines(alloc)?)?
         .arg(info(alloc))?
         .arg(module(alloc))
@@ -91,9 +99,17 @@ fn check<'a>(alloc: Global) -> Result<Arg<'a>, AllocError> {
     flag(alloc, "check", help).conflicts_with("explicit-types")
 }
 
+fn layout<'a>(alloc: Global) -> Result<Arg<'a>, AllocError> {
+    let help = "Tells where the members of the module's structs stand, or why they can't";
+    flag(alloc, "layout", help)
+        .conflicts_with("check")?
+        .conflicts_with("explicit-types")
+}
+
 fn lines<'a>(alloc: Global) -> Result<Arg<'a>, AllocError> {
     flag(alloc, "lines", "Answers many modules, one a line")
         .conflicts_with("check")?
+        .conflicts_with("layout")?
         .conflicts_with("info")
 }
 

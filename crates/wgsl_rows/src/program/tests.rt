@@ -461,6 +461,54 @@ const DECLARATION_ROWS: &[(&[&str], &str, &str, u8)] = &[
     ),
 ];
 
+const LAYOUT_ROWS: &[(&[&str], &str, &str, u8)] = &[
+    (
+        &["natural"],
+        "struct P {\n    a: f32,\n    b: vec3<f32>,\n    c: f32,\n}\n\n",
+        "",
+        0,
+    ),
+    (
+        &["natural", "explicit"],
+        "struct P {\n    a: f32,\n    b: vec3<f32>,\n    c: f32,\n}\n\n",
+        "",
+        0,
+    ),
+    (
+        &["gap"],
+        "struct Q {\n    @size(16) a: u32,\n    b: u32,\n}\n\n",
+        "",
+        0,
+    ),
+    (
+        &["gap", "explicit"],
+        "struct Q {\n    @size(16) a: u32,\n    b: u32,\n}\n\n",
+        "",
+        0,
+    ),
+    (
+        &["stride"],
+        "struct I {\n    @size(16) a: u32,\n}\n\nstruct O {\n    v: array<I, 2>,\n}\n\n",
+        "",
+        0,
+    ),
+    (
+        &["stride", "explicit"],
+        "struct I {\n    @size(16) a: u32,\n}\n\nstruct O {\n    v: array<I, 2>,\n}\n\n",
+        "",
+        0,
+    ),
+    (&["misplaced"], "", "refused: member off its alignment\n", 1),
+    (
+        &["misplaced", "explicit"],
+        "",
+        "refused: member off its alignment\n",
+        1,
+    ),
+    (&["stretched"], "", "refused: array stride\n", 1),
+    (&["stretched", "explicit"], "", "refused: array stride\n", 1),
+];
+
 /// The program's status on these words.
 fn status<O: Write, E: Write>(
     alloc: Global,
@@ -525,6 +573,17 @@ fn rows_with_loops_are_answered(rt: HostRuntime) -> Result<(), Fail> {
 #[test]
 fn rows_with_declarations_are_answered(rt: HostRuntime) -> Result<(), Fail> {
     for (words, text, told, want) in DECLARATION_ROWS {
+        assert!(rt;
+            gives(rt.alloc(), *words, *text, *told, *want)?,
+            "{words:?}"
+        );
+    }
+    Ok(())
+}
+
+#[test]
+fn rows_with_layouts_are_answered(rt: HostRuntime) -> Result<(), Fail> {
+    for (words, text, told, want) in LAYOUT_ROWS {
         assert!(rt;
             gives(rt.alloc(), *words, *text, *told, *want)?,
             "{words:?}"

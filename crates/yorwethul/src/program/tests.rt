@@ -83,6 +83,22 @@ const WORDS: &[(&[&str], Told)] = &[
         ),
     ),
     (
+        &["--lines", "--layout"],
+        (
+            FAILED,
+            "",
+            "error: the argument '--lines' cannot be used with",
+        ),
+    ),
+    (
+        &["--layout", "--check"],
+        (
+            FAILED,
+            "",
+            "error: the argument '--layout' cannot be used with",
+        ),
+    ),
+    (
         &["--check", "--explicit-types"],
         (
             FAILED,
@@ -156,6 +172,58 @@ const FLOAT_LITERAL: &str = r#"{
     "info": {"functions": [[0]]}
 }"#;
 
+/// Structs: with a gap, with a member at no multiple of its alignment, with an array of another stride,
+/// and with a member that is bound.
+const STRUCTS: &str = r#"{
+    "module": {
+        "types": [
+            {"inner": {"Scalar": {"kind": "Uint", "width": 4}}},
+            {"name": "Gap", "inner": {"Struct": {"span": 32, "members": [
+                {"name": "a", "ty": 0, "offset": 0}, {"name": "fn", "ty": 0, "offset": 16}]}}},
+            {"name": "Odd", "inner": {"Struct": {"span": 12, "members": [
+                {"name": "a", "ty": 0, "offset": 0}, {"name": "b", "ty": 0, "offset": 6}]}}},
+            {"inner": {"Array": {"base": 0, "size": {"Constant": 4}, "stride": 16}}},
+            {"inner": {"Array": {"base": 0, "size": "Dynamic", "stride": 4}}},
+            {"name": "Wide", "inner": {"Struct": {"span": 80, "members": [
+                {"name": "a", "ty": 0, "offset": 4}, {"name": "b", "ty": 3, "offset": 16},
+                {"name": "c", "ty": 2, "offset": 80}]}}},
+            {"name": "Ends", "inner": {"Struct": {"span": 8, "members": [
+                {"name": "a", "ty": 1, "offset": 0}, {"name": "b", "ty": 4, "offset": 32}]}}},
+            {"name": "Near", "inner": {"Struct": {"span": 8, "members": [
+                {"name": "a", "ty": 1, "offset": 0}, {"name": "b", "ty": 0, "offset": 28},
+                {"name": "c", "ty": 4, "offset": 32}, {"name": "d", "ty": 0, "offset": 36},
+                {"name": "e", "ty": 0, "offset": 0}]}}},
+            {"name": "Out", "inner": {"Struct": {"span": 4, "members": [
+                {"name": "a", "ty": 0, "offset": 0, "binding": {"Location": {"location": 0}}}]}}}
+        ]
+    },
+    "info": {}
+}"#;
+
+const LAYOUTS: &str = "\
+struct Gap: align 4, size 32
+    a: offset 0, align 4, size 4
+    fn_: offset 16, align 4, size 4
+struct Odd: no layout
+    a: offset 0, align 4, size 4
+    b: offset 6, align 4, size 4: member off its alignment
+struct Wide: no layout
+    a: offset 4, align 4, size 4: member off its alignment
+    b: offset 16: array stride 16, by WGSL 4
+    c: offset 80: its type has no layout
+struct Ends: align 4, no size
+    a: offset 0, align 4, size 32
+    b: offset 32, align 4, no size
+struct Near: no layout
+    a: offset 0, align 4, size 32
+    b: offset 28, align 4, size 4: members overlap
+    c: offset 32, align 4, no size
+    d: offset 36, align 4, size 4: after a member without a size
+    e: offset 0, align 4, size 4: a second member at 0
+struct Out: no layout
+    a: bound
+";
+
 const OPERAND_FAULT: &str = "not accepted: module.functions[0].expressions[1]: \
     an operand does not stand before the expression\n";
 
@@ -179,6 +247,14 @@ const MODULES: &[(&str, Task, Told)] = &[
     (FLOAT_LITERAL, Task::Check, (0, "accepted\n", "")),
     (ITS_OWN_OPERAND, Task::Write, (REFUSED, "", OPERAND_FAULT)),
     (ITS_OWN_OPERAND, Task::Check, (REFUSED, "", OPERAND_FAULT)),
+    (ITS_OWN_OPERAND, Task::Layout, (REFUSED, "", OPERAND_FAULT)),
+    (STRUCTS, Task::Check, (0, "accepted\n", "")),
+    (
+        STRUCTS,
+        Task::Write,
+        (REFUSED, "", "refused: member off its alignment\n"),
+    ),
+    (STRUCTS, Task::Layout, (0, LAYOUTS, "")),
 ];
 
 /// The status where this is done with a module, or none where it cannot be read.
