@@ -1,7 +1,7 @@
 -- The labels of the switches of a module's function, as the interface tells them.
 --
--- Throughout, v is a label, b the statements of its case or the rest of a block, cs the further
--- cases, and a case falls through where it falls.
+-- Throughout, v is a label, s a statement, b a block or the rest of one, cs are the further cases,
+-- and a case falls through where it falls.
 use Rattle.std.specs.Prelude.{List, [], ◌∷◌, ◌++◌}
 use Rattle.naga_ir.specs.StatementTree.{StatementTree, simple, block, branch, switch, loop}
 use Rattle.naga_ir.specs.StatementTree.{BlockTree, no_statements, statement, CaseTrees, no_cases}
@@ -20,8 +20,8 @@ abbrev pub case_labels : CaseTrees → List LabelInterface
 case_labels no_cases = []
 case_labels (case v b falls cs) = label_interface v ∷ case_labels cs
 
--- the labels of each switch, in the order of the statements: those of a switch stand in front of
--- those of the switches in its cases
+-- the labels of each switch, in the order of the statements: those of a switch stand before those
+-- of the switches in its cases
 abbrev mutual
   pub switches_in : StatementTree → List (List LabelInterface)
   switches_in (simple s) = []

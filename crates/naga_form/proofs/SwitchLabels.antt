@@ -113,7 +113,7 @@ label_told (label.I32 (negsuc n)) = refl
 label_told (label.U32 n) = refl
 label_told label.Default = refl
 
--- a label behind those that wait
+-- a label after those that wait
 waiting_told : (labels : List tree.Label) (value : SwitchValue) →
     map label_interface_read (labels ++ label_form value ∷ []) ≡
     map label_interface_read labels ++ label_interface value ∷ []

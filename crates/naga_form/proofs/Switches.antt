@@ -105,7 +105,7 @@ abbrev waiting_defaults : List tree.Label → ℕ
 waiting_defaults [] = 0
 waiting_defaults (l ∷ ls) = defaults_at l + waiting_defaults ls
 
--- a label behind those that wait
+-- a label after those that wait
 waiting_more : (labels : List tree.Label) (l : tree.Label) →
     waiting_defaults (labels ++ l ∷ []) ≡ waiting_defaults labels + defaults_at l
 waiting_more [] l = add-zero (defaults_at l) ∙ sym (zero-add (defaults_at l))

@@ -1,6 +1,6 @@
 -- The labels of the switches of a text.
 --
--- Throughout, a label is told by its number, and by whether it has the suffix of an unsigned one.
+-- Throughout, l is a label, n a number, e an expression and s a statement.
 use Rattle.std.specs.Prelude.{ℕ, ℤ, List, [], ◌∷◌, ◌++◌}
 use Rattle.wgsl_text.specs.Statements.{Label, DefaultLabel, SignedLabel, UnsignedLabel, Labels}
 use Rattle.wgsl_text.specs.Statements.{LastLabel, MoreLabels, Statement, If, Loop, LoopBreakIf}
@@ -8,8 +8,8 @@ use Rattle.wgsl_text.specs.Statements.{Switch, Block, Statements, NoStatements, 
 use Rattle.wgsl_text.specs.Statements.{NoBlock, SomeBlock, Cases, NoCases, Case}
 use Rattle.text_meaning.specs.Literals.{integer_of_sign}
 
--- what a label tells: a number of the selector's type, which has a `u` where it is unsigned, or that
--- the case is the default
+-- what a label tells: a number, with whether it has the `u` of an unsigned selector's, or that the
+-- case is the default
 pub data LabelInterface : Type 0 where
   Signed : ℤ → LabelInterface
   Unsigned : ℕ → LabelInterface
@@ -29,8 +29,8 @@ abbrev pub all_labels_read : Cases → List LabelInterface
 all_labels_read NoCases = []
 all_labels_read (Case labels body more) = case_labels_read labels ++ all_labels_read more
 
--- the labels of each switch, in the order of the text: those of a switch stand in front of those of
--- the switches in its cases
+-- the labels of each switch, in the order of the text: those of a switch stand before those of the
+-- switches in its cases
 abbrev mutual
   pub statement_switches : Statement → List (List LabelInterface)
   statement_switches (If e accept reject) =

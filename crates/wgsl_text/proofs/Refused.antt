@@ -11,6 +11,8 @@ use Rattle.wgsl_text.specs.Expressions.{NoArguments, Argument, NumberArgument, Z
 use Rattle.wgsl_text.specs.Attributes.{Compute, Location, Size, Align, Builtin, Attribute, Plain}
 use Rattle.wgsl_text.specs.Attributes.{Numbered, Worded}
 use Rattle.wgsl_text.specs.Functions.{NoResult}
+use Rattle.wgsl_text.specs.Statements.{Case, Cases, DefaultLabel, LastLabel, MoreLabels, NoCases}
+use Rattle.wgsl_text.specs.Statements.{NoStatements, SignedLabel, Switch}
 use Rattle.wgsl_text.specs.Declarations.{Program, no_declarations}
 use Rattle.wgsl_text.proofs.Declarations.{newest_first, newest_twice}
 use Rattle.wgsl_text.specs.Words.{is_reserved, is_builtin}
@@ -106,6 +108,11 @@ builtin_name = found_expression _ (Name (codes "f32")) refl (λ r. false≢true 
 abbrev of_member : List Attribute → Program
 of_member attributes = record no_declarations { structs = struct "S" (member attributes "a" (named_type "f32") ∷ []) ∷ [] }
 
+-- a function with a switch of these cases alone
+abbrev of_switch : Cases → Program
+of_switch cases =
+    of_functions (function "f" (parameter "x" (named_type "i32") ∷ []) NoResult [] (Switch (name "x") cases ∷ []) ∷ [])
+
 abbrev reserved_parameter_tree : Program
 reserved_parameter_tree = of_functions (function "f" (parameter "self" (named_type "i32") ∷ []) NoResult [] [] ∷ [])
 
@@ -142,6 +149,18 @@ refused = record {
   reserved_parameter = found_program _ reserved_parameter_tree refl (λ r. false≢true (sym r.form.functions.0.parameters.0.name.word.free));
   cut = no_program _ refl;
   break_if_first = no_program _ refl;
+  no_default =
+      found_program _ (of_switch (Case (LastLabel (SignedLabel false 1)) NoStatements NoCases)) refl
+      (λ r. false≢true r.form.functions.0.body.0.2);
+  default_twice_in_a_case =
+      found_program _ (of_switch (Case (MoreLabels DefaultLabel (LastLabel DefaultLabel)) NoStatements NoCases)) refl
+      (λ r. false≢true r.form.functions.0.body.0.2);
+  two_defaults =
+      found_program _
+      (of_switch
+      (Case (MoreLabels (SignedLabel false 1) (LastLabel DefaultLabel)) NoStatements
+      (Case (LastLabel DefaultLabel) NoStatements NoCases))) refl
+      (λ r. false≢true r.form.functions.0.body.0.2);
   two_sizes = found_program _ (of_member (Numbered Size 16 ∷ Numbered Size 16 ∷ [])) refl (λ r. false≢true r.form.structs.0.members.0.binding);
   two_alignments = found_program _ (of_member (Numbered Align 8 ∷ Numbered Align 8 ∷ [])) refl (λ r. false≢true r.form.structs.0.members.0.binding);
   size_behind_alignment = found_program _ (of_member (Numbered Align 16 ∷ Numbered Size 16 ∷ [])) refl (λ r. false≢true r.form.structs.0.members.0.binding);

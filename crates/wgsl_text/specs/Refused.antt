@@ -54,6 +54,33 @@ pub record RefusedTexts : Type 0 where
       "    }" ∷
       "}" ∷
       "" ∷ []))
+  -- a switch without a default, and with two: in one case, and in two
+  pub no_default : IsNoProgram (lines (
+      "fn f(x: i32) {" ∷
+      "    switch x {" ∷
+      "        case 1: {" ∷
+      "        }" ∷
+      "    }" ∷
+      "}" ∷
+      "" ∷ []))
+  pub default_twice_in_a_case : IsNoProgram (lines (
+      "fn f(x: i32) {" ∷
+      "    switch x {" ∷
+      "        case default, default: {" ∷
+      "        }" ∷
+      "    }" ∷
+      "}" ∷
+      "" ∷ []))
+  pub two_defaults : IsNoProgram (lines (
+      "fn f(x: i32) {" ∷
+      "    switch x {" ∷
+      "        case 1, default: {" ∷
+      "        }" ∷
+      "        default: {" ∷
+      "        }" ∷
+      "    }" ∷
+      "}" ∷
+      "" ∷ []))
   -- a member with two sizes, with two alignments, and with its size behind its alignment or binding
   pub two_sizes : IsNoProgram (codes "struct S {\n    @size(16) @size(16) a: f32,\n}\n\n")
   pub two_alignments : IsNoProgram (codes "struct S {\n    @align(8) @align(8) a: f32,\n}\n\n")

@@ -11,8 +11,8 @@ loop-index-init g c =
     leaves_as (members_start c.args.text.now.shader.now c.args.handle c.args.members.now)
     (leaves_start _ (members_text c.args.text.now.shader.now c.args.handle c.args.members.now))
 
-pub given_size-requires-clause-there : goal.given_size-requires-clause-there
-given_size-requires-clause-there g c =
+pub given_size-size-requires-clause-there : goal.given_size-size-requires-clause-there
+given_size-size-requires-clause-there g c =
     slice_get_read c.args.members.now (length c.args.members.now) c.loop-index.index
     c.index-members-index.result refl c.loop-index-test.true c.index-members-index.is
 
