@@ -221,17 +221,6 @@ module _ (m : Module) (h : ℕ) (t : Type_) (at : slice_get m.types h ≡ Some t
         ∙ (ap (λ l. gap_size k.offset l.size (begins_at span ks (suc i)) (aligned_at whole ks (suc i))) same
         ∙ ap (λ a. gap_size k.offset own.size (begins_at span ks (suc i)) (aligned_at a ks (suc i))) (sym is.alignment)))))
 
-    -- one that isn't there is given none
-    pub given_none : (l : Layout) (is : Laid l) (i : ℕ) → slice_get ms i ≡ None → written_size m h i ≡ None
-    given_none l is i none =
-        let ks = is.members in
-        let whole = greatest_placed 0 ks in
-        ap (option_and_then (size_among (span_at m h) i)) is.concerned
-        ∙ (ap (λ span. size_among span i ks) span_is
-        ∙ (ap (option_and_then (λ k. k.given)) (sized_at whole span ks i)
-        ∙ ap (λ o. option_and_then (λ k. k.given) (option_map (λ k. sized k (begins_at span ks (suc i)) (aligned_at whole ks (suc i))) o))
-        (placed_none (layout_in m) ms ks is.placed i none)))
-
     -- where no fault stands, one that isn't laid out isn't concerned
     pub unlaid : DeclarationsHaveForms m → layout_in m h ≡ None → (i : ℕ) → written_size m h i ≡ None
     unlaid forms none i = by (concerned_members m h) refl
