@@ -17,6 +17,7 @@ pub mod ModuleShapeExamples
 pub mod NumberExamples
 pub mod Operations
 mod WordExamples
+pub mod WrittenSizes
 pub mod ExpressionForms
 pub mod ShapeExamples
 pub mod ShapeKinds

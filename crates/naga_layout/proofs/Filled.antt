@@ -3,15 +3,18 @@
 -- Throughout, marks say which structs no text declares, i is how many cells are filled, and xs are they.
 use Rattle.std.proofs.Common.{◌≡◌, ◌∙◌, ◌<◌, ◌≤◌, ◌+◌, ◌++◌, ℕ, Bool, true, false, List, [], ◌∷◌, Option, Some, None}
 use Rattle.std.proofs.Common.{zero, suc, replicate, ap, arith, get_or, inl, inr, length, length-append, refl, slice_get, subst, sym}
-use Rattle.std.specs.Prelude.{◌⊎◌, if◌then◌else◌}
-use Rattle.std.specs.Option.{option_map}
-use Rattle.std.proofs.lemmas.Bool.{cases_lt}
-use Rattle.std.proofs.lemmas.List.{get_or_append_left, get_or_push}
+use Rattle.std.specs.Prelude.{◌⊎◌, nat_lt}
+use Rattle.std.specs.List.{list_all}
+use Rattle.std.specs.Option.{option_and_then, option_map}
+use Rattle.std.proofs.lemmas.Bool.{and_parts, cases_lt, ltb-true}
+use Rattle.std.proofs.lemmas.List.{get_or_append_left, get_or_past, get_or_push}
+use Rattle.std.proofs.lemmas.Option.{slice_get_past}
+use Rattle.naga_ir.specs.declared.types.StructMember.{StructMember}
 use Rattle.naga_ir.specs.declared.types.Type_.{Type_}
 use Rattle.wgsl_layout.specs.Capped.{capped}
 use Rattle.wgsl_layout.specs.declared.layouts.Layout.{Layout}
-use Rattle.naga_layout.specs.Tables.{TellBefore, cell_at, written_rule}
-use Rattle.naga_layout.specs.Types.{layout_at}
+use Rattle.naga_layout.specs.Tables.{TellBefore, TellLayouts, TellMembers, TellsLayout, cell_at, written_rule}
+use Rattle.naga_layout.specs.Types.{Rule, layout_at, layout_within, named_layout_by}
 use Rattle.naga_layout.specs.declared.types.Known.{Known}
 
 pub one_told : (marks : List Bool) (types : List Type_) (i : ℕ) (xs ys : List (Option Layout)) (x : Option Layout) →
@@ -31,6 +34,34 @@ one_told marks types i xs ys x size told is all = (
         let same : i ≡ h = omega (arith, lt, past) in
         get_or_push xs x None h (size ∙ same)
         ∙ (is ∙ ap (λ h. option_map capped (layout_at (written_rule marks) types h)) same)
+
+-- what is not there has no layout
+no_layout_past : (rule : Rule) (types : List Type_) (h : ℕ) → length types ≤ h → layout_at rule types h ≡ None
+unfolding layout_at
+no_layout_past rule types h le =
+    ap (option_and_then (λ t. named_layout_by rule (layout_within h rule types) h t.inner)) (slice_get_past types h le)
+
+pub all_told : (marks : List Bool) (types : List Type_) (xs : List (Option Layout)) → length xs ≡ length types →
+    TellBefore marks types (length types) xs → TellLayouts marks types xs
+all_told marks types xs size told h = by (cases_lt h (length types))
+  where
+    by : (h < length types) ⊎ (length types ≤ h) →
+        cell_at xs h ≡ option_map capped (layout_at (written_rule marks) types h)
+    by (inl below) = told h below
+    by (inr past) =
+        get_or_past xs h None (omega (arith, past, size))
+        ∙ sym (ap (option_map capped) (no_layout_past (written_rule marks) types h past))
+
+-- those of the members' types tell how these are
+pub members_told : (marks : List Bool) (types : List Type_) (here : ℕ) (ks : List StructMember) (xs : List (Option Layout)) →
+    TellBefore marks types here xs → list_all (λ k. nat_lt k.ty here) ks ≡ true → TellMembers marks types ks xs
+members_told marks types here [] xs told before i k at = absurd cc
+members_told marks types here (k ∷ ks) xs told before zero q at =
+    let parts = and_parts (nat_lt k.ty here) _ before in
+    let same : k ≡ q = cc in
+    subst (λ k. TellsLayout marks types xs k.ty) same (told k.ty (ltb-true k.ty here parts.0))
+members_told marks types here (k ∷ ks) xs told before (suc i) q at =
+    members_told marks types here ks xs told (and_parts (nat_lt k.ty here) _ before).1 i q at
 
 -- nothing was seen at first
 abbrev pub nothing : Option Known

@@ -223,7 +223,7 @@ type_marked m marks are (Value it) = by (over it)
     by (Some base) = are base
 
 -- ---- types that are spelled
-some_kept : {X Y : Type 0} (f : X → Y) (o : Option X) → is_some (option_map f o) ≡ is_some o
+pub some_kept : {X Y : Type 0} (f : X → Y) (o : Option X) → is_some (option_map f o) ≡ is_some o
 some_kept f None = refl
 some_kept f (Some x) = refl
 

@@ -2,7 +2,8 @@
 use Rattle.std.proofs.Common.{◌≡◌, ℕ, ◌+◌, ◌-◌, ◌<◌, ◌≤◌, Bool, true, false, Option, Some, None, refl, sym, ap, ◌∙◌, subst}
 use Rattle.std.proofs.Common.{List, length, slice_get, nat_lt, arith, not, MatchOption, Vec, Global}
 use Rattle.std.specs.Prelude.{IfNone, IfSome, IsTrue, if◌then◌else◌}
-use Rattle.std.proofs.lemmas.Bool.{le-ltb, lt-ltb}
+use Rattle.std.specs.Option.{is_some, option_and_then}
+use Rattle.std.proofs.lemmas.Bool.{false≢true, le-ltb, lt-ltb}
 use Rattle.std.proofs.lemmas.Option.{slice_get_within}
 use Rattle.module_meaning.proofs.FunctionNumbers.{entry_point_among, function_among, which_function}
 use Rattle.module_meaning.proofs.FunctionNumbers.{IsNumbered, OfEntryPoint, OfFunction}
@@ -16,6 +17,7 @@ use Rattle.module_meaning.specs.DeclarationForms.IsInitialiser.{OfOverride as Ov
 use Rattle.module_meaning.specs.DeclarationForms.IsInitialiser.{OfVariable as VariableInitialiser}
 use Rattle.module_meaning.specs.DeclarationForms.IsMemberBinding.{OfMember as MemberBinding}
 use Rattle.module_meaning.specs.DeclarationForms.IsPassed.{OfArgument, OfResult}
+use Rattle.module_meaning.specs.Layouts.{HasOtherStride, IsMisplaced, concerned_members, concerned_of, concerned_only, layout_in, module_rule}
 use Rattle.module_meaning.specs.Undeclared.{is_declared, is_spellable, is_undeclared}
 use Rattle.module_meaning.specs.ExpressionForms.{global_is_written}
 use Rattle.naga_info.specs.declared.info.TypeResolution.TheVariants.{Handle}
@@ -30,6 +32,9 @@ use Rattle.naga_ir.specs.declared.module.Module.{Module}
 use Rattle.naga_ir.specs.declared.types.StructMember.{StructMember}
 use Rattle.naga_ir.specs.declared.types.Type_.{Type_}
 use Rattle.naga_ir.specs.declared.types.TypeInner.TheVariants as inner
+use Rattle.naga_layout.proofs.Concerned.{concerned_laid, laid_concerned, none_stands}
+use Rattle.naga_layout.proofs.Left.{all_aligned}
+use Rattle.naga_layout.specs.Types.{arrays_are_kept, kept_struct, placed_members}
 use Rattle.naga_names.specs.Reset.{members_of}
 use Rattle.naga_scope.specs.declared.declarations.FormlessDeclaration.{FormlessDeclaration}
 use Rattle.naga_scope.specs.declared.declarations.FormlessDeclaration.TheVariants as declaration
@@ -38,7 +43,12 @@ use Rattle.naga_scope.specs.declared.declarations.FormlessHead.TheVariants as he
 use Rattle.naga_scope.specs.Declarations.{BindingHasForm, ConstantHasForm, EntryPointHasForm, Finds, IsFormlessBinding}
 use Rattle.naga_scope.specs.Declarations.{IsFormlessConstant, IsFormlessDeclaration, IsFormlessEntryPoint, IsFormlessHead}
 use Rattle.naga_scope.specs.Declarations.{IsFormlessPassed, IsFormlessType, IsFormlessValue, PassedHasForm, TypeHasForm}
-use Rattle.naga_scope.specs.Declarations.{FindsMember, ValueHasForm}
+use Rattle.naga_scope.specs.Declarations.{FindsMember, IsFormlessStruct, IsOtherStride, StructHasForm, ValueHasForm, concerned_among}
+use Rattle.wgsl_layout.proofs.FirstFaults.{fault_stands, none_kept}
+use Rattle.wgsl_layout.specs.Faults.{StandsAmong, first_fault}
+use Rattle.wgsl_layout.specs.Members.{is_concerned}
+use Rattle.wgsl_layout.specs.declared.layouts.Placed.{Placed}
+use Rattle.wgsl_layout.specs.declared.members.Misplaced.{Misplaced}
 
 module _ (m : Module) where
   -- ---- numbers
@@ -105,6 +115,35 @@ module _ (m : Module) where
     entry_point_with (Some it) lacks = entry_point_lacks j p there it lacks
 
   -- ---- what a search finds
+  -- a struct that a text declares is concerned where its members are
+  module _ (h : ℕ) (t : Type_) (at : slice_get m.types h ≡ Some t) (declared : is_declared m.special_types h t.inner ≡ true) where
+    concerned_is : concerned_members m h ≡ concerned_among m (members_of t.inner)
+    concerned_is =
+        ap (option_and_then (λ t. concerned_of m h t.inner)) at
+        ∙ ap (λ b. if b then concerned_among m (members_of t.inner) else None) declared
+
+    misplaced_in : (fault : Misplaced) (ks : List Placed) → concerned_among m (members_of t.inner) ≡ Some ks →
+        StandsAmong fault ks → IsMisplaced m h fault
+    misplaced_in fault ks concerned stands = record {
+      members = ks;
+      concerned = concerned_is ∙ concerned;
+      stands = stands;
+    }
+
+    stride_in : (ty : ℕ) (ks : List Placed) → concerned_among m (members_of t.inner) ≡ Some ks →
+        (i : ℕ) (s : StructMember) → slice_get (members_of t.inner) i ≡ Some s → IsOtherStride m s ty → HasOtherStride m h ty
+    stride_in ty ks concerned i s there other = record {
+      members = ks;
+      concerned = concerned_is ∙ concerned;
+      whole = t;
+      at = at;
+      number = i;
+      member = s;
+      there = there;
+      is = sym other.0;
+      other = other.1;
+    }
+
   pub of_types : (it : FormlessDeclaration) → Finds m.types (TypeHasForm m) (IsFormlessType m) (Some it) →
       IsFormlessDeclaration m it
   of_types (declaration.Type_ ty) (h, t, at, (declared, (i, s, there, (same, lacks)))) =
@@ -113,6 +152,10 @@ module _ (m : Module) where
   of_types (declaration.BuiltIn v) (h, t, at, (declared, (i, s, there, (bound, lacks)))) =
       (MemberBinding h i t s (binding.BuiltIn v) at declared there bound, lacks)
   of_types (declaration.Head it) (h, t, at, (declared, (i, s, there, lacks))) = absurd lacks
+  of_types (declaration.Misplaced fault) (h, t, at, (declared, (ks, concerned, stands))) =
+      (h, misplaced_in h t at declared fault ks concerned stands)
+  of_types (declaration.Stride ty) (h, t, at, (declared, (ks, concerned, (i, s, there, other)))) =
+      (h, stride_in h t at declared ty ks concerned i s there other)
 
   pub of_constants : (it : FormlessDeclaration) → Finds m.constants (λ i. ConstantHasForm m) (λ i. IsFormlessConstant m) (Some it) →
       IsFormlessDeclaration m it
@@ -123,6 +166,8 @@ module _ (m : Module) where
       (subst (IsInitialiser m) handle (ConstantInitialiser i k at is_named), lacks)
   of_constants (declaration.BuiltIn v) (i, k, at, (is_named, lacks)) = absurd lacks
   of_constants (declaration.Head it) (i, k, at, (is_named, lacks)) = absurd lacks
+  of_constants (declaration.Misplaced fault) (i, k, at, (is_named, lacks)) = absurd lacks
+  of_constants (declaration.Stride ty) (i, k, at, (is_named, lacks)) = absurd lacks
 
   pub of_overrides : (it : FormlessDeclaration) →
       Finds m.overrides (λ i o. ValueHasForm m o.ty o.init) (λ i o. IsFormlessValue m o.ty o.init) (Some it) →
@@ -133,6 +178,8 @@ module _ (m : Module) where
       (OverrideInitialiser i o h at same, lacks)
   of_overrides (declaration.BuiltIn v) (i, o, at, lacks) = absurd lacks
   of_overrides (declaration.Head it) (i, o, at, lacks) = absurd lacks
+  of_overrides (declaration.Misplaced fault) (i, o, at, lacks) = absurd lacks
+  of_overrides (declaration.Stride ty) (i, o, at, lacks) = absurd lacks
 
   pub of_variables : (it : FormlessDeclaration) →
       Finds m.global_variables (λ i g. ValueHasForm m g.ty g.init) (λ i g. IsFormlessValue m g.ty g.init) (Some it) →
@@ -143,6 +190,8 @@ module _ (m : Module) where
       (VariableInitialiser i g h at same, lacks)
   of_variables (declaration.BuiltIn v) (i, g, at, lacks) = absurd lacks
   of_variables (declaration.Head it) (i, g, at, lacks) = absurd lacks
+  of_variables (declaration.Misplaced fault) (i, g, at, lacks) = absurd lacks
+  of_variables (declaration.Stride ty) (i, g, at, lacks) = absurd lacks
 
   pub of_functions : (v : BuiltIn) → Finds m.functions (λ i. PassedHasForm) (λ i. IsFormlessPassed) (Some v) →
       IsFormlessDeclaration m (declaration.Head (head.BuiltIn v))
@@ -161,7 +210,7 @@ module _ (m : Module) where
       (in_functions : Finds m.functions (λ i. PassedHasForm) (λ i. IsFormlessPassed) None)
       (in_entry_points : Finds m.entry_points.items (λ i. EntryPointHasForm) (λ i. IsFormlessEntryPoint) None) where
     types_formed : (ty : ℕ) → IsDeclaredType m ty → IsTrue (is_spellable m (Handle ty))
-    types_formed _ (MemberType h i t s at declared there) = (in_types h t at declared i s there).type
+    types_formed _ (MemberType h i t s at declared there) = ((in_types h t at declared).each i s there).type
     types_formed _ (ConstantType i k at is_named) = (in_constants i k at is_named).type
     types_formed _ (OverrideType i o at) = (in_overrides i o at).type
     types_formed _ (VariableType i g at) = (in_variables i g at).type
@@ -172,7 +221,37 @@ module _ (m : Module) where
     initialisers_formed h (VariableInitialiser i g _ at is) = (in_variables i g at).initialiser h is
 
     members_formed : (b : Binding) → IsMemberBinding m b → IsTrue (binding_has_form b)
-    members_formed b (MemberBinding h i t s _ at declared there bound) = (in_types h t at declared i s there).binding b bound
+    members_formed b (MemberBinding h i t s _ at declared there bound) = ((in_types h t at declared).each i s there).binding b bound
+
+    -- a struct that is concerned is there, and a text declares it
+    concerned_formed : (h : ℕ) (ks : List Placed) → concerned_members m h ≡ Some ks →
+        (t : Type_) × (slice_get m.types h ≡ Some t) × (concerned_among m (members_of t.inner) ≡ Some ks) × StructHasForm m (members_of t.inner)
+    concerned_formed h ks concerned = by (slice_get m.types h) refl concerned
+      where
+        by : (o : Option Type_) → slice_get m.types h ≡ o → option_and_then (λ t. concerned_of m h t.inner) o ≡ Some ks →
+            (t : Type_) × (slice_get m.types h ≡ Some t) × (concerned_among m (members_of t.inner) ≡ Some ks) × StructHasForm m (members_of t.inner)
+        by None at concerned = absurd cc
+        by (Some t) at concerned = by_test (is_declared m.special_types h t.inner) refl concerned
+          where
+            by_test : (b : Bool) → is_declared m.special_types h t.inner ≡ b →
+                (if b then concerned_among m (members_of t.inner) else None) ≡ Some ks →
+                (t : Type_) × (slice_get m.types h ≡ Some t) × (concerned_among m (members_of t.inner) ≡ Some ks) × StructHasForm m (members_of t.inner)
+            by_test false declared concerned = absurd cc
+            by_test true declared concerned = (t, at, concerned, in_types h t at declared)
+
+    offsets_formed : (h : ℕ) (fault : Misplaced) → IsMisplaced m h fault → ⊥
+    offsets_formed h fault misplaced =
+        let found = concerned_formed h misplaced.members misplaced.concerned in
+        found.3.offsets misplaced.members found.2 fault misplaced.stands
+
+    strides_formed : (h ty : ℕ) → HasOtherStride m h ty → ⊥
+    strides_formed h ty other =
+        let found = concerned_formed h other.members other.concerned in
+        let both : Some other.whole ≡ Some found.0 = sym other.at ∙ found.1 in
+        let same : other.whole ≡ found.0 = cc in
+        let there = ap (λ (t : Type_). slice_get (members_of t.inner) other.number) (sym same) ∙ other.there in
+        let kept = found.3.strides other.members found.2 other.number other.member there in
+        false≢true (sym (ap (arrays_are_kept (module_rule m) m.types) other.is ∙ other.other) ∙ kept)
 
     passed_formed : (number : ℕ) (f : Function) → IsNumbered m number f → PassedHasForm f
     passed_formed number f (OfFunction there is) = in_functions number f there
@@ -195,6 +274,8 @@ module _ (m : Module) where
         bindings = λ f at. passed_formed number f (which_function m number f at);
         stage = λ p at. stage_formed number p at;
       };
+      offsets = offsets_formed;
+      strides = strides_formed;
     }
 
 -- ---- what a function takes and gives
@@ -219,11 +300,92 @@ module _ (f : Function) (arguments : List FunctionArgument) (are : arguments ≡
           has b (ap (λ r. r.binding) same ∙ bound)
   by_result formed r is (Some v) lacks = (OfResult r (binding.BuiltIn v) is lacks.0, lacks.1)
 
+-- ---- the members of a struct
+-- one of them has no form
+pub of_members : (m : Module) (members : List StructMember) (it : FormlessDeclaration) → FindsMember m members (Some it) →
+    IsFormlessStruct m members it
+of_members m members (declaration.Type_ ty) finds = finds
+of_members m members (declaration.Initialiser h) finds = finds
+of_members m members (declaration.BuiltIn v) finds = finds
+of_members m members (declaration.Head it) finds = finds
+of_members m members (declaration.Misplaced fault) (i, s, there, lacks) = absurd lacks
+of_members m members (declaration.Stride ty) (i, s, there, lacks) = absurd lacks
+
+module _ (m : Module) (members : List StructMember) where
+  -- all that are placed are concerned, or not
+  among : (ks : List Placed) → concerned_among m members ≡ Some ks →
+      (placed_members (layout_in m) members ≡ Some ks) × (is_concerned ks ≡ true)
+  among ks concerned = by (placed_members (layout_in m) members) concerned
+    where
+      by : (o : Option (List Placed)) → option_and_then concerned_only o ≡ Some ks → (o ≡ Some ks) × (is_concerned ks ≡ true)
+      by None concerned = absurd cc
+      by (Some ps) concerned = at (is_concerned ps) refl concerned
+        where
+          at : (b : Bool) → is_concerned ps ≡ b → (if b then Some ps else None) ≡ Some ks → (Some ps ≡ Some ks) × (is_concerned ks ≡ true)
+          at false is concerned = absurd cc
+          at true is concerned =
+              let same : ps ≡ ks = cc in
+              (concerned, subst (λ ks. is_concerned ks ≡ true) same is)
+
+  from_placed : (ks : List Placed) → placed_members (layout_in m) members ≡ Some ks → is_concerned ks ≡ true →
+      concerned_among m members ≡ Some ks
+  from_placed ks are is =
+      ap (option_and_then concerned_only) are ∙ ap (λ b. if b then Some ks else None) is
+
+  -- a fault is found
+  pub by_fault : (fault : Misplaced) → Some fault ≡ option_and_then (first_fault None None) (placed_members (layout_in m) members) →
+      IsFormlessStruct m members (declaration.Misplaced fault)
+  by_fault fault found = by (placed_members (layout_in m) members) refl (sym found)
+    where
+      by : (o : Option (List Placed)) → placed_members (layout_in m) members ≡ o →
+          option_and_then (first_fault None None) o ≡ Some fault → IsFormlessStruct m members (declaration.Misplaced fault)
+      by None are found = absurd cc
+      by (Some ks) are found =
+          let stands = fault_stands ks fault found in
+          (ks, from_placed ks are stands.0, stands.1)
+
+  -- none is found
+  module _ (finds : FindsMember m members None)
+      (none : None ≡ option_and_then (first_fault None None) (placed_members (layout_in m) members)) where
+    first_none : (ks : List Placed) → placed_members (layout_in m) members ≡ Some ks → first_fault None None ks ≡ None
+    first_none ks are = sym (none ∙ ap (option_and_then (first_fault None None)) are)
+
+    no_fault : (ks : List Placed) → concerned_among m members ≡ Some ks → (fault : Misplaced) → StandsAmong fault ks → ⊥
+    no_fault ks concerned fault stands =
+        let found = among ks concerned in
+        none_stands ks (none_kept ks found.1 (first_none ks found.0)) fault stands
+
+    -- by whether an array has another stride, and whether the struct has a layout
+    pub by_strides : Finds members (λ i s. IsTrue (arrays_are_kept (module_rule m) m.types s.ty)) (λ i s. IsOtherStride m s) None →
+        StructHasForm m members
+    by_strides kept = record {
+      each = finds;
+      offsets = no_fault;
+      strides = λ ks concerned i s there. kept i s there;
+    }
+
+    module _ (span : ℕ) where
+      pub by_none : false ≡ is_some (kept_struct (layout_in m) members span) → StructHasForm m members
+      by_none unlaid = record {
+        each = finds;
+        offsets = no_fault;
+        strides = λ ks concerned i s there.
+            let found = among ks concerned in
+            absurd (false≢true (unlaid ∙ concerned_laid (layout_in m) (all_aligned (module_rule m) m.types) members span ks found.0 found.1 (first_none ks found.0)));
+      }
+
+  pub by_other : (span ty : ℕ) → Finds members (λ i s. IsTrue (arrays_are_kept (module_rule m) m.types s.ty)) (λ i s. IsOtherStride m s) (Some ty) →
+      true ≡ is_some (kept_struct (layout_in m) members span) → IsFormlessStruct m members (declaration.Stride ty)
+  by_other span ty (i, s, there, other) laid =
+      let placed = laid_concerned (layout_in m) members span (sym laid) in
+      (placed.placed, from_placed placed.placed placed.are placed.concerned, (i, s, there, other))
+
 -- ---- a struct that a text declares
 pub by_members : (m : Module) (ty : ℕ) (t : Type_) (members : Vec StructMember Global) (span : ℕ) (found : Option FormlessDeclaration) →
-    t.inner ≡ inner.Struct members span → is_undeclared m.special_types ty ≡ false → FindsMember m members.items found →
+    t.inner ≡ inner.Struct members span → is_undeclared m.special_types ty ≡ false →
+    MatchOption found (StructHasForm m members.items) (IsFormlessStruct m members.items) →
     MatchOption found (TypeHasForm m ty t) (IsFormlessType m ty t)
-by_members m ty t members span None is declared finds =
-    λ named. subst (λ it. FindsMember m (members_of it) None) (sym is) finds
-by_members m ty t members span (Some it) is declared finds =
-    (ap (is_declared m.special_types ty) is ∙ ap not declared, subst (λ inner. FindsMember m (members_of inner) (Some it)) (sym is) finds)
+by_members m ty t members span None is declared formed =
+    λ named. subst (λ it. StructHasForm m (members_of it)) (sym is) formed
+by_members m ty t members span (Some it) is declared lacks =
+    (ap (is_declared m.special_types ty) is ∙ ap not declared, subst (λ inner. IsFormlessStruct m (members_of inner) it) (sym is) lacks)

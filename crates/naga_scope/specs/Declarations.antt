@@ -3,13 +3,16 @@
 -- Throughout, m is a module, number is that of a function or an entry point, f is a function, p an
 -- entry point, b a binding, v a value of the hardware, ty is the handle of a type, h that of an
 -- expression, s a member, c a constant, o an override, g a variable, a an argument, i is the place of
--- an item in its list, and it is what is found.
+-- an item in its list, fault is why members can't stay where they are, ks are the members of a struct as
+-- the module places them, and it is what is found.
 use Rattle.std.specs.Prelude.{◌≡◌, ℕ, Option, Some, None, IsFalse, IsTrue, List, slice_get}
-use Rattle.std.specs.Option.{is_some}
+use Rattle.std.specs.Option.{is_some, option_and_then}
 use Rattle.module_meaning.specs.DeclarationForms.{IsDeclaredType, IsInitialiser, IsMemberBinding}
 use Rattle.module_meaning.specs.DeclarationForms.{IsPassed, binding_has_form, entry_point_numbered}
 use Rattle.module_meaning.specs.DeclarationForms.{stage_has_form}
 use Rattle.module_meaning.specs.FunctionNumbers.{all_functions}
+use Rattle.module_meaning.specs.Layouts.{HasOtherStride, IsMisplaced, concerned_only, layout_in}
+use Rattle.module_meaning.specs.Layouts.{module_rule}
 use Rattle.module_meaning.specs.Undeclared.{is_declared, is_spellable}
 use Rattle.module_meaning.specs.ExpressionForms.{global_is_written}
 use Rattle.naga_info.specs.declared.info.TypeResolution.TheVariants.{Handle}
@@ -22,11 +25,15 @@ use Rattle.naga_ir.specs.declared.module.Function.{Function}
 use Rattle.naga_ir.specs.declared.module.Module.{Module}
 use Rattle.naga_ir.specs.declared.types.StructMember.{StructMember}
 use Rattle.naga_ir.specs.declared.types.Type_.{Type_}
+use Rattle.naga_layout.specs.Types.{arrays_are_kept, placed_members}
 use Rattle.naga_names.specs.Reset.{members_of}
 use Rattle.naga_scope.specs.declared.declarations.FormlessDeclaration.{FormlessDeclaration}
 use Rattle.naga_scope.specs.declared.declarations.FormlessDeclaration.TheVariants as declaration
 use Rattle.naga_scope.specs.declared.declarations.FormlessHead.{FormlessHead}
 use Rattle.naga_scope.specs.declared.declarations.FormlessHead.TheVariants as head
+use Rattle.wgsl_layout.specs.Faults.{StandsAmong}
+use Rattle.wgsl_layout.specs.declared.layouts.Placed.{Placed}
+use Rattle.wgsl_layout.specs.declared.members.Misplaced.{Misplaced}
 
 -- ---- what is found
 -- it has no form among what the function with this number takes and gives and its stage
@@ -46,6 +53,8 @@ IsFormlessDeclaration m (declaration.Initialiser h) =
 IsFormlessDeclaration m (declaration.BuiltIn v) =
     IsMemberBinding m (binding.BuiltIn v) × IsFalse (binding_has_form (binding.BuiltIn v))
 IsFormlessDeclaration m (declaration.Head it) = (number : ℕ) × IsFormlessHead m number it
+IsFormlessDeclaration m (declaration.Misplaced fault) = (ty : ℕ) × IsMisplaced m ty fault
+IsFormlessDeclaration m (declaration.Stride found) = (ty : ℕ) × HasOtherStride m ty found
 
 -- ---- searches
 -- Each item of a list has a form, or this one has none, as is told of each item by its place.
@@ -104,14 +113,43 @@ abbrev pub FindsMember : Module → List StructMember → Option FormlessDeclara
 FindsMember m members =
     Finds members (λ i s. MemberHasForm m s) (λ i s it. IsFormlessMember m s it)
 
--- so it is with those of a struct that a text declares
+-- the type of a member is an array of another stride than WGSL gives it, or has such an array in it,
+-- through arrays alone
+abbrev pub IsOtherStride : Module → StructMember → (ty : ℕ) → Type 0
+IsOtherStride m s ty = (ty ≡ s.ty) × IsFalse (arrays_are_kept (module_rule m) m.types ty)
+
+-- these members as the module places them, if their offsets are to be kept wherever a text declares a
+-- struct of them
+abbrev pub concerned_among : Module → List StructMember → Option (List Placed)
+concerned_among m members = option_and_then concerned_only (placed_members (layout_in m) members)
+
+-- the members of a struct have forms, and where their offsets are to be kept, each can stay where it is and
+-- has arrays of WGSL's stride
+pub record StructHasForm (m : Module) (members : List StructMember) : Type 0 where
+  pub each : FindsMember m members None
+  pub offsets : (ks : List Placed) → concerned_among m members ≡ Some ks →
+      (fault : Misplaced) → StandsAmong fault ks → ⊥
+  pub strides : (ks : List Placed) → concerned_among m members ≡ Some ks →
+      (i : ℕ) (s : StructMember) → slice_get members i ≡ Some s →
+      IsTrue (arrays_are_kept (module_rule m) m.types s.ty)
+
+-- the one or the other isn't so
+abbrev pub IsFormlessStruct : Module → List StructMember → FormlessDeclaration → Type 0
+IsFormlessStruct m members (declaration.Misplaced fault) =
+    (ks : List Placed) × (concerned_among m members ≡ Some ks) × StandsAmong fault ks
+IsFormlessStruct m members (declaration.Stride ty) =
+    (ks : List Placed) × (concerned_among m members ≡ Some ks)
+    × Finds members (λ i s. ⊥) (λ i s. IsOtherStride m s) (Some ty)
+IsFormlessStruct m members it = FindsMember m members (Some it)
+
+-- so it is with a struct that a text declares
 abbrev pub TypeHasForm : Module → (ty : ℕ) → Type_ → Type 0
 TypeHasForm m ty t =
-    IsTrue (is_declared m.special_types ty t.inner) → FindsMember m (members_of t.inner) None
+    IsTrue (is_declared m.special_types ty t.inner) → StructHasForm m (members_of t.inner)
 
 abbrev pub IsFormlessType : Module → (ty : ℕ) → Type_ → FormlessDeclaration → Type 0
 IsFormlessType m ty t it =
-    IsTrue (is_declared m.special_types ty t.inner) × FindsMember m (members_of t.inner) (Some it)
+    IsTrue (is_declared m.special_types ty t.inner) × IsFormlessStruct m (members_of t.inner) it
 
 -- ---- functions
 -- what a function takes and gives has a form

@@ -2,13 +2,15 @@
 --
 -- Throughout, m is a module, t are its tables, h is the handle of one of its types or of one of its own
 -- expressions, c that of a constant, k a constant, e an expression, s are special types, it is a type by
--- itself and r a type of an expression.
+-- itself, r a type of an expression, cells tell layouts, and kept are marks of strides.
 use Rattle.std.specs.Prelude.{◌≡◌, ◌++◌, ◌&&◌, ℕ, Bool, true, false, List, Option, Some, None, IsTrue}
 use Rattle.std.specs.Prelude.{get_or, if◌then◌else◌, length, slice_get}
-use Rattle.std.specs.Option.{is_none, is_some, option_and_then, option_map_or, option_to_list}
+use Rattle.std.specs.Option.{is_none, is_some, option_and_then, option_map, option_map_or}
+use Rattle.std.specs.Option.{option_to_list}
 use Rattle.indexmap.specs.IndexMap.{values}
 use Rattle.module_meaning.specs.AlikeTypes.{is_spelled}
 use Rattle.module_meaning.specs.LackingScalars.{over, own_lacks}
+use Rattle.module_meaning.specs.Layouts.{layout_in, module_rule}
 use Rattle.module_meaning.specs.Ranges.{parts_stand_before, special_types_fit}
 use Rattle.module_meaning.specs.Undeclared.{handle_names_undeclared, is_undeclared}
 use Rattle.naga_info.specs.declared.info.TypeResolution.{TypeResolution}
@@ -19,19 +21,25 @@ use Rattle.naga_ir.specs.declared.module.Module.{Module}
 use Rattle.naga_ir.specs.declared.module.SpecialTypes.{SpecialTypes}
 use Rattle.naga_ir.specs.declared.types.TypeInner.{TypeInner}
 use Rattle.naga_ir.specs.declared.types.TypeInner.TheVariants as inner
+use Rattle.naga_layout.specs.Tables.{cell_at, mark_at}
+use Rattle.naga_layout.specs.Types.{arrays_are_kept}
 use Rattle.naga_words.specs.Spelling.{is_struct}
+use Rattle.wgsl_layout.specs.Capped.{capped}
+use Rattle.wgsl_layout.specs.declared.layouts.Layout.{Layout}
 use Rattle.wgsl_words.specs.Words.{space_word}
 use Rattle.naga_scope.specs.Marks.{GlobalsStandInOrder, MarksGlobals, is_marked}
 
 -- The tables, with a cell for each of the module's own expressions or for each type: which expressions
--- are written, and by which; which structs no text declares, which types name one, and which are
--- spelled.
+-- are written, and by which; which structs no text declares, which types name one, which are spelled,
+-- how each is laid out, and whether the arrays that each is made of have the stride that WGSL gives them.
 pub record Tables : Type 0 where
   pub written : List Bool
   pub representatives : List ℕ
   pub undeclared : List Bool
   pub naming : List Bool
   pub spelled : List Bool
+  pub layouts : List (Option Layout)
+  pub strides : List Bool
 
 -- ---- types
 -- the structs that no text declares
@@ -90,6 +98,17 @@ abbrev pub type_is_spelled : List Bool → TypeResolution → Bool
 type_is_spelled marks (Handle h) = is_marked marks h
 type_is_spelled marks (Value it) = spelled_over marks it
 
+-- ---- layouts
+-- Each cell tells how its type is laid out, if it has a layout: as the text is to be written, where a
+-- size past each offset counts as the first such one.
+abbrev pub TellsLayouts : Module → List (Option Layout) → Type 0
+TellsLayouts m cells = (h : ℕ) → cell_at cells h ≡ option_map capped (layout_in m h)
+
+-- just the types have no mark that are arrays of another stride than WGSL gives them, or are made of
+-- such arrays through arrays alone
+abbrev pub TellsStrides : Module → List Bool → Type 0
+TellsStrides m kept = (h : ℕ) → mark_at kept h ≡ arrays_are_kept (module_rule m) m.types h
+
 -- ---- own expressions
 -- the initialiser of a constant that has no name
 abbrev pub unnamed_value : Module → (constant : ℕ) → Option ℕ
@@ -131,3 +150,5 @@ pub record AreTablesOf (m : Module) (t : Tables) : Type 0 where
   pub undeclared : MarksUndeclared m t.undeclared
   pub naming : MarksNaming m t.naming
   pub spelled : MarksSpelled m t.spelled
+  pub layouts : TellsLayouts m t.layouts
+  pub strides : TellsStrides m t.strides

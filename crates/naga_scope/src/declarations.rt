@@ -1,17 +1,19 @@
 //! Which declaration of a module no text has a form for.
 
-ghost use Rattle.std.specs.Prelude.{◌≡◌, IfNone, IfSome, MatchOption};
+ghost use Rattle.std.specs.Prelude.{◌≡◌, IfNone, IfSome, IsTrue, MatchOption};
 ghost use Rattle.module_meaning.specs.DeclarationForms.{DeclarationsHaveForms, HeadHasForm};
 ghost use Rattle.module_meaning.specs.DeclarationForms.{stage_has_form};
 ghost use Rattle.module_meaning.specs.FunctionNumbers.{IsFunctionOf, function_number};
+ghost use Rattle.module_meaning.specs.Layouts.{module_rule};
+ghost use Rattle.naga_layout.specs.Types.{arrays_are_kept};
 ghost use Rattle.naga_scope.specs.Declarations.{BindingHasForm, ConstantHasForm};
 ghost use Rattle.naga_scope.specs.Declarations.{EntryPointHasForm, Finds, FindsMember};
 ghost use Rattle.naga_scope.specs.Declarations.{IsFormlessBinding, IsFormlessConstant};
 ghost use Rattle.naga_scope.specs.Declarations.{IsFormlessDeclaration, IsFormlessEntryPoint};
-ghost use Rattle.naga_scope.specs.Declarations.{IsFormlessHead, IsFormlessMember};
+ghost use Rattle.naga_scope.specs.Declarations.{IsFormlessHead, IsFormlessMember, IsFormlessStruct};
 ghost use Rattle.naga_scope.specs.Declarations.{IsFormlessPassed, IsFormlessType, IsFormlessValue};
-ghost use Rattle.naga_scope.specs.Declarations.{MemberHasForm, PassedHasForm, TypeHasForm};
-ghost use Rattle.naga_scope.specs.Declarations.{ValueHasForm};
+ghost use Rattle.naga_scope.specs.Declarations.{IsOtherStride, MemberHasForm, PassedHasForm};
+ghost use Rattle.naga_scope.specs.Declarations.{StructHasForm, TypeHasForm, ValueHasForm};
 ghost use Rattle.naga_scope.specs.Tables.{AreTablesOf};
 
 use crate::tables::ModuleTables;
@@ -20,6 +22,7 @@ use naga_ir::{
     Arena, Binding, BuiltIn, Constant, EntryPoint, Expression, Function, FunctionArgument, Handle,
     Module, ShaderStage, StructMember, Type_, TypeInner,
 };
+use wgsl_layout::Misplaced;
 use wgsl_words::TryToWgsl;
 
 /// What no text has a form for of what a function takes or gives, or of its stage.
@@ -43,6 +46,11 @@ pub enum FormlessDeclaration {
     BuiltIn(BuiltIn),
     /// A function or an entry point has a head without a form.
     Head(FormlessHead),
+    /// A struct, whose members' offsets are to be kept, has a member that can't stay where it is.
+    Misplaced(Misplaced),
+    /// Such a struct has a member of this type, which is an array of another stride than WGSL gives it,
+    /// or is made of such arrays through arrays alone.
+    Stride(Handle<Type_>),
 }
 
 /// What no text has a form for of what this function takes or gives, or of its stage, if it is that
@@ -92,7 +100,7 @@ pub fn formless_declaration(module: &Module, tables: &ModuleTables) -> Option<Fo
     }
 }
 
-/// The first type or binding without a form of a member of a struct that a text declares.
+/// What has no form of the first struct that has none, of those that a text declares.
 fn formless_in_structs(module: &Module, tables: &ModuleTables) -> Option<FormlessDeclaration>
     requires tables { AreTablesOf «module».now tables.now }
     ensures { Finds «module».now.types (TypeHasForm «module».now) (IsFormlessType «module».now)
@@ -118,15 +126,65 @@ fn formless_in_type(
         (IsFormlessType «module».now handle ty.now) }
 {
     match &ty.inner {
-        TypeInner::Struct { members, .. } => {
+        TypeInner::Struct { members, span } => {
             if tables.is_undeclared(module, handle) {
                 None
             } else {
-                formless_in_members(module, tables, members)
+                formless_in_struct(module, tables, members, *span)
             }
         }
         _ => None,
     }
+}
+
+/// Of a struct with these members: the first type or binding without a form, or why one can't stay where
+/// it is, or the first type with arrays of another stride than WGSL's.
+fn formless_in_struct(
+    module: &Module,
+    tables: &ModuleTables,
+    members: &[StructMember],
+    span: u32,
+) -> Option<FormlessDeclaration>
+    requires tables { AreTablesOf «module».now tables.now }
+    ensures { MatchOption result (StructHasForm «module».now members.now)
+        (IsFormlessStruct «module».now members.now) }
+{
+    if let Some(formless) = formless_in_members(module, tables, members) {
+        return Some(formless);
+    }
+    if let Some(fault) = tables.misplaced(module, members) {
+        return Some(FormlessDeclaration::Misplaced(fault));
+    }
+    match other_stride(module, tables, members) {
+        Some(ty) => {
+            if tables.keeps_offsets(module, members, span) {
+                Some(FormlessDeclaration::Stride(ty))
+            } else {
+                None
+            }
+        }
+        None => None,
+    }
+}
+
+/// The first type of these members that is an array of another stride than WGSL's, or is made of such
+/// arrays through arrays alone.
+fn other_stride(
+    module: &Module,
+    tables: &ModuleTables,
+    members: &[StructMember],
+) -> Option<Handle<Type_>>
+    requires tables { AreTablesOf «module».now tables.now }
+    ensures { Finds members.now
+        (λ i s. IsTrue (arrays_are_kept (module_rule «module».now) «module».now.types s.ty))
+        (λ i s. IsOtherStride «module».now s) result }
+{
+    for member in members {
+        if !tables.keeps_arrays(module, member.ty) {
+            return Some(member.ty);
+        }
+    }
+    None
 }
 
 fn formless_in_members(

@@ -1,34 +1,45 @@
 //! What is looked up of a module again and again while its text is decided and written, found once.
 
-ghost use Rattle.std.specs.Prelude.{◌≡◌, IfOk, false, if◌then◌else◌, length, replicate};
+ghost use Rattle.std.specs.Prelude.{◌≡◌, IfOk, IfSome, None, false, if◌then◌else◌, length, replicate};
+ghost use Rattle.std.specs.Option.{is_some, option_and_then, option_map};
 ghost use Rattle.indexmap.specs.IndexMap.{values};
 ghost use Rattle.module_meaning.specs.AlikeTypes.{is_spelled};
 ghost use Rattle.module_meaning.specs.ExpressionForms.{constant_is_written, constant_is_written_over};
 ghost use Rattle.module_meaning.specs.ExpressionForms.{global_is_written, global_is_written_over};
+ghost use Rattle.module_meaning.specs.Layouts.{layout_in, module_rule};
 ghost use Rattle.module_meaning.specs.Undeclared.{handle_names_undeclared, is_spellable};
 ghost use Rattle.module_meaning.specs.Undeclared.{is_undeclared, names_undeclared};
 ghost use Rattle.naga_info.specs.declared.info.TypeResolution.TheVariants.{Handle as OfHandle};
+ghost use Rattle.naga_layout.specs.Tables.{cell_at, mark_at};
+ghost use Rattle.naga_layout.specs.Types.{arrays_are_kept, kept_struct, placed_members};
 ghost use Rattle.naga_scope.specs.Marks.{MarksAlso, MarksGlobals, is_marked};
 ghost use Rattle.naga_scope.specs.Tables.{AreRepresentatives, AreTablesOf, ItemsStandInOrder};
 ghost use Rattle.naga_scope.specs.Tables.{MarksNaming, MarksSpelled, MarksUndeclared};
+ghost use Rattle.naga_scope.specs.Tables.{TellsLayouts, TellsStrides};
 ghost use Rattle.naga_scope.specs.Tables.{is_marked_over, is_marked_type, representative_at};
 ghost use Rattle.naga_scope.specs.Tables.{item_is_spelled, representative_over, spelled_over};
 ghost use Rattle.naga_scope.specs.Tables.{type_is_spelled};
 ghost use Rattle.naga_scope.specs.Tables.{undeclared_handles, unnamed_initialiser, unnamed_value};
 ghost use Rattle.naga_words.specs.Spelling.{is_struct};
+ghost use Rattle.wgsl_layout.specs.Capped.{IsAlignment, capped};
+ghost use Rattle.wgsl_layout.specs.Faults.{first_fault};
 
 use crate::forms::literal_has_form;
 use crate::single_types::{is_spelled_alone, over};
 use crate::written::{are_marked, is_marked, mark, mark_present, no_marks};
 use naga_info::TypeResolution;
-use naga_ir::{Constant, Expression, Handle, Module, Place, SpecialTypes, Type_, TypeInner};
+use naga_ir::{
+    Constant, Expression, Handle, Module, Place, SpecialTypes, StructMember, Type_, TypeInner,
+};
+use naga_layout::{kept_struct, layouts_of, strides_of};
 use std::alloc::{AllocError, Global};
 use std::marker::Model;
+use wgsl_layout::{Layout, Misplaced};
 
 /// What is asked of a module again and again while its text is decided and written: which of its own
 /// expressions are written, and by which others; which structs no text declares, which types name one,
-/// and which types have a form. Each is looked up in one step, where the module itself would be
-/// searched.
+/// and which types have a form; how types are laid out, and whether arrays have the stride that WGSL
+/// gives them. Each is looked up in one step, where the module itself would be searched.
 #[derive(Debug, Drop)]
 pub struct ModuleTables {
     written: Vec<bool>,
@@ -36,6 +47,8 @@ pub struct ModuleTables {
     undeclared: Vec<bool>,
     naming: Vec<bool>,
     spelled: Vec<bool>,
+    layouts: Vec<Option<Layout>>,
+    strides: Vec<bool>,
 }
 
 /// Contracts see them as lists, of one cell for each own expression or for each type.
@@ -50,15 +63,17 @@ impl Model for ModuleTables {
       undeclared = t.undeclared.items;
       naming = t.naming.items;
       spelled = t.spelled.items;
+      layouts = t.layouts.items;
+      strides = t.strides.items;
     } };
 }
 
 impl ModuleTables {
-    /// Those of a module, in one pass over the structs that WGSL's own functions give, two over its
-    /// types and two over its own expressions. It takes memory for three tables of a cell for each type
-    /// and two of one for each expression, and none where there is none. What items are made of stands
-    /// before them, and the structs that no text declares are there, as it is in a module that is
-    /// accepted.
+    /// Those of a module, in one pass over the structs that WGSL's own functions give, four over its
+    /// types, of which one goes through the members of structs too, and two over its own expressions. It
+    /// takes memory for five tables of a cell for each type and two of one for each expression, and none
+    /// where there is none. What items are made of stands before them, and the structs that no text
+    /// declares are there, as it is in a module that is accepted.
     pub fn of(alloc: Global, module: &Module) -> Result<ModuleTables, AllocError>
         requires ordered { ItemsStandInOrder «module».now }
         ensures { IfOk result (AreTablesOf «module».now) }
@@ -68,12 +83,16 @@ impl ModuleTables {
         let spelled = spelled_types(alloc, module)?;
         let written = written_globals(alloc, module, &naming, &spelled)?;
         let representatives = representatives_of(alloc, module)?;
+        let layouts = layouts(alloc, module, &undeclared)?;
+        let strides = strides(alloc, module, &undeclared, &layouts)?;
         Ok(ModuleTables {
             written,
             representatives,
             undeclared,
             naming,
             spelled,
+            layouts,
+            strides,
         })
     }
 
@@ -136,6 +155,100 @@ impl ModuleTables {
         ensures { result ≡ is_spelled «module».now.types ty.now }
     {
         type_is_spelled(&self.spelled, ty)
+    }
+
+    /// How the type with this handle is laid out, as the module's text is to be written: none where WGSL
+    /// has no place in memory for it, or where it has a struct in it that no text declares or of which
+    /// a member can't stay where it is. An array is laid out by WGSL's stride, whatever the module's
+    /// is. One that is not there has no layout.
+    pub fn layout(&self, module: &Module, handle: Handle<Type_>) -> Option<Layout>
+        requires tables { AreTablesOf «module».now self.now }
+        ensures layout { result ≡ option_map capped (layout_in «module».now handle) }
+        ensures aligned { IfSome result (λ l. IsAlignment l.alignment) }
+    {
+        layout_cell(&self.layouts, handle)
+    }
+
+    /// Whether the type with this handle and each array that it is made of through arrays alone have
+    /// the stride that WGSL gives them, if they are arrays whose elements have a layout and a size. One
+    /// that is not there does.
+    pub fn keeps_arrays(&self, module: &Module, handle: Handle<Type_>) -> bool
+        requires tables { AreTablesOf «module».now self.now }
+        ensures { result ≡ arrays_are_kept (module_rule «module».now) «module».now.types handle }
+    {
+        stride_mark(&self.strides, handle)
+    }
+
+    /// Why a member of a struct of these can't stay where it is, if their offsets are to be kept, wherever
+    /// a text declares the struct, and one can't be.
+    pub(crate) fn misplaced(&self, module: &Module, members: &[StructMember]) -> Option<Misplaced>
+        requires tables { AreTablesOf «module».now self.now }
+        ensures { result ≡ option_and_then (first_fault None None)
+            (placed_members (layout_in «module».now) members.now) }
+    {
+        naga_layout::misplaced(&module.types, &self.undeclared, &self.layouts, members)
+    }
+
+    /// Whether a struct of these members, that a text declares, has a layout: whether their offsets are
+    /// to be kept, and can be.
+    pub(crate) fn keeps_offsets(
+        &self,
+        module: &Module,
+        members: &[StructMember],
+        span: u32,
+    ) -> bool
+        requires tables { AreTablesOf «module».now self.now }
+        ensures { result ≡ is_some (kept_struct (layout_in «module».now) members.now span) }
+    {
+        kept_struct(&module.types, &self.undeclared, &self.layouts, members, span).is_some()
+    }
+}
+
+/// How the types are laid out, by marks of the structs that no text declares.
+fn layouts(
+    alloc: Global,
+    module: &Module,
+    undeclared: &[bool],
+) -> Result<Vec<Option<Layout>>, AllocError>
+    requires ordered { ItemsStandInOrder «module».now }
+    requires undeclared { MarksUndeclared «module».now undeclared.now }
+    ensures { IfOk result (λ cells. TellsLayouts «module».now cells.items) }
+{
+    layouts_of(alloc, &module.types, undeclared)
+}
+
+/// Which types have WGSL's stride wherever they are made of arrays alone.
+fn strides(
+    alloc: Global,
+    module: &Module,
+    undeclared: &[bool],
+    layouts: &[Option<Layout>],
+) -> Result<Vec<bool>, AllocError>
+    requires ordered { ItemsStandInOrder «module».now }
+    requires undeclared { MarksUndeclared «module».now undeclared.now }
+    requires layouts { TellsLayouts «module».now layouts.now }
+    ensures { IfOk result (λ kept. TellsStrides «module».now kept.items) }
+{
+    strides_of(alloc, &module.types, undeclared, layouts)
+}
+
+/// How a type is laid out, by its cell.
+fn layout_cell(cells: &[Option<Layout>], handle: Handle<Type_>) -> Option<Layout>
+    ensures { result ≡ cell_at cells.now handle }
+{
+    match cells.get(handle.index()) {
+        Some(cell) => *cell,
+        None => None,
+    }
+}
+
+/// Whether a type's arrays have WGSL's stride, by its mark.
+fn stride_mark(kept: &[bool], handle: Handle<Type_>) -> bool
+    ensures { result ≡ mark_at kept.now handle }
+{
+    match kept.get(handle.index()) {
+        Some(mark) => *mark,
+        None => true,
     }
 }
 

@@ -58,6 +58,7 @@ use Rattle.naga_wgsl_fns.specs.declared.error.Error.TheVariants.{Custom, FmtErro
 use Rattle.naga_words.specs.declared.sink.SinkError.{SinkError}
 use Rattle.naga_wgsl_fns.specs.DeclarationRefusals.{NamesDeclaration, NamesHead}
 use Rattle.naga_wgsl_fns.specs.DeclarationRefusals.NamesDeclaration.{OfHead, OfInitialiser, OfMember}
+use Rattle.naga_wgsl_fns.specs.DeclarationRefusals.NamesDeclaration.{OfOffsets, OfStride}
 use Rattle.naga_wgsl_fns.specs.DeclarationRefusals.NamesDeclaration.{OfType as OfDeclaredType}
 use Rattle.naga_wgsl_fns.specs.DeclarationRefusals.NamesHead.{OfBinding, OfStage}
 use Rattle.naga_wgsl_fns.specs.Errors.{IsCustom}
@@ -73,6 +74,7 @@ use Rattle.naga_wgsl_fns.specs.Refusals.{NamesFormless, NamesLiteral, NamesMatri
 use Rattle.naga_wgsl_fns.specs.Refusals.{NamesItemsOf, NamesGlobal, OfConstant, OfLiteral}
 use Rattle.naga_wgsl_fns.specs.Refusals.{OfOperand, OfOperation, OfType, pointed_scalar}
 use Rattle.naga_ir.specs.declared.expression.Expression.TheVariants.{Constant, GlobalVariable}
+use Rattle.wgsl_layout.specs.declared.members.Misplaced.TheVariants.{OffAlignment, Overlapping}
 use Rattle.naga_ir.specs.declared.module.Constant as constant
 use Rattle.naga_ir.specs.declared.expression.Expression.TheVariants.{CooperativeLoad}
 use Rattle.naga_ir.specs.declared.types.Scalar.{Scalar}
@@ -197,6 +199,9 @@ declaration_is_no_sink m reason (OfDeclaredType ty is formless named) =
 declaration_is_no_sink m reason (OfInitialiser h is formless named) = no_global_sink m reason h named
 declaration_is_no_sink m reason (OfMember b is formless named) = named
 declaration_is_no_sink m reason (OfHead number named) = head_is_no_sink m number reason named
+declaration_is_no_sink m reason (OfOffsets h OffAlignment is named) = named
+declaration_is_no_sink m reason (OfOffsets h Overlapping is named) = named
+declaration_is_no_sink m reason (OfStride h ty is named) = named
 
 -- nor is one that names an expression
 names_no_sink : (m : Module) (known : List ExpressionInfo) (es : List Expression)

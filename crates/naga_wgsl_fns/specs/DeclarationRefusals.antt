@@ -1,12 +1,14 @@
 -- Why a declaration of a module is refused, each reason with what it says.
 --
 -- Throughout, m is a module, number is that of a function or an entry point, f is a function, p an
--- entry point, b a binding, ty is the handle of a type, and h that of an expression.
+-- entry point, b a binding, ty is the handle of a type, h that of an expression or of a struct, and fault
+-- is why members of a struct can't stay where they are.
 use Rattle.std.specs.Prelude.{◌≡◌, ℕ, Some, IsFalse, codes, slice_get}
 use Rattle.module_meaning.specs.DeclarationForms.{IsDeclaredType, IsInitialiser, IsMemberBinding}
 use Rattle.module_meaning.specs.DeclarationForms.{IsPassed, binding_has_form, entry_point_numbered}
 use Rattle.module_meaning.specs.DeclarationForms.{stage_has_form}
 use Rattle.module_meaning.specs.FunctionNumbers.{all_functions}
+use Rattle.module_meaning.specs.Layouts.{HasOtherStride, IsMisplaced}
 use Rattle.module_meaning.specs.Undeclared.{is_spellable}
 use Rattle.module_meaning.specs.ExpressionForms.{global_is_written}
 use Rattle.naga_info.specs.declared.info.TypeResolution.TheVariants.{Handle}
@@ -17,6 +19,8 @@ use Rattle.naga_ir.specs.declared.module.Module.{Module}
 use Rattle.naga_wgsl_fns.specs.Errors.{IsCustom, IsUnsupported}
 use Rattle.naga_wgsl_fns.specs.Refusals.{NamesGlobal, NamesType}
 use Rattle.naga_wgsl_fns.specs.declared.error.Error.{Error}
+use Rattle.wgsl_layout.specs.declared.members.Misplaced.{Misplaced}
+use Rattle.wgsl_layout.specs.declared.members.Misplaced.TheVariants.{OffAlignment, Overlapping}
 
 -- a value of the hardware that WGSL has no word for
 abbrev pub NamesBuiltin : Error → Type 0
@@ -25,6 +29,15 @@ NamesBuiltin error = IsUnsupported (codes "builtin value") error
 -- a stage whose entry point lacks its payload or its mesh output
 abbrev pub NamesStage : Error → Type 0
 NamesStage error = IsCustom (codes "missing payload or mesh output") error
+
+-- members that can't stay where the module has them
+abbrev pub NamesMisplaced : Misplaced → Error → Type 0
+NamesMisplaced OffAlignment error = IsCustom (codes "member off its alignment") error
+NamesMisplaced Overlapping error = IsCustom (codes "members overlap") error
+
+-- arrays of another stride than WGSL gives them
+abbrev pub NamesStride : Error → Type 0
+NamesStride error = IsCustom (codes "array stride") error
 
 -- What a function takes or gives, or its stage, has no form, and is named.
 pub data NamesHead (m : Module) (number : ℕ) (error : Error) : Type 0 where
@@ -42,3 +55,6 @@ pub data NamesDeclaration (m : Module) (error : Error) : Type 0 where
   OfMember : (b : Binding) → IsMemberBinding m b → IsFalse (binding_has_form b) →
       NamesBuiltin error → NamesDeclaration m error
   OfHead : (number : ℕ) → NamesHead m number error → NamesDeclaration m error
+  OfOffsets : (h : ℕ) (fault : Misplaced) → IsMisplaced m h fault → NamesMisplaced fault error →
+      NamesDeclaration m error
+  OfStride : (h ty : ℕ) → HasOtherStride m h ty → NamesStride error → NamesDeclaration m error

@@ -7,7 +7,7 @@ ghost use Rattle.naga_ir.specs.declared.module.Module.{Module};
 ghost use Rattle.naga_scope.specs.Declarations.{IsFormlessDeclaration, IsFormlessHead};
 ghost use Rattle.naga_scope.specs.Tables.{AreTablesOf};
 ghost use Rattle.naga_wgsl_fns.specs.DeclarationRefusals.{NamesBuiltin, NamesDeclaration};
-ghost use Rattle.naga_wgsl_fns.specs.DeclarationRefusals.{NamesHead};
+ghost use Rattle.naga_wgsl_fns.specs.DeclarationRefusals.{NamesHead, NamesMisplaced};
 
 use crate::error::{Error, custom};
 use crate::formless_constants::global_without_form;
@@ -16,6 +16,7 @@ use naga_info::TypeResolution;
 use naga_ir::{BuiltIn, Module};
 use naga_scope::{FormlessDeclaration, FormlessHead, ModuleTables};
 use std::alloc::Global;
+use wgsl_layout::Misplaced;
 use wgsl_words::TryToWgsl;
 
 /// The refusal that names a declaration of an accepted module that has no form, by what has none in
@@ -40,6 +41,18 @@ pub fn declaration_without_form(
         }
         FormlessDeclaration::BuiltIn(value) => builtin_without_word(alloc, value),
         FormlessDeclaration::Head(head) => head_without_form(alloc, head),
+        FormlessDeclaration::Misplaced(fault) => misplaced_member(alloc, fault),
+        FormlessDeclaration::Stride(_) => custom(alloc, "array stride"),
+    }
+}
+
+/// The refusal of members that can't stay where the module has them.
+fn misplaced_member(alloc: Global, fault: Misplaced) -> Error
+    ensures { NamesMisplaced fault result }
+{
+    match fault {
+        Misplaced::OffAlignment => custom(alloc, "member off its alignment"),
+        Misplaced::Overlapping => custom(alloc, "members overlap"),
     }
 }
 

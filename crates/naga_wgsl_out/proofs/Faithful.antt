@@ -21,6 +21,7 @@ use Rattle.wgsl_text.specs.Text.{tokens}
 use Rattle.wgsl_text.proofs.Reading.{program_has_one_reading}
 use Rattle.module_meaning.specs.Faithful.{HasInterfaceOf, RunsAs}
 use Rattle.module_meaning.specs.Bindings.{BindsAs}
+use Rattle.module_meaning.specs.Layouts.{KeepsLayouts}
 use Rattle.naga_form.proofs.Bindings.{binds_as}
 use Rattle.module_meaning.specs.Resolution.{ResolvesAs}
 use Rattle.naga_form.proofs.Runs.{runs_as}
@@ -130,6 +131,7 @@ module _ (m : Module) (info : ModuleInfo) (flags : WriterFlags)
       pub is_faithful : FaithfulWriting explicit m info r content now before after
       pub resolved : OnOk r (EachReading content now (ResolvesAs m info))
       pub binds : OnOk r (EachReading content now (BindsAs m info explicit))
+      pub layouts : OnOk r (EachReading content now (KeepsLayouts m))
       pub text_ok : OnOk r (now ≡ content ++ written_text m info flags)
       pub text_err : OnErr r (IsBehind content (written_text m info flags) now)
       pub untouched : IfErr r (λ e. ComesBeforeText m e → now ≡ content)
@@ -159,6 +161,7 @@ module _ (m : Module) (info : ModuleInfo) (flags : WriterFlags)
           (for_want explicit m info e before after s.reason);
       resolved = tt;
       binds = tt;
+      layouts = tt;
       text_ok = tt;
       text_err = subst (λ t. IsBehind content t now) same_text s.behind;
       untouched = λ first. absurd (want_tells_nothing e before after s.reason first.0);
@@ -188,6 +191,7 @@ module _ (m : Module) (info : ModuleInfo) (flags : WriterFlags)
           let rules = all_planned_hold explicit m info planned in
           let have = all_planned_formed explicit m info planned in
           let reading = each planned content now appended in
+          let told = has_interface m info explicit accepted declarations have rules in
           record {
             is_faithful = record {
               refusals = record {
@@ -203,14 +207,14 @@ module _ (m : Module) (info : ModuleInfo) (flags : WriterFlags)
                 program = program;
                 reading = one planned;
               };
-              interface = reading (HasInterfaceOf m info)
-                  (has_interface m info explicit accepted declarations have rules);
+              interface = reading (HasInterfaceOf m info) told;
               runs = reading (RunsAs m info)
                   (runs_as m info explicit accepted declarations have rules);
             };
             resolved = reading (ResolvesAs m info)
                 (resolves m info explicit accepted declarations have rules);
             binds = reading (BindsAs m info explicit) (binds_as m info explicit accepted declarations have);
+            layouts = reading (KeepsLayouts m) told.layouts;
             text_ok = appended;
             text_err = tt;
             untouched = tt;
@@ -226,6 +230,7 @@ module _ (m : Module) (info : ModuleInfo) (flags : WriterFlags)
             (fault_refuses explicit m info s.before.handle before after e s.tells s.fault);
         resolved = tt;
         binds = tt;
+        layouts = tt;
         text_ok = tt;
         text_err = subst (λ t. IsBehind content t now) same_text
             (behind_then content front middle (module_lines m info flags) now stands.appended (

@@ -10,5 +10,6 @@ pub mod ArenaLoops
 pub mod ConstantRows
 pub mod DeclarationRows
 pub mod ItemRows
+pub mod Sizes
 pub mod StructRows
 pub mod VariableRows

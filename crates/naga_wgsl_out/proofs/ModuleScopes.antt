@@ -29,6 +29,7 @@ use Rattle.naga_wgsl_fns.specs.Refusals.{IsFault, IsWritableAt}
 use Rattle.naga_wgsl_fns.specs.Refusals.{HasFormlessIn}
 use Rattle.naga_wgsl_fns.specs.DeclarationRefusals.{NamesDeclaration}
 use Rattle.naga_wgsl_fns.specs.DeclarationRefusals.NamesDeclaration.{OfHead, OfInitialiser, OfMember}
+use Rattle.naga_wgsl_fns.specs.DeclarationRefusals.NamesDeclaration.{OfOffsets, OfStride}
 use Rattle.naga_wgsl_fns.specs.DeclarationRefusals.NamesDeclaration.{OfType as OfDeclaredType}
 use Rattle.naga_wgsl_fns.specs.DeclarationRefusals.NamesHead.{OfBinding, OfStage}
 use Rattle.naga_wgsl_fns.specs.Refusals.{NamesFormless}
@@ -188,3 +189,6 @@ declaration_tells_of_none m error (OfHead number (OfBinding f b at is formless n
     false≢true (sym formless ∙ (of.declarations.heads number).bindings f at b is)
 declaration_tells_of_none m error (OfHead number (OfStage p at formless named)) of =
     false≢true (sym formless ∙ (of.declarations.heads number).stage p at)
+declaration_tells_of_none m error (OfOffsets h fault is named) of =
+    of.declarations.offsets h fault is
+declaration_tells_of_none m error (OfStride h ty is named) of = of.declarations.strides h ty is

@@ -26,6 +26,7 @@ use Rattle.module_meaning.proofs.ExpressionForms.{spelled_of_spellable}
 use Rattle.module_meaning.specs.AlikeTypes.{is_spelled}
 use Rattle.module_meaning.specs.DeclarationForms.{DeclarationsHaveForms, IsDeclaredType}
 use Rattle.module_meaning.specs.DeclarationForms.{IsMemberBinding, binding_has_form}
+use Rattle.module_meaning.specs.Layouts.{span_of, written_size}
 use Rattle.module_meaning.specs.Names.{module_names, name_in, wgsl_names}
 use Rattle.module_meaning.specs.Types.{type_names}
 use Rattle.module_meaning.specs.Undeclared.{is_declared, is_undeclared}
@@ -36,11 +37,13 @@ use Rattle.naga_words.specs.Spelling.{is_struct}
 use Rattle.wgsl_text.proofs.Declarations.{members_text as members_row_text}
 use Rattle.wgsl_text.proofs.Declarations.{structs_text as structs_row_text}
 use Rattle.wgsl_text.proofs.Text.{text-append}
+use Rattle.wgsl_text.specs.Attributes.{Size}
 use Rattle.wgsl_text.specs.Declarations.{Struct, StructMember, members_pieces, structs_pieces}
 use Rattle.wgsl_text.specs.Text.{text}
+use Rattle.naga_wgsl_fns.proofs.AttributeRows.{attributes_then, no_attributes, numbered_alone}
 use Rattle.naga_wgsl_fns.proofs.FunctionRows.{drop_at}
 use Rattle.naga_wgsl_fns.proofs.StatementRows.{drop_first}
-use Rattle.naga_wgsl_fns.specs.Attributes.{attributes_text}
+use Rattle.naga_wgsl_fns.specs.Attributes.{attributes_text, numbered_text}
 use Rattle.naga_wgsl_fns.specs.Bindings.{passing_has_form}
 use Rattle.naga_wgsl_fns.specs.Types.{spelled_text}
 use Rattle.naga_wgsl_fns.specs.declared.module_text.ModuleText.{ModuleText}
@@ -48,9 +51,9 @@ use Rattle.naga_wgsl_out.proofs.ArenaLoops.{texts_of}
 use Rattle.naga_wgsl_out.proofs.ItemRows.{typed_then}
 use Rattle.naga_wgsl_out.specs.Items.{CanDeclare, IsNamedIn, typed_text}
 use Rattle.naga_wgsl_out.specs.ModuleRefusals.{KeyIsOutOfRange}
-use Rattle.naga_wgsl_out.specs.Structs.{AreDeclaredMembers, IsDeclaredMember, declared_text}
-use Rattle.naga_wgsl_out.specs.Structs.{member_text, members_from, members_text, struct_at}
-use Rattle.naga_wgsl_out.specs.Structs.{struct_text, struct_with, structs_text}
+use Rattle.naga_wgsl_out.specs.Structs.{IsDeclaredMember, IsDeclaredStruct, declared_text}
+use Rattle.naga_wgsl_out.specs.Structs.{member_text, members_from, members_text, size_attributes}
+use Rattle.naga_wgsl_out.specs.Structs.{struct_at, struct_text, struct_with, structs_text}
 
 -- ---- all of them
 one_struct : (d : Struct) (more : List Struct) →
@@ -120,15 +123,16 @@ module _ (m : Module) (h : ℕ) (t : Type_) where
       sym
       (declared_by t.inner false refl (ap (λ b. b && not (is_undeclared m.special_types h)) none))
 
-  -- the members of such a struct are those of a declared one
-  pub members_declared : (members : Vec ir_member.StructMember Global) (span : ℕ) → slice_get m.types h ≡ Some t →
+  -- such a struct has these members
+  pub struct_declared : (members : Vec ir_member.StructMember Global) (span : ℕ) → slice_get m.types h ≡ Some t →
       t.inner ≡ inner.Struct members span → is_undeclared m.special_types h ≡ false →
-      AreDeclaredMembers m h members.items
-  members_declared members span at is known i s there = record {
+      IsDeclaredStruct m h members.items span
+  struct_declared members span at is known = record {
     whole = t;
     at = at;
     declared = ap (is_declared m.special_types h) is ∙ ap not known;
-    there = ap (λ it. slice_get (members_of it) i) is ∙ there;
+    has = ap members_of is;
+    takes = ap span_of is;
   }
 
 pub struct_row : (m : Module) (h : ℕ) (members : List ir_member.StructMember) →
@@ -140,16 +144,39 @@ unfolding struct_text members_text joined_texts
 struct_row m h members = structs_row_text (struct_with m h members) []
 
 -- ---- members
+-- a member of a struct that a text declares
+pub member_declared : (m : Module) (h : ℕ) (members : List ir_member.StructMember) (span : ℕ) →
+    IsDeclaredStruct m h members span → (i : ℕ) (s : ir_member.StructMember) →
+    slice_get members i ≡ Some s → IsDeclaredMember m h i s
+member_declared m h members span d i s there = record {
+  whole = d.whole;
+  at = d.at;
+  declared = d.declared;
+  there = ap (λ ms. slice_get ms i) d.has ∙ there;
+}
+
+pub size_row : (n : ℕ) → numbered_text (codes "@size(") n ≡ attributes_text (size_attributes (Some n))
+size_row n = sym (numbered_alone Size n)
+
+pub no_size_row : [] ≡ attributes_text (size_attributes None)
+no_size_row = sym no_attributes
+
 pub member_row : (m : Module) (h i : ℕ) (s : ir_member.StructMember) →
     member_text m h i s ≡
     joined_texts (codes "    ")
+    (joined_texts (attributes_text (size_attributes (written_size m h i)))
     (joined_texts (attributes_text (passing_attributes s.binding))
-    (joined_texts (typed_text m (key.StructMember h i) s.ty) (codes ",\n")))
+    (joined_texts (typed_text m (key.StructMember h i) s.ty) (codes ",\n"))))
 unfolding member_text attributes_text spelled_text joined_texts
 member_row m h i s =
-    members_row_text (member_form (module_names m) (type_names m) h (i, s)) []
-    ∙ ap (λ t. codes "    " ++ (attributes_text (passing_attributes s.binding) ++ t))
+    let sized = size_attributes (written_size m h i) in
+    let passing = passing_attributes s.binding in
+    let rest = typed_text m (key.StructMember h i) s.ty ++ codes ",\n" in
+    members_row_text (member_form (module_names m) (type_names m) m h (i, s)) []
+    ∙ (ap (λ t. codes "    " ++ (attributes_text (sized ++ passing) ++ t))
     (typed_then m (key.StructMember h i) s.ty (codes ",\n"))
+    ∙ (ap (λ t. codes "    " ++ (t ++ rest)) (attributes_then sized passing)
+    ∙ ap (λ t. codes "    " ++ t) (append_assoc (attributes_text sized) (attributes_text passing) rest)))
 
 one_member : (s : StructMember) (more : List StructMember) →
     text (members_pieces (s ∷ more)) ≡ text (members_pieces (s ∷ [])) ++ text (members_pieces more)
@@ -172,7 +199,7 @@ pub members_more : (m : Module) (h i : ℕ) (members : List ir_member.StructMemb
 unfolding member_text joined_texts
 members_more m h i members s lt is =
     ap (members_left m h i) (drop_first i members s lt is)
-    ∙ one_member (member_form (module_names m) (type_names m) h (i, s))
+    ∙ one_member (member_form (module_names m) (type_names m) m h (i, s))
     (members_from m h (i + 1) (drop (i + 1) members))
 
 pub members_none : (m : Module) (h i : ℕ) (members : List ir_member.StructMember) →

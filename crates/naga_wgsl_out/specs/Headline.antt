@@ -35,7 +35,7 @@ pub record FaithfulWriting (explicit : Bool) (m : Module) (info : ModuleInfo)
   pub refusals : RefusesOnlyFor answer explicit m info before after
   -- Otherwise it appends a text with exactly one reading,
   pub reading : OnOk answer (AppendsOneReading content now)
-  -- a program with the module's interface,
+  -- a program with the module's interface and the layouts of its structs,
   pub interface : OnOk answer (EachReading content now (HasInterfaceOf m info))
   -- that in every world, under every typed meaning of operators and every bound on loop turns makes
   -- the module's events, operands and result.

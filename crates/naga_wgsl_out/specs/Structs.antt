@@ -1,22 +1,37 @@
 -- The texts of the structs that a module declares.
 --
--- Throughout, m is a module, h the handle of a type t of it, s a member of a struct, and i its number.
-use Rattle.std.specs.Prelude.{◌≡◌, ℕ, ◌∷◌, [], List, IsTrue, Option, Some, map, slice_get}
+-- Throughout, m is a module, h the handle of a type t of it, s a member of a struct, i its number,
+-- span how many bytes a struct has, a its alignment, and f tells layouts of types.
+use Rattle.std.specs.Prelude.{◌≡◌, ℕ, ◌∷◌, [], List, IsTrue, Option, None, Some, map, slice_get}
 use Rattle.std.specs.List.{enumerate_from, filter_map}
-use Rattle.std.specs.Option.{option_to_list}
+use Rattle.std.specs.Option.{option_map, option_to_list}
 use Rattle.naga_ir.specs.declared.module.Module.{Module}
 use Rattle.naga_ir.specs.declared.types.StructMember as ir_member
 use Rattle.naga_ir.specs.declared.types.Type_.{Type_}
 use Rattle.naga_names.specs.Reset.{members_of}
 use Rattle.naga_names.specs.declared.key.NameKey.TheVariants as key
+use Rattle.module_meaning.specs.Layouts.{span_of}
 use Rattle.module_meaning.specs.Names.{module_names, name_in}
 use Rattle.module_meaning.specs.Types.{type_names}
 use Rattle.module_meaning.specs.Undeclared.{is_declared}
+use Rattle.naga_form.specs.Attributes.{attribute_of}
 use Rattle.naga_form.specs.Declarations.{member_form, struct_form}
+use Rattle.wgsl_layout.specs.declared.layouts.Layout.{Layout}
+use Rattle.wgsl_text.specs.Attributes.{Attribute, Numbered, Size}
 use Rattle.wgsl_text.specs.Declarations.{Struct, StructMember, members_pieces, structs_pieces}
 use Rattle.wgsl_text.specs.Text.{text}
+use Rattle.naga_wgsl_out.specs.declared.structs.After.{After}
 
 -- ---- what is declared
+-- a struct that a text declares, with these members and so many bytes
+pub record IsDeclaredStruct (m : Module) (h : ℕ) (members : List ir_member.StructMember) (span : ℕ)
+    : Type 0 where
+  pub whole : Type_
+  pub at : slice_get m.types h ≡ Some whole
+  pub declared : IsTrue (is_declared m.special_types h whole.inner)
+  pub has : members_of whole.inner ≡ members
+  pub takes : span_of whole.inner ≡ span
+
 -- a member of a struct that a text declares
 pub record IsDeclaredMember (m : Module) (h i : ℕ) (s : ir_member.StructMember) : Type 0 where
   pub whole : Type_
@@ -24,10 +39,17 @@ pub record IsDeclaredMember (m : Module) (h i : ℕ) (s : ir_member.StructMember
   pub declared : IsTrue (is_declared m.special_types h whole.inner)
   pub there : slice_get (members_of whole.inner) i ≡ Some s
 
--- these are all members of such a one
-abbrev pub AreDeclaredMembers : Module → (h : ℕ) → List ir_member.StructMember → Type 0
-AreDeclaredMembers m h members =
-    (i : ℕ) (s : ir_member.StructMember) → slice_get members i ≡ Some s → IsDeclaredMember m h i s
+-- ---- what stands after a member
+-- the next member, if its type has a layout
+abbrev pub after_with : (f : ℕ → Option Layout) → ir_member.StructMember → Option After
+after_with f s =
+    option_map (λ l. record { offset = s.offset; alignment = l.alignment }) (f s.ty)
+
+-- the next member, if there is one, and the struct's end otherwise
+abbrev pub after_member :
+    (f : ℕ → Option Layout) → (span a : ℕ) → Option ir_member.StructMember → Option After
+after_member f span a None = Some (record { offset = span; alignment = a })
+after_member f span a (Some s) = after_with f s
 
 -- ---- forms
 -- the structs that a text of the module declares
@@ -41,7 +63,7 @@ struct_at m p = struct_form (module_names m) (type_names m) m p
 -- with these members
 abbrev pub members_from : Module → (h i : ℕ) → List ir_member.StructMember → List StructMember
 members_from m h i members =
-    map (member_form (module_names m) (type_names m) h) (enumerate_from i members)
+    map (member_form (module_names m) (type_names m) m h) (enumerate_from i members)
 
 abbrev pub struct_with : Module → (h : ℕ) → List ir_member.StructMember → Struct
 struct_with m h members = record {
@@ -67,4 +89,8 @@ members_text m h members = text (members_pieces (members_from m h 0 members))
 -- of one member
 unfoldable pub member_text : Module → (h i : ℕ) → ir_member.StructMember → List ℕ
 member_text m h i s =
-    text (members_pieces (member_form (module_names m) (type_names m) h (i, s) ∷ []))
+    text (members_pieces (member_form (module_names m) (type_names m) m h (i, s) ∷ []))
+
+-- of the size that one is given
+abbrev pub size_attributes : (size : Option ℕ) → List Attribute
+size_attributes size = attribute_of (Numbered Size) size

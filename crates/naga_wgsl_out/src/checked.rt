@@ -4,6 +4,7 @@ ghost use Rattle.std.specs.Prelude.{◌≡◌, [], OnOk};
 ghost use Rattle.std.specs.Option.{IfSome, is_none};
 ghost use Rattle.module_meaning.specs.Accepted.{is_accepted};
 ghost use Rattle.module_meaning.specs.Bindings.{BindsAs};
+ghost use Rattle.module_meaning.specs.Layouts.{KeepsLayouts};
 ghost use Rattle.module_meaning.specs.Resolution.{ResolvesAs};
 ghost use Rattle.naga_acceptance.specs.Faults.{Fails};
 ghost use Rattle.naga_wgsl_fns.specs.FunctionText.{annotates_types};
@@ -63,6 +64,8 @@ pub fn write_checked(
         (EachReading [] (text_of r) (ResolvesAs «module».now info.new))) }
     ensures bindings { IfSome (written_of result) (λ r. OnOk (answer_of r)
         (EachReading [] (text_of r) (BindsAs «module».now info.new (annotates_types flags)))) }
+    ensures layouts { IfSome (written_of result) (λ r. OnOk (answer_of r)
+        (EachReading [] (text_of r) (KeepsLayouts «module».now))) }
     ensures text { IfSome (written_of result) (λ r. OnOk (answer_of r)
         (text_of r ≡ written_text «module».now info.new flags)) }
 {

@@ -6,6 +6,7 @@ ghost use Rattle.module_meaning.specs.Accepted.{is_accepted};
 ghost use Rattle.module_meaning.specs.DeclarationForms.{DeclarationsHaveForms};
 ghost use Rattle.module_meaning.specs.FunctionNumbers.{IsFunctionOf, function_number};
 ghost use Rattle.naga_names.specs.Keys.{names_in};
+ghost use Rattle.module_meaning.specs.Layouts.{KeepsLayouts};
 ghost use Rattle.naga_words.specs.Sink.{IsBehind};
 ghost use Rattle.naga_names.specs.Refusal.{IsResetRefusal};
 ghost use Rattle.module_meaning.specs.Names.{HasNamesOf, wgsl_names};
@@ -93,11 +94,15 @@ impl<W: TextSink> Writer<W> {
     /// derivative or the load of a cooperative matrix that is used; any other operator, but no part
     /// at an index, that is used twice or more. `EXPLICIT_TYPES` has each `let` tell its type.
     ///
-    /// A module is refused for a construct in it without a form, an operand out of scope or a name
-    /// that can't be told, by the errors that `docs/REFUSALS.md` lists. Where a function or an entry
-    /// point is refused, what the text enables, the other declarations, and the functions and entry
-    /// points in front of it stand in the sink, whole. Behind want of memory or a failure of the sink a
-    /// beginning of the text stands there, and behind any other refusal what stood there before.
+    /// A member of a struct is given a size, as `@size(16) `, where by WGSL's rules alone the next
+    /// one would begin before its offset, or the struct would end before its span.
+    ///
+    /// A module is refused for a construct in it without a form, members that WGSL's rules can't
+    /// leave where they are, an operand out of scope or a name that can't be told, by the errors
+    /// that `docs/REFUSALS.md` lists. Where a function or an entry point is refused, what the text
+    /// enables, the other declarations, and the functions and entry points in front of it stand in
+    /// the sink, whole. Behind want of memory or a failure of the sink a beginning of the text
+    /// stands there, and behind any other refusal what stood there before.
     ///
     /// ```text
     /// match writer.write(&shader.module, &shader.info) {
@@ -118,6 +123,9 @@ impl<W: TextSink> Writer<W> {
         // of these if the flags ask for it.
         ensures bindings { OnOk result (EachReading (W.text self.old.sink) (W.text self.new.sink)
             (BindsAs «module».now info.now (annotates_types self.old.flags))) }
+        // WGSL's rules, by the text's own structs, leave members at the module's offsets.
+        ensures layouts { OnOk result (EachReading (W.text self.old.sink) (W.text self.new.sink)
+            (KeepsLayouts «module».now)) }
         ensures text_ok { OnOk result (W.text self.new.sink
             ≡ W.text self.old.sink ++ written_text «module».now info.now self.old.flags) }
         ensures text_err { OnErr result (IsBehind (W.text self.old.sink)
@@ -364,6 +372,8 @@ pub fn write_string(
         (ResolvesAs «module».now info.now)) }
     ensures bindings { OnOk (answer_of result) (EachReading [] (text_of result)
         (BindsAs «module».now info.now (annotates_types flags))) }
+    ensures layouts { OnOk (answer_of result) (EachReading [] (text_of result)
+        (KeepsLayouts «module».now)) }
     ensures text { IfOk result (λ text.
         string_bytes text ≡ written_text «module».now info.now flags) }
 {

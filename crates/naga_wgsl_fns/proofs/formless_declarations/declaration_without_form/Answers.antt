@@ -3,7 +3,7 @@ use Rattle.naga_ir.specs.declared.binding.Binding.TheVariants as binding
 use Rattle.naga_scope.proofs.WrittenConstants.{globals_in_order}
 use Rattle.naga_scope.specs.Declarations.{IsFormlessDeclaration}
 use Rattle.naga_wgsl_fns.proofs.DeclarationRefusals.{initialiser_there}
-use Rattle.naga_wgsl_fns.specs.DeclarationRefusals.{OfHead, OfInitialiser, OfMember, OfType}
+use Rattle.naga_wgsl_fns.specs.DeclarationRefusals.{OfHead, OfInitialiser, OfMember, OfOffsets, OfStride, OfType}
 use Rattle.naga_wgsl_fns.proofs.formless_declarations.declaration_without_form.Goals as goal
 
 pub returns-in-Type_ : goal.returns-in-Type_
@@ -38,3 +38,13 @@ pub returns-in-Head : goal.returns-in-Head
 returns-in-Head c =
     let lacks = subst (IsFormlessDeclaration c.args.«module».now) c.in-Head.is c.requires.formless in
     OfHead lacks.0 (c.head_without_form.ensures c.args.«module».now lacks.0 lacks.1)
+
+pub returns-in-Misplaced : goal.returns-in-Misplaced
+returns-in-Misplaced c =
+    let lacks = subst (IsFormlessDeclaration c.args.«module».now) c.in-Misplaced.is c.requires.formless in
+    OfOffsets lacks.0 c.in-Misplaced.fault lacks.1 c.misplaced_member.ensures
+
+pub returns-in-Stride : goal.returns-in-Stride
+returns-in-Stride c =
+    let lacks = subst (IsFormlessDeclaration c.args.«module».now) c.in-Stride.is c.requires.formless in
+    OfStride lacks.0 c.in-Stride.field-0 lacks.1 c.custom.ensures

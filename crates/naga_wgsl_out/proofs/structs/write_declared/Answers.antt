@@ -1,18 +1,19 @@
 use Rattle.std.proofs.Common.{◌∙◌, ap, subst, sym}
 use Rattle.naga_words.proofs.Writing.{writes_as, writes_nothing}
-use Rattle.naga_wgsl_out.proofs.StructRows.{declared_row, members_declared, no_struct_row}
+use Rattle.naga_wgsl_out.proofs.StructRows.{declared_row, no_struct_row, struct_declared}
 use Rattle.naga_wgsl_out.proofs.StructRows.{undeclared_row}
-use Rattle.naga_wgsl_out.specs.Structs.{AreDeclaredMembers, struct_text}
+use Rattle.naga_wgsl_out.specs.Structs.{IsDeclaredStruct, struct_text}
 use Rattle.naga_wgsl_out.proofs.structs.write_declared.Goals as goal
 
 pub is_undeclared-requires : goal.is_undeclared-requires
 is_undeclared-requires g c = record { tables = c.requires.can.can.tables }
 
-pub write_struct-requires-clause-members : goal.write_struct-requires-clause-members
-write_struct-requires-clause-members g c =
+pub write_struct-requires-clause-there : goal.write_struct-requires-clause-there
+write_struct-requires-clause-there g c =
     let m = c.args.text.now.shader.now in
-    subst (AreDeclaredMembers m c.args.handle) (sym c.deref.ensures.value)
-    (members_declared m c.args.handle c.args.ty.now c.in-Struct.members c.in-Struct.span
+    subst (λ members. IsDeclaredStruct m c.args.handle members c.in-Struct.span)
+    (sym c.deref.ensures.value)
+    (struct_declared m c.args.handle c.args.ty.now c.in-Struct.members c.in-Struct.span
     c.requires.there c.in-Struct.is (sym c.is_undeclared.ensures ∙ c.if-not-is_undeclared.true))
 
 pub returns-then-not-is_undeclared : goal.returns-then-not-is_undeclared

@@ -1,7 +1,9 @@
-use Rattle.std.proofs.Common.{sym}
+use Rattle.std.proofs.Common.{ap, sym}
 use Rattle.naga_words.proofs.Writing.{writes_as, writes_then}
+use Rattle.naga_wgsl_fns.specs.Attributes.{attributes_text}
 use Rattle.naga_wgsl_out.proofs.StructRows.{member_has_form, member_is_named, member_is_spelled}
 use Rattle.naga_wgsl_out.proofs.StructRows.{member_row}
+use Rattle.naga_wgsl_out.specs.Structs.{size_attributes}
 use Rattle.naga_wgsl_out.proofs.structs.write_member.Goals as goal
 
 pub write_passing-requires : goal.write_passing-requires
@@ -24,4 +26,6 @@ returns g c =
     writes_as
     (sym (member_row c.args.text.now.shader.now c.args.handle c.args.number c.args.member.now))
     (writes_then c.put.ensures
-    (writes_then c.write_passing.ensures (writes_then c.write_typed.ensures c.put-2.ensures)))
+    (writes_then
+    (writes_as (ap (λ o. attributes_text (size_attributes o)) c.requires.size) c.write_size.ensures)
+    (writes_then c.write_passing.ensures (writes_then c.write_typed.ensures c.put-2.ensures))))

@@ -5,9 +5,9 @@ use Rattle.naga_wgsl_out.specs.Structs.{members_text}
 use Rattle.naga_wgsl_out.proofs.StructRows.{members_left}
 use Rattle.naga_wgsl_out.proofs.structs.write_members.Given as goal
 
-abbrev pub invariant-loop-number : goal.invariant-loop-number
-invariant-loop-number g l =
+abbrev pub invariant-loop-index : goal.invariant-loop-index
+invariant-loop-index g l =
     Leaves (output_view g.W.TextSink.text g.W.TextSink.failures l.initial.out)
     (output_view g.W.TextSink.text g.W.TextSink.failures l.out)
     (members_text l.text.shader.now l.fn.handle l.members)
-    (members_left l.text.shader.now l.fn.handle l.number (drop l.number l.members))
+    (members_left l.text.shader.now l.fn.handle l.index (drop l.index l.members))

@@ -8,3 +8,10 @@ returns-clause-resolution c =
     λ text is program reads.
     c.in_ok-write.ensures.resolution text
     (ap string_bytes (sym c.finish.ensures) ∙ is ∙ ap (λ before. before ++ text) (sym empty)) program reads
+
+pub returns-clause-layouts : goal.returns-clause-layouts
+returns-clause-layouts c =
+    let empty = ap string_bytes c.new-writer.ensures.sink ∙ c.new.ensures.bytes in
+    λ text is program reads.
+    c.in_ok-write.ensures.layouts text
+    (ap string_bytes (sym c.finish.ensures) ∙ is ∙ ap (λ before. before ++ text) (sym empty)) program reads

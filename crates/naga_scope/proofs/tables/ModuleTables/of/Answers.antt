@@ -7,4 +7,6 @@ returns c = record {
   undeclared = c.in_ok-undeclared.ensures;
   naming = c.in_ok-naming.ensures;
   spelled = c.in_ok-spelled.ensures;
+  layouts = c.in_ok-layouts.ensures;
+  strides = c.in_ok-strides.ensures;
 }

@@ -1,0 +1,24 @@
+use Rattle.std.proofs.Common.{◌≡◌, ◌∙◌, ap}
+use Rattle.std.specs.Option.{option_map}
+use Rattle.module_meaning.specs.Layouts.{layout_in, module_rule}
+use Rattle.naga_ir.specs.declared.module.Module.{Module}
+use Rattle.naga_layout.proofs.Left.{cell_aligned}
+use Rattle.naga_layout.specs.Tables.{cell_at}
+use Rattle.wgsl_layout.specs.Capped.{capped}
+use Rattle.naga_scope.specs.Tables.{Tables}
+use Rattle.naga_scope.proofs.tables.ModuleTables.layout.Goals as goal
+
+pub returns-clause-layout : goal.returns-clause-layout
+returns-clause-layout c =
+    c.layout_cell.ensures
+    ∙ (ap (λ cells. cell_at cells c.args.handle)
+    (c.deref.ensures.value ∙ ap (λ (t : Tables). t.layouts) c.self.view_is)
+    ∙ c.requires.tables.layouts c.args.handle)
+
+pub returns-clause-aligned : goal.returns-clause-aligned
+returns-clause-aligned c =
+    cell_aligned (module_rule c.args.module.now) c.args.module.now.types c.args.handle c.layout_cell.result
+    (c.layout_cell.ensures
+    ∙ (ap (λ cells. cell_at cells c.args.handle)
+    (c.deref.ensures.value ∙ ap (λ (t : Tables). t.layouts) c.self.view_is)
+    ∙ c.requires.tables.layouts c.args.handle))
