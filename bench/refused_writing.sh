@@ -1,20 +1,22 @@
 #!/bin/sh
-# Refuses each allocation in turn of writing a sample module, `mixed`, a hundred expressions of many kinds, or `read`, a
-# module with each kind of declaration and of statement, one in each run, and counts for each the runs in which nothing was
-# refused, and those in which the refusal was told, a beginning of the text stood there, and the other call answered as
-# with ample memory; others are wrong, and `unbuilt` are those in which the module found no memory. Run it at the top of the
-# repository, with words as those below, each list one argument, for these alone; it works on a copy.
+# Refuses each allocation in turn of writing a sample module, `mixed`, a hundred expressions of many kinds, `layouts`,
+# structs with gaps, or `read`, a module with each kind of declaration and of statement, one in each run, and counts for
+# each the runs in which nothing was refused, and those in which the refusal was told, a beginning of the text stood there,
+# and the other call answered as with ample memory; others are wrong, and `unbuilt` are those in which the module found no
+# memory. Run it at the top of the repository, with words as those below, each list one argument, for these alone; it
+# works on a copy.
 
 # how many allocations, at least, are made in one run, and what is written
 [ $# -gt 0 ] || set -- '500 identity' '500 store' '500 store explicit' '500 vertex' '500 continue' '500 pointer' \
     '500 modf' '500 modf explicit' '500 sample' '500 sample explicit' '4000 mixed' '4000 mixed explicit' '500 tail' \
     '500 tail explicit' '500 call' '500 call explicit' '500 switch' '500 switch explicit' '500 deep' \
-    '500 deep explicit' '1800 read' '1800 read explicit'
+    '500 deep explicit' '500 layouts' '500 layouts explicit' '1800 read' '1800 read explicit'
 asked=$(mktemp)
 printf '%s\n' "$@" > "$asked"
 whole=$(mktemp)
 grep '^{"name":"each kind of declaration and of statement",' crates/wgsl_cases/stdin > "$whole"
-set -- refused_writing bench/refused_writing/main.rt.txt bench/writing_times/mixed.rt.txt
+set -- refused_writing bench/refused_writing/main.rt.txt bench/writing_times/layouts.rt.txt \
+    bench/writing_times/mixed.rt.txt
 . bench/on_a_whole_copy.sh
 trap 'rm -rf "$copy" "$asked" "$whole"' EXIT
 

@@ -13,11 +13,12 @@ declares, in front of any text, else of those in a function, behind the function
 
 The program answers a line of JSON for each line of JSON, as `yorwethul --lines` does.
 
-Usage: model PROGRAM MODULES SEED
+Usage: model PROGRAM MODULES SEED [structs]
        model PROGRAM many
 
-Where PROGRAM is `-`, no program is asked: the texts are the model's own, which are read and run all the same. `many`
-asks for the texts of as many entry points as a name's key can tell, and of one more.
+Where PROGRAM is `-`, no program is asked: the texts are the model's own, which are read and run all the same. With
+`structs` a module has nothing but types, of which most are structs that its text declares. `many` asks for the texts
+of as many entry points as a name's key can tell, and of one more.
 """
 
 import json
@@ -30,7 +31,7 @@ sys.path.append(str(Path(__file__).resolve().parents[3] / "crates/wgsl_cases/run
 
 from acceptance import is_accepted, is_read
 from declaration_rows import MOST, check_declaration_rows, many
-from generator import generate
+from generator import generate, generate_structs
 from refusals import refusal
 from rows import check_rows
 from serde import line_of
@@ -50,10 +51,11 @@ def main():
     if sys.argv[2:] == ["many"]:
         sys.exit(check_many(program))
     modules, seed = int(sys.argv[2]), int(sys.argv[3])
+    make = generate_structs if sys.argv[4:] == ["structs"] else generate
     r = random.Random(seed)
     tally = Tally()
     for start in range(0, modules, BATCH):
-        samples = [generate(r) for _ in range(min(BATCH, modules - start))]
+        samples = [make(r) for _ in range(min(BATCH, modules - start))]
         texts = texts_of(program, samples)
         for number, module in enumerate(samples):
             compare(module, start + number, texts, tally)

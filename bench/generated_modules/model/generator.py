@@ -41,6 +41,18 @@ def generate(r):
     return module
 
 
+def generate_structs(r):
+    """A module of types alone, with structs that a text declares."""
+    module = Module()
+    types = [some_type(r) for _ in range(r.randint(1, 3))]
+    for _ in range(r.choice([1, 1, 2, 2, 3, 4])):
+        types.append(StructMaker(r, module).make_declared(types))
+    for ty in types:
+        module.handle_of(ty)
+    make_twins(r, module, types)
+    return module
+
+
 def some_of(r, types):
     return [ty for ty in types if r.random() < 0.8] or types
 
