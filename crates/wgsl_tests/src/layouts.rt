@@ -1,8 +1,12 @@
 //! How types of a module stand in memory.
+
+ghost use Rattle.std.specs.Prelude.{IsTrue};
+ghost use Rattle.module_meaning.specs.Ranges.{parts_stand_before};
+
 use naga_json::read_known;
 use naga_wgsl_out::builder::ModuleBuilder;
 use naga_wgsl_out::info::accepts;
-use naga_wgsl_out::ir::{Handle, Place, Scalar, StructMember, Type_, TypeInner};
+use naga_wgsl_out::ir::{Handle, Place, Scalar, StructMember, Type_, TypeInner, UniqueArena};
 use naga_wgsl_out::types::{TypeLayout, type_layout};
 use std::alloc::Global;
 use std::process::Abort;
@@ -117,18 +121,24 @@ fn label(ty: &Type_) -> &str {
     }
 }
 
+/// Each of these types has its name, and its alignment and size.
+fn check_types(rt: &impl Abort, types: &UniqueArena<Type_>)
+    requires ordered { IsTrue (parts_stand_before types.now) }
+{
+    for (index, (name, want)) in LAYOUTS.iter().enumerate() {
+        let handle: Handle<Type_> = Place::from_index(index);
+        assert!(rt; index < types.len());
+        assert_eq!(rt; label(&types[handle]), *name);
+        assert_eq!(rt; numbers(type_layout(types, handle)), *want, "{name}");
+    }
+}
+
 #[test]
 fn types_stand_in_memory(rt: HostRuntime) {
     let known = read_known(rt.alloc(), TYPES).expect(&rt, "a module");
     assert!(rt; accepts(&known.module, &known.info));
-    let types = &known.module.types;
-    assert_eq!(rt; types.len(), LAYOUTS.len());
-    for index in 0..types.len() {
-        let (name, want) = LAYOUTS[index];
-        let handle: Handle<Type_> = Place::from_index(index);
-        assert_eq!(rt; label(&types[handle]), name);
-        assert_eq!(rt; numbers(type_layout(types, handle)), want, "{name}");
-    }
+    assert_eq!(rt; known.module.types.len(), LAYOUTS.len());
+    check_types(&rt, &known.module.types);
 }
 
 /// A struct of two values of this type, the second right after the first.
