@@ -70,13 +70,22 @@ class StructMaker:
         return ty
 
     def place(self, ty):
-        """Most structs get offsets and a span, unless a struct of such members has them."""
-        if self.r.random() < 0.15:
-            return
-        found = some_placement(self.r, Layouts(self.module), ty)
-        others = (self.module.placement(each) for each in self.module.types if each[0] == "struct" and each[1] == ty[1])
-        if found not in others:
-            self.module.placements[ty] = found
+        """Most structs get offsets and a span. No two structs of the same members have the same."""
+        others = [self.placed(each) for each in self.module.types
+                  if each[0] == "struct" and each[1] == ty[1] and each != ty]
+        offsets, span = self.placed(ty)
+        if self.r.random() >= 0.15:
+            found, end = some_placement(self.r, Layouts(self.module), ty)
+            if (list(found), end) not in others:
+                offsets, span = found, end
+        while (list(offsets), span) in others:
+            span += 16
+        self.module.placements[ty] = (offsets, span)
+
+    def placed(self, ty):
+        """The offsets and the span of a struct, to be compared."""
+        offsets, span = self.module.placement(ty)
+        return list(offsets), span
 
     # ---- those that a text declares
     def make_declared(self, types):
