@@ -8,7 +8,7 @@ use Rattle.std.proofs.lemmas.Bool.{eqb-false}
 use Rattle.std.proofs.lemmas.Option.{slice_get_within, none-some, same_Some}
 use Rattle.shader_runs.specs.Value.{Bytes, PartTypes, Place, place_type, Step, Rooted, GlobalRoot}
 use Rattle.shader_runs.specs.Value.{Part, Selector, MemberNamed, ElementAt, step_to, step_at}
-use Rattle.shader_runs.specs.Value.{part_pointer, place_at, integer_in, ValueType}
+use Rattle.shader_runs.specs.Value.{part_pointer, place_at, ValueType}
 use Rattle.shader_runs.specs.Value.{BooleanType, IntegerType, PointerType, OtherType, type_of}
 use Rattle.shader_runs.specs.Value.{same_type, has_type, has_types, same_bytes, Value, Truth, Whole}
 use Rattle.shader_runs.specs.Value.{Pointer, Opaque, Word, Spelled, PartWord, IndexWord}
