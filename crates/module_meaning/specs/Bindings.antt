@@ -2,13 +2,13 @@
 --
 -- Throughout, m is a module, info what is known of it, named tells the names of the labels that front
 -- ends gave, and explicit says whether types are to be told.
-use Rattle.std.specs.Prelude.{◌≡◌, ℕ, List, [], ◌∷◌, map, Bool, Option}
+use Rattle.std.specs.Prelude.{◌≡◌, ℕ, List, [], ◌∷◌, map, slice_get, Bool, Option}
 use Rattle.naga_ir.specs.declared.module.Module.{Module}
 use Rattle.naga_info.specs.declared.info.ExpressionInfo.{ExpressionInfo}
 use Rattle.naga_info.specs.declared.info.ModuleInfo.{ModuleInfo}
 use Rattle.naga_words.specs.Contexts.{Names as TypeNames}
 use Rattle.shader_runs.specs.Scope.{Naming}
-use Rattle.shader_runs.specs.Bindings.{text_lets, function_bindings, bound_names}
+use Rattle.shader_runs.specs.Bindings.{lines_lets, text_lets, function_bindings, bound_names}
 use Rattle.wgsl_text.specs.Functions.{Function}
 use Rattle.wgsl_text.specs.Declarations.{Program}
 use Rattle.module_meaning.specs.Names.{expression_name, LabelNames, module_names}
@@ -16,7 +16,7 @@ use Rattle.module_meaning.specs.Types.{annotated_spelling, type_names}
 use Rattle.module_meaning.specs.FunctionNumbers.{all_functions, all_infos}
 use Rattle.module_meaning.specs.FunctionShapes.{function_shapes}
 use Rattle.module_meaning.specs.Namings.{namings_from, namings_under}
-use Rattle.text_meaning.specs.Abstraction.{functions_of, program_read}
+use Rattle.text_meaning.specs.Abstraction.{functions_of, program_read, statements_read}
 use Rattle.text_meaning.specs.Bindings.{statements_annotations}
 
 -- the types of the handles that each function binds, where types are to be told
@@ -62,6 +62,16 @@ module_lets named m info explicit =
 -- The program has the module's `let`s, where labels have these names.
 abbrev pub BindsUnder : LabelNames → Module → ModuleInfo → (explicit : Bool) → Program → Type 0
 BindsUnder named m info explicit program = lets_read program ≡ module_lets named m info explicit
+
+-- So it has those of the function with this number, whatever the others have.
+pub record BindsAt (named : LabelNames) (m : Module) (info : ModuleInfo) (explicit : Bool)
+    (program : Program) (number : ℕ) : Type 0 where
+  pub names :
+      slice_get (map (λ (f : Function). lines_lets (statements_read f.body)) (functions_of program))
+      number
+      ≡ slice_get (map bound_names (functions_named named m info)) number
+  pub annotations : slice_get (lets_read program).annotations number
+      ≡ slice_get (module_lets named m info explicit).annotations number
 
 -- It has them where labels have the names that they have in a text of the whole module.
 abbrev pub BindsAs : Module → ModuleInfo → (explicit : Bool) → Program → Type 0

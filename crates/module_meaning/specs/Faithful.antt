@@ -1,5 +1,5 @@
 -- What it is for a program to be faithful to a module: it has the module's interface, and it does
--- what the module does.
+-- what the module does. Throughout, g is the number of a function or entry point.
 use Rattle.std.specs.Prelude.{◌≡◌, ℕ, List, Option, Some, IsTrue}
 use Rattle.naga_ir.specs.declared.module.Module.{Module}
 use Rattle.naga_info.specs.declared.info.ModuleInfo.{ModuleInfo}
@@ -37,18 +37,18 @@ pub record HasInterfaceOf (m : Module) (info : ModuleInfo) (program : Program) :
   pub tells : TellsInterfaceOf m info program
   pub layouts : KeepsLayouts m program
 
--- What holds of each run of the module and the run of the program beside it: of each function and
--- entry point, under all values of overrides and arguments of their types and every typed meaning
--- of operators, in every world, with every bound on loop turns and behind any history. Each side
+-- What holds of each run of the function or entry point g of the module and the run of the program
+-- beside it: under all values of overrides and arguments of their types and every typed meaning of
+-- operators, in every world, with every bound on loop turns and behind any history. Each side
 -- computes its named constants by itself.
-abbrev pub OfEachRun : Module → ModuleInfo → Program →
+abbrev pub OfEachRunAt : Module → ModuleInfo → Program → (g : ℕ) →
     ((module_run text_run : ReachedOrHalted (Option Value)) → Type 0) → Type 0
-OfEachRun m info program Holds =
+OfEachRunAt m info program g Holds =
     let shape = module_shape m info in
     let text = program_read program in
     (settings : Settings) → SettingsFit shape settings →
     (meaning : Meaning) → IsTyped shape meaning →
-    (g : ℕ) (f : shapes.Function) → shapes.function_numbered shape.functions g ≡ Some f →
+    (f : shapes.Function) → shapes.function_numbered shape.functions g ≡ Some f →
     (arguments : List Value) → IsTrue (has_types shape.parts f.argument_types arguments) →
     (world : World) (turns : ℕ) (past : List Event) →
     let name = function_name m (module_names m) g in
@@ -56,8 +56,18 @@ OfEachRun m info program Holds =
     (run_module shape settings world meaning turns g arguments past)
     (follow_module text settings world meaning is_request turns name arguments past)
 
--- In every world that keeps the types the program makes the module's events in their order, with
--- their operands, ends as in the module and returns the same.
+-- the same of all functions and entry points
+abbrev pub OfEachRun : Module → ModuleInfo → Program →
+    ((module_run text_run : ReachedOrHalted (Option Value)) → Type 0) → Type 0
+OfEachRun m info program Holds = (g : ℕ) → OfEachRunAt m info program g Holds
+
+-- In every world that keeps the types the program makes in this function the module's events in their
+-- order, with their operands, ends as in the module and returns the same.
+abbrev pub RunsAt : Module → ModuleInfo → Program → (g : ℕ) → Type 0
+RunsAt m info program g =
+    OfEachRunAt m info program g
+    (λ module_run text_run. KeepsTypes module_run → text_run ≡ module_run)
+
+-- so it does in each
 abbrev pub RunsAs : Module → ModuleInfo → Program → Type 0
-RunsAs m info program =
-    OfEachRun m info program (λ module_run text_run. KeepsTypes module_run → text_run ≡ module_run)
+RunsAs m info program = (g : ℕ) → RunsAt m info program g

@@ -1,5 +1,6 @@
 -- What the laws ask of a module beside its acceptance.
-use Rattle.std.specs.Prelude.{◌≡◌, ℕ, Bool, List, [], ◌∷◌, length, nat_le, ◌^◌, slice_get, Some}
+use Rattle.std.specs.Prelude.{◌≡◌, ℕ, ◌<◌, Bool, List, [], ◌∷◌, length, nat_le, ◌^◌, slice_get}
+use Rattle.std.specs.Prelude.{IfSome, Option, Some}
 use Rattle.std.specs.List.{list_all}
 use Rattle.naga_ir.specs.Operands.{expression_operands}
 use Rattle.naga_ir.specs.declared.expression.Expression.{Expression}
@@ -9,7 +10,8 @@ use Rattle.shader_runs.specs.Premises.{AllBelow}
 use Rattle.shader_runs.specs.Program as shapes
 use Rattle.shader_runs.specs.Scope.{fits_function}
 use Rattle.shader_runs.specs.ScopeRules.{ScopeHolds}
-use Rattle.module_meaning.specs.FunctionNumbers.{all_functions}
+use Rattle.module_meaning.specs.FunctionNumbers.{all_functions, all_infos}
+use Rattle.module_meaning.specs.FunctionShapes.{function_shapes}
 use Rattle.module_meaning.specs.Names.{expression_name, LabelNames, module_names}
 use Rattle.module_meaning.specs.ModuleShapes.{module_shape}
 use Rattle.module_meaning.specs.Namings.{namings_under}
@@ -27,6 +29,18 @@ EachScopeHolds (f ∷ fs) = ScopeHolds f × EachScopeHolds fs
 -- each handle is in scope where it is used, and each `Emit` is allowed
 abbrev pub ScopesHold : Module → ModuleInfo → Type 0
 ScopesHold m info = EachScopeHolds (module_shape m info).functions
+
+-- the shape of the function with this number, if there is one
+abbrev pub function_shape_at : Module → ModuleInfo → (number : ℕ) → Option shapes.Function
+function_shape_at m info number =
+    slice_get (function_shapes m info (all_functions m) (all_infos info)) number
+
+-- so it is in the function with this number, if there is one, and in those before it
+abbrev pub ScopeHoldsIn : Module → ModuleInfo → (number : ℕ) → Type 0
+ScopeHoldsIn m info number = IfSome (function_shape_at m info number) ScopeHolds
+
+abbrev pub ScopesHoldBefore : Module → ModuleInfo → (number : ℕ) → Type 0
+ScopesHoldBefore m info number = (g : ℕ) → g < number → ScopeHoldsIn m info g
 
 -- the check of these rules, where labels have these names
 abbrev pub scope_holds_under : LabelNames → Module → ModuleInfo → Bool

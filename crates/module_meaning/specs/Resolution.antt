@@ -11,10 +11,12 @@ use Rattle.naga_info.specs.declared.info.TypeResolution.{TypeResolution}
 use Rattle.naga_names.specs.Keys.{NameMap}
 use Rattle.naga_names.specs.Reset.{members_of}
 use Rattle.naga_names.specs.declared.key.NameKey.TheVariants as key
-use Rattle.shader_runs.specs.Resolution.{text_targets, module_targets}
+use Rattle.shader_runs.specs.Resolution.{function_targets, module_targets}
+use Rattle.shader_runs.specs.Resolution.{text_function_targets, text_names, text_targets}
 use Rattle.wgsl_text.specs.Declarations.{Program}
 use Rattle.wgsl_text.specs.Reading.{type_layout}
 use Rattle.wgsl_text.specs.Types.{TypeSpecifier, IsType}
+use Rattle.module_meaning.specs.Bindings.{functions_named}
 use Rattle.module_meaning.specs.DeclaredItems.{module_initialiser_targets, module_stage_targets}
 use Rattle.module_meaning.specs.DeclaredItems.{resolution_items}
 use Rattle.module_meaning.specs.Names.{expression_name, LabelNames, module_names, name_in}
@@ -23,7 +25,7 @@ use Rattle.module_meaning.specs.Namings.{namings_under}
 use Rattle.module_meaning.specs.Ranges.{resolution_fits}
 use Rattle.module_meaning.specs.Types.{spelled_resolution, type_names}
 use Rattle.module_meaning.specs.Undeclared.{is_declared, is_spellable, is_undeclared}
-use Rattle.text_meaning.specs.Abstraction.{program_read}
+use Rattle.text_meaning.specs.Abstraction.{function_read, functions_of, program_read}
 use Rattle.text_meaning.specs.Resolution.{item_named, member_named, place_among}
 use Rattle.text_meaning.specs.Resolution.{program_initialiser_targets, stage_targets, type_items}
 use Rattle.text_meaning.specs.Resolution.{types_are_not_hidden}
@@ -36,6 +38,15 @@ BodiesResolve named m info program =
     text_targets (program_read program)
     ≡ map (map Some)
     (module_targets (module_shape m info) (namings_under named (module_names m) m info))
+
+-- So it is in the function with this number, whatever stands in the others.
+abbrev pub BodyResolves : LabelNames → Module → ModuleInfo → Program → (number : ℕ) → Type 0
+BodyResolves named m info program number =
+    let text = program_read program in
+    slice_get
+    (map (λ f. text_function_targets (text_names text) (function_read f)) (functions_of program))
+    number
+    ≡ slice_get (map (λ f. map Some (function_targets f)) (functions_named named m info)) number
 
 -- The identifiers of a type stand for the structs and overrides that the module's type is over,
 -- wherever a text has a type of this spelling.
@@ -74,10 +85,8 @@ OwnMembersResolve m =
     (words_of_members (module_names m) h t)
     ≡ Some i
 
--- Each name does, where labels have these names.
-pub record ResolvesUnder (named : LabelNames) (m : Module) (info : ModuleInfo) (program : Program) :
-    Type 0 where
-  pub bodies : BodiesResolve named m info program
+-- Each name outside of functions does.
+pub record ItemsResolve (m : Module) (info : ModuleInfo) (program : Program) : Type 0 where
   -- the initialisers of overrides and of variables
   pub initialisers : program_initialiser_targets program
       ≡ map (map Some) (module_initialiser_targets m info)
@@ -89,6 +98,18 @@ pub record ResolvesUnder (named : LabelNames) (m : Module) (info : ModuleInfo) (
   -- the members of the structs that the text declares, and of those that no text declares
   pub members : MembersResolve m program
   pub own_members : OwnMembersResolve m
+
+-- Each name does, where labels have these names.
+pub record ResolvesUnder (named : LabelNames) (m : Module) (info : ModuleInfo) (program : Program) :
+    Type 0 where
+  pub bodies : BodiesResolve named m info program
+  pub items : ItemsResolve m info program
+
+-- Each does that stands in the function with this number or outside of functions.
+pub record ResolvesAt (named : LabelNames) (m : Module) (info : ModuleInfo) (program : Program)
+    (number : ℕ) : Type 0 where
+  pub body : BodyResolves named m info program number
+  pub items : ItemsResolve m info program
 
 -- Each name does where labels have the names that they have in a text of the whole module.
 abbrev pub ResolvesAs : Module → ModuleInfo → Program → Type 0

@@ -6,7 +6,7 @@
 -- block, cases are those of a switch, f is a function and es its expressions, known is what is known
 -- of these, h and x are handles, e is an expression,
 -- r a type, and explicit says whether `let`s tell types.
-use Rattle.std.specs.Prelude.{◌≡◌, ℕ, Bool, true, List, [], ◌∷◌, ◌++◌, ◌-◌, Some, slice_get}
+use Rattle.std.specs.Prelude.{◌≡◌, ℕ, ◌<◌, Bool, true, List, [], ◌∷◌, ◌++◌, ◌-◌, Some, slice_get}
 use Rattle.std.specs.Prelude.{IsFalse, IsTrue}
 use Rattle.std.specs.List.{IsAmong, filter, flat_map}
 use Rattle.std.specs.Option.{option_to_list}
@@ -130,11 +130,22 @@ pub record WrittenHaveForms (explicit : Bool) (m : Module) (info : ModuleInfo) (
   pub types : (r : TypeResolution) → IsSpelledIn explicit m info f known r →
       IsTrue (is_spellable m r)
 
--- so it is in each function and entry point
-abbrev pub OfEachFunction : Module → ModuleInfo → (Function → List ExpressionInfo → Type 0) → Type 0
-OfEachFunction m info Holds =
-    (g : ℕ) (f : Function) (known : List ExpressionInfo) → slice_get (all_functions m) g ≡ Some f →
-    slice_get (all_infos info) g ≡ Some known → Holds f known
+-- what holds of the function with this number and of what is known of its expressions, if there is
+-- one
+abbrev pub OfFunctionAt : Module → ModuleInfo → (number : ℕ) →
+    (Function → List ExpressionInfo → Type 0) → Type 0
+OfFunctionAt m info number Holds =
+    (f : Function) (known : List ExpressionInfo) → slice_get (all_functions m) number ≡ Some f →
+    slice_get (all_infos info) number ≡ Some known → Holds f known
+
+-- so it is in the function with this number, in those before it, and in each function and entry point
+abbrev pub WrittenHaveFormsAt : (explicit : Bool) → Module → ModuleInfo → (number : ℕ) → Type 0
+WrittenHaveFormsAt explicit m info number =
+    OfFunctionAt m info number (WrittenHaveForms explicit m info)
+
+abbrev pub WrittenHaveFormsBefore : (explicit : Bool) → Module → ModuleInfo → (number : ℕ) → Type 0
+WrittenHaveFormsBefore explicit m info number =
+    (g : ℕ) → g < number → WrittenHaveFormsAt explicit m info g
 
 abbrev pub AllWrittenHaveForms : (explicit : Bool) → Module → ModuleInfo → Type 0
-AllWrittenHaveForms explicit m info = OfEachFunction m info (WrittenHaveForms explicit m info)
+AllWrittenHaveForms explicit m info = (g : ℕ) → WrittenHaveFormsAt explicit m info g

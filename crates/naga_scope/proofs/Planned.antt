@@ -18,7 +18,8 @@ use Rattle.module_meaning.specs.Premises.{OperandsStandBefore}
 use Rattle.module_meaning.specs.ExpressionContexts.{declared, types_known}
 use Rattle.naga_form.proofs.Ordered.{shape_ordered}
 use Rattle.naga_form.proofs.WellFormed.{any_shape}
-use Rattle.naga_scope.specs.Plans.{IsPlan, IsPlanOf, OfFunctionAt, Planned}
+use Rattle.naga_scope.specs.Plans.{IsPlan, IsPlanOf, Planned}
+use Rattle.module_meaning.specs.Written.{OfFunctionAt}
 
 -- the check of a function decides whether the rules of scope hold in it
 pub check_is_the_rules : (m : Module) (info : ModuleInfo) (f : ir_function.Function) (es : List ExpressionInfo) →

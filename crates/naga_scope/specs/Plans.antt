@@ -8,7 +8,7 @@ use Rattle.naga_ir.specs.declared.module.Function as ir
 use Rattle.naga_info.specs.declared.info.ExpressionInfo.{ExpressionInfo}
 use Rattle.module_meaning.specs.ExpressionForms.{expression_has_form}
 use Rattle.module_meaning.specs.Undeclared.{is_spellable}
-use Rattle.module_meaning.specs.Written.{IsSpelledIn, IsWrittenIn, WrittenHaveForms}
+use Rattle.module_meaning.specs.Written.{IsSpelledIn, IsWrittenIn, OfFunctionAt, WrittenHaveForms}
 use Rattle.naga_ir.specs.declared.module.Module.{Module}
 use Rattle.naga_info.specs.declared.info.ModuleInfo.{ModuleInfo}
 use Rattle.naga_info.specs.declared.info.TypeResolution.TheVariants.{Handle}
@@ -30,15 +30,6 @@ use Rattle.naga_scope.specs.declared.plan.PlanError.{PlanError}
 use Rattle.naga_scope.specs.declared.plan.PlanError.TheVariants.{OutOfScope, WithoutForm, Unnamed}
 use Rattle.naga_scope.specs.declared.plan.PlanError.TheVariants.{TypeWithoutForm, LetWithoutForm}
 use Rattle.naga_scope.specs.declared.plan.PlanError.TheVariants.{StatementWithoutForm, Memory}
-
--- the shape of the function with this number, if there is one
-abbrev pub function_shape_at : Module → ModuleInfo → (number : ℕ) → Option Function
-function_shape_at m info number =
-    slice_get (function_shapes m info (all_functions m) (all_infos info)) number
-
--- the rules of scope hold in it, if there is one
-abbrev pub ScopeHoldsIn : Module → ModuleInfo → (number : ℕ) → Type 0
-ScopeHoldsIn m info number = IfSome (function_shape_at m info number) ScopeHolds
 
 -- what contracts see of a plan: where the expressions stand at the function's start, and the names
 -- that front ends gave, in the order of the text
@@ -92,14 +83,6 @@ IsPlanFor explicit k plan =
 abbrev pub IsRefusalToPlanFor : (explicit : Bool) → KnownFunction → Names → PlanError → Type 0
 IsRefusalToPlanFor explicit k namer error =
     IsRefusalToPlan explicit k.shader.now k.module_info.now k.function.now k.info.now namer error
-
--- what holds of the function with this number and of what is known of its expressions, if there is
--- one
-abbrev pub OfFunctionAt : Module → ModuleInfo → (number : ℕ) →
-    (ir.Function → List ExpressionInfo → Type 0) → Type 0
-OfFunctionAt m info number Holds =
-    (f : ir.Function) (es : List ExpressionInfo) → slice_get (all_functions m) number ≡ Some f →
-    slice_get (all_infos info) number ≡ Some es → Holds f es
 
 -- a plan of the function with this number, and why there is none
 abbrev pub IsPlanOf : (explicit : Bool) → Module → ModuleInfo → (number : ℕ) → Planned → Type 0

@@ -46,7 +46,8 @@ use Rattle.naga_names.proofs.Refusal.{element}
 use Rattle.module_meaning.specs.ExpressionLabels.{SomeLabelIsFull, expression_labels}
 use Rattle.module_meaning.specs.Names.{labels_named_in, wgsl_names}
 use Rattle.naga_scope.specs.ExpressionNames.{HasOtherUses, IsRefusalOfLabels}
-use Rattle.naga_scope.specs.Plans.{IsPlanOf, IsRefusalToPlanOf, Planned, ScopeHoldsIn}
+use Rattle.naga_scope.specs.Plans.{IsPlanOf, IsRefusalToPlanOf, Planned}
+use Rattle.module_meaning.specs.Premises.{ScopeHoldsIn}
 use Rattle.naga_scope.specs.declared.plan.PlanError.{PlanError}
 use Rattle.naga_scope.specs.declared.plan.PlanError.TheVariants.{LetWithoutForm, OutOfScope}
 use Rattle.naga_scope.specs.declared.plan.PlanError.TheVariants.{TypeWithoutForm, Unnamed}

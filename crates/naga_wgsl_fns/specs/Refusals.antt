@@ -36,6 +36,7 @@ use Rattle.module_meaning.specs.ExpressionForms.{is_written_literal, known_passe
 use Rattle.module_meaning.specs.Sampling.{offset_is_written, sampling_is_written}
 use Rattle.module_meaning.specs.LackingScalars.{lacking_scalar}
 use Rattle.module_meaning.specs.Written.{IsSpelledIn, IsWrittenIn, WrittenHaveForms}
+use Rattle.module_meaning.specs.Written.{WrittenHaveFormsAt}
 use Rattle.module_meaning.specs.ExpressionOperators.{has_parts}
 use Rattle.module_meaning.specs.Undeclared.{is_spellable, names_undeclared}
 use Rattle.module_meaning.specs.Conversions.{conversion_target}
@@ -48,7 +49,7 @@ use Rattle.module_meaning.specs.ExpressionLabels.{SomeLabelIsFull}
 use Rattle.module_meaning.specs.Names.{labels_named_in, wgsl_names}
 use Rattle.naga_names.specs.Naming.{HasNamed, Names}
 use Rattle.naga_scope.specs.ExpressionNames.{HasOtherUses}
-use Rattle.naga_scope.specs.Plans.{OfFunctionAt, ScopeHoldsIn}
+use Rattle.module_meaning.specs.Premises.{ScopeHoldsIn}
 use Rattle.naga_scope.specs.declared.plan.PlanError.{PlanError}
 use Rattle.naga_scope.specs.declared.plan.PlanError.TheVariants.{LetWithoutForm, OutOfScope}
 use Rattle.naga_scope.specs.declared.plan.PlanError.TheVariants.{TypeWithoutForm, Unnamed}
@@ -319,7 +320,7 @@ TellsOfFullNamer _ = ⊥
 pub record IsWritableAt (explicit : Bool) (m : Module) (info : ModuleInfo)
     (earlier : List (List ℕ)) (number : ℕ) : Type 0 where
   pub in_scope : ScopeHoldsIn m info number
-  pub formed : OfFunctionAt m info number (WrittenHaveForms explicit m info)
+  pub formed : WrittenHaveFormsAt explicit m info number
   pub nameable : ExpressionNamesAreFullIn m earlier number → ⊥
 
 -- why it has no plan: the rules of scope don't hold in it, a statement without a form stands in it,

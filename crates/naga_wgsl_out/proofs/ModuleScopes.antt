@@ -22,7 +22,7 @@ use Rattle.module_meaning.specs.FunctionShapes.{function_shapes}
 use Rattle.naga_form.proofs.AcceptedFunctions.{all_counted}
 use Rattle.naga_names.proofs.Refusal.{element}
 use Rattle.module_meaning.specs.Names.{labels_before}
-use Rattle.naga_scope.specs.Plans.{ScopeHoldsIn}
+use Rattle.module_meaning.specs.Premises.{ScopeHoldsIn}
 use Rattle.naga_wgsl_fns.specs.declared.error.Error.{Error}
 use Rattle.naga_wgsl_fns.specs.declared.error.Error.TheVariants.{Custom, FmtError, Memory}
 use Rattle.naga_wgsl_fns.specs.Refusals.{IsFault, IsWritableAt}

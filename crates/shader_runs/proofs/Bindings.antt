@@ -16,7 +16,7 @@ use Rattle.shader_runs.specs.Form.{form_functions}
 use Rattle.shader_runs.specs.Bindings.{lines_lets, groups_lets, Binding, emit_bindings}
 use Rattle.shader_runs.specs.Bindings.{result_bindings, statement_bindings, statements_bindings}
 use Rattle.shader_runs.specs.Bindings.{cases_bindings, bound_names}
-use Rattle.shader_runs.specs.Identifiers.{BindsAsMeant}
+use Rattle.shader_runs.specs.Identifiers.{BindsAsMeant, FunctionBindsAsMeant}
 
 -- the names of handles that are bound
 abbrev names_of : List Binding → List Bytes
@@ -83,9 +83,12 @@ module _ (f : Naming) where
         let k1 = named_by_all f.function b k in
         names_both (statements_bindings f k b) (cases_bindings f k1 cs) (lines_bind k b s) (groups_bind k1 [] cs s)
 
+pub function_binds_as_meant : FunctionBindsAsMeant
+function_binds_as_meant f = lines_bind f 0 f.function.body (at_start f.function)
+
 pub binds_as_meant : BindsAsMeant
 binds_as_meant p n fs = each fs
   where
     each : (fs : List Naming) → map (λ f. lines_lets f.lines) (form_functions fs) ≡ map bound_names fs
     each [] = refl
-    each (f ∷ fs) = λ i. lines_bind f 0 f.function.body (at_start f.function) i ∷ each fs i
+    each (f ∷ fs) = λ i. function_binds_as_meant f i ∷ each fs i

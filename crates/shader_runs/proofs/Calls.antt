@@ -1,11 +1,11 @@
 -- Calls, by the functions of a module in their order.
 use Rattle.std.proofs.Common.{◌≡◌, ◌≢◌, ℕ, suc, ◌+◌, ◌<◌, ◌≤◌, min, Bool, true, false, cond, nat_eq}
-use Rattle.std.proofs.Common.{List, [], ◌∷◌, take, length, Option, Some, None, slice_get, refl, sym}
+use Rattle.std.proofs.Common.{List, [], ◌∷◌, ◌++◌, take, length, Option, Some, None, slice_get, refl, sym}
 use Rattle.std.proofs.Common.{ap, ap₂, ◌∙◌, subst, add-zero, zero-add, arith, eqb-true, map, option_map}
 use Rattle.std.proofs.Math.Nat.{min-le_right}
-use Rattle.std.proofs.lemmas.List.{length-take, length-take-le}
+use Rattle.std.proofs.lemmas.List.{length-append, length-take, length-take-le}
 use Rattle.std.proofs.lemmas.Option.{slice_get_within, none-some, same_Some}
-use Rattle.std.proofs.lemmas.Bool.{eqb-false}
+use Rattle.std.proofs.lemmas.Bool.{eqb-false, ne_eqb}
 use Rattle.std.specs.Prelude.{IsTrue}
 use Rattle.shader_runs.specs.Value.{Bytes, same_bytes, PartTypes, ValueType, has_types, Value}
 use Rattle.shader_runs.specs.World.{Event, Entry, entries, World, Meaning, Environment, bind}
@@ -32,7 +32,7 @@ use Rattle.shader_runs.specs.Scope.{ModuleNames, Naming, usable, usable_if, name
 use Rattle.shader_runs.specs.Scope.{named_after_all, named_by, named_by_all, named_by_cases}
 use Rattle.shader_runs.specs.Scope.{at_start, before_local, first_values_fit, fits_all, after_all}
 use Rattle.shader_runs.specs.Form.{names_from, variables_from, globals_from, value_at, value_if}
-use Rattle.shader_runs.specs.Form.{form_all, form_function, form_functions, form_module}
+use Rattle.shader_runs.specs.Form.{form_all, form_function, form_functions, form_module_with}
 use Rattle.shader_runs.specs.Form.{functions_of}
 use Rattle.shader_runs.specs.Points.{call_of as a_call}
 use Rattle.shader_runs.specs.Premises.{FixedName, ArgumentName, LocalName, ConstantName, GlobalName}
@@ -41,7 +41,10 @@ use Rattle.shader_runs.specs.Premises.{IsFixedName, IsName, StandsFree, Constant
 use Rattle.shader_runs.specs.Premises.{ConstantsWords, WordFits, AllBelow, LeafFits, AreDistinct}
 use Rattle.shader_runs.specs.Premises.{FunctionFits, AllFit, EnvironmentFits, IsTypedIn, AllTypedIn}
 use Rattle.shader_runs.specs.Premises.{SettingsFit, IsTyped}
-use Rattle.shader_runs.specs.Correct.{InitialisersAreAlike, KeepsTypes, RunsAlike, ModuleFits}
+use Rattle.shader_runs.specs.Correct.{AreNamed, FirstFit, FirstRunAlike, InitialisersAreAlike}
+use Rattle.shader_runs.specs.Correct.{ItemsFit, KeepsTypes, RunsAlike}
+use Rattle.shader_runs.specs.Text.{TextFunction}
+use Rattle.shader_runs.specs.Premises.{ModuleNamesAreDistinct}
 use Rattle.shader_runs.specs.Constants.{environment_of, module_scope}
 use Rattle.shader_runs.proofs.Alike.{Answers, same_answer, mistyped_answer, alike_answers}
 use Rattle.shader_runs.proofs.Update.{and_left, and_right, same_bytes_equal, same_bytes_apart}
@@ -56,7 +59,8 @@ use Rattle.shader_runs.proofs.Start.{start_stands}
 use Rattle.shader_runs.proofs.Names.{parameter_other, parameter_at, variable_place, variable_other}
 use Rattle.shader_runs.proofs.Names.{variable_at, one_more_variable, take_one_more, globals_other}
 use Rattle.shader_runs.proofs.Names.{globals_at, held, length-names_from, length-functions_of}
-use Rattle.shader_runs.proofs.Names.{length-form_functions, module_names_in_scope, no_name_among}
+use Rattle.shader_runs.proofs.Names.{first_fit, length-form_functions, module_names_in_scope}
+use Rattle.shader_runs.proofs.Names.{no_name_among}
 use Rattle.shader_runs.proofs.Constants.{environment_fits, initialiser_is, scope_is}
 
 pick_alike : {A : Type 0} (R : A → Type 0) (a b : Bool) (x x' y y' : ReachedOrHalted A) → a ≡ b → (b ≡ true → Answers R x x') → (b ≡ false → Answers R y y') → Answers R (cond b x y) (cond a x' y')
@@ -592,12 +596,16 @@ module _ (p : Module) (n : ModuleNames) (uses : Bytes → WordUse) (uses_fit : U
       (ap (λ b. cond b (Some f.function) (function_numbered (functions_of fs) g)) (sym q)
       ∙ e) vs h t)
 
+number_apart : (others fs : List Function) (g : ℕ) → g < length fs → nat_eq g (length (others ++ fs)) ≡ false
+number_apart others fs g lt =
+    ne_eqb g (length (others ++ fs)) (λ e. let counted = length-append others fs in omega (arith, e, counted, lt))
+
 answers_same : {A : Type 0} (R : A → Type 0) (q q' : ReachedOrHalted A) → KeepsTypes q → Answers R q q' → q' ≡ q
 answers_same R q q' k (same_answer h) = refl
 answers_same R q q' k mistyped_answer = absurd k
 
-pub uses_fit : (p : Module) (n : ModuleNames) (fs : List Naming) → length fs ≤ length p.functions → AllFit p n fs → UsesFit p n (word_use (form_functions fs) n.vocabulary)
-uses_fit p n fs within fits =
+pub uses_fit : (p : Module) (n : ModuleNames) (functions : List TextFunction) → length functions ≤ length p.functions → AreNamed n functions → UsesFit p n (word_use functions n.vocabulary)
+uses_fit p n functions within are =
     record {
       requests = λ word other q. named word other ∙ ap (λ b. cond b AsksForEvent (unasked word)) q;
       operators = λ word other q r.
@@ -609,72 +617,142 @@ uses_fit p n fs within fits =
     unasked word = cond (n.vocabulary.is_operator word) Operates MeansNothing
 
     named : (word : Bytes) → ((g : ℕ) → g < length p.functions → n.function g ≢ word) →
-        word_use (form_functions fs) n.vocabulary word ≡ cond (n.vocabulary.is_request word) AsksForEvent (unasked word)
+        word_use functions n.vocabulary word ≡ cond (n.vocabulary.is_request word) AsksForEvent (unasked word)
     named word other =
-        ap (λ b. cond b NamesFunction (cond (n.vocabulary.is_request word) AsksForEvent (unasked word))) (no_name_among p n fs within fits word other)
+        ap (λ b. cond b NamesFunction (cond (n.vocabulary.is_request word) AsksForEvent (unasked word))) (no_name_among p n functions within are word other)
 
--- what a module's functions are, and how many
-pub module_within : (p : Module) (fs : List Naming) → functions_of fs ≡ p.functions → length fs ≤ length p.functions
-module_within p fs e =
-    let count : length fs ≡ length p.functions = sym (length-functions_of fs) ∙ ap length e in
-    omega (arith, count)
+-- ---- the first functions of a module
+skipped : {A : Type 0} (b : Bool) → b ≡ false → (x y : A) → cond b x y ≡ y
+skipped b e x y = ap (λ b. cond b x y) e
+
+-- a call of one of them, by its number
+run_among_first : (env : Environment) (w : World) (m : Meaning) (turns : ℕ)
+    (others fs : List Function) (g : ℕ) → g < length fs → (vs : List Value) (t : List Event) →
+    run_call env w m turns (others ++ fs) g vs t ≡ run_call env w m turns fs g vs t
+run_among_first env w m turns [] fs g lt vs t = refl
+run_among_first env w m turns (f ∷ others) fs g lt vs t =
+    skipped (nat_eq g (length (others ++ fs))) (number_apart others fs g lt) _ (run_call env w m turns (others ++ fs) g vs t)
+    ∙ run_among_first env w m turns others fs g lt vs t
+
+pub first_numbered : (others fs : List Function) (g : ℕ) → g < length fs → function_numbered (others ++ fs) g ≡ function_numbered fs g
+first_numbered [] fs g lt = refl
+first_numbered (f ∷ others) fs g lt =
+    ap (λ b. cond b (Some f) (function_numbered (others ++ fs) g)) (number_apart others fs g lt)
+    ∙ first_numbered others fs g lt
+
+pub first_typed : (parts : PartTypes) (p : Module) (m : Meaning) (others fs : List Function) → AllTypedIn parts p m (others ++ fs) → AllTypedIn parts p m fs
+first_typed parts p m [] fs typed = typed
+first_typed parts p m (f ∷ others) fs typed = first_typed parts p m others fs typed.1
+
+-- and by its name
+followed_among_first : (parts : PartTypes) (outer : Scope) (w : World) (m : Meaning) (uses : Bytes → WordUse)
+    (turns : ℕ) (p : Module) (n : ModuleNames) → ModuleNamesAreDistinct p n →
+    (later functions : List TextFunction) → AreNamed n (later ++ functions) →
+    length (later ++ functions) ≤ length p.functions → (g : ℕ) → g < length functions →
+    (vs : List Value) (t : List Event) →
+    follow_call parts outer w m uses turns (later ++ functions) (n.function g) vs t ≡
+    follow_call parts outer w m uses turns functions (n.function g) vs t
+followed_among_first parts outer w m uses turns p n distinct [] functions named within g lt vs t = refl
+followed_among_first parts outer w m uses turns p n distinct (f ∷ later) functions named within g lt vs t =
+    let counted : length (later ++ functions) ≡ length later + length functions = length-append later functions in
+    let place = length (later ++ functions) in
+    let apart : same_bytes (n.function g) f.name ≡ false =
+    same_bytes_apart (n.function g) f.name (λ e.
+    let same : g ≡ place =
+    distinct.functions g place (omega (arith, within, counted, lt)) (omega (arith, within))
+    (e ∙ named.0) in
+    omega (arith, same, counted, lt)) in
+    skipped (same_bytes (n.function g) f.name) apart _ (follow_call parts outer w m uses turns (later ++ functions) (n.function g) vs t)
+    ∙ followed_among_first parts outer w m uses turns p n distinct later functions named.1 (omega (arith, within)) g lt vs t
 
 -- in an environment of the module's types
-environment_alike : (p : Module) (n : ModuleNames) (fs : List Naming) → ModuleFits p n fs →
+environment_alike : (p : Module) (n : ModuleNames) (later : List TextFunction) (fs : List Naming) →
+    FirstFit p n later fs →
     (env : Environment) → EnvironmentFits p env → (m : Meaning) → IsTyped p m →
-    (g : ℕ) (f : Function) → function_numbered p.functions g ≡ Some f →
+    (g : ℕ) → g < length fs → (f : Function) → function_numbered p.functions g ≡ Some f →
     (vs : List Value) → IsTrue (has_types p.parts f.argument_types vs) →
     (w : World) (turns : ℕ) (t : List Event) →
     KeepsTypes (run_call env w m turns p.functions g vs t) →
-    follow_call env.parts (module_names_in_scope p n env) w m (word_use (form_functions fs) n.vocabulary)
-    turns (form_functions fs) (n.function g) vs t ≡ run_call env w m turns p.functions g vs t
-environment_alike p n fs fits env environment m typed g f e vs h w turns t keeps =
-    subst (λ l. function_numbered l g ≡ Some f → AllTypedIn env.parts p m l →
-    KeepsTypes (run_call env w m turns l g vs t) →
-    follow_call env.parts (module_names_in_scope p n env) w m uses turns (form_functions fs)
-    (n.function g) vs t ≡ run_call env w m turns l g vs t) fits.functions there e
-    (subst (λ parts. AllTypedIn parts p m p.functions) (sym environment.parts) typed.functions)
-    keeps
+    follow_call env.parts (module_names_in_scope p n env) w m
+    (word_use (later ++ form_functions fs) n.vocabulary) turns (later ++ form_functions fs)
+    (n.function g) vs t ≡ run_call env w m turns p.functions g vs t
+environment_alike p n later fs fits env environment m typed g lt f e vs h w turns t keeps =
+    followed_among_first env.parts outer w m uses turns p n fits.items.distinct later (form_functions fs)
+    fits.items.named whole g (subst (λ k. g < k) (sym (length-form_functions fs)) lt) vs t
+    ∙ (alike ∙ sym run_first)
   where
     uses : Bytes → WordUse
-    uses = word_use (form_functions fs) n.vocabulary
+    uses = word_use (later ++ form_functions fs) n.vocabulary
+
+    outer : Scope
+    outer = module_names_in_scope p n env
+
+    whole : length (later ++ form_functions fs) ≤ length p.functions
+    whole = let same = fits.items.counted in omega (arith, same)
+
+    counted : length fs ≡ length (functions_of fs)
+    counted = sym (length-functions_of fs)
 
     within : length fs ≤ length p.functions
-    within = module_within p fs fits.functions
+    within =
+        let both = ap length (sym fits.functions) ∙ length-append fits.others (functions_of fs) in
+        omega (arith, counted, both)
 
-    count : length (functions_of fs) ≡ length p.functions
-    count = ap length fits.functions
+    small : g < length (functions_of fs)
+    small = subst (λ k. g < k) counted lt
 
     one : (g k : ℕ) → g < length fs → k < length fs → n.function g ≡ n.function k → g ≡ k
-    one g k lg lk =
-        let same : length fs ≡ length p.functions = sym (length-functions_of fs) ∙ count in
-        fits.distinct.functions g k (subst (λ z. g < z) same lg) (subst (λ z. k < z) same lk)
+    one g k lg lk = fits.items.distinct.functions g k (omega (arith, lg, within)) (omega (arith, lk, within))
 
-    there : function_numbered (functions_of fs) g ≡ Some f →
-        AllTypedIn env.parts p m (functions_of fs) →
-        KeepsTypes (run_call env w m turns (functions_of fs) g vs t) →
-        follow_call env.parts (module_names_in_scope p n env) w m uses turns (form_functions fs)
-        (n.function g) vs t ≡ run_call env w m turns (functions_of fs) g vs t
-    there e typed keeps =
-        answers_same (Returns env.parts f) (run_call env w m turns (functions_of fs) g vs t) _ keeps
-        (calls_alike p n uses (uses_fit p n fs within fits.all) env environment w m turns fs
-        within fits.all typed one g f e vs
-        (subst (λ parts. IsTrue (has_types parts f.argument_types vs)) (sym environment.parts)
-        h) t)
+    run_first : run_call env w m turns p.functions g vs t ≡ run_call env w m turns (functions_of fs) g vs t
+    run_first =
+        ap (λ l. run_call env w m turns l g vs t) (sym fits.functions)
+        ∙ run_among_first env w m turns fits.others (functions_of fs) g small vs t
+
+    there : function_numbered (functions_of fs) g ≡ Some f
+    there =
+        sym (first_numbered fits.others (functions_of fs) g small)
+        ∙ (ap (λ l. function_numbered l g) fits.functions ∙ e)
+
+    all : AllTypedIn env.parts p m (functions_of fs)
+    all =
+        first_typed env.parts p m fits.others (functions_of fs)
+        (subst (AllTypedIn env.parts p m) (sym fits.functions)
+        (subst (λ parts. AllTypedIn parts p m p.functions) (sym environment.parts) typed.functions))
+
+    alike : follow_call env.parts outer w m uses turns (form_functions fs) (n.function g) vs t ≡ run_call env w m turns (functions_of fs) g vs t
+    alike =
+        answers_same (Returns env.parts f) (run_call env w m turns (functions_of fs) g vs t) _
+        (subst KeepsTypes run_first keeps)
+        (calls_alike p n uses (uses_fit p n (later ++ form_functions fs) whole fits.items.named) env
+        environment w m turns fs within fits.all all one g f there vs
+        (subst (λ parts. IsTrue (has_types parts f.argument_types vs)) (sym environment.parts) h) t)
 
 -- the names that the text of the whole module computes
-pub names_are : (p : Module) (n : ModuleNames) (fs : List Naming) → ModuleFits p n fs →
+pub names_are : (p : Module) (n : ModuleNames) (functions : List TextFunction) → ItemsFit p n functions →
     (s : Settings) → SettingsFit p s → (m : Meaning) → IsTyped p m →
-    (w : World) → module_scope (form_module p n fs) p.parts s w m n.vocabulary ≡ module_names_in_scope p n
-    (environment_of p s m)
-names_are p n fs fits s settings m typed w =
-    scope_is p n fits.constants s settings m typed fs fits.all (module_within p fs fits.functions) w
+    (w : World) → module_scope (form_module_with p n functions) p.parts s w m n.vocabulary ≡
+    module_names_in_scope p n (environment_of p s m)
+names_are p n functions fits s settings m typed w =
+    let same = fits.counted in
+    scope_is p n fits.constants s settings m typed functions fits.named (omega (arith, same)) w
 
 pub initialisers_are_alike : InitialisersAreAlike
-initialisers_are_alike p n fs fits s settings m typed w =
-    initialiser_is p n fits.constants s settings m typed fs fits.all (module_within p fs fits.functions) w
+initialisers_are_alike p n functions fits s settings m typed w =
+    let same = fits.counted in
+    initialiser_is p n fits.constants s settings m typed functions fits.named (omega (arith, same)) w
+
+pub first_run_alike : FirstRunAlike
+first_run_alike p n later fs fits s settings m typed g lt f e vs h w turns t keeps =
+    let functions = later ++ form_functions fs in
+    ap (λ names. follow_call p.parts names w m (word_use functions n.vocabulary) turns functions (n.function g) vs t)
+    (names_are p n functions fits.items s settings m typed w)
+    ∙ environment_alike p n later fs fits (environment_of p s m)
+    (environment_fits p n fits.items.constants s settings m typed) m typed g lt f e vs h w turns t keeps
 
 pub runs_alike : RunsAlike
 runs_alike p n fs fits s settings m typed g f e vs h w turns t keeps =
-    ap (λ names. follow_call p.parts names w m (word_use (form_functions fs) n.vocabulary) turns (form_functions fs) (n.function g) vs t) (names_are p n fs fits s settings m typed w)
-    ∙ environment_alike p n fs fits (environment_of p s m) (environment_fits p n fits.constants s settings m typed) m typed g f e vs h w turns t keeps
+    let within = numbered_within p.functions g f e in
+    let counted = sym (ap length fits.functions) ∙ length-functions_of fs in
+    first_run_alike p n [] fs (first_fit p n fs fits) s settings m typed g
+    (subst (λ k. g < k) counted within) f e vs h w turns t keeps

@@ -13,7 +13,7 @@ use Rattle.shader_runs.specs.World.{Event, World, Meaning, Settings, Environment
 use Rattle.shader_runs.specs.Outcome.{Stuck, Gives, Halts, reach, unless}
 use Rattle.shader_runs.specs.Program.{ConstantTree, Module, constant_count, override_types}
 use Rattle.shader_runs.specs.ProgramRun.{also, operator_value, tree_value, constant_value}
-use Rattle.shader_runs.specs.Text.{Tree, TextModule}
+use Rattle.shader_runs.specs.Text.{Tree, TextFunction, TextModule}
 use Rattle.shader_runs.specs.TextRun.{Denotation, Words, Scope, as_value, word_answer}
 use Rattle.shader_runs.specs.TextRun.{with_parameters}
 use Rattle.shader_runs.specs.TextRun.{with_globals, no_names, names_function}
@@ -23,13 +23,13 @@ use Rattle.shader_runs.specs.Constants.{is_declared, initialised_name, with_cons
 use Rattle.shader_runs.specs.Constants.{scope_with, initialiser_value, scope_after, module_scope}
 use Rattle.shader_runs.specs.Constants.{initialiser_words, module_initialiser_value}
 use Rattle.shader_runs.specs.Constants.{text_initialiser_value, value_denoted}
-use Rattle.shader_runs.specs.Scope.{ModuleNames, Naming}
+use Rattle.shader_runs.specs.Scope.{ModuleNames}
 use Rattle.shader_runs.specs.Form.{constant_form, names_from, globals_from, constants_from}
-use Rattle.shader_runs.specs.Form.{form_functions, form_module}
+use Rattle.shader_runs.specs.Form.{form_module_with}
 use Rattle.shader_runs.specs.Premises.{OperatesOutside, EachLeaf, EachWord, IsLiteral, ConstantsFit}
 use Rattle.shader_runs.specs.Premises.{ConstantInRange}
-use Rattle.shader_runs.specs.Premises.{SettingsFit, EnvironmentFits, IsTyped, AllFit}
-use Rattle.shader_runs.specs.Correct.{IsSolution, ConstantsAreComputed}
+use Rattle.shader_runs.specs.Premises.{SettingsFit, EnvironmentFits, IsTyped}
+use Rattle.shader_runs.specs.Correct.{AreNamed, IsSolution, ConstantsAreComputed}
 use Rattle.shader_runs.proofs.Update.{and_both, same_bytes_apart, has_types_length}
 use Rattle.shader_runs.proofs.Relation.{TypedValue, as_denoted}
 use Rattle.shader_runs.proofs.Evaluation.{denoted}
@@ -306,9 +306,9 @@ module _ (p : Module) (n : ModuleNames) (fits : ConstantsFit p n) (s : Settings)
         λ i. record { constants = constants i; globals = solves.globals i; parts = solves.parts i }
 
   -- ---- the text's side
-  module _ (fs : List Naming) (all : AllFit p n fs) (within : length fs ≤ length p.functions) (w : World) where
+  module _ (functions : List TextFunction) (all : AreNamed n functions) (within : length functions ≤ length p.functions) (w : World) where
     abbrev text : TextModule
-    text = form_module p n fs
+    text = form_module_with p n functions
 
     abbrev l : Words
     l = initialiser_words text p.parts w m n.vocabulary
@@ -352,8 +352,8 @@ module _ (p : Module) (n : ModuleNames) (fits : ConstantsFit p n) (s : Settings)
 
       undeclared : (word : Bytes) → OperatesOutside p n word → is_declared text word ≡ false
       undeclared word o =
-          ap (λ b. b || names_function (form_functions fs) word) (no_constant_called n word p.initialisers 0 (λ i le lt e. let counted = fits.counted in o.constants i (omega (arith, lt, counted)) e))
-          ∙ no_name_among p n fs within all word o.functions
+          ap (λ b. b || names_function functions word) (no_constant_called n word p.initialisers 0 (λ i le lt e. let counted = fits.counted in o.constants i (omega (arith, lt, counted)) e))
+          ∙ no_name_among p n functions within all word o.functions
 
       operates : (word : Bytes) → OperatesOutside p n word →
           (os : Option (List Value)) (t : List Event) →

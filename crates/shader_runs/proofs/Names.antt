@@ -16,6 +16,8 @@ use Rattle.shader_runs.specs.Form.{names_from, variables_from, globals_from, fun
 use Rattle.shader_runs.specs.Form.{form_functions}
 use Rattle.shader_runs.specs.Premises.{choice_fits, choices_fit, global_fits, globals_fit}
 use Rattle.shader_runs.specs.Premises.{AllFit}
+use Rattle.shader_runs.specs.Correct.{AreNamed, FirstFit, ItemsFit, ModuleFits}
+use Rattle.shader_runs.specs.Text.{TextFunction}
 use Rattle.shader_runs.proofs.Update.{and_left, and_right, and_both, same_bytes_true}
 use Rattle.shader_runs.proofs.Update.{same_bytes_apart, same_type_self}
 use Rattle.shader_runs.proofs.Update.{bind_same, bind_other}
@@ -236,15 +238,34 @@ pub length-form_functions : (fs : List Naming) → length (form_functions fs) �
 length-form_functions [] = refl
 length-form_functions (f ∷ fs) = ap suc (length-form_functions fs)
 
+-- functions that fit are named by their numbers
+pub forms_named : (p : Module) (n : ModuleNames) (fs : List Naming) → AllFit p n fs → AreNamed n (form_functions fs)
+forms_named p n [] fits = tt
+forms_named p n (f ∷ fs) fits =
+    let count : length (functions_of fs) ≡ length (form_functions fs) = length-functions_of fs ∙ sym (length-form_functions fs) in
+    (ap (λ m. m.function f.names.earlier) fits.0.outer ∙ ap n.function (fits.0.earlier ∙ count), forms_named p n fs fits.1)
+
+-- what is asked of a module whose functions fit is asked of its items and of its first functions
+pub items_fit : (p : Module) (n : ModuleNames) (fs : List Naming) → ModuleFits p n fs → ItemsFit p n (form_functions fs)
+items_fit p n fs fits =
+    record {
+      distinct = fits.distinct;
+      constants = fits.constants;
+      named = forms_named p n fs fits.all;
+      counted = length-form_functions fs ∙ sym (length-functions_of fs) ∙ ap length fits.functions;
+    }
+
+pub first_fit : (p : Module) (n : ModuleNames) (fs : List Naming) → ModuleFits p n fs → FirstFit p n [] fs
+first_fit p n fs fits =
+    record { items = items_fit p n fs fits; others = []; functions = fits.functions; all = fits.all }
+
 -- no function has a word for its name that is none of the module's
-pub no_name_among : (p : Module) (n : ModuleNames) (fs : List Naming) →
-    length fs ≤ length p.functions → AllFit p n fs → (word : Bytes) →
+pub no_name_among : (p : Module) (n : ModuleNames) (fs : List TextFunction) →
+    length fs ≤ length p.functions → AreNamed n fs → (word : Bytes) →
     ((g : ℕ) → g < length p.functions → n.function g ≢ word) →
-    names_function (form_functions fs) word ≡ false
-no_name_among p n [] within fits word other = refl
-no_name_among p n (f ∷ fs) within fits word other =
-    let own_name = f.names.outer.function f.names.earlier in
-    let is_name : own_name ≡ n.function (length fs) = ap (λ n. n.function f.names.earlier) fits.0.outer ∙ ap n.function (fits.0.earlier ∙ length-functions_of fs) in
-    let apart : same_bytes word own_name ≡ false = same_bytes_apart word own_name (λ e. other (length fs) (omega (arith, within)) (sym (e ∙ is_name))) in
+    names_function fs word ≡ false
+no_name_among p n [] within named word other = refl
+no_name_among p n (f ∷ fs) within named word other =
+    let apart : same_bytes word f.name ≡ false = same_bytes_apart word f.name (λ e. other (length fs) (omega (arith, within)) (sym (e ∙ named.0))) in
     let fewer : length fs ≤ length p.functions = omega (arith, within) in
-    ap (λ b. b || names_function (form_functions fs) word) apart ∙ no_name_among p n fs fewer fits.1 word other
+    ap (λ b. b || names_function fs word) apart ∙ no_name_among p n fs fewer named.1 word other

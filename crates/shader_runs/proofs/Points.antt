@@ -17,10 +17,11 @@ use Rattle.shader_runs.proofs.Relation.{as_denoted, Stands, Related}
 use Rattle.shader_runs.proofs.Evaluation.{naming, words, Respond}
 use Rattle.shader_runs.proofs.Form.{Facts, typed_value, value_here}
 use Rattle.shader_runs.proofs.Calls.{starting, facts, starts, body_fits, calls_alike, uses_fit}
-use Rattle.shader_runs.proofs.Calls.{module_within, names_are}
+use Rattle.shader_runs.proofs.Calls.{names_are}
 use Rattle.shader_runs.proofs.Places.{lines_there}
 use Rattle.shader_runs.proofs.Passes.{passes}
-use Rattle.shader_runs.proofs.Names.{length-functions_of, module_names_in_scope}
+use Rattle.shader_runs.proofs.Names.{items_fit, length-functions_of, module_names_in_scope}
+use Rattle.shader_runs.specs.Correct.{ItemsFit}
 use Rattle.shader_runs.proofs.Constants.{environment_fits}
 use Rattle.shader_runs.specs.Passes.{TextPasses, point_in_text}
 use Rattle.shader_runs.specs.Outcome.{reach}
@@ -51,10 +52,13 @@ count_behind (g ∷ later) fs = omega (arith, count_behind later fs)
 
 pub points_agree : PointsAgree
 points_agree p n later f fs fits s settings m typed vs h w turns before_entry t q kept t1 passed =
-    subst (λ outer. Arrived outer) (sym (names_are p n every fits s settings m typed w)) inside_named
+    subst (λ outer. Arrived outer) (sym (names_are p n (form_functions every) items s settings m typed w)) inside_named
   where
     every : List Naming
     every = later ++ (f ∷ fs)
+
+    items : ItemsFit p n (form_functions every)
+    items = items_fit p n every fits
 
     env : Environment
     env = environment_of p s m
@@ -83,10 +87,10 @@ points_agree p n later f fs fits s settings m typed vs h w turns before_entry t 
 
     inside_named : Arrived (module_names_in_scope p n env)
     inside_named =
-        let whole = module_within p every fits.functions in
-        let within : length fs ≤ length p.functions = omega (arith, whole, count_behind later (f ∷ fs)) in
+        let more = count_behind later (f ∷ fs) in
+        let within : length fs ≤ length p.functions = omega (arith, more, count) in
         let uses = word_use (form_functions every) n.vocabulary in
-        let known = uses_fit p n every whole fits.all in
+        let known = uses_fit p n (form_functions every) (omega (arith, items.counted)) items.named in
         let fit = fit_behind p n later (f ∷ fs) fits.all in
         let all = typed_behind env.parts p m later (f ∷ fs) (subst (λ l. AllTypedIn env.parts p m l) (sym fits.functions) typed.functions) in
         let earlier = calls_alike p n uses known env environment w m turns fs within fit.1 all.1 one in

@@ -18,20 +18,20 @@ use Rattle.shader_runs.specs.Scope.{Handles, ModuleNames, Naming, at_start, boun
 use Rattle.shader_runs.specs.Scope.{named_after, named_after_all, named_by, named_by_all}
 use Rattle.shader_runs.specs.Scope.{named_by_cases, after_one, after, after_all, before_local}
 use Rattle.shader_runs.specs.Scope.{first_values_fit, fits_all, fits_function}
-use Rattle.shader_runs.specs.Text.{Tree, Lines, before}
+use Rattle.shader_runs.specs.Text.{TextFunction, Tree, Lines, before}
 use Rattle.shader_runs.specs.Form.{value_form, value_forms, own_form, written_form, value_if}
 use Rattle.shader_runs.specs.Form.{let_if}
 use Rattle.shader_runs.specs.Form.{lets, word_of, act_line, perform_each, form, form_all}
 use Rattle.shader_runs.specs.Form.{form_cases, names_from, variables_from, constants_from}
 use Rattle.shader_runs.specs.Form.{globals_from, functions_of, form_function, form_functions}
-use Rattle.shader_runs.specs.Form.{constant_form, form_module}
+use Rattle.shader_runs.specs.Form.{constant_form, form_module, form_module_with}
 use Rattle.shader_runs.specs.Premises.{FixedName, ArgumentName, LocalName, ConstantName, GlobalName}
 use Rattle.shader_runs.specs.Premises.{FixedKey, fixed_name, IsFixedName, IsNoName, EachAsks}
 use Rattle.shader_runs.specs.Premises.{WordFits, LeafFits, ActionFits, IsRegular, AreRegular}
 use Rattle.shader_runs.specs.Premises.{CasesAreRegular, AreDistinct, FunctionFits, AllFit}
 use Rattle.shader_runs.specs.Premises.{InitialiserFits, OperatesOutside, ModuleNamesAreDistinct}
 use Rattle.shader_runs.specs.Premises.{ConstantInRange, EachWord}
-use Rattle.shader_runs.specs.Correct.{ModuleFits}
+use Rattle.shader_runs.specs.Correct.{AreNamed, ItemsFit}
 use Rattle.shader_runs.specs.Resolution.{Target, ConstantTarget, GlobalTarget, FunctionTarget}
 use Rattle.shader_runs.specs.Resolution.{ArgumentTarget, LocalTarget, LetTarget, WordTarget, Lookup}
 use Rattle.shader_runs.specs.Resolution.{word_target, tree_targets, trees_targets, tree_targets_if}
@@ -44,9 +44,10 @@ use Rattle.shader_runs.specs.Resolution.{lets_after_result, lets_by, lets_by_all
 use Rattle.shader_runs.specs.Resolution.{numbers_left, emit_targets, action_targets}
 use Rattle.shader_runs.specs.Resolution.{statement_targets, statements_targets, cases_targets}
 use Rattle.shader_runs.specs.Resolution.{no_numbers, first_values_targets, function_targets}
-use Rattle.shader_runs.specs.Identifiers.{LeafStands, LeavesStand, ResolvesAsMeant}
+use Rattle.shader_runs.specs.Identifiers.{FunctionResolvesAsMeant, LeafStands, LeavesStand}
+use Rattle.shader_runs.specs.Identifiers.{ResolvesAsMeant}
 use Rattle.shader_runs.proofs.Update.{and_left, and_right, bind_other, bind_cases}
-use Rattle.shader_runs.proofs.Names.{length-form_functions, length-functions_of}
+use Rattle.shader_runs.proofs.Names.{items_fit, length-form_functions, length-functions_of}
 use Rattle.shader_runs.proofs.Sources.{named_all_more, list_more, cases_more, start_sources}
 use Rattle.shader_runs.proofs.TreeTargets.{both, constant_resolves, IsNamed, place_resolves}
 use Rattle.shader_runs.proofs.TreeTargets.{value_resolves, value_if_resolves, values_resolve}
@@ -339,10 +340,6 @@ module _ (p : Module) (f : Naming) (distinct : AreDistinct p f) where
             })
 
 -- ---- the items of a module
--- the name of a function behind these
-own_name : (p : Module) (n : ModuleNames) (f : Naming) (fs : List Naming) → FunctionFits p n (functions_of fs) f → f.names.outer.function f.names.earlier ≡ n.function (length fs)
-own_name p n f fs fits = ap (λ m. m.function f.names.earlier) fits.outer ∙ ap n.function (fits.earlier ∙ length-functions_of fs)
-
 -- the names of constants and of variables in their order
 constants_named_from : (n : ModuleNames) (j : ℕ) (es : List ConstantTree) → map (λ c. c.name) (constants_from n j es) ≡ names_from n.constant j (length es)
 constants_named_from n j [] = refl
@@ -359,35 +356,34 @@ names_joined name j (suc a) b start e = let more_of : suc a + b ≡ suc (a + b) 
     ∙ ap (names_from name j) (sym more_of)
 
 module _ (p : Module) (n : ModuleNames) (distinct : ModuleNamesAreDistinct p n) where
-  function_found : (fs : List Naming) → AllFit p n fs → length fs ≤ length p.functions → (g : ℕ) → g < length fs → with_functions (form_functions fs) (n.function g) ≡ Some (FunctionTarget g)
-  function_found [] fits within g lt = absurd (omega (arith, lt))
-  function_found (f ∷ fs) fits within g lt =
-      bind_cases (λ o. o ≡ Some (FunctionTarget g)) (with_functions (form_functions fs)) (f.names.outer.function f.names.earlier) (Some (FunctionTarget (length (form_functions fs)))) (n.function g)
-      (λ e. ap (λ k. Some (FunctionTarget k)) (length-form_functions fs ∙ distinct.functions (length fs) g (omega (arith, within)) (omega (arith, lt, within)) (sym (e ∙ own_name p n f fs fits.0))))
-      (λ other. function_found fs fits.1 (omega (arith, within)) g (before_it (λ e. other (ap n.function e ∙ sym (own_name p n f fs fits.0)))))
+  function_found : (fs : List TextFunction) → AreNamed n fs → length fs ≤ length p.functions → (g : ℕ) → g < length fs → with_functions fs (n.function g) ≡ Some (FunctionTarget g)
+  function_found [] named within g lt = absurd (omega (arith, lt))
+  function_found (f ∷ fs) named within g lt =
+      bind_cases (λ o. o ≡ Some (FunctionTarget g)) (with_functions fs) f.name (Some (FunctionTarget (length fs))) (n.function g)
+      (λ e. ap (λ k. Some (FunctionTarget k)) (distinct.functions (length fs) g (omega (arith, within)) (omega (arith, lt, within)) (sym (e ∙ named.0))))
+      (λ other. function_found fs named.1 (omega (arith, within)) g (before_it (λ e. other (ap n.function e ∙ sym named.0))))
     where
       before_it : (g ≡ length fs → ⊥) → g < length fs
       before_it apart = omega (arith, lt, apart)
 
-  function_none : (fs : List Naming) → AllFit p n fs → length fs ≤ length p.functions →
+  function_none : (fs : List TextFunction) → AreNamed n fs → length fs ≤ length p.functions →
       (w : Bytes) → ((g : ℕ) → g < length p.functions → n.function g ≢ w) →
-      with_functions (form_functions fs) w ≡ None
-  function_none [] fits within w other = refl
-  function_none (f ∷ fs) fits within w other =
-      bind_other (with_functions (form_functions fs)) (f.names.outer.function f.names.earlier)
-      (Some (FunctionTarget (length (form_functions fs)))) w
-      (λ e. other (length fs) (omega (arith, within)) (sym (e ∙ own_name p n f fs fits.0)))
-      ∙ function_none fs fits.1 (omega (arith, within)) w other
+      with_functions fs w ≡ None
+  function_none [] named within w other = refl
+  function_none (f ∷ fs) named within w other =
+      bind_other (with_functions fs) f.name (Some (FunctionTarget (length fs))) w
+      (λ e. other (length fs) (omega (arith, within)) (sym (e ∙ named.0)))
+      ∙ function_none fs named.1 (omega (arith, within)) w other
 
 -- what is in scope outside of functions
-abbrev items_of : Module → ModuleNames → List Naming → Lookup
+abbrev items_of : Module → ModuleNames → List TextFunction → Lookup
 items_of p n fs =
     with_items ConstantTarget 0 (names_from n.constant 0 (length p.constant_types))
-    (with_items GlobalTarget 0 (names_from n.global 0 (length p.globals)) (with_functions (form_functions fs)))
+    (with_items GlobalTarget 0 (names_from n.global 0 (length p.globals)) (with_functions fs))
 
-module _ (p : Module) (n : ModuleNames) (fs : List Naming) (fits : ModuleFits p n fs) where
+module _ (p : Module) (n : ModuleNames) (fs : List TextFunction) (fits : ItemsFit p n fs) where
   counted_functions : length fs ≡ length p.functions
-  counted_functions = sym (length-functions_of fs) ∙ ap length fits.functions
+  counted_functions = fits.counted
 
   constant_found : (i : ℕ) → i < length p.constant_types → items_of p n fs (n.constant i) ≡ Some (ConstantTarget i)
   constant_found i lt =
@@ -396,7 +392,7 @@ module _ (p : Module) (n : ModuleNames) (fs : List Naming) (fits : ModuleFits p 
   -- a word that is no constant and no variable is what it is among the functions
   among_functions : (w : Bytes) → ((i : ℕ) → i < length p.constant_types → n.constant i ≢ w) →
       ((i : ℕ) → i < length p.globals → n.global i ≢ w) →
-      items_of p n fs w ≡ with_functions (form_functions fs) w
+      items_of p n fs w ≡ with_functions fs w
   among_functions w constants globals =
       family_other ConstantTarget n.constant w (length p.constant_types) 0 (λ i le lt. constants i (omega (arith, lt))) _
       ∙ family_other GlobalTarget n.global w (length p.globals) 0 (λ i le lt. globals i (omega (arith, lt))) _
@@ -420,11 +416,11 @@ module _ (p : Module) (n : ModuleNames) (fs : List Naming) (fits : ModuleFits p 
         among_functions (f.names.outer.function g)
         (λ i li e. no_name (FixedKey (ConstantName i)) li (ap (λ m. m.constant i) outer ∙ e))
         (λ i li e. no_name (FixedKey (GlobalName i)) li (ap (λ m. m.global i) outer ∙ e))
-        ∙ ap (with_functions (form_functions fs)) same
-        ∙ function_found p n fits.distinct fs fits.all (omega (arith, counted_functions)) g (omega (arith, lt, counted_functions));
+        ∙ ap (with_functions fs) same
+        ∙ function_found p n fits.distinct fs fits.named (omega (arith, counted_functions)) g (omega (arith, lt, counted_functions));
     free = λ w stands.
         among_functions w (λ i li e. stands.1 (FixedKey (ConstantName i)) li (ap (λ m. m.constant i) outer ∙ e)) (λ i li e. stands.1 (FixedKey (GlobalName i)) li (ap (λ m. m.global i) outer ∙ e))
-        ∙ function_none p n fits.distinct fs fits.all (omega (arith, counted_functions)) w (λ g lt e. stands.0 g lt (ap (λ m. m.function g) outer ∙ e));
+        ∙ function_none p n fits.distinct fs fits.named (omega (arith, counted_functions)) w (λ g lt e. stands.0 g lt (ap (λ m. m.function g) outer ∙ e));
   }
     where
       no_constant : (j i : ℕ) → FixedKey (ConstantName j) ≡ FixedKey (GlobalName i) → ⊥
@@ -433,15 +429,21 @@ module _ (p : Module) (n : ModuleNames) (fs : List Naming) (fits : ModuleFits p 
       one_global : (a b : ℕ) → FixedKey (GlobalName a) ≡ FixedKey (GlobalName b) → a ≡ b
       one_global a b e = cc
 
+  -- a function
+  pub one_resolves : (callees : List Function) → length callees ≤ length p.functions → (f : Naming) →
+      FunctionFits p n callees f → ((h : ℕ) → LeafStands f.function (expression_of f.function h)) →
+      text_function_targets (items_of p n fs) (form_function f) ≡ map Some (function_targets f)
+  one_resolves callees within f one stand =
+      function_resolves p f one.distinct callees one.words one.leaves stand within one.earlier (items_of p n fs) (knows_items f one.distinct one.outer) one.scope one.regular
+
   functions_resolve : (gs : List Naming) → AllFit p n gs → LeavesStand gs →
       length gs ≤ length p.functions →
       map (text_function_targets (items_of p n fs)) (form_functions gs) ≡ map (map Some)
       (map function_targets gs)
   functions_resolve [] fit stand within = refl
   functions_resolve (f ∷ gs) fit stand within =
-      let one = fit.0 in
       let callees : length (functions_of gs) ≤ length p.functions = omega (arith, length-functions_of gs, within) in
-      let here = function_resolves p f one.distinct (functions_of gs) one.words one.leaves stand.0 callees one.earlier (items_of p n fs) (knows_items f one.distinct one.outer) one.scope one.regular in
+      let here = one_resolves (functions_of gs) callees f fit.0 stand.0 in
       let rest = functions_resolve gs fit.1 stand.1 (omega (arith, within)) in
       λ i. here i ∷ rest i
 
@@ -451,7 +453,7 @@ module _ (p : Module) (n : ModuleNames) (fs : List Naming) (fits : ModuleFits p 
   outside_resolves =
       constant_resolves n (items_of p n fs) (length p.constant_types) constant_found
       (OperatesOutside p n) (λ w o. among_functions w o.constants o.globals
-      ∙ function_none p n fits.distinct fs fits.all (omega (arith, counted_functions)) w o.functions)
+      ∙ function_none p n fits.distinct fs fits.named (omega (arith, counted_functions)) w o.functions)
 
   initialisers_resolve : (j : ℕ) (es : List ConstantTree) →
       ((i : ℕ) (e : ConstantTree) → slice_get es i ≡ Some e →
@@ -469,9 +471,9 @@ module _ (p : Module) (n : ModuleNames) (fs : List Naming) (fits : ModuleFits p 
       moved i = omega arith
 
   -- the names of the text's items
-  names_are : text_names (form_module p n fs) ≡ items_of p n fs
+  names_are : text_names (form_module_with p n fs) ≡ items_of p n fs
   names_are =
-      λ i. with_items ConstantTarget 0 (constants i) (with_items GlobalTarget 0 (globals_named n.global 0 p.globals i) (with_functions (form_functions fs)))
+      λ i. with_items ConstantTarget 0 (constants i) (with_items GlobalTarget 0 (globals_named n.global 0 p.globals i) (with_functions fs))
     where
       overrides_counted : constant_count p + length (override_types p) ≡ length p.constant_types
       overrides_counted = let dropped = length-drop (constant_count p) p.constant_types in omega (arith, dropped, fits.constants.counted)
@@ -485,21 +487,21 @@ module _ (p : Module) (n : ModuleNames) (fs : List Naming) (fits : ModuleFits p 
   -- ---- outside of functions
   -- such a tree, where the names of the text's items are in scope
   pub tree_resolves : (e : ConstantTree) → ConstantInRange p e → EachWord (OperatesOutside p n) e →
-      tree_targets (text_names (form_module p n fs)) (constant_form n e)
+      tree_targets (text_names (form_module_with p n fs)) (constant_form n e)
       ≡ map Some (constant_targets e)
   tree_resolves e range words =
       ap (λ names. tree_targets names (constant_form n e)) names_are ∙ outside_resolves e range words
 
   -- a constant or an override
   pub constant_stands : (i : ℕ) → i < length p.constant_types →
-      text_names (form_module p n fs) (n.constant i) ≡ Some (ConstantTarget i)
+      text_names (form_module_with p n fs) (n.constant i) ≡ Some (ConstantTarget i)
   constant_stands i lt = ap (λ names. names (n.constant i)) names_are ∙ constant_found i lt
 
   -- a variable, where variables have names of their own
   pub global_stands : ((i k : ℕ) → i < length p.globals → k < length p.globals →
       n.global i ≡ n.global k → i ≡ k) → (i : ℕ) → i < length p.globals →
       ((j : ℕ) → j < length p.constant_types → n.constant j ≢ n.global i) →
-      text_names (form_module p n fs) (n.global i) ≡ Some (GlobalTarget i)
+      text_names (form_module_with p n fs) (n.global i) ≡ Some (GlobalTarget i)
   global_stands distinct i lt apart =
       ap (λ names. names (n.global i)) names_are
       ∙ (family_other ConstantTarget n.constant (n.global i) (length p.constant_types) 0
@@ -508,14 +510,22 @@ module _ (p : Module) (n : ModuleNames) (fs : List Naming) (fits : ModuleFits p 
       (λ a b la lb e. distinct a b (omega (arith, la)) (omega (arith, lb)) e) _ i
       (omega arith) (omega (arith, lt)))
 
+pub function_resolves_as_meant : FunctionResolvesAsMeant
+function_resolves_as_meant p n functions fits callees within f fit stand =
+    ap (λ names. text_function_targets names (form_function f)) (names_are p n functions fits)
+    ∙ one_resolves p n functions fits callees within f fit stand
+
 pub resolves_as_meant : ResolvesAsMeant
-resolves_as_meant p n fs fits stand =
-    let all : length fs ≤ length p.functions = omega (arith, counted_functions p n fs fits) in
+resolves_as_meant p n fs whole stand =
+    let functions = form_functions fs in
+    let fits = items_fit p n fs whole in
+    let all : length fs ≤ length p.functions =
+    (let counted = length-form_functions fs in omega (arith, fits.counted, counted)) in
     let t = form_module p n fs in
-    ap (λ names. map (λ c. tree_targets names c.initialiser) t.constants ++ map (text_function_targets names) t.functions) (names_are p n fs fits)
-    ∙ ((λ i. initialisers_resolve p n fs fits 0 p.initialisers
+    ap (λ names. map (λ c. tree_targets names c.initialiser) t.constants ++ map (text_function_targets names) t.functions) (names_are p n functions fits)
+    ∙ ((λ i. initialisers_resolve p n functions fits 0 p.initialisers
     (λ i e at. subst (λ k. InitialiserFits p n fits.constants.rank k e) (from_none i)
-    (fits.constants.initialisers i e at)) i ++ functions_resolve p n fs fits fs fits.all stand
+    (fits.constants.initialisers i e at)) i ++ functions_resolve p n functions fits fs whole.all stand
     all i)
     ∙ sym (map-append (map Some) (map constant_targets p.initialisers) (map function_targets fs)))
   where

@@ -1,9 +1,11 @@
 -- The laws: a call runs alike by the text and by the module, event by event.
 --
--- Throughout, p is a module, n are its names and fs its functions with theirs, m is the meaning, w
+-- Throughout, p is a module, n are its names and fs its functions with theirs, later are functions of
+-- a text that stand after these, m is the meaning, w
 -- the world, g the number of a function f, vs are its arguments and t the events so far, i is an
 -- index and e an initialiser.
-use Rattle.std.specs.Prelude.{◌≡◌, ℕ, List, Some, IsTrue, slice_get, drop}
+use Rattle.std.specs.Prelude.{◌≡◌, ℕ, ◌<◌, ◌++◌, List, [], ◌∷◌, length, Some, IsTrue, slice_get}
+use Rattle.std.specs.Prelude.{drop}
 use Rattle.shader_runs.specs.Value.{Value, has_types}
 use Rattle.shader_runs.specs.World.{World, Meaning, Event, Settings, Environment}
 use Rattle.shader_runs.specs.Outcome.{Mistyped, ReachedOrHalted, Gives, Halts}
@@ -13,7 +15,9 @@ use Rattle.shader_runs.specs.ProgramRun.{constant_value}
 use Rattle.shader_runs.specs.Constants.{global_values, environment_of, run_module, follow_module}
 use Rattle.shader_runs.specs.Constants.{module_initialiser_value, text_initialiser_value}
 use Rattle.shader_runs.specs.Scope.{ModuleNames, Naming}
-use Rattle.shader_runs.specs.Form.{constant_form, form_module, functions_of}
+use Rattle.shader_runs.specs.Form.{constant_form, form_functions, form_module, form_module_with}
+use Rattle.shader_runs.specs.Form.{functions_of}
+use Rattle.shader_runs.specs.Text.{TextFunction}
 use Rattle.shader_runs.specs.Typing.{IsConsistent}
 use Rattle.shader_runs.specs.Premises.{IsTyped, AllFit, ConstantsFit, SettingsFit, EnvironmentFits}
 use Rattle.shader_runs.specs.Premises.{ModuleNamesAreDistinct, EachWord, OperatesOutside}
@@ -32,6 +36,27 @@ pub record ModuleFits (p : Module) (n : ModuleNames) (fs : List Naming) : Type 0
   pub constants : ConstantsFit p n
   pub all : AllFit p n fs
 
+-- the functions of a text, the last one first, have the names of the module's by their numbers
+abbrev pub AreNamed : ModuleNames → List TextFunction → Type 0
+AreNamed n [] = Unit {0}
+AreNamed n (f ∷ fs) = (f.name ≡ n.function (length fs)) × AreNamed n fs
+
+-- the module's constants fit, and a text with these functions names each of the module's functions
+pub record ItemsFit (p : Module) (n : ModuleNames) (functions : List TextFunction) : Type 0 where
+  pub distinct : ModuleNamesAreDistinct p n
+  pub constants : ConstantsFit p n
+  pub named : AreNamed n functions
+  pub counted : length functions ≡ length p.functions
+
+-- fs are the first functions of the module, and fit. Of the others nothing is asked but their names,
+-- whatever the text has for them
+pub record FirstFit (p : Module) (n : ModuleNames) (later : List TextFunction)
+    (fs : List Naming) : Type 0 where
+  pub items : ItemsFit p n (later ++ form_functions fs)
+  pub others : List Function
+  pub functions : others ++ functions_of fs ≡ p.functions
+  pub all : AllFit p n fs
+
 -- of every module whose scope holds, in every world that keeps the types, under all values of
 -- overrides and arguments of their types, every typed meaning and every bound on loop turns, a
 -- function or entry point makes by its text the module's events, with their operands, ends as in
@@ -47,6 +72,22 @@ RunsAlike =
     (w : World) (turns : ℕ) (t : List Event) →
     KeepsTypes (run_module p settings w m turns g vs t) →
     let text = form_module p n fs in
+    follow_module text p.parts settings w m n.vocabulary turns (n.function g) vs t
+    ≡ run_module p settings w m turns g vs t
+
+-- The same of one of the first functions, whatever stands after them in the module and in the text:
+-- a function calls only those before it.
+abbrev pub FirstRunAlike : Type 0
+FirstRunAlike =
+    (p : Module) (n : ModuleNames) (later : List TextFunction) (fs : List Naming) →
+    FirstFit p n later fs →
+    (settings : Settings) → SettingsFit p settings →
+    (m : Meaning) → IsTyped p m →
+    (g : ℕ) → g < length fs → (f : Function) → function_numbered p.functions g ≡ Some f →
+    (vs : List Value) → IsTrue (has_types p.parts f.argument_types vs) →
+    (w : World) (turns : ℕ) (t : List Event) →
+    KeepsTypes (run_module p settings w m turns g vs t) →
+    let text = form_module_with p n (later ++ form_functions fs) in
     follow_module text p.parts settings w m n.vocabulary turns (n.function g) vs t
     ≡ run_module p settings w m turns g vs t
 
@@ -72,17 +113,17 @@ ConstantsAreComputed =
     × ((other : Environment) → IsSolution p settings m other → other ≡ env)
 
 -- An initialiser has one value on both sides, in every world: what the text computes of its form is
--- what the module computes of it. Its words are operators, and its names those of constants and
--- overrides.
+-- what the module computes of it, whatever functions of the module's names the text has. Its words
+-- are operators, and its names those of constants and overrides.
 abbrev pub InitialisersAreAlike : Type 0
 InitialisersAreAlike =
-    (p : Module) (n : ModuleNames) (fs : List Naming) →
-    ModuleFits p n fs →
+    (p : Module) (n : ModuleNames) (functions : List TextFunction) →
+    ItemsFit p n functions →
     (settings : Settings) → SettingsFit p settings →
     (m : Meaning) → IsTyped p m →
     (w : World) (e : ConstantTree) →
     EachWord (OperatesOutside p n) e → ConstantInRange p e →
-    let text = form_module p n fs in
+    let text = form_module_with p n functions in
     text_initialiser_value text p.parts settings w m n.vocabulary (constant_form n e)
     ≡ module_initialiser_value p settings m e
 

@@ -241,12 +241,16 @@ constants_from n i [] = []
 constants_from n i (e ∷ es) =
     record { name = n.constant i; initialiser = constant_form n e } ∷ constants_from n (suc i) es
 
--- a module, whose functions have these names
-abbrev pub form_module : Module → ModuleNames → List Naming → TextModule
-form_module p n fs =
+-- a text with these functions, which declares what a module declares
+abbrev pub form_module_with : Module → ModuleNames → List TextFunction → TextModule
+form_module_with p n functions =
     record {
       constants = constants_from n 0 p.initialisers;
       overrides = names_from n.constant (constant_count p) (length (override_types p));
       globals = globals_from n.global 0 p.globals;
-      functions = form_functions fs;
+      functions = functions;
     }
+
+-- a module, whose functions have these names
+abbrev pub form_module : Module → ModuleNames → List Naming → TextModule
+form_module p n fs = form_module_with p n (form_functions fs)

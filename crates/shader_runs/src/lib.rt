@@ -1,9 +1,11 @@
 //! The run of a module, the run of the text that is written for it, and why they agree.
 #![tactic(auto)]
 
-ghost use Rattle.shader_runs.specs.Correct.{RunsAlike, HasTypedMeaning, HasTypedWorld};
+ghost use Rattle.shader_runs.specs.Correct.{FirstRunAlike, RunsAlike};
+ghost use Rattle.shader_runs.specs.Correct.{HasTypedMeaning, HasTypedWorld};
 ghost use Rattle.shader_runs.specs.Correct.{ConstantsAreComputed, InitialisersAreAlike};
-ghost use Rattle.shader_runs.specs.Identifiers.{BindsAsMeant, ResolvesAsMeant};
+ghost use Rattle.shader_runs.specs.Identifiers.{BindsAsMeant, FunctionBindsAsMeant};
+ghost use Rattle.shader_runs.specs.Identifiers.{FunctionResolvesAsMeant, ResolvesAsMeant};
 ghost use Rattle.shader_runs.specs.Ends.{EndsArePassed};
 ghost use Rattle.shader_runs.specs.Points.{PointsAgree};
 ghost use Rattle.shader_runs.specs.Progress.{RunsAreNotStuck};
@@ -16,8 +18,10 @@ ghost use Rattle.shader_runs.specs.StatementRows.{StatementRowsHold};
 ghost use Rattle.shader_runs.specs.VariableRows.{VariableRowsHold};
 
 /// A module's functions and entry points and their texts make the same events and end alike.
+/// So do the first ones, whatever stands after them.
 pub fn runs_alike()
-    ensures { RunsAlike }
+    ensures whole { RunsAlike }
+    ensures first { FirstRunAlike }
 {}
 
 /// At each point that a run passes, inside branches, cases, blocks and each turn of a loop too,
@@ -46,13 +50,16 @@ pub fn scope_check_is_the_rules()
 
 /// Each identifier and each word of a text stands for what the module means by it, where the check
 /// of scope holds.
+/// So it is in one function, whatever stands in the others.
 pub fn resolves_as_meant()
-    ensures { ResolvesAsMeant }
+    ensures whole { ResolvesAsMeant }
+    ensures one { FunctionResolvesAsMeant }
 {}
 
 /// The `let`s of a text are those of the handles that the module binds, under their names.
 pub fn binds_as_meant()
-    ensures { BindsAsMeant }
+    ensures whole { BindsAsMeant }
+    ensures one { FunctionBindsAsMeant }
 {}
 
 /// No end is missed by these points: a list that is done passes its end, and a return, discard,
