@@ -44,7 +44,7 @@ use Rattle.shader_runs.proofs.Update.{and_left, and_right, and_both, update_case
 use Rattle.shader_runs.proofs.Relation.{present_forgotten}
 use Rattle.shader_runs.proofs.Start.{or_cases}
 
-false_is_not_true : {A : Type 0} (b : Bool) → b ≡ false → IsTrue b → A
+pub false_is_not_true : {A : Type 0} (b : Bool) → b ≡ false → IsTrue b → A
 false_is_not_true b e h = absurd (true≢false (sym h ∙ e))
 
 -- a test of two, the second of which is looked at where the first holds
@@ -216,7 +216,7 @@ each_tree_in_scope f v [] no_tree = no_handle
 each_tree_in_scope f v (x ∷ xs) (and_tree t ts) = and_handle (constant_tree t) (each_tree_in_scope f v xs ts)
 
 -- the availabilities of handles say what the rules do at a point
-record Tracks (f : Function) (at : Point) (s : Handles) : Type 0 where
+pub record Tracks (f : Function) (at : Point) (s : Handles) : Type 0 where
   pub used : (h : ℕ) → (IsTrue (usable f s h) ↔ InScope f at.visible h)
   pub introduced : (h : ℕ) → ((is_new (s h) ≡ false) ↔ WasIntroduced f at h)
   pub trees : (h : ℕ) → s h ≡ Everywhere → IsCompound f h
@@ -365,7 +365,7 @@ module _ (f : Function) (h : ℕ) (at : Point) (s : Handles) (t : Tracks f at s)
       tracks_introduced f (Emitted h) (availability_without_name Usable (s h)) at s t (λ i. here.0 (sym same ∙ i), λ d. same ∙ here.1 d) new
   tracks_kind false false b p = t
 
-  tracks_emitted : Tracks f (behind_one f h at) (with_emitted_handle (binds f h) (is_pure (expression_of f h)) Usable x s h)
+  pub tracks_emitted : Tracks f (behind_one f h at) (with_emitted_handle (binds f h) (is_pure (expression_of f h)) Usable x s h)
   tracks_emitted =
       subst (λ c. Tracks f (WithOne c) (with_emitted_handle (binds f h) (is_pure (expression_of f h)) Usable x s h))
       (sym (unwritten_kind f h (expression_of f h) m))
@@ -398,7 +398,7 @@ new_rule f at s h t = (
   λ n. true_from_ne_false (is_new (s h)) (λ e. n ((t.introduced h).0 e)),
 )
 
-may_emit_rule : (f : Function) (at : Point) (s : Handles) (h : ℕ) → Tracks f at s →
+pub may_emit_rule : (f : Function) (at : Point) (s : Handles) (h : ℕ) → Tracks f at s →
     (IsTrue (may_emit f h s) ↔ MayEmit f at h)
 may_emit_rule f at s h t =
     let e = expression_of f h in
@@ -444,7 +444,7 @@ tracks_emit f k (h ∷ hs) at s t i =
     tracks_emit f k1 hs (behind_one f.function h at) s1 t1 (and_right first rest i)
 
 -- behind a statement
-tracks_after : (f : Naming) (k : ℕ) (st : Statement) (at : Point) (s : Handles) → Tracks f.function at s →
+pub tracks_after : (f : Naming) (k : ℕ) (st : Statement) (at : Point) (s : Handles) → Tracks f.function at s →
     IsTrue (fits f k st s) → Tracks f.function (behind f.function st at) (after f k st s)
 tracks_after f k (Emit first count) at s t i = tracks_emit f k (from first count) at s t i
 tracks_after f k (Act a xs (Some h)) at s t i = tracks_result f.function h at s t (f.names.numbered h)
@@ -572,7 +572,7 @@ turn_first f st ss at s now t t1 true =
 turn_first f st ss at s now t t1 false = t1
 
 -- where a loop's body, or its `continuing`, leads
-tracks_turn : (f : Naming) (k : ℕ) (ss : Statements) (at : Point) (s : Handles) → Tracks f.function at s →
+pub tracks_turn : (f : Naming) (k : ℕ) (ss : Statements) (at : Point) (s : Handles) → Tracks f.function at s →
     IsTrue (fits_all f k ss s) → Tracks f.function (behind_turn f.function ss at) (after_all f k ss s)
 tracks_turn f k end at s t i = t
 tracks_turn f k (then st ss) at s t i =
@@ -689,7 +689,7 @@ module _ (f : Function) (ordered : (h : ℕ) → AllBelow h (operands_at f h)) w
   nothing_introduced h (in_sight a) = a
   nothing_introduced h (as_a_tree p t a) = a
 
-  tracks_start : Tracks f entry_point (at_start f)
+  pub tracks_start : Tracks f entry_point (at_start f)
   tracks_start =
       record {
         used = λ h. (used_at_start h (expression_of f h) refl, in_scope_at_start h);

@@ -13,6 +13,7 @@ ghost use Rattle.shader_runs.specs.Results.{ResultsAreReturned};
 ghost use Rattle.shader_runs.specs.Rows.{RowsHold};
 ghost use Rattle.shader_runs.specs.PlaceRows.{PlaceRowsHold};
 ghost use Rattle.shader_runs.specs.ScopeRules.{ScopeCheckIsTheRules};
+ghost use Rattle.shader_runs.specs.ScopeFaults.{ScopeFaultsAreFound};
 ghost use Rattle.shader_runs.specs.ConstantRows.{ConstantRowsHold};
 ghost use Rattle.shader_runs.specs.StatementRows.{StatementRowsHold};
 ghost use Rattle.shader_runs.specs.VariableRows.{VariableRowsHold};
@@ -46,6 +47,12 @@ pub fn results_are_returned()
 /// The check of scope holds of a function exactly where the rules of scope do.
 pub fn scope_check_is_the_rules()
     ensures { ScopeCheckIsTheRules }
+{}
+
+/// The rules of scope fail in a function exactly where some statement breaks one, by the use of a
+/// handle or by giving it, or where the first value of some local does.
+pub fn scope_faults_are_found()
+    ensures { ScopeFaultsAreFound }
 {}
 
 /// Each identifier and each word of a text stands for what the module means by it, where the check
