@@ -3,7 +3,7 @@
 -- Throughout, m is the module, p the number of a function or an entry point with that function, and
 -- explicit says whether `let`s tell types.
 use Rattle.std.specs.Prelude.{◌≡◌, ◌+◌, ◌<◌, ◌++◌, ◌⊎◌, ℕ, Bool, List, [], Result, Ok, Err, codes}
-use Rattle.std.specs.Prelude.{if◌then◌else◌, length, nat_lt, take}
+use Rattle.std.specs.Prelude.{OnOk, if◌then◌else◌, length, nat_lt, take}
 use Rattle.std.specs.List.{enumerate_from, flat_map}
 use Rattle.naga_ir.specs.declared.module.Function.{Function}
 use Rattle.naga_ir.specs.declared.module.Module.{Module}
@@ -35,6 +35,24 @@ pub record Writing (W : Type 0) : Type 0 where
 -- the text of a module: it follows from the module, from what is known of it, and from the flags
 abbrev pub written_text : Module → ModuleInfo → WriterFlags → List ℕ
 written_text m info flags = layout (written_program m info (annotates_types flags))
+
+-- a call that answers `Ok` appends the text of the module
+abbrev pub AppendsItsText : Module → ModuleInfo → WriterFlags → Result Unit Error →
+    (content now : List ℕ) → Type 0
+AppendsItsText m info flags answer content now =
+    OnOk answer (now ≡ content ++ written_text m info flags)
+
+-- Two calls that answer `Ok` append one text, if module, info and flags are the same, whatever the
+-- writers did before and whatever their sinks hold. So a cache may keep it by these three.
+abbrev pub TextsAreEqual : Type 0
+TextsAreEqual =
+    (m : Module) (info : ModuleInfo) (flags : WriterFlags) (one other : Result Unit Error)
+    (content now appended other_content other_now other_appended : List ℕ) →
+    AppendsItsText m info flags one content now →
+    AppendsItsText m info flags other other_content other_now →
+    one ≡ Ok tt → other ≡ Ok tt →
+    now ≡ content ++ appended → other_now ≡ other_content ++ other_appended →
+    appended ≡ other_appended
 
 -- what stands in front of the functions: what the text enables, and the other declarations
 abbrev pub front_text : Module → List ℕ

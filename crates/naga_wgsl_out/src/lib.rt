@@ -15,6 +15,7 @@ pub mod diagnostics;
 mod enables;
 mod flags;
 pub mod info;
+pub mod laws;
 pub mod proc;
 pub mod sinks;
 mod structs;

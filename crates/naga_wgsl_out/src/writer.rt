@@ -25,7 +25,7 @@ ghost use Rattle.naga_wgsl_out.specs.ModuleRefusals.{HasNamedBefore, IsNamesRefu
 ghost use Rattle.naga_wgsl_out.specs.ModuleRefusals.{TellsOfFunction, TellsOfKeys};
 ghost use Rattle.naga_wgsl_out.specs.Writing.{WritesFunctions, WritesNext, Writing};
 ghost use Rattle.naga_wgsl_out.specs.Writing.{WroteFunctionsBefore, front_text, line_at};
-ghost use Rattle.naga_wgsl_out.specs.Writing.{line_behind, written_text};
+ghost use Rattle.naga_wgsl_out.specs.Writing.{AppendsItsText, line_behind, written_text};
 
 use crate::declarations::write_declarations;
 use crate::enables::write_enables;
@@ -128,8 +128,8 @@ impl<W: TextSink> Writer<W> {
         // concerned at the module's offsets, and give it the module's span, where that can be.
         ensures layouts { OnOk result (EachReading (W.text self.old.sink) (W.text self.new.sink)
             (KeepsLayouts «module».now)) }
-        ensures text_ok { OnOk result (W.text self.new.sink
-            ≡ W.text self.old.sink ++ written_text «module».now info.now self.old.flags) }
+        ensures text_ok { AppendsItsText «module».now info.now self.old.flags result
+            (W.text self.old.sink) (W.text self.new.sink) }
         ensures text_err { OnErr result (IsBehind (W.text self.old.sink)
             (written_text «module».now info.now self.old.flags) (W.text self.new.sink)) }
         ensures failures_ok { OnOk result (W.failures self.new.sink ≡ W.failures self.old.sink) }
