@@ -348,7 +348,7 @@ unnamed f = record {
       constant = λ i. [];
       global = λ i. [];
       function = λ i. [];
-      is_request = λ w. false;
+      vocabulary = record { is_request = λ w. false; is_operator = λ w. true };
     };
     argument = λ i. [];
     local_ = λ i. [];
